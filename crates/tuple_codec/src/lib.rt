@@ -1,0 +1,312 @@
+// The tuple encoding: the packed form of a tuple of typed elements, whose byte order is the order of tuples.
+#![tactic(auto)]
+
+ghost use Rattle.std.specs.Prelude.{◌≡◌, ◌<◌, ◌≤◌, ◌^◌, ◌↔◌, ℤ, pos, List, [], ◌∷◌, ◌++◌, map, length, IsSome, IfOk, IfErr, SomeIff, IsTrue, string_bytes};
+ghost use Rattle.tuple_codec.specs.Item.{magnitude};
+ghost use Rattle.tuple_codec.specs.Writing.{IsSigned};
+ghost use Rattle.tuple_codec.specs.Reading.{signed};
+
+mod keys;
+mod nest;
+mod order;
+mod read;
+#[cfg(test)]
+mod tests;
+mod unpacking;
+mod write;
+
+pub use keys::{integers_do_not_begin_each_other, keys_are_tuples, prefixes_are_ranges, strinc};
+pub use order::compare;
+use std::alloc::{AllocError, Global};
+use std::marker::Model;
+pub use unpacking::{
+    bytes_are_spelled_or_refused, packs_are_ordered, spellings_are_unique, unpack,
+};
+use uuid::Uuid;
+pub use write::{pack, pack_into};
+
+/// A whole number of magnitude at most `2^64 - 1`.
+#[derive(Clone, Copy, PartialEq, Eq)]
+pub struct TupleInt {
+    value: i128,
+}
+
+impl Model for TupleInt {
+    ghost use Rattle.std.specs.Prelude.{ℤ, ◌<◌, ◌^◌};
+
+    ghost Value = { ℤ };
+
+    ghost use Rattle.tuple_codec.specs.Item.{magnitude};
+
+    ghost view = { λ a. a.value };
+
+    ghost invariant = { λ a. magnitude a.value < 2 ^ 64 };
+
+    ghost inverse = { λ z. record { value = z } };
+}
+
+impl TupleInt {
+    /// The number, where it is one of a tuple.
+    pub fn new(value: i128) -> Option<TupleInt>
+        ensures { SomeIff result (magnitude value < 2 ^ 64) value }
+    {
+        if value.unsigned_abs() < 1 << 64 {
+            Some(TupleInt { value })
+        } else {
+            None
+        }
+    }
+
+    /// The number as a machine's.
+    pub fn get(self) -> i128
+        ensures value { result ≡ self }
+        ensures fits { magnitude result < 2 ^ 64 }
+    {
+        self.value
+    }
+
+    // The number of this magnitude, below 0 where the code says so.
+    fn of_code(code: u8, n: u64) -> TupleInt
+        requires { code < 20 → 0 < n }
+        ensures { result ≡ signed code n }
+    {
+        let value = i128::from(n);
+        TupleInt {
+            value: if code < 20 { -value } else { value },
+        }
+    }
+
+    // The sign and the magnitude.
+    fn signed(self) -> Signed
+        ensures { IsSigned result self }
+    {
+        let value = self.value;
+        if value < 0 {
+            Signed::Below(value.unsigned_abs() as u64)
+        } else if value > 0 {
+            Signed::Above(value as u64)
+        } else {
+            Signed::Zero
+        }
+    }
+}
+
+impl From<i64> for TupleInt {
+    ghost from_gives = { λ value number. number ≡ value };
+
+    fn from(value: i64) -> TupleInt {
+        TupleInt {
+            value: i128::from(value),
+        }
+    }
+}
+
+impl From<u64> for TupleInt {
+    ghost from_gives = { λ value number. number ≡ pos value };
+
+    fn from(value: u64) -> TupleInt {
+        TupleInt {
+            value: i128::from(value),
+        }
+    }
+}
+
+// A number by its sign and its magnitude, which is not 0 beside a sign.
+enum Signed {
+    Zero,
+    Above(u64),
+    Below(u64),
+}
+
+/// A byte string of an element.
+#[derive(Drop)]
+pub struct ByteString {
+    bytes: Vec<u8>,
+}
+
+impl Model for ByteString {
+    ghost use Rattle.std.specs.Prelude.{ℕ, List};
+
+    ghost Value = { List ℕ };
+
+    ghost view = { λ a. a.bytes.items };
+}
+
+impl ByteString {
+    pub fn new(bytes: Vec<u8>) -> ByteString
+        ensures { result ≡ bytes.items }
+    {
+        ByteString { bytes }
+    }
+
+    pub fn as_slice(&self) -> &[u8]
+        ensures { result.now ≡ self.now }
+    {
+        self.bytes.as_slice()
+    }
+
+    pub fn into_vec(self) -> Vec<u8>
+        ensures { result.items ≡ self }
+    {
+        self.bytes
+    }
+
+    /// An equal byte string.
+    pub fn copy(&self) -> Result<ByteString, AllocError>
+        ensures { IfOk result (λ copy. copy ≡ self.now) }
+    {
+        let bytes = self.bytes.clone()?;
+        Ok(ByteString { bytes })
+    }
+}
+
+/// A text of an element.
+#[derive(Drop)]
+pub struct Text {
+    text: String,
+}
+
+impl Model for Text {
+    ghost use Rattle.std.specs.Prelude.{ℕ, List};
+    ghost use Rattle.std.specs.String.{string_bytes};
+
+    ghost Value = { List ℕ };
+
+    ghost view = { λ a. string_bytes a.text };
+}
+
+impl Text {
+    pub fn new(text: String) -> Text
+        ensures { result ≡ string_bytes text }
+    {
+        Text { text }
+    }
+
+    pub fn as_str(&self) -> &str
+        ensures { result.now ≡ self.now }
+    {
+        self.text.as_str()
+    }
+
+    pub fn into_string(self) -> String
+        ensures { string_bytes result ≡ self }
+    {
+        self.text
+    }
+
+    /// An equal text.
+    pub fn copy(&self) -> Result<Text, AllocError>
+        ensures { IfOk result (λ copy. copy ≡ self.now) }
+    {
+        let text = self.text.clone()?;
+        Ok(Text { text })
+    }
+}
+
+#[derive(Clone, Copy, Debug, PartialEq, Eq, Drop)]
+pub enum UnpackErrorKind {
+    UnknownCode,
+    Truncated,
+    NotMinimal,
+    NotUtf8,
+    TooDeep,
+}
+
+/// An element of a tuple.
+#[cycle(tuple)]
+#[derive(Drop)]
+pub enum Element {
+    Null,
+    Bytes(ByteString),
+    Text(Text),
+    Nested(Tuple),
+    Int(TupleInt),
+    Bool(bool),
+    Uuid(Uuid),
+    Stamp([u8; 12]),
+}
+
+/// A tuple: a list of elements, in which tuples nest at most 16 deep.
+#[cycle(tuple)]
+#[derive(Drop)]
+pub struct Tuple {
+    elements: Vec<Element>,
+    nesting: u8,
+}
+
+impl Model for Tuple {
+    ghost use Rattle.std.specs.Prelude.{◌≡◌, List};
+    ghost use Rattle.tuple_codec.specs.Item.{Item};
+    ghost use Rattle.tuple_codec.specs.ItemCode.{tuple_code};
+
+    ghost Value = { List Item };
+
+    ghost coded = { tuple_code };
+
+    ghost use Rattle.tuple_codec.specs.Item.{IsTuple, nesting, tuple_size};
+    ghost use Rattle.tuple_codec.specs.Elements.{items_in, IsTupleInside};
+
+    ghost view = { λ a. items_in a.elements.items };
+
+    ghost invariant = { IsTupleInside };
+
+    ghost size = { tuple_size };
+
+    ghost use Rattle.tuple_codec.specs.Falls.{falls};
+
+    ghost size_decreases = { λ a h. falls a.elements.items };
+}
+
+/// Why a list of elements is no tuple.
+#[derive(Drop)]
+pub enum TupleError {
+    /// Tuples nest above 16 deep in the list.
+    TooDeep(Vec<Element>),
+}
+
+/// The first element of the bytes that a reader refuses.
+#[derive(Drop)]
+pub struct UnpackError {
+    /// Where its first byte stands.
+    pub at: usize,
+    /// What is wrong with it.
+    pub kind: UnpackErrorKind,
+}
+
+/// Why bytes were not unpacked.
+#[derive(Drop)]
+pub enum UnpackFailure {
+    Memory,
+    Refused(UnpackError),
+}
+
+/// The keys that begin with a prefix.
+#[derive(Drop)]
+pub struct Subspace {
+    prefix: Vec<u8>,
+}
+
+impl Model for Subspace {
+    ghost use Rattle.std.specs.Prelude.{ℕ, List};
+
+    ghost Value = { List ℕ };
+
+    ghost view = { λ a. a.prefix.items };
+}
+
+/// The ends of a subspace's range: the first is in it, the second is not.
+#[derive(Drop)]
+pub struct SubspaceRange {
+    pub begin: Vec<u8>,
+    pub end: Vec<u8>,
+}
+
+/// Why a key has no tuple in a subspace.
+#[derive(Drop)]
+pub enum StripError {
+    Memory,
+    /// The key does not begin with the prefix.
+    Outside,
+    /// What stands behind the prefix is refused, at a place counted from there.
+    Bad(UnpackError),
+}
