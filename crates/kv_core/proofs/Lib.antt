@@ -1,0 +1,10 @@
+pub mod Lists
+pub mod Order
+pub mod Changes
+pub mod Pairs
+pub mod Listed
+pub mod Rows
+pub mod Covering
+pub mod Stored
+pub mod Sums
+pub mod Refusals

@@ -1,0 +1,251 @@
+-- A map of the standard library against the finite map that it stands for.
+use Rattle.std.proofs.Common.{◌≡◌, ℕ, zero, Bool, true, false, cond, not, ◌&&◌, suc, ◌+◌, ◌-◌, ◌<◌, ◌≤◌, length, take, drop, get_or, reverse, T, arith, None, Some, List, [], ◌∷◌, ◌++◌, inl, inr, refl, sym, ap, subst, ◌∙◌}
+use Rattle.std.proofs.lemmas.Bool.{true≢false, cases_Bool, false_from_ne_true}
+use Rattle.std.proofs.lemmas.Cmp.{nat_list_cmp_total, tied_itself}
+use Rattle.std.proofs.lemmas.List.{reverse-append}
+use Rattle.std.proofs.lemmas.Map.Entries.{lookup-filter-keys}
+use Rattle.std.specs.declared.cmp.Ordering.{Ordering}
+use Rattle.std.specs.declared.cmp.Ordering.TheVariants.{Less, Equal, Greater}
+use Rattle.std.specs.List.{filter, AllByRecursion}
+use Rattle.std.specs.List.Sorted.{IsStrictlySortedBy}
+use Rattle.std.specs.Map.{keys_of, lookup, remove_entry}
+use Rattle.std.specs.BTreeMap.{insert_entry, is_at}
+use Rattle.std.specs.Ordering.{is_lt, is_gt, is_le, is_eq, ordering_reverse, match_ordering}
+use Rattle.std.specs.FinMap.{FinMap, entries, get, insert, retain_keys, from_entries, from_sorted, empty, find, put, is_sorted, entries-from_sorted, get-from_sorted, get-from_entries, get-entries, get-insert}
+use Rattle.kv_core.specs.Bytes.{key_cmp, key_le}
+use Rattle.kv_core.specs.Addition.{added}
+use Rattle.kv_core.specs.Range.{KeyRange, contains, entries_in, entries_outside}
+use Rattle.kv_core.specs.Map.{Map, after, pairs_in}
+use Rattle.kv_core.specs.Read.{read_of, limited}
+use Rattle.kv_core.specs.declared.change.Mutation.{Mutation}
+use Rattle.kv_core.specs.declared.change.Mutation.TheVariants.{Set, ClearRange, Add}
+use Rattle.std.specs.FinMap.Entries.{below_all, find-put}
+use Rattle.std.proofs.lemmas.Map.Keys.{sorted_head, sorted_tail}
+use Rattle.std.proofs.lemmas.Bool.{and_parts}
+use Rattle.kv_core.specs.Range.{is_key_range}
+use Rattle.kv_core.specs.Bytes.{end_of_keys}
+use Rattle.kv_core.proofs.Order.{tied_keys, le_gives, lt_is_gt}
+use Rattle.kv_core.proofs.Changes.{get-kept, get-set, same_maps}
+use Rattle.kv_core.proofs.Lists.{filter_here, filter_not}
+use Rattle.kv_core.proofs.Pairs.{entries-kept}
+
+abbrev Pair : Type 0
+Pair = List ℕ × List ℕ
+
+-- the finite map of a list of entries
+abbrev pub stored : List Pair → Map
+stored es = from_entries es
+
+-- the two look-ups in a list of entries are one
+pub looked_up : (q : List ℕ) (es : List Pair) → lookup (is_at (key_cmp q)) es ≡ find key_cmp q es
+looked_up q [] = refl
+looked_up q (e ∷ es) = ap (λ r. cond (is_eq (key_cmp q e.0)) (Some e.1) r) (looked_up q es)
+
+pub get-stored : (es : List Pair) (q : List ℕ) → get (stored es) q ≡ lookup (is_at (key_cmp q)) es
+get-stored es q = get-from_entries nat_list_cmp_total es q ∙ sym (looked_up q es)
+
+-- the test of a map's range is that of a key range
+same_le : (r : Ordering) → is_le r ≡ not (is_lt (ordering_reverse r))
+same_le Less = refl
+same_le Equal = refl
+same_le Greater = refl
+
+same_gt : (r : Ordering) → not (is_le r) ≡ is_lt (ordering_reverse r)
+same_gt Less = refl
+same_gt Equal = refl
+same_gt Greater = refl
+
+in_bounds : (range : KeyRange) (k : List ℕ) → (is_le (key_cmp range.begin k) && not (is_le (key_cmp range.end k))) ≡ contains range k
+in_bounds range k =
+    ap (λ b. b && not (is_le (key_cmp range.end k))) (same_le (key_cmp range.begin k) ∙ ap (λ r. not (is_lt r)) (sym (nat_list_cmp_total.antisymm k range.begin)))
+    ∙ ap (λ b. key_le range.begin k && b) (same_gt (key_cmp range.end k) ∙ ap is_lt (sym (nat_list_cmp_total.antisymm k range.end)))
+
+pub between_is : (range : KeyRange) (b e : List ℕ) (es : List Pair) → b ≡ range.begin → e ≡ range.end →
+    filter (λ x. is_le (key_cmp b x.0) && not (is_le (key_cmp e x.0))) es ≡ entries_in range es
+between_is range b e es p q = (λ i. filter (λ x. is_le (key_cmp (p i) x.0) && not (is_le (key_cmp (q i) x.0))) es) ∙ (λ i. filter (λ x. in_bounds range x.0 i) es)
+
+-- a lawful range doesn't run backwards
+pub forward : (range : KeyRange) (b e : List ℕ) → b ≡ range.begin → e ≡ range.end → is_key_range range ≡ true → is_gt (key_cmp b e) ≡ false
+forward range b e p q h =
+    (λ i. is_gt (key_cmp (p i) (q i)))
+    ∙ sym (lt_is_gt range.begin range.end) ∙ le_gives range.begin range.end (and_parts (key_le range.begin range.end) (key_le range.end end_of_keys) h).0
+
+-- keys in order are the keys of a finite map's list
+below : (k : List ℕ) (es : List Pair) → AllByRecursion (λ y. key_cmp k y ≡ Less) (keys_of es) → below_all key_cmp k es ≡ true
+below k [] h = refl
+below k (e ∷ es) h = ap (λ r. is_lt r && below_all key_cmp k es) h.0 ∙ below k es h.1
+
+pub sorted_entries : (es : List Pair) → IsStrictlySortedBy key_cmp (keys_of es) → is_sorted key_cmp es ≡ true
+sorted_entries [] h = refl
+sorted_entries (e ∷ es) h =
+    ap (λ b. b && is_sorted key_cmp es) (below e.0 es (sorted_head key_cmp e.0 (keys_of es) h)) ∙ sorted_entries es (sorted_tail key_cmp e.0 (keys_of es) h)
+
+-- the entries in order are those of the finite map
+pub entries-stored : (es : List Pair) → IsStrictlySortedBy key_cmp (keys_of es) → entries (stored es) ≡ es
+entries-stored es h =
+    let s = subst T (sym (sorted_entries es h)) tt in
+    ap entries (same_maps (stored es) (from_sorted es) (λ q. get-from_entries nat_list_cmp_total es q ∙ sym (get-from_sorted key_cmp es q s)))
+    ∙ entries-from_sorted key_cmp es s
+
+pub pairs_in-stored : (es : List Pair) (range : KeyRange) → IsStrictlySortedBy key_cmp (keys_of es) → pairs_in (stored es) range ≡ entries_in range es
+pairs_in-stored es range h = entries-kept (stored es) (contains range) ∙ ap (entries_in range) (entries-stored es h)
+
+-- an insertion is one of the finite map
+inserted_is : (es : List Pair) (k v : List ℕ) → insert_entry key_cmp es k v ≡ put key_cmp k v es
+inserted_is [] k v = refl
+inserted_is (e ∷ es) k v =
+    elim (key_cmp k e.0) as (λ r. match_ordering r ((k, v) ∷ e ∷ es) ((e.0, v) ∷ es) (e ∷ insert_entry key_cmp es k v) ≡ Rattle.std.specs.FinMap.Entries.by_order r ((k, v) ∷ e ∷ es) ((e.0, v) ∷ es) (e ∷ put key_cmp k v es)) [
+      | Less ↦ refl
+      | Equal ↦ refl
+      | Greater ↦ ap (λ xs. e ∷ xs) (inserted_is es k v)
+    ]
+
+pub stored-set : (es : List Pair) (k v : List ℕ) → stored (insert_entry key_cmp es k v) ≡ after (Set k v) (stored es)
+stored-set es k v = same_maps _ _
+    (λ q. get-from_entries nat_list_cmp_total _ q ∙ ap (find key_cmp q) (inserted_is es k v) ∙ find-put key_cmp nat_list_cmp_total q k v es
+    ∙ ap (λ o. cond (is_eq (key_cmp q k)) (Some v) o) (sym (get-from_entries nat_list_cmp_total es q)) ∙ sym (get-set (stored es) k v q))
+
+pub stored-cleared : (es : List Pair) (range : KeyRange) → stored (entries_outside range es) ≡ after (ClearRange range) (stored es)
+stored-cleared es range = same_maps _ _
+    (λ q. get-stored (entries_outside range es) q
+    ∙ lookup-filter-keys (is_at (key_cmp q)) (λ k. not (contains range k)) (not (contains range q)) (λ k t. ap (λ x. not (contains range x)) (sym (tied_keys q k t))) es
+    ∙ ap (λ o. cond (not (contains range q)) o None) (sym (get-stored es q)) ∙ sym (get-kept (stored es) (λ k. not (contains range k)) q))
+
+-- to take out the first entry of a range leaves the others of the range, and all outside it
+head_of : List (List ℕ) → List ℕ
+head_of [] = []
+head_of (k ∷ ks) = k
+
+tail_of : List (List ℕ) → List (List ℕ)
+tail_of [] = []
+tail_of (k ∷ ks) = ks
+
+nothing : {X : Type 0} (P : Type 0) (k : X) (ks : List X) → [] ≡ k ∷ ks → P
+nothing P k ks e = let l : 0 ≡ suc (length ks) = ap length e in absurd (omega (arith, l))
+
+first_inside : (range : KeyRange) (es : List Pair) (k : List ℕ) (ks : List (List ℕ)) → keys_of (entries_in range es) ≡ k ∷ ks → contains range k ≡ true
+unfolding head_of
+first_inside range [] k ks h = nothing _ k ks h
+first_inside range (e ∷ es) k ks h = elim (cases_Bool (contains range e.0)) [
+  | inl here ↦ subst (λ x. contains range x ≡ true) (ap head_of (ap keys_of (sym (filter_here (λ x. contains range x.0) e es here)) ∙ h)) here
+  | inr gone ↦ first_inside range es k ks (ap keys_of (sym (filter_not (λ x. contains range x.0) e es gone)) ∙ h)
+]
+
+-- to take out the entry with the first key of a range leaves the others of the range, and all outside it
+pub removed : (range : KeyRange) (es : List Pair) (k : List ℕ) (ks : List (List ℕ)) → keys_of (entries_in range es) ≡ k ∷ ks →
+    (keys_of (entries_in range (remove_entry (is_at (key_cmp k)) es)) ≡ ks) × (entries_outside range (remove_entry (is_at (key_cmp k)) es) ≡ entries_outside range es)
+unfolding head_of tail_of
+removed range [] k ks h = nothing _ k ks h
+removed range (e ∷ es) k ks h = elim (cases_Bool (contains range e.0)) [
+  | inl here ↦
+      let split : e.0 ∷ keys_of (entries_in range es) ≡ k ∷ ks = ap keys_of (sym (filter_here (λ x. contains range x.0) e es here)) ∙ h in
+      let same : e.0 ≡ k = ap head_of split in
+      let at : is_eq (key_cmp k e.0) ≡ true = subst (λ x. is_eq (key_cmp x e.0) ≡ true) same (ap is_eq (tied_itself nat_list_cmp_total e.0)) in
+      let left : remove_entry (is_at (key_cmp k)) (e ∷ es) ≡ es = ap (λ b. cond b es (e ∷ remove_entry (is_at (key_cmp k)) es)) at in (
+        ap (λ xs. keys_of (entries_in range xs)) left ∙ ap tail_of split,
+        ap (entries_outside range) left ∙ sym (filter_not (λ x. not (contains range x.0)) e es (ap not here)),
+      )
+  | inr gone ↦
+      let rest : keys_of (entries_in range es) ≡ k ∷ ks = ap keys_of (sym (filter_not (λ x. contains range x.0) e es gone)) ∙ h in
+      let apart : is_eq (key_cmp k e.0) ≡ false =
+      false_from_ne_true (is_eq (key_cmp k e.0)) (λ t. true≢false (sym (subst (λ x. contains range x ≡ true) (tied_keys k e.0 t) (first_inside range es k ks rest)) ∙ gone)) in
+      let left : remove_entry (is_at (key_cmp k)) (e ∷ es) ≡ e ∷ remove_entry (is_at (key_cmp k)) es = ap (λ b. cond b es (e ∷ remove_entry (is_at (key_cmp k)) es)) apart in
+      let ih = removed range es k ks rest in
+      let out : not (contains range e.0) ≡ true = ap not gone in (
+        ap (λ xs. keys_of (entries_in range xs)) left ∙ ap keys_of (filter_not (λ x. contains range x.0) e (remove_entry (is_at (key_cmp k)) es) gone) ∙ ih.0,
+        ap (entries_outside range) left ∙ filter_here (λ x. not (contains range x.0)) e (remove_entry (is_at (key_cmp k)) es) out ∙ ap (λ xs. e ∷ xs) ih.1
+            ∙ sym (filter_here (λ x. not (contains range x.0)) e es out),
+      )
+]
+
+no_keys : (es : List Pair) → keys_of es ≡ [] → es ≡ []
+no_keys [] h = refl
+no_keys (e ∷ es) h = nothing _ e.0 (keys_of es) (sym h)
+
+-- with no entry left in the range, all are outside it
+pub all_without : (range : KeyRange) (es : List Pair) → keys_of (entries_in range es) ≡ [] → entries_outside range es ≡ es
+all_without range [] h = refl
+all_without range (e ∷ es) h = elim (cases_Bool (contains range e.0)) [
+  | inl here ↦ nothing _ e.0 (keys_of (entries_in range es)) (sym h ∙ ap keys_of (filter_here (λ x. contains range x.0) e es here))
+  | inr gone ↦
+      filter_here (λ x. not (contains range x.0)) e es (ap not gone)
+      ∙ ap (λ xs. e ∷ xs) (all_without range es (sym (ap keys_of (filter_not (λ x. contains range x.0) e es gone)) ∙ h))
+]
+
+-- a walk along entries up to a limit, which has ps so far: one turn, and its ends
+nothing_left : {X : Type 0} (ps : List X) → ps ++ [] ≡ ps
+nothing_left [] = refl
+nothing_left (p ∷ ps) = ap (λ xs. p ∷ xs) (nothing_left ps)
+
+pub one_more : {X : Type 0} (ps qs : List X) (e : X) → (ps ++ e ∷ []) ++ qs ≡ ps ++ e ∷ qs
+one_more [] qs e = refl
+one_more (p ∷ ps) qs e = ap (λ xs. p ∷ xs) (one_more ps qs e)
+
+pub turn : {X : Type 0} (ps rest more : List X) (limit i : ℕ) (e : X) (all : List X) → i < limit → rest ≡ e ∷ more →
+    ps ++ take (limit - i) rest ≡ all → (ps ++ e ∷ []) ++ take (limit - (i + 1)) more ≡ all
+turn ps rest more limit i e all below is so =
+    let n : limit - i ≡ suc (limit - (i + 1)) = omega (arith, below) in
+    one_more ps (take (limit - (i + 1)) more) e ∙ ap (λ xs. ps ++ xs) (sym (ap (λ m. take m (e ∷ more)) n)) ∙ ap (λ xs. ps ++ take (limit - i) xs) (sym is) ∙ so
+
+pub stops : {X : Type 0} (ps rest : List X) (n : ℕ) (all : List X) → rest ≡ [] → ps ++ take n rest ≡ all → ps ≡ all
+stops ps rest n all is so = sym (ap (λ xs. ps ++ take n xs) is ∙ ap (λ xs. ps ++ xs) (none n) ∙ nothing_left ps) ∙ so
+  where
+    none : {X : Type 0} (k : ℕ) → take {A = X} k [] ≡ []
+    none zero = refl
+    none (suc k) = refl
+
+pub full : {X : Type 0} (ps rest : List X) (limit i : ℕ) (all : List X) → limit ≤ i → ps ++ take (limit - i) rest ≡ all → ps ≡ all
+full ps rest limit i all over so =
+    let n : limit - i ≡ 0 = omega (arith, over) in
+    sym (ap (λ m. ps ++ take m rest) n ∙ nothing_left ps) ∙ so
+
+pub last_first : {X : Type 0} (rest more : List X) (e : X) → rest ≡ more ++ e ∷ [] → reverse rest ≡ e ∷ reverse more
+last_first rest more e is = ap reverse is ∙ reverse-append more (e ∷ [])
+
+-- what the calls on a map say of the finite map
+pub read-stored : (m : Map) (es : List Pair) → stored es ≡ m → IsStrictlySortedBy key_cmp (keys_of es) → (range : KeyRange) (limit : ℕ) (b : Bool) →
+    limited limit b (entries_in range es) ≡ read_of m range limit b
+read-stored m es v h range limit b = ap (limited limit b) (sym (pairs_in-stored es range h) ∙ ap (λ x. pairs_in x range) v)
+
+pub set_applied : (m : Map) (es new : List Pair) (c : Mutation) (k v l w : List ℕ) → stored es ≡ m → c ≡ Set k v → l ≡ k → w ≡ v →
+    new ≡ insert_entry key_cmp es l w → stored new ≡ after c m
+set_applied m es new c k v l w view is p q done = ap stored done ∙ stored-set es l w ∙ (λ i. after (Set (p i) (q i)) (view i)) ∙ ap (λ x. after x m) (sym is)
+
+pub add_applied : (m : Map) (es new : List Pair) (c : Mutation) (k o l w : List ℕ) → stored es ≡ m → c ≡ Add k o → l ≡ k →
+    w ≡ added (get m k) o → new ≡ insert_entry key_cmp es l w → stored new ≡ after c m
+add_applied m es new c k o l w view is p q done =
+    set_applied m es new (Set k (added (get m k) o)) k (added (get m k) o) l w view refl p
+    q done
+    ∙ ap (λ x. after x m) (sym is)
+
+pub clear_applied : (m : Map) (es new : List Pair) (c : Mutation) (range : KeyRange) → stored es ≡ m → c ≡ ClearRange range →
+    new ≡ entries_outside range es → stored new ≡ after c m
+clear_applied m es new c range view is done = ap stored done ∙ stored-cleared es range ∙ ap (after (ClearRange range)) view ∙ ap (λ x. after x m) (sym is)
+
+pub starts : {X : Type 0} (ps rest all : List X) (limit : ℕ) → ps ≡ [] → rest ≡ all → ps ++ take (limit - 0) rest ≡ take limit all
+starts ps rest all limit p q = let n : limit - 0 ≡ limit = omega arith in (λ i. p i ++ take (n i) (q i))
+
+pub drop_item : {X : Type 0} (xs : List X) (i : ℕ) (x : X) → i < length xs → x ≡ get_or xs i x → drop i xs ≡ x ∷ drop (i + 1) xs
+drop_item [] i x below is = absurd (omega (arith, below))
+drop_item (y ∷ xs) zero x below is = λ i. sym is i ∷ xs
+drop_item (y ∷ xs) (suc i) x below is =
+    let n : suc (i + 1) ≡ suc i + 1 = omega arith in
+    drop_item xs i x (omega (arith, below)) is ∙ ap (λ m. x ∷ drop m (y ∷ xs)) n
+
+-- a map with these pairs put into it, the last one first
+abbrev pub put_before : List Pair → Map → Map
+put_before [] m = m
+put_before (p ∷ ps) m = insert (put_before ps m) p.0 p.1
+
+pub put_before-push : (ps : List Pair) (p : Pair) (m : Map) → put_before (ps ++ p ∷ []) m ≡ put_before ps (insert m p.0 p.1)
+put_before-push [] p m = refl
+put_before-push (x ∷ ps) p m = ap (λ n. insert n x.0 x.1) (put_before-push ps p m)
+
+pub put_before-empty : (ps : List Pair) → put_before ps empty ≡ stored ps
+put_before-empty [] = refl
+put_before-empty (p ∷ ps) = ap (λ n. insert n p.0 p.1) (put_before-empty ps)
+
+pub put_turn : (rest more es new all : List Pair) (k v : List ℕ) → rest ≡ more ++ (k, v) ∷ [] → new ≡ insert_entry key_cmp es k v →
+    put_before rest (stored es) ≡ stored all → put_before more (stored new) ≡ stored all
+put_turn rest more es new all k v is done so =
+    ap (put_before more) (ap stored done ∙ stored-set es k v) ∙ sym (put_before-push more (k, v) (stored es)) ∙ ap (λ xs. put_before xs (stored es)) (sym is) ∙ so

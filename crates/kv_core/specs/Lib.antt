@@ -1,0 +1,9 @@
+pub mod Bytes
+pub mod Range
+pub mod Addition
+pub mod Change
+pub mod Map
+pub mod Read
+pub mod Limits
+pub mod RangeLaws
+pub mod MapLaws

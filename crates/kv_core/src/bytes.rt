@@ -1,0 +1,147 @@
+ghost use Rattle.std.specs.Prelude.{◌≡◌, List, ℕ, IfOk, Some, refl};
+ghost use Rattle.std.specs.Ordering.{eq_by_cmp};
+ghost use Rattle.std.specs.Cmp.{eq_by_cmp_equiv, partial_equiv_from_equiv, partial_order_from_agreeing_total};
+ghost use Rattle.std.specs.Cmp.Lexicographic.{nat_list_cmp_total};
+ghost use Rattle.kv_core.specs.Bytes.{key_cmp, key_lt, key_le, end_of_keys, next_key};
+
+use std::alloc::{AllocError, Global};
+use std::cmp::Ordering;
+use std::marker::Model;
+
+/// Where the keys end: every key comes before this byte string.
+const END_OF_KEYS: [u8; 1] = [0xff];
+
+/// A byte string: a key, a value, or an end of a range.
+///
+/// Byte strings are ordered by their first byte that differs, and a prefix comes before what it
+/// begins. They keep the allocator of their bytes, so that their methods take none.
+#[derive(Debug, Drop)]
+pub struct Bytes {
+    bytes: Vec<u8>,
+}
+
+impl Model for Bytes {
+    ghost Value = { List ℕ };
+
+    ghost view = { λ a. a.bytes.items };
+}
+
+impl PartialEq for Bytes {
+    ghost eq = { eq_by_cmp key_cmp };
+
+    ghost laws = { partial_equiv_from_equiv (eq_by_cmp_equiv nat_list_cmp_total) };
+
+    fn eq(&self, other: &Bytes) -> bool {
+        self.compare(other).is_eq()
+    }
+}
+
+impl Eq for Bytes {
+    ghost laws = { eq_by_cmp_equiv nat_list_cmp_total };
+}
+
+impl PartialOrd for Bytes {
+    ghost partial_cmp = { λ x y. Some (key_cmp x y) };
+
+    ghost laws = { partial_order_from_agreeing_total key_cmp nat_list_cmp_total (λ x y. refl) (λ x y. refl) };
+
+    fn partial_cmp(&self, other: &Bytes) -> Option<Ordering> {
+        Some(self.compare(other))
+    }
+}
+
+impl Ord for Bytes {
+    ghost cmp = { key_cmp };
+
+    ghost total = { nat_list_cmp_total };
+
+    ghost matches_partial_cmp = { λ x y. refl };
+
+    ghost matches_eq = { λ x y. refl };
+
+    fn cmp(&self, other: &Bytes) -> Ordering {
+        self.compare(other)
+    }
+}
+
+impl Clone for Bytes {
+    ghost is_clone = { λ x y. y ≡ x };
+
+    fn clone(&self) -> Result<Bytes, AllocError> {
+        self.copy()
+    }
+}
+
+impl Bytes {
+    /// The byte string of these bytes, which it takes over with their allocator.
+    pub fn new(bytes: Vec<u8>) -> Bytes
+        ensures { result ≡ bytes.items }
+    {
+        Bytes { bytes }
+    }
+
+    /// The bytes, in order.
+    pub fn as_slice(&self) -> &[u8]
+        ensures { result.now ≡ self.now }
+    {
+        self.bytes.as_slice()
+    }
+
+    /// How this byte string compares with another one, as the type's order says.
+    pub fn compare(&self, other: &Bytes) -> Ordering
+        ensures { result ≡ key_cmp self.now other.now }
+    {
+        self.as_slice().cmp(other.as_slice())
+    }
+
+    /// Whether this byte string comes before another one.
+    pub fn is_before(&self, other: &Bytes) -> bool
+        ensures { result ≡ key_lt self.now other.now }
+    {
+        self.compare(other).is_lt()
+    }
+
+    /// Whether this byte string is another one or comes before it.
+    pub fn is_upto(&self, other: &Bytes) -> bool
+        ensures { result ≡ key_le self.now other.now }
+    {
+        !other.is_before(self)
+    }
+
+    /// Whether this byte string is a key, of any length: it comes before the byte FF.
+    pub fn is_key(&self) -> bool
+        ensures { result ≡ key_lt self.now end_of_keys }
+    {
+        self.as_slice().cmp(END_OF_KEYS.as_slice()).is_lt()
+    }
+
+    /// Whether a range may end with this byte string: it doesn't come after the byte FF.
+    pub(crate) fn is_range_end(&self) -> bool
+        ensures { result ≡ key_le self.now end_of_keys }
+    {
+        self.as_slice().cmp(END_OF_KEYS.as_slice()).is_le()
+    }
+
+    /// An equal byte string, unless memory runs out.
+    pub fn copy(&self) -> Result<Bytes, AllocError>
+        ensures { IfOk result (λ copy. copy ≡ self.now) }
+    {
+        let bytes = self.bytes.clone()?;
+        Ok(Bytes::new(bytes))
+    }
+
+    /// The first byte string after this one, which is this one followed by a zero byte, unless
+    /// memory runs out.
+    pub fn next(&self) -> Result<Bytes, AllocError>
+        ensures { IfOk result (λ next. next ≡ next_key self.now) }
+    {
+        let mut bytes = self.bytes.clone()?;
+        bytes.push(0)?;
+        Ok(Bytes::new(bytes))
+    }
+
+    /// The allocator of the bytes.
+    pub(crate) fn allocator(&self) -> Global {
+        *self.bytes.allocator()
+    }
+}

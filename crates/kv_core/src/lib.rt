@@ -1,0 +1,25 @@
+//! The words of the database: byte strings, ranges of keys, mutations, their sizes and limits,
+//! and the ordered map from keys to values.
+#![tactic(auto)]
+
+mod addition;
+mod bytes;
+mod change;
+mod kv_map;
+mod laws;
+mod limits;
+mod pair;
+mod range;
+mod size;
+#[cfg(test)]
+mod tests;
+
+pub use addition::add_le;
+pub use bytes::Bytes;
+pub use change::{CommitRequest, Mutation, Mutations, WriteError};
+pub use kv_map::KvMap;
+pub use laws::{maps_by_their_keys, ranges_by_their_keys, refusals_by_size, sums_wrap};
+pub use limits::{MAX_KEY_BYTES, MAX_RANGE_END_BYTES, MAX_TRANSACTION_BYTES, MAX_VALUE_BYTES};
+pub use pair::Pair;
+pub use range::{KeyRange, RangeList};
+pub use size::total_size;

@@ -1,0 +1,5 @@
+pub mod CellItems
+mod CellKinds
+mod CellSteps
+mod Examples
+mod Lists

@@ -1,0 +1,5 @@
+pub mod Answers
+pub mod Cell
+pub mod Schema
+pub mod Change
+pub mod Record

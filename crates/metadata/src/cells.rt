@@ -1,0 +1,248 @@
+ghost use Rattle.std.specs.Prelude.{◌≡◌, ◌++◌, List, All, IfOk, OnOk};
+ghost use Rattle.std.specs.List.{list_any};
+ghost use Rattle.tuple_codec.specs.Item.{AreBytes, IsTuple, nesting};
+ghost use Rattle.tuple_codec.specs.Elements.{item_in, items_in};
+ghost use Rattle.metadata.specs.Cell.{IsCell, all_fit, cell_at, cell_of, cells_at, cells_of, fits, is_null, item_of, items_of};
+
+use crate::definition::Places;
+use std::alloc::{AllocError, Global};
+use std::marker::Model;
+use tuple_codec::{ByteString, Element, Text, Tuple, TupleInt};
+
+/// What a field holds.
+#[derive(Clone, Copy, Debug, PartialEq, Eq, Drop)]
+pub enum Kind {
+    /// A whole number of 64 bits.
+    Int,
+    /// A text.
+    Text,
+    /// A byte string.
+    Bytes,
+}
+
+/// The value of one field of a record.
+#[derive(Drop)]
+pub enum Cell {
+    /// No value, which a field of any kind may hold.
+    Null,
+    /// A whole number of 64 bits.
+    Int(i64),
+    /// A text.
+    Text(Text),
+    /// A byte string.
+    Bytes(ByteString),
+}
+
+// Does nothing: its clause tells what the type knows of the numbers.
+fn bytes_known(bytes: &[u8])
+    ensures { AreBytes bytes.now }
+{}
+
+impl Cell {
+    /// Whether the cell may stand in a field of this kind: it is null or of the kind.
+    pub fn fits(&self, kind: Kind) -> bool
+        ensures { result ≡ fits kind self.now }
+    {
+        match (self, kind) {
+            (Cell::Null, _) => true,
+            (Cell::Int(_), Kind::Int) => true,
+            (Cell::Text(_), Kind::Text) => true,
+            (Cell::Bytes(_), Kind::Bytes) => true,
+            _ => false,
+        }
+    }
+
+    /// Whether the cell is null.
+    pub fn is_null(&self) -> bool
+        ensures { result ≡ is_null self.now }
+    {
+        matches!(self, Cell::Null)
+    }
+
+    /// An equal cell.
+    pub fn copy(&self) -> Result<Cell, AllocError>
+        ensures { IfOk result (λ copy. copy ≡ self.now) }
+    {
+        match self {
+            Cell::Null => Ok(Cell::Null),
+            Cell::Int(value) => Ok(Cell::Int(*value)),
+            Cell::Text(value) => Ok(Cell::Text(value.copy()?)),
+            Cell::Bytes(value) => Ok(Cell::Bytes(value.copy()?)),
+        }
+    }
+
+    // Does nothing: its clause tells that the cell is a value of its type.
+    fn known(&self)
+        ensures { IsCell self.now }
+    {
+        match self {
+            Cell::Null => {}
+            Cell::Int(value) => {
+                let _value = *value;
+            }
+            Cell::Text(value) => {
+                let _ = value.as_str();
+            }
+            Cell::Bytes(value) => bytes_known(value.as_slice()),
+        }
+    }
+
+    // The element of a tuple that the cell is.
+    fn element(&self) -> Result<Element, AllocError>
+        ensures element { IfOk result (λ element. item_in element ≡ item_of self.now) }
+        ensures cell { IsCell self.now }
+    {
+        self.known();
+        match self {
+            Cell::Null => Ok(Element::Null),
+            Cell::Int(value) => Ok(Element::Int(TupleInt::from(*value))),
+            Cell::Text(value) => Ok(Element::Text(value.copy()?)),
+            Cell::Bytes(value) => Ok(Element::Bytes(value.copy()?)),
+        }
+    }
+}
+
+// The tuple of elements that nest no tuples.
+pub(crate) fn flat_tuple(elements: Vec<Element>) -> Tuple
+    requires { nesting (items_in elements.items) ≡ 0 }
+    ensures tuple { result ≡ items_in elements.items }
+    ensures is_tuple { IsTuple result }
+{
+    match Tuple::new(elements) {
+        Ok(tuple) => {
+            let _ = tuple.elements();
+            tuple
+        }
+        Err(_) => unreachable!(),
+    }
+}
+
+// The cell that an element of a tuple is, if it is one.
+fn cell_in(element: Element) -> Option<Cell>
+    ensures { result ≡ cell_of (item_in element) }
+{
+    match element {
+        Element::Null => Some(Cell::Null),
+        Element::Int(value) => i64::try_from(value.get()).ok().map(Cell::Int),
+        Element::Text(value) => Some(Cell::Text(value)),
+        Element::Bytes(value) => Some(Cell::Bytes(value)),
+        _ => None,
+    }
+}
+
+/// The cells of a record, or of a key, in order.
+#[derive(Drop)]
+pub struct Cells {
+    cells: Vec<Cell>,
+}
+
+impl Model for Cells {
+    ghost use Rattle.std.specs.Prelude.{List};
+    ghost use Rattle.metadata.specs.declared.cells.Cell.{Cell};
+
+    ghost Value = { List Cell };
+
+    ghost view = { λ c. c.cells.items };
+}
+
+impl Cells {
+    /// The list of these cells.
+    pub fn new(cells: Vec<Cell>) -> Cells
+        ensures { result ≡ cells.items }
+    {
+        Cells { cells }
+    }
+
+    /// The cells.
+    pub fn as_slice(&self) -> &[Cell]
+        ensures { result.now ≡ self.now }
+    {
+        self.cells.as_slice()
+    }
+
+    /// Whether there is a cell for each kind, null or of that kind.
+    pub fn fit(&self, kinds: &[Kind]) -> bool
+        ensures { result ≡ all_fit kinds.now self.now }
+    {
+        let cells = self.as_slice();
+        if cells.len() != kinds.len() {
+            return false;
+        }
+        cells.iter().zip(kinds).all(|(cell, kind)| cell.fits(*kind))
+    }
+
+    /// Whether one of the cells is null.
+    pub fn has_null(&self) -> bool
+        ensures { result ≡ list_any is_null self.now }
+    {
+        self.cells.iter().any(Cell::is_null)
+    }
+
+    // An equal of the cell at this place, null past the end.
+    fn cell_at(&self, place: usize) -> Result<Cell, AllocError>
+        ensures { IfOk result (λ cell. cell ≡ cell_at self.now place) }
+    {
+        match self.cells.get(place) {
+            Some(cell) => cell.copy(),
+            None => Ok(Cell::Null),
+        }
+    }
+
+    /// The cells at these places, null past the end.
+    pub fn at(&self, alloc: Global, places: &Places) -> Result<Cells, AllocError>
+        ensures { IfOk result (λ cells. cells ≡ cells_at self.now places.now) }
+    {
+        let mut cells = Vec::new(alloc);
+        for place in places.as_slice() {
+            cells.push(self.cell_at(*place)?)?;
+        }
+        Ok(Cells { cells })
+    }
+
+    /// Equal cells.
+    pub fn copy(&self) -> Result<Cells, AllocError>
+        ensures { IfOk result (λ copy. copy ≡ self.now) }
+    {
+        let mut cells = Vec::new(*self.cells.allocator());
+        for cell in &self.cells {
+            cells.push(cell.copy()?)?;
+        }
+        Ok(Cells { cells })
+    }
+
+    // The elements of the tuple that the cells are, behind these elements.
+    pub(crate) fn push_elements(&self, elements: &mut Vec<Element>) -> Result<(), AllocError>
+        ensures items { OnOk result (items_in elements.new.items ≡ items_in elements.old.items ++ items_of self.now) }
+        ensures cells { OnOk result (All IsCell self.now) }
+    {
+        for cell in &self.cells {
+            elements.push(cell.element()?)?;
+        }
+        Ok(())
+    }
+
+    /// The tuple of the cells, in order.
+    pub fn tuple(&self, alloc: Global) -> Result<Tuple, AllocError>
+        ensures tuple { IfOk result (λ tuple. tuple ≡ items_of self.now) }
+        ensures is_tuple { IfOk result IsTuple }
+        ensures cells { OnOk result (All IsCell self.now) }
+    {
+        let mut elements = Vec::new(alloc);
+        self.push_elements(&mut elements)?;
+        Ok(flat_tuple(elements))
+    }
+
+    /// The cells that a tuple is. None where an item isn't a cell: nested, a truth value, a UUID, a versionstamp, or a whole number beyond 64 bits.
+    pub fn from_tuple(alloc: Global, tuple: Tuple) -> Result<Option<Cells>, AllocError>
+        ensures { IfOk result (λ cells. cells ≡ cells_of tuple) }
+    {
+        let mut cells = Vec::new(alloc);
+        for element in tuple.into_elements() {
+            let Some(cell) = cell_in(element) else {
+                return Ok(None);
+            };
+            cells.push(cell)?;
+        }
+        Ok(Some(Cells { cells }))
+    }
+}

@@ -1,0 +1,231 @@
+ghost use Rattle.std.specs.Prelude.{◌≡◌, IfOk};
+ghost use Rattle.metadata.specs.Schema.{field_kinds, key_kinds, kind_at};
+
+use crate::cells::Kind;
+use std::alloc::{AllocError, Global};
+use std::marker::Model;
+use tuple_codec::Text;
+
+/// A named field of a type.
+#[derive(Drop)]
+pub struct Field {
+    pub name: Text,
+    pub kind: Kind,
+}
+
+impl Field {
+    /// An equal field.
+    pub fn copy(&self) -> Result<Field, AllocError>
+        ensures { IfOk result (λ copy. copy ≡ self.now) }
+    {
+        let name = self.name.copy()?;
+        Ok(Field {
+            name,
+            kind: self.kind,
+        })
+    }
+}
+
+/// The fields of a type, in order.
+#[derive(Drop)]
+pub struct Fields {
+    fields: Vec<Field>,
+}
+
+impl Model for Fields {
+    ghost use Rattle.std.specs.Prelude.{List};
+    ghost use Rattle.metadata.specs.declared.definition.Field.{Field};
+
+    ghost Value = { List Field };
+
+    ghost view = { λ f. f.fields.items };
+}
+
+impl Fields {
+    /// The list of these fields.
+    pub fn new(fields: Vec<Field>) -> Fields
+        ensures { result ≡ fields.items }
+    {
+        Fields { fields }
+    }
+
+    /// The fields.
+    pub fn as_slice(&self) -> &[Field]
+        ensures { result.now ≡ self.now }
+    {
+        self.fields.as_slice()
+    }
+
+    // The kind of the field at this place.
+    fn kind_at(&self, place: usize) -> Option<Kind>
+        ensures { result ≡ kind_at self.now place }
+    {
+        self.fields.get(place).map(|field| field.kind)
+    }
+
+    /// Equal fields.
+    pub fn copy(&self) -> Result<Fields, AllocError>
+        ensures { IfOk result (λ copy. copy ≡ self.now) }
+    {
+        let mut fields = Vec::new(*self.fields.allocator());
+        for field in &self.fields {
+            fields.push(field.copy()?)?;
+        }
+        Ok(Fields { fields })
+    }
+}
+
+/// Places of fields in a type, counted from 0.
+#[derive(Drop)]
+pub struct Places {
+    places: Vec<usize>,
+}
+
+impl Model for Places {
+    ghost use Rattle.std.specs.Prelude.{List, ℕ};
+
+    ghost Value = { List ℕ };
+
+    ghost view = { λ p. p.places.items };
+}
+
+impl Places {
+    /// The list of these places.
+    pub fn new(places: Vec<usize>) -> Places
+        ensures { result ≡ places.items }
+    {
+        Places { places }
+    }
+
+    /// The places.
+    pub fn as_slice(&self) -> &[usize]
+        ensures { result.now ≡ self.now }
+    {
+        self.places.as_slice()
+    }
+
+    /// Equal places.
+    pub fn copy(&self) -> Result<Places, AllocError>
+        ensures { IfOk result (λ copy. copy ≡ self.now) }
+    {
+        let places = self.places.clone()?;
+        Ok(Places { places })
+    }
+}
+
+/// A record type: its number, counted from 1, its name, its fields and the places of its key fields.
+#[derive(Drop)]
+pub struct TypeDefinition {
+    pub number: u64,
+    pub name: Text,
+    pub fields: Fields,
+    pub key: Places,
+}
+
+impl TypeDefinition {
+    /// An equal definition.
+    pub fn copy(&self) -> Result<TypeDefinition, AllocError>
+        ensures { IfOk result (λ copy. copy ≡ self.now) }
+    {
+        let name = self.name.copy()?;
+        let fields = self.fields.copy()?;
+        let key = self.key.copy()?;
+        Ok(TypeDefinition {
+            number: self.number,
+            name,
+            fields,
+            key,
+        })
+    }
+
+    /// The kinds of the fields, in order.
+    pub fn field_kinds(&self, alloc: Global) -> Result<Vec<Kind>, AllocError>
+        ensures { IfOk result (λ kinds. kinds.items ≡ field_kinds self.now) }
+    {
+        self.fields
+            .as_slice()
+            .iter()
+            .map(|field| field.kind)
+            .collect(alloc)
+    }
+
+    /// The kinds of the key fields, in the key's order.
+    pub fn key_kinds(&self, alloc: Global) -> Result<Vec<Kind>, AllocError>
+        ensures { IfOk result (λ kinds. kinds.items ≡ key_kinds self.now) }
+    {
+        self.key
+            .as_slice()
+            .iter()
+            .filter_map(|place| self.fields.kind_at(*place))
+            .collect(alloc)
+    }
+}
+
+/// Names, in order.
+#[derive(Drop)]
+pub struct Names {
+    names: Vec<Text>,
+}
+
+impl Model for Names {
+    ghost use Rattle.std.specs.Prelude.{List, ℕ};
+
+    ghost Value = { List (List ℕ) };
+
+    ghost view = { λ n. n.names.items };
+}
+
+impl Names {
+    /// The list of these names.
+    pub fn new(names: Vec<Text>) -> Names
+        ensures { result ≡ names.items }
+    {
+        Names { names }
+    }
+
+    /// The names.
+    pub fn as_slice(&self) -> &[Text]
+        ensures { result.now ≡ self.now }
+    {
+        self.names.as_slice()
+    }
+}
+
+/// A type as it is asked for: its key fields by their names.
+#[derive(Drop)]
+pub struct TypeRequest {
+    pub name: Text,
+    pub fields: Fields,
+    pub key: Names,
+}
+
+/// A schema as it is asked for: types, added in this order.
+#[derive(Drop)]
+pub struct SchemaRequest {
+    types: Vec<TypeRequest>,
+}
+
+impl Model for SchemaRequest {
+    ghost use Rattle.std.specs.Prelude.{List};
+    ghost use Rattle.metadata.specs.declared.definition.TypeRequest.{TypeRequest};
+
+    ghost Value = { List TypeRequest };
+
+    ghost view = { λ s. s.types.items };
+}
+
+impl SchemaRequest {
+    /// The request for these types.
+    pub fn new(types: Vec<TypeRequest>) -> SchemaRequest
+        ensures { result ≡ types.items }
+    {
+        SchemaRequest { types }
+    }
+
+    /// The types asked for.
+    pub fn types(&self) -> &[TypeRequest]
+        ensures { result.now ≡ self.now }
+    {
+        self.types.as_slice()
+    }
+}

@@ -1,0 +1,20 @@
+//! Types, their fields, and the records of a store.
+//!
+//! A call answers `AllocError`, or `MetadataError::Memory`, only where memory is wanting. A call that fails changes nothing.
+#![tactic(auto)]
+
+mod cells;
+mod definition;
+mod names;
+mod record;
+mod refusal;
+mod schema;
+#[cfg(test)]
+mod tests;
+
+pub use cells::{Cell, Cells, Kind};
+pub use definition::{Field, Fields, Names, Places, SchemaRequest, TypeDefinition, TypeRequest};
+pub use names::MAX_NAME_BYTES;
+pub use record::{Record, key_of};
+pub use refusal::{MetadataError, Refusal};
+pub use schema::{MAX_FIELDS, MAX_KEY_FIELDS, MAX_TYPES, Schema};

@@ -1,0 +1,112 @@
+ghost use Rattle.std.specs.Prelude.{◌≡◌, Ok, IfOk, IfErr};
+ghost use Rattle.tuple_codec.specs.Item.{IsTuple};
+ghost use Rattle.metadata.specs.Answers.{IsRefusedAs};
+ghost use Rattle.metadata.specs.Record.{key_items, key_of, primary_key, record_of};
+
+use crate::cells::{Cells, flat_tuple};
+use crate::definition::TypeDefinition;
+use crate::refusal::{MetadataError, Refusal};
+use crate::schema::Schema;
+use std::alloc::{AllocError, Global};
+use std::marker::Model;
+use tuple_codec::{Element, Text, Tuple, TupleInt};
+
+/// A record: its type's definition, and a cell for each field.
+#[derive(Drop)]
+pub struct Record {
+    definition: TypeDefinition,
+    cells: Cells,
+}
+
+impl Model for Record {
+    ghost use Rattle.metadata.specs.Record.{Record as RecordValue};
+
+    ghost Value = { RecordValue };
+
+    ghost view = { λ r. record { definition = r.definition; cells = r.cells } };
+}
+
+// The primary key of the record of the type with this number and these key cells.
+fn key_tuple(alloc: Global, number: u64, cells: &Cells) -> Result<Tuple, AllocError>
+    ensures key { IfOk result (λ tuple. tuple ≡ key_items number cells.now) }
+    ensures is_tuple { IfOk result IsTuple }
+{
+    let mut elements = Vec::new(alloc);
+    elements.push(Element::Int(TupleInt::from(number)))?;
+    cells.push_elements(&mut elements)?;
+    Ok(flat_tuple(elements))
+}
+
+/// The primary key of the record of the type of this name with these key cells: the type's number, then the cells. Refused, in this order: `UnknownType` (no type has the name), `WrongKind` (a cell of another kind than its key field, or another number of cells than of key fields), `NullKey` (a cell is null).
+pub fn key_of(
+    alloc: Global,
+    schema: &Schema,
+    type_name: &Text,
+    cells: &Cells,
+) -> Result<Tuple, MetadataError>
+    ensures key { IfOk result (λ tuple. key_of schema.now type_name.now cells.now ≡ Ok tuple) }
+    ensures is_tuple { IfOk result IsTuple }
+    ensures refused { IfErr result (λ error. IsRefusedAs error (key_of schema.now type_name.now cells.now)) }
+{
+    let Some(definition) = schema.type_named(type_name) else {
+        return Err(MetadataError::Refused(Refusal::UnknownType));
+    };
+    let kinds = definition.key_kinds(alloc)?;
+    if !cells.fit(kinds.as_slice()) {
+        return Err(MetadataError::Refused(Refusal::WrongKind));
+    }
+    if cells.has_null() {
+        return Err(MetadataError::Refused(Refusal::NullKey));
+    }
+    Ok(key_tuple(alloc, definition.number, cells)?)
+}
+
+impl Record {
+    /// The record of the type of this name with these cells, one for each field. Refused, in this order: `UnknownType` (no type has the name), `WrongKind` (a cell of another kind than its field, or another number of cells than of fields), `NullKey` (a key field is null).
+    pub fn new(
+        alloc: Global,
+        schema: &Schema,
+        type_name: &Text,
+        cells: Cells,
+    ) -> Result<Record, MetadataError>
+        ensures made { IfOk result (λ made. record_of schema.now type_name.now cells ≡ Ok made) }
+        ensures refused { IfErr result (λ error. IsRefusedAs error (record_of schema.now type_name.now cells)) }
+    {
+        let Some(definition) = schema.type_named(type_name) else {
+            return Err(MetadataError::Refused(Refusal::UnknownType));
+        };
+        let kinds = definition.field_kinds(alloc)?;
+        if !cells.fit(kinds.as_slice()) {
+            return Err(MetadataError::Refused(Refusal::WrongKind));
+        }
+        let key = cells.at(alloc, &definition.key)?;
+        if key.has_null() {
+            return Err(MetadataError::Refused(Refusal::NullKey));
+        }
+        let definition = definition.copy()?;
+        Ok(Record { definition, cells })
+    }
+
+    /// The definition of the record's type.
+    pub fn definition(&self) -> &TypeDefinition
+        ensures { result.now ≡ self.now.definition }
+    {
+        &self.definition
+    }
+
+    /// The cells, in the order of the type's fields.
+    pub fn cells(&self) -> &Cells
+        ensures { result.now ≡ self.now.cells }
+    {
+        &self.cells
+    }
+
+    /// The primary key: the type's number, then the cells of the key fields in the key's order.
+    pub fn primary_key(&self, alloc: Global) -> Result<Tuple, AllocError>
+        ensures key { IfOk result (λ tuple. tuple ≡ primary_key self.now) }
+        ensures is_tuple { IfOk result IsTuple }
+    {
+        let cells = self.cells.at(alloc, &self.definition.key)?;
+        key_tuple(alloc, self.definition.number, &cells)
+    }
+}

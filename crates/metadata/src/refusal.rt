@@ -1,0 +1,62 @@
+ghost use Rattle.std.specs.Prelude.{◌≡◌};
+ghost use Rattle.metadata.specs.declared.refusal.MetadataError.TheVariants.{Memory};
+
+use std::alloc::{AllocError, AllocFailed};
+
+/// Why a step is refused. A refused step changes nothing.
+#[derive(Clone, Copy, Debug, PartialEq, Eq, Drop)]
+pub enum Refusal {
+    /// There is no client of this number.
+    NoSuchClient,
+    /// The client has an open transaction, or a submitted one that isn't settled.
+    Busy,
+    /// The client has no open transaction.
+    NoTransaction,
+    /// A name isn't 1 to 32 of `a-z A-Z 0-9 _`.
+    BadName,
+    /// A name is given twice, or stands already.
+    NameTaken,
+    /// The schema has no type of this name.
+    UnknownType,
+    /// The type has no field of this name.
+    UnknownField,
+    /// A cell isn't of its field's kind, or there are not as many cells as fields.
+    WrongKind,
+    /// A key field is null.
+    NullKey,
+    /// A type has no key field, or one twice.
+    BadSchema,
+    /// More types, fields or key fields than there may be.
+    TooMany,
+    /// The store is there already.
+    AlreadyThere,
+    /// There is no store.
+    NoStore,
+    /// The last version was given.
+    VersionsExhausted,
+}
+
+/// Why a call on schemas and records isn't answered.
+#[derive(Debug, Drop)]
+pub enum MetadataError {
+    /// Memory is wanting.
+    Memory,
+    /// The call is refused.
+    Refused(Refusal),
+}
+
+impl From<AllocError> for MetadataError {
+    ghost from_gives = { λ _ error. error ≡ Memory };
+
+    fn from(_error: AllocError) -> MetadataError {
+        MetadataError::Memory
+    }
+}
+
+impl<T: Drop> From<AllocFailed<T>> for MetadataError {
+    ghost from_gives = { λ _ error. error ≡ Memory };
+
+    fn from(_error: AllocFailed<T>) -> MetadataError {
+        MetadataError::Memory
+    }
+}

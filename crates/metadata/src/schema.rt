@@ -1,0 +1,154 @@
+ghost use Rattle.std.specs.Prelude.{◌≡◌, ◌∷◌, ◌==◌, ◌||◌, not, is_some, nat_lt, length, Ok, IfOk, IfErr, OnOk, OnErr};
+ghost use Rattle.std.specs.Option.{option_copied};
+ghost use Rattle.std.specs.List.{list_all};
+ghost use Rattle.metadata.specs.Schema.{find_type};
+ghost use Rattle.metadata.specs.Change.{add_type, empty_schema, field_names, has_twice, is_name, schema_of, type_refusal};
+ghost use Rattle.metadata.specs.Answers.{IsRefusedAs};
+
+use crate::definition::{SchemaRequest, TypeDefinition, TypeRequest};
+use crate::names::{
+    are_named, has_field_twice, has_twice, has_unknown, is_name, is_same, places_of,
+};
+use crate::refusal::{MetadataError, Refusal};
+use std::alloc::{AllocError, Global};
+use std::marker::Model;
+use tuple_codec::Text;
+
+/// The most types of a schema.
+pub const MAX_TYPES: usize = 32;
+
+/// The most fields of a type.
+pub const MAX_FIELDS: usize = 32;
+
+/// The most key fields of a type.
+pub const MAX_KEY_FIELDS: usize = 8;
+
+// Whether the type's name or a field's isn't a name.
+fn has_bad_name(request: &TypeRequest) -> bool
+    ensures { result ≡ not (list_all is_name (request.now.name ∷ field_names request.now.fields)) }
+{
+    !(is_name(&request.name) && are_named(request.fields.as_slice()))
+}
+
+// Whether a key has no fields, or one twice.
+fn is_bad_key(key: &[Text]) -> bool
+    ensures { result ≡ ((length key.now == 0) || has_twice key.now) }
+{
+    key.is_empty() || has_twice(key)
+}
+
+/// The types of a store, in the order of their numbers.
+#[derive(Drop)]
+pub struct Schema {
+    types: Vec<TypeDefinition>,
+}
+
+impl Model for Schema {
+    ghost use Rattle.metadata.specs.Schema.{Schema as SchemaValue};
+
+    ghost Value = { SchemaValue };
+
+    ghost view = { λ s. record { types = s.types.items } };
+}
+
+impl Schema {
+    /// The schema without types.
+    pub fn new(alloc: Global) -> Schema
+        ensures { result ≡ empty_schema }
+    {
+        Schema {
+            types: Vec::new(alloc),
+        }
+    }
+
+    /// The schema of these types, added to the empty one in their order; or the refusal of the first type that `add_type` refuses.
+    pub fn of_request(alloc: Global, request: &SchemaRequest) -> Result<Schema, MetadataError>
+        ensures made { IfOk result (λ schema. schema_of request.now ≡ Ok schema) }
+        ensures refused { IfErr result (λ error. IsRefusedAs error (schema_of request.now)) }
+    {
+        let mut schema = Schema::new(alloc);
+        for one in request.types() {
+            schema.add_type(one)?;
+        }
+        Ok(schema)
+    }
+
+    /// The type of this name, if there is one.
+    pub fn type_named(&self, name: &Text) -> Option<&TypeDefinition>
+        ensures { option_copied result ≡ find_type self.now name.now }
+    {
+        self.types
+            .iter()
+            .find(|definition| is_same(&definition.name, name))
+    }
+
+    // Whether the name is that of a type, or two fields have one name.
+    fn has_name_taken(&self, request: &TypeRequest) -> bool
+        ensures { result ≡ (is_some (find_type self.now request.now.name) || has_twice (field_names request.now.fields)) }
+    {
+        self.type_named(&request.name).is_some() || has_field_twice(request.fields.as_slice())
+    }
+
+    // Whether there would be more types, fields or key fields than there may be.
+    fn has_too_many(&self, request: &TypeRequest) -> bool
+        ensures { result ≡ (nat_lt 31 (length self.now.types) || nat_lt 32 (length request.now.fields) || nat_lt 8 (length request.now.key)) }
+    {
+        self.types.len() >= MAX_TYPES
+            || request.fields.as_slice().len() > MAX_FIELDS
+            || request.key.as_slice().len() > MAX_KEY_FIELDS
+    }
+
+    // Whether a name or a count keeps a type from being added: the first reason.
+    fn refusal(&self, request: &TypeRequest) -> Option<Refusal>
+        ensures { result ≡ type_refusal self.now request.now }
+    {
+        if has_bad_name(request) {
+            return Some(Refusal::BadName);
+        }
+        if self.has_name_taken(request) {
+            return Some(Refusal::NameTaken);
+        }
+        if has_unknown(request.fields.as_slice(), request.key.as_slice()) {
+            return Some(Refusal::UnknownField);
+        }
+        if is_bad_key(request.key.as_slice()) {
+            return Some(Refusal::BadSchema);
+        }
+        if self.has_too_many(request) {
+            return Some(Refusal::TooMany);
+        }
+        None
+    }
+
+    /// Adds a type, with the next number. Refused, in this order: `BadName` (a name of the type or of a field isn't 1 to 32 of `a-z A-Z 0-9 _`), `NameTaken` (the type's name stands already, or two fields have one name), `UnknownField` (a key field isn't a field), `BadSchema` (no key field, or one twice), `TooMany` (33 types or fields, or 9 key fields). After a refusal the schema is as before.
+    pub fn add_type(&mut self, request: &TypeRequest) -> Result<(), MetadataError>
+        ensures ok { OnOk result (add_type self.old request.now ≡ Ok self.new) }
+        ensures refused { IfErr result (λ error. IsRefusedAs error (add_type self.old request.now)) }
+        ensures err { OnErr result (self.new ≡ self.old) }
+    {
+        if let Some(refusal) = self.refusal(request) {
+            return Err(MetadataError::Refused(refusal));
+        }
+        let alloc = *self.types.allocator();
+        let fields = request.fields.copy()?;
+        let key = places_of(alloc, fields.as_slice(), request.key.as_slice())?;
+        self.types.push(TypeDefinition {
+            number: self.types.len() as u64 + 1,
+            name: request.name.copy()?,
+            fields,
+            key,
+        })?;
+        Ok(())
+    }
+
+    /// An equal schema.
+    pub fn copy(&self) -> Result<Schema, AllocError>
+        ensures { IfOk result (λ copy. copy ≡ self.now) }
+    {
+        let mut types = Vec::new(*self.types.allocator());
+        for definition in &self.types {
+            types.push(definition.copy()?)?;
+        }
+        Ok(Schema { types })
+    }
+}

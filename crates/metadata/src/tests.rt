@@ -1,0 +1,183 @@
+// Schemas, records and keys as a caller meets them, with memory at hand.
+use crate::{
+    Cell, Cells, Field, Fields, Kind, MetadataError, Names, Places, Record, Refusal, Schema,
+    SchemaRequest, TypeRequest, key_of,
+};
+use std::alloc::{AllocError, Global};
+use std::test::Fail;
+use tuple_codec::{ByteString, Text, Tuple, pack};
+
+fn text(alloc: Global, name: &str) -> Result<Text, AllocError> {
+    Ok(Text::new(String::from_str(alloc, name)?))
+}
+
+// The names of one character each.
+fn names(alloc: Global, letters: &str) -> Result<Vec<Text>, AllocError> {
+    let mut names = Vec::new(alloc);
+    for letter in letters.chars() {
+        let name = format!(in alloc; "{letter}")?;
+        names.push(Text::new(name))?;
+    }
+    Ok(names)
+}
+
+// A request for a type of whole numbers.
+fn asked(alloc: Global, name: &str, fields: &str, key: &str) -> Result<TypeRequest, AllocError> {
+    let mut ints = Vec::new(alloc);
+    for name in names(alloc, fields)? {
+        ints.push(Field {
+            name,
+            kind: Kind::Int,
+        })?;
+    }
+    let name = text(alloc, name)?;
+    let key = names(alloc, key)?;
+    Ok(TypeRequest {
+        name,
+        fields: Fields::new(ints),
+        key: Names::new(key),
+    })
+}
+
+// The cells of these whole numbers.
+fn row(alloc: Global, numbers: &[Option<i64>]) -> Result<Cells, AllocError> {
+    let mut cells = Vec::new(alloc);
+    for number in numbers {
+        cells.push(number.map_or(Cell::Null, Cell::Int))?;
+    }
+    Ok(Cells::new(cells))
+}
+
+// The schema of the type t of k, a and b, whose key is k.
+fn schema_of_t(alloc: Global) -> Result<Schema, MetadataError> {
+    let mut types = Vec::new(alloc);
+    types.push(asked(alloc, "t", "kab", "k")?)?;
+    let request = SchemaRequest::new(types);
+    Schema::of_request(alloc, &request)
+}
+
+// The record of t with key 1.
+fn record_of_t(alloc: Global) -> Result<Record, MetadataError> {
+    let schema = schema_of_t(alloc)?;
+    let name = text(alloc, "t")?;
+    let cells = row(alloc, &[Some(1), Some(5), None])?;
+    Record::new(alloc, &schema, &name, cells)
+}
+
+// The primary key of t of key 1.
+fn key_of_t(alloc: Global) -> Result<Tuple, MetadataError> {
+    let schema = schema_of_t(alloc)?;
+    let name = text(alloc, "t")?;
+    let cells = row(alloc, &[Some(1)])?;
+    key_of(alloc, &schema, &name, &cells)
+}
+
+fn refusal<T: Drop>(answer: Result<T, MetadataError>) -> Option<Refusal> {
+    match answer {
+        Err(MetadataError::Refused(refusal)) => Some(refusal),
+        _ => None,
+    }
+}
+
+#[test]
+fn adds_types(rt: HostRuntime) -> Result<(), Fail> {
+    let alloc = rt.alloc();
+    let name = text(alloc, "u")?;
+    assert_eq!(rt; Schema::new(alloc).type_named(&name).is_none(), true);
+    let mut schema = schema_of_t(alloc)?;
+    schema.add_type(&asked(alloc, "u", "k", "k")?)?;
+    let copy = schema.copy()?;
+    assert_eq!(rt; copy.type_named(&name).map(|found| found.number), Some(2));
+    Ok(())
+}
+
+#[test]
+fn makes_keys(rt: HostRuntime) -> Result<(), Fail> {
+    let alloc = rt.alloc();
+    let record = record_of_t(alloc)?;
+    assert_eq!(rt; record.cells().as_slice().len(), 3);
+    let key = record.primary_key(alloc)?;
+    let bytes = pack(alloc, &key)?;
+    assert_eq!(rt; bytes.as_slice(), [0x15, 0x01, 0x15, 0x01].as_slice());
+    let cells = Cells::from_tuple(alloc, key_of_t(alloc)?)?;
+    assert_eq!(rt;
+        cells.is_some_and(|cells| cells.fit(&[Kind::Int, Kind::Int])),
+        true
+    );
+    Ok(())
+}
+
+#[test]
+fn copies_cells(rt: HostRuntime) -> Result<(), Fail> {
+    let alloc = rt.alloc();
+    let mut cells = Vec::new(alloc);
+    cells.push(Cell::Text(text(alloc, "x")?))?;
+    cells.push(Cell::Bytes(ByteString::new(Vec::new(alloc))))?;
+    let places = Places::new(Vec::from_slice(alloc, &[1, 0, 2])?);
+    let cells = Cells::new(cells).at(alloc, &places)?.copy()?;
+    assert_eq!(rt; cells.has_null(), true);
+    let bytes = pack(alloc, &cells.tuple(alloc)?)?;
+    assert_eq!(rt;
+        bytes.as_slice(),
+        [0x01, 0x00, 0x02, 0x78, 0x00, 0x00].as_slice()
+    );
+    for cell in cells.as_slice() {
+        let copy = cell.copy()?;
+        assert_eq!(rt; copy.fits(Kind::Int), copy.is_null());
+    }
+    Ok(())
+}
+
+#[test]
+fn refuses_types(rt: HostRuntime) -> Result<(), Fail> {
+    let mut schema = schema_of_t(rt.alloc())?;
+    let rows: [(&str, &str, &str, Refusal); 7] = [
+        ("", "k", "k", Refusal::BadName),
+        ("t", "k", "k", Refusal::NameTaken),
+        ("u", "kk", "k", Refusal::NameTaken),
+        ("u", "k", "z", Refusal::UnknownField),
+        ("u", "k", "", Refusal::BadSchema),
+        ("u", "k", "kk", Refusal::BadSchema),
+        ("u", "abcdefghi", "abcdefghi", Refusal::TooMany),
+    ];
+    for (name, fields, key, want) in rows {
+        let request = asked(rt.alloc(), name, fields, key)?;
+        assert_eq!(rt;
+            refusal(schema.add_type(&request)),
+            Some(want),
+            "{name} {fields} {key}"
+        );
+    }
+    Ok(())
+}
+
+#[test]
+fn refuses_records(rt: HostRuntime) -> Result<(), Fail> {
+    let alloc = rt.alloc();
+    let schema = schema_of_t(alloc)?;
+    // What each row is refused as, as a record and as a key.
+    let rows: [(&str, &[Option<i64>], Refusal, Refusal); 4] = [
+        ("z", &[Some(1)], Refusal::UnknownType, Refusal::UnknownType),
+        (
+            "t",
+            &[Some(1), None],
+            Refusal::WrongKind,
+            Refusal::WrongKind,
+        ),
+        (
+            "t",
+            &[None, None, None],
+            Refusal::NullKey,
+            Refusal::WrongKind,
+        ),
+        ("t", &[None], Refusal::WrongKind, Refusal::NullKey),
+    ];
+    for (type_name, numbers, as_record, as_key) in rows {
+        let name = text(alloc, type_name)?;
+        let made = Record::new(alloc, &schema, &name, row(alloc, numbers)?);
+        assert_eq!(rt; refusal(made), Some(as_record));
+        let key = key_of(alloc, &schema, &name, &row(alloc, numbers)?);
+        assert_eq!(rt; refusal(key), Some(as_key));
+    }
+    Ok(())
+}

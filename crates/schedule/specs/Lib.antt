@@ -1,0 +1,9 @@
+pub mod Store
+pub mod Query
+pub mod Serve
+pub mod Past
+pub mod OneClient
+pub mod Contract
+pub mod Layout
+pub mod Copy
+pub mod Running

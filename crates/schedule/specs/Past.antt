@@ -1,0 +1,99 @@
+-- What the steps so far and their replies say of each client: its open transaction, and what it submitted.
+use Rattle.std.specs.Prelude.{ℕ, Bool, true, false, not, ◌&&◌, List, [], ◌∷◌, ◌++◌, Option, Some, None, ◌==◌, if◌then◌else◌, nat_le, map, filter}
+use Rattle.std.specs.List.{list_any}
+use Rattle.std.specs.Option.{option_map}
+use Rattle.schedule.specs.declared.step.Command.{Command}
+use Rattle.schedule.specs.declared.step.Command.TheVariants.{Load, Query, Remove}
+use Rattle.schedule.specs.declared.step.Step.{Step}
+use Rattle.schedule.specs.declared.step.Step.TheVariants.{Begin, Perform, Commit, Abandon}
+use Rattle.schedule.specs.declared.reply.Reply.{Reply}
+use Rattle.schedule.specs.declared.reply.Reply.TheVariants.{Begun, Submitted, Refused, Absent}
+use Rattle.schedule.specs.Store.{Serial}
+use Rattle.schedule.specs.Serve.{effects}
+
+-- the steps so far with their replies, the newest first
+abbrev pub Past : Type 0
+Past = List (Step × Reply)
+
+-- a command that was performed in a transaction, and its reply
+pub record Attempt : Type 0 where
+  pub command : Command
+  pub reply : Reply
+
+-- an open transaction: its read version, and the commands performed in it, in order
+pub record Open : Type 0 where
+  pub read_version : ℕ
+  pub attempts : List Attempt
+
+-- the reply accepts its command
+abbrev pub is_accepted : Reply → Bool
+is_accepted (Refused refusal) = false
+is_accepted reply = true
+
+-- the commands that were accepted, in order
+abbrev pub accepted : List Attempt → List Command
+accepted attempts = map (λ attempt. attempt.command) (filter (λ attempt. is_accepted attempt.reply) attempts)
+
+-- a command with this reply changes nothing
+abbrev pub is_reading : Command → Reply → Bool
+is_reading command (Refused refusal) = true
+is_reading (Load type cells) reply = true
+is_reading (Query query) reply = true
+is_reading (Remove type cells) Absent = true
+is_reading command reply = false
+
+-- a command changed something
+abbrev pub is_changed : List Attempt → Bool
+is_changed attempts = list_any (λ attempt. not (is_reading attempt.command attempt.reply)) attempts
+
+-- an open transaction with one more command performed
+abbrev pub grown : Attempt → Option Open → Option Open
+grown attempt before = option_map (λ (open_now : Open). record { read_version = open_now.read_version; attempts = open_now.attempts ++ attempt ∷ [] }) before
+
+-- a client's open transaction after one more step
+abbrev pub open_after : ℕ → Step → Reply → Option Open → Option Open
+open_after client (Begin who) (Begun version) before = if who == client then Some (record { read_version = version; attempts = [] }) else before
+open_after client (Perform who command) reply before = if who == client then grown (record { command = command; reply = reply }) before else before
+open_after client (Commit who) reply before = if who == client then None else before
+open_after client (Abandon who) reply before = if who == client then None else before
+open_after client step reply before = before
+
+-- a client's open transaction
+abbrev pub open_of : ℕ → Past → Option Open
+open_of client [] = None
+open_of client (event ∷ past) = open_after client event.0 event.1 (open_of client past)
+
+-- a submitted transaction: its version, who submitted it, and the transaction as it was open
+pub record Submission : Type 0 where
+  pub version : ℕ
+  pub client : ℕ
+  pub transaction : Open
+
+-- a submission of an open transaction
+abbrev pub submission : ℕ → ℕ → Option Open → List Submission
+submission client version None = []
+submission client version (Some open_now) = record { version = version; client = client; transaction = open_now } ∷ []
+
+-- submissions with what one more step submits
+abbrev pub submitted_after : Step → Reply → Past → List Submission → List Submission
+submitted_after (Commit client) (Submitted version) past before = before ++ submission client version (open_of client past)
+submitted_after step reply past before = before
+
+-- what was submitted, in version order
+abbrev pub submitted_in : Past → List Submission
+submitted_in [] = []
+submitted_in (event ∷ past) = submitted_after event.0 event.1 past (submitted_in past)
+
+-- what is there after the submissions up to a version that a test commits
+abbrev pub committed_from : (ℕ → Bool) → ℕ → Serial → List Submission → Serial
+committed_from committed version serial [] = serial
+committed_from committed version serial (one ∷ submissions) =
+    committed_from committed version (if nat_le one.version version && committed one.version then effects serial (accepted one.transaction.attempts) else serial) submissions
+
+-- the serial store that is committed at a version
+abbrev pub committed_at : (ℕ → Bool) → List Submission → ℕ → Serial
+committed_at committed submissions version = committed_from committed version None submissions
+
+-- what an open transaction sees: what is committed at its read version, as its own accepted commands change it
+abbrev pub view : (ℕ → Bool) → List Submission → Open → Serial
+view committed submissions open_now = effects (committed_at committed submissions open_now.read_version) (accepted open_now.attempts)

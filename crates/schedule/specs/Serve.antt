@@ -1,0 +1,101 @@
+-- What the serial store replies to a command, and the store after it. No key of a database and no packed byte occurs.
+use Rattle.std.specs.Prelude.{◌≡◌, ℕ, Bool, true, false, List, [], ◌∷◌, Option, Some, None, map, Result, Ok, Err, if◌then◌else◌}
+use Rattle.std.specs.Option.{option_map}
+use Rattle.tuple_codec.specs.Item.{Item}
+use Rattle.metadata.specs.declared.cells.Cell.{Cell}
+use Rattle.metadata.specs.declared.definition.TypeDefinition.{TypeDefinition}
+use Rattle.metadata.specs.declared.refusal.Refusal.{Refusal}
+use Rattle.metadata.specs.declared.refusal.Refusal.TheVariants.{AlreadyThere, NoStore, UnknownType}
+use Rattle.metadata.specs.Schema.{Schema, find_type}
+use Rattle.metadata.specs.Change.{schema_of}
+use Rattle.metadata.specs.Record.{Record, primary_key, record_of, key_of}
+use Rattle.schedule.specs.declared.step.Command.{Command}
+use Rattle.schedule.specs.declared.step.Command.TheVariants.{Create, Save, Load, Remove, Query}
+use Rattle.schedule.specs.declared.reply.Reply.{Reply}
+use Rattle.schedule.specs.declared.reply.Reply.TheVariants as reply
+use Rattle.schedule.specs.declared.reply.Reply.TheVariants.{Refused}
+use Rattle.schedule.specs.Store.{Store, Serial, record_at, created, saved, removed}
+use Rattle.schedule.specs.Query.{AreRows}
+
+-- a reply, and what is there after it
+abbrev pub Served : Type 0
+Served = Reply × Serial
+
+-- a refusal, without effect
+abbrev pub refused : Serial → Refusal → Served
+refused serial refusal = (Refused refusal, serial)
+
+-- what is made of an outcome, or its refusal without effect
+abbrev pub served_by : {A : Type 0} → Store → (A → Served) → Result A Refusal → Served
+served_by store accepted (Ok value) = accepted value
+served_by store accepted (Err refusal) = refused (Some store) refusal
+
+-- the cells of a record that may be there
+abbrev pub cells_in : Option Record → Option (List Cell)
+cells_in found = option_map (λ r. r.cells) found
+
+-- what a save, a load and a removal reply, by the cells of the record that was there
+abbrev pub reply_to_save : Option (List Cell) → Reply
+reply_to_save None = reply.SavedNew
+reply_to_save (Some old) = reply.SavedOver old
+
+abbrev pub reply_to_load : Option (List Cell) → Reply
+reply_to_load None = reply.Absent
+reply_to_load (Some found) = reply.Found found
+
+abbrev pub reply_to_remove : Option (List Cell) → Reply
+reply_to_remove None = reply.Absent
+reply_to_remove (Some old) = reply.Removed
+
+-- a record is saved; the record of a key is loaded, and removed
+abbrev pub served_save : Store → Record → Served
+served_save store new = (reply_to_save (cells_in (record_at (primary_key new) store.records)), Some (saved store new))
+
+abbrev pub served_load : Store → List Item → Served
+served_load store key = (reply_to_load (cells_in (record_at key store.records)), Some store)
+
+abbrev pub served_remove : Store → List Item → Served
+served_remove store key = (reply_to_remove (cells_in (record_at key store.records)), Some (removed store key))
+
+-- a command on a store. A query isn't served here, since its reply is free
+abbrev pub served_in : Store → Command → Served
+served_in store (Create request) = refused (Some store) AlreadyThere
+served_in store (Save type cells) = served_by store (served_save store) (record_of store.schema type cells)
+served_in store (Load type cells) = served_by store (served_load store) (key_of store.schema type cells)
+served_in store (Remove type cells) = served_by store (served_remove store) (key_of store.schema type cells)
+served_in store (Query query) = (reply.Nothing, Some store)
+
+-- a store is made where there is none, once its schema is accepted
+abbrev pub served_create : Serial → Result Schema Refusal → Served
+served_create serial (Err refusal) = refused serial refusal
+served_create None (Ok schema) = (reply.Done, Some (created schema))
+served_create (Some store) (Ok schema) = refused (Some store) AlreadyThere
+
+-- any other command wants a store
+abbrev pub served_there : Serial → Command → Served
+served_there None command = refused None NoStore
+served_there (Some store) command = served_in store command
+
+-- what the serial store replies to a command, and the store after it
+abbrev pub served : Serial → Command → Served
+served serial (Create request) = served_create serial (schema_of request)
+served serial command = served_there serial command
+
+-- what is there after a command, and after commands in turn
+abbrev pub effect : Serial → Command → Serial
+effect serial command = (served serial command).1
+
+abbrev pub effects : Serial → List Command → Serial
+effects serial [] = serial
+effects serial (command ∷ commands) = effects (effect serial command) commands
+
+-- the reply is an answer to a query of the type of this name: rows, or there is no such type
+abbrev pub IsQueryReply : Store → Option TypeDefinition → Reply → Type 0
+IsQueryReply store None answer = answer ≡ Refused UnknownType
+IsQueryReply store (Some type) (reply.Rows rows) = AreRows store type rows
+IsQueryReply store (Some type) answer = ⊥
+
+-- the reply is one that the serial store gives to the command
+abbrev pub IsReply : Serial → Command → Reply → Type 0
+IsReply (Some store) (Query query) answer = IsQueryReply store (find_type store.schema query.record_type) answer
+IsReply serial command answer = answer ≡ (served serial command).0

@@ -1,0 +1,104 @@
+ghost use Rattle.std.specs.Prelude.{◌≡◌};
+
+use metadata::{Cells, Refusal};
+use std::marker::Model;
+
+/// The cells of records, in order.
+#[derive(Drop)]
+pub struct Rows {
+    rows: Vec<Cells>,
+}
+
+impl Model for Rows {
+    ghost use Rattle.std.specs.Prelude.{List};
+    ghost use Rattle.metadata.specs.declared.cells.Cell.{Cell};
+
+    ghost Value = { List (List Cell) };
+
+    ghost view = { λ r. r.rows.items };
+}
+
+impl Rows {
+    /// The list of these rows.
+    pub fn new(rows: Vec<Cells>) -> Rows
+        ensures { result ≡ rows.items }
+    {
+        Rows { rows }
+    }
+
+    /// The rows.
+    pub fn as_slice(&self) -> &[Cells]
+        ensures { result.now ≡ self.now }
+    {
+        self.rows.as_slice()
+    }
+}
+
+/// What became of a submitted transaction.
+#[derive(Drop)]
+pub enum Report {
+    /// The client's transaction is committed at the version.
+    Committed { client: u64, version: u64 },
+}
+
+/// Reports, in version order.
+#[derive(Drop)]
+pub struct Reports {
+    reports: Vec<Report>,
+}
+
+impl Model for Reports {
+    ghost use Rattle.std.specs.Prelude.{List};
+    ghost use Rattle.schedule.specs.declared.reply.Report.{Report};
+
+    ghost Value = { List Report };
+
+    ghost view = { λ r. r.reports.items };
+}
+
+impl Reports {
+    /// The list of these reports.
+    pub fn new(reports: Vec<Report>) -> Reports
+        ensures { result ≡ reports.items }
+    {
+        Reports { reports }
+    }
+
+    /// The reports.
+    pub fn as_slice(&self) -> &[Report]
+        ensures { result.now ≡ self.now }
+    {
+        self.reports.as_slice()
+    }
+}
+
+/// What a step replies.
+#[derive(Drop)]
+pub enum Reply {
+    /// A transaction began, which reads at this version.
+    Begun(u64),
+    /// The step is done.
+    Done,
+    /// The record is saved, and no other one had its primary key.
+    SavedNew,
+    /// The record is saved in the place of the one with these cells.
+    SavedOver(Cells),
+    /// The record's cells.
+    Found(Cells),
+    /// There is no such record.
+    Absent,
+    /// The record is taken out.
+    Removed,
+    /// The rows that answer the query.
+    Rows(Rows),
+    /// The transaction is submitted at this version.
+    Submitted(u64),
+    /// The transaction changed nothing and has ended.
+    ReadOnly,
+    /// There was nothing to do.
+    Nothing,
+    /// What became of submitted transactions.
+    Reported(Reports),
+    /// The step is refused.
+    Refused(Refusal),
+}
