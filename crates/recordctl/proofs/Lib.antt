@@ -1,0 +1,4 @@
+pub mod Each
+pub mod Hex
+pub mod Forms
+pub mod Input

@@ -1,0 +1,77 @@
+ghost use Rattle.std.specs.Prelude.{◌≡◌, ◌↔◌, Some, None, IsTrue, IfOk, IfErr, option_and_then, map};
+ghost use Rattle.serde_json.specs.Find.{as_number, as_str, as_u64, get};
+ghost use Rattle.serde_json.specs.View.{view};
+ghost use Rattle.recordctl.specs.Json.{key_count, list_in, only_member};
+
+use crate::fault::PartError;
+use serde_json::Value;
+use std::alloc::Global;
+use tuple_codec::Text;
+
+// The items of a list.
+pub(crate) fn list_of(value: &Value) -> Result<&[Value], PartError>
+    ensures ok { IfOk result (λ items. list_in (view value.now) ≡ Some (map view items.now)) }
+    ensures err { IfErr result (λ error. (error ≡ PartError.BadForm) × (list_in (view value.now) ≡ None)) }
+{
+    match value.as_array() {
+        Some(items) => Ok(items.as_slice()),
+        None => Err(PartError::BadForm),
+    }
+}
+
+// The characters of a text.
+pub(crate) fn str_of(value: &Value) -> Result<&str, PartError>
+    ensures ok { IfOk result (λ text. as_str (view value.now) ≡ Some text.now) }
+    ensures err { IfErr result (λ error. (error ≡ PartError.BadForm) × (as_str (view value.now) ≡ None)) }
+{
+    value.as_str().ok_or(PartError::BadForm)
+}
+
+// A text.
+pub(crate) fn text_of(alloc: Global, value: &Value) -> Result<Text, PartError>
+    ensures ok { IfOk result (λ text. as_str (view value.now) ≡ Some text) }
+    ensures err { IfErr result (λ error. error ≡ PartError.BadForm → as_str (view value.now) ≡ None) }
+{
+    let text = String::from_str(alloc, str_of(value)?)?;
+    Ok(Text::new(text))
+}
+
+// The number of a client.
+pub(crate) fn client_of(value: &Value) -> Result<u64, PartError>
+    ensures ok { IfOk result (λ client. option_and_then as_u64 (as_number (view value.now)) ≡ Some client) }
+    ensures err { IfErr result (λ error. (error ≡ PartError.BadForm)
+        × (option_and_then as_u64 (as_number (view value.now)) ≡ None)) }
+{
+    value.as_u64().ok_or(PartError::BadForm)
+}
+
+// Whether a value is an object of this many keys.
+pub(crate) fn has_keys(value: &Value, keys: usize) -> bool
+    ensures { IsTrue result ↔ (key_count (view value.now) ≡ Some keys) }
+{
+    match value.as_object() {
+        Some(members) => members.len() == keys,
+        None => false,
+    }
+}
+
+// What stands at a key of an object.
+pub(crate) fn member<'a>(object: &'a Value, key: &str) -> Result<&'a Value, PartError>
+    ensures ok { IfOk result (λ found. get key.now (view object.entry.now) ≡ Some (view found.now)) }
+    ensures err { IfErr result (λ error. (error ≡ PartError.BadForm) × (get key.now (view object.entry.now) ≡ None)) }
+{
+    object.get(key).ok_or(PartError::BadForm)
+}
+
+// What stands at the key of an object that has no other.
+pub(crate) fn only_member<'a>(object: &'a Value, key: &str) -> Result<&'a Value, PartError>
+    ensures ok { IfOk result (λ found. only_member key.now (view object.entry.now) ≡ Some (view found.now)) }
+    ensures err { IfErr result (λ error. (error ≡ PartError.BadForm)
+        × (only_member key.now (view object.entry.now) ≡ None)) }
+{
+    if has_keys(object, 1) {
+        member(object, key)
+    } else {
+        Err(PartError::BadForm)
+    }
+}

@@ -1,0 +1,70 @@
+use crate::cell_json::{cells_text, rows_text};
+use metadata::Cells;
+use schedule::{Reply, Report, Rows};
+use std::alloc::{AllocError, Global};
+use std::fmt::Write;
+
+// Writes a word and cells behind it.
+fn push_cells(
+    alloc: Global,
+    line: &mut String,
+    word: &str,
+    cells: &Cells,
+) -> Result<(), AllocError> {
+    let text = cells_text(alloc, cells)?;
+    write!(line, "{word} {text}")
+}
+
+fn push_rows(alloc: Global, line: &mut String, rows: &Rows) -> Result<(), AllocError> {
+    let text = rows_text(alloc, rows.as_slice())?;
+    write!(line, "rows {text}")
+}
+
+fn push_report(line: &mut String, report: &Report) -> Result<(), AllocError> {
+    match report {
+        Report::Committed { client, version } => {
+            write!(line, "client {client} committed {version}")
+        }
+    }
+}
+
+fn push_reports(line: &mut String, reports: &[Report]) -> Result<(), AllocError> {
+    let mut separator = "";
+    for report in reports {
+        line.push_str(separator)?;
+        push_report(line, report)?;
+        separator = ", ";
+    }
+    Ok(())
+}
+
+fn push_reply(alloc: Global, line: &mut String, reply: &Reply) -> Result<(), AllocError> {
+    match reply {
+        Reply::Begun(version) => write!(line, "begun {version}"),
+        Reply::Done => line.push_str("ok"),
+        Reply::SavedNew => line.push_str("saved new"),
+        Reply::SavedOver(cells) => push_cells(alloc, line, "saved over", cells),
+        Reply::Found(cells) => push_cells(alloc, line, "found", cells),
+        Reply::Absent => line.push_str("none"),
+        Reply::Removed => line.push_str("removed"),
+        Reply::Rows(rows) => push_rows(alloc, line, rows),
+        Reply::Submitted(version) => write!(line, "submitted {version}"),
+        Reply::ReadOnly => line.push_str("read only"),
+        Reply::Nothing => line.push_str("nothing"),
+        Reply::Reported(reports) => push_reports(line, reports.as_slice()),
+        Reply::Refused(refusal) => write!(line, "refused {refusal:?}"),
+    }
+}
+
+// Makes the line that says what the step of this number replied, in the place of what it held.
+pub(crate) fn make_line(
+    alloc: Global,
+    line: &mut String,
+    number: usize,
+    reply: &Reply,
+) -> Result<(), AllocError> {
+    line.clear();
+    write!(line, "{number} ")?;
+    push_reply(alloc, line, reply)?;
+    line.push_str("\n")
+}

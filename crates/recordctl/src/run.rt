@@ -1,0 +1,120 @@
+ghost use Rattle.std.specs.Prelude.{◌≡◌, ◌≤◌, take, IfOk, IfSome, OnOk};
+ghost use Rattle.std.specs.Process.{exit_status};
+ghost use Rattle.recordctl.specs.Script.{IsScript};
+ghost use Rattle.recordctl.specs.declared.run.PrintError.TheVariants.{CannotWrite, OutOfMemory};
+
+use crate::fault::Fault;
+use crate::print::make_line;
+use crate::script::{MAX_SCRIPT_BYTES, script_of};
+use schedule::{Config, Replies, ScheduleError, Transcript, run_schedule};
+use std::alloc::{AllocError, Global};
+use std::io;
+use std::io::{BufWriter, ErrorKind, Read, Write};
+use std::process::ExitCode;
+
+// Why not every reply is printed.
+#[derive(Drop)]
+enum PrintError {
+    OutOfMemory,
+    CannotWrite,
+}
+
+impl From<AllocError> for PrintError {
+    ghost from_gives = { λ _ error. error ≡ OutOfMemory };
+
+    fn from(_error: AllocError) -> PrintError {
+        PrintError::OutOfMemory
+    }
+}
+
+impl From<io::Error> for PrintError {
+    ghost from_gives = { λ _ error. error ≡ CannotWrite };
+
+    fn from(_error: io::Error) -> PrintError {
+        PrintError::CannotWrite
+    }
+}
+
+// The input to its end, or as much of it as shows that it is too long for a script.
+fn read_input<R: Read>(alloc: Global, input: &mut R) -> Result<Vec<u8>, Fault>
+    ensures { IfOk result (λ bytes. IfSome (R.remaining input.old) (λ text. bytes.items ≡ take 4000001 text)) }
+{
+    let mut bytes = Vec::new(alloc);
+    let most = MAX_SCRIPT_BYTES as u64 + 1;
+    match input.take(most).read_to_end(&mut bytes) {
+        Ok(_) => Ok(bytes),
+        Err(error) if error.kind() == ErrorKind::OutOfMemory => Err(Fault::OutOfMemory),
+        Err(_) => Err(Fault::CannotRead),
+    }
+}
+
+// What the steps of the script that is read reply.
+fn transcript_of<R: Read>(alloc: Global, input: &mut R) -> Result<Transcript, Fault>
+    ensures { OnOk result (IfSome (R.remaining input.old) IsScript) }
+{
+    let bytes = read_input(alloc, input)?;
+    let steps = script_of(alloc, bytes.as_slice())?;
+    match run_schedule(alloc, &Config { start: 0 }, steps.as_slice()) {
+        Ok(transcript) => Ok(transcript),
+        Err(ScheduleError::Memory) => Err(Fault::OutOfMemory),
+    }
+}
+
+// Prints a line for each reply, in order.
+fn write_lines<W: Write>(
+    alloc: Global,
+    output: &mut W,
+    replies: &Replies,
+) -> Result<(), PrintError> {
+    let mut line = String::new(alloc);
+    for (index, reply) in replies.as_slice().iter().enumerate() {
+        make_line(alloc, &mut line, index + 1, reply)?;
+        output.write_all(line.as_bytes())?;
+    }
+    output.flush()?;
+    Ok(())
+}
+
+// The same, through a buffer.
+fn print_replies<W: Write>(
+    alloc: Global,
+    output: &mut W,
+    replies: &Replies,
+) -> Result<(), PrintError> {
+    match BufWriter::new(alloc, output) {
+        Ok(mut buffered) => write_lines(alloc, &mut buffered, replies),
+        Err(_) => Err(PrintError::OutOfMemory),
+    }
+}
+
+/// Prints the line of a fault, and answers the exit status, which is 1.
+pub fn refuse<E: Write>(errors: &mut E, fault: Fault) -> ExitCode
+    ensures { exit_status result ≡ 1 }
+{
+    let _ = writeln!(errors, "{fault}");
+    ExitCode::FAILURE
+}
+
+/// Reads a script, runs its steps over an empty database and prints a line for each on `output`. A script is read and
+/// checked whole before its first step runs; where that fails a line on `errors` says why, and nothing is printed on
+/// `output`. Answers the exit status: 0, or 1 for such a fault, for want of memory and where `output` can't be written.
+pub fn run<R: Read, W: Write, E: Write>(
+    alloc: Global,
+    input: &mut R,
+    output: &mut W,
+    errors: &mut E,
+) -> ExitCode
+    ensures status { exit_status result ≤ 1 }
+    ensures script { exit_status result ≡ 0 → IfSome (R.remaining input.old) IsScript }
+    ensures quiet { exit_status result ≡ 0 → E.contents errors.new ≡ E.contents errors.old }
+{
+    let transcript = match transcript_of(alloc, input) {
+        Ok(transcript) => transcript,
+        Err(fault) => return refuse(errors, fault),
+    };
+    match print_replies(alloc, output, &transcript.replies) {
+        Ok(()) => ExitCode::SUCCESS,
+        Err(PrintError::OutOfMemory) => refuse(errors, Fault::OutOfMemory),
+        Err(PrintError::CannotWrite) => ExitCode::FAILURE,
+    }
+}
