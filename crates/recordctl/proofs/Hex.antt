@@ -1,18 +1,19 @@
 -- Bytes as an object of JSON.
-use Rattle.std.proofs.Common.{◌≡◌, ℕ, ◌<◌, List, [], slice_index, codes, Some, String, BTreeMap, Global, string_bytes, rules}
+use Rattle.std.proofs.Common.{◌≡◌, ℕ, ◌<◌, List, slice_index, codes, Some, Result, Ok, Err, IfOk, ap, ◌∙◌}
 use Rattle.hex.proofs.HexLemmas.{decode_of-encode_lower}
 use Rattle.hex.specs.Hex.{encode_lower}
+use Rattle.metadata.specs.declared.cells.Cell.{Cell}
 use Rattle.metadata.specs.declared.cells.Cell.TheVariants.{Bytes}
-use Rattle.serde_json.proofs.Views.{Entry, view-Object}
-use Rattle.serde_json.specs.Data.{string, put}
-use Rattle.serde_json.specs.View.{view, members_view}
-use Rattle.serde_json.specs.declared.value.Value as value
+use Rattle.serde_json.specs.View.{view}
+use Rattle.serde_json.specs.declared.value.Value.{Value}
 use Rattle.recordctl.specs.CellJson.{cell_in}
+use Rattle.recordctl.specs.Json.{labelled}
 
-view_text : (text : String Global) → view (value.String text) ≡ string (string_bytes text)
-view_text text = search (rules, value.the_lemmas)
+hex_stands : (text content : List ℕ) → ((i : ℕ) → slice_index content i < 256) → text ≡ encode_lower content → cell_in (labelled (codes "hex") text) ≡ Some (Bytes content)
+hex_stands text content small e = rw (e, decode_of-encode_lower content small)
 
-pub hex_object : (m : BTreeMap (String Global) value.Value) (text : String Global) (before : List Entry) (bytes : List ℕ) → ((i : ℕ) → slice_index bytes i < 256)
-    → string_bytes text ≡ encode_lower bytes → before ≡ [] → members_view m.entries ≡ put (codes "hex") (view (value.String text)) (members_view before)
-    → cell_in (view (value.Object m)) ≡ Some (Bytes bytes)
-hex_object m text before bytes small e empty h = rw (view-Object m, h, empty, view_text text, e, decode_of-encode_lower bytes small)
+-- what is made stands for the bytes
+pub hex_made : {E : Type 0} (r : Result Value E) (text content : List ℕ) → IfOk r (λ value. view value ≡ labelled (codes "hex") text) → ((i : ℕ) → slice_index content i < 256) → text ≡ encode_lower content
+    → IfOk r (λ value. cell_in (view value) ≡ Some (Bytes content))
+hex_made (Ok value) text content is small e = ap cell_in is ∙ hex_stands text content small e
+hex_made (Err error) text content is small e = tt

@@ -1,17 +1,15 @@
 -- The cells that JSON stands for.
 use Rattle.std.specs.Prelude.{◌≡◌, ℕ, List, codes, Option, Some, None, option_map, option_and_then}
-use Rattle.std.specs.Result.{result_ok}
-use Rattle.hex.specs.Hex.{decode_of}
 use Rattle.serde_json.specs.Data.{Data, null, boolean, number, string, array, object}
-use Rattle.serde_json.specs.Find.{as_i64, as_str}
+use Rattle.serde_json.specs.Find.{as_i64}
 use Rattle.serde_json.specs.Read.{read}
 use Rattle.metadata.specs.declared.cells.Cell.{Cell}
 use Rattle.metadata.specs.declared.cells.Cell.TheVariants.{Null, Int, Text, Bytes}
-use Rattle.recordctl.specs.Json.{only_member, all_in}
+use Rattle.recordctl.specs.Json.{only_member, all_in, hex_in}
 
 -- the bytes that a value stands for: pairs of hexadecimal digits at its one key
 abbrev pub bytes_in : Data → Option (List ℕ)
-bytes_in d = option_and_then (λ digits. result_ok (decode_of digits)) (option_and_then as_str (only_member (codes "hex") d))
+bytes_in d = option_and_then hex_in (only_member (codes "hex") d)
 
 -- the cell that a value stands for
 abbrev pub cell_in : Data → Option Cell

@@ -4,10 +4,9 @@ ghost use Rattle.serde_json.specs.View.{view};
 ghost use Rattle.recordctl.specs.CellJson.{IsTextOfCells, IsTextOfRows, bytes_in, cell_in, cells_in, rows_in};
 
 use crate::fault::PartError;
-use crate::form::{list_of, only_member, str_of, text_of};
-use hex::FromHexError;
+use crate::form::{hex_of, labelled, list_of, only_member, text_of};
 use metadata::{Cell, Cells};
-use serde_json::{Map, Value, put};
+use serde_json::Value;
 use std::alloc::{AllocError, Global};
 use tuple_codec::ByteString;
 
@@ -16,12 +15,8 @@ fn bytes_of(alloc: Global, value: &Value) -> Result<ByteString, PartError>
     ensures ok { IfOk result (λ bytes. bytes_in (view value.now) ≡ Some bytes) }
     ensures err { IfErr result (λ error. error ≡ PartError.BadForm → bytes_in (view value.now) ≡ None) }
 {
-    let digits = str_of(only_member(value, "hex")?)?;
-    match hex::decode(alloc, digits) {
-        Ok(bytes) => Ok(ByteString::new(bytes)),
-        Err(FromHexError::OutOfMemory) => Err(PartError::OutOfMemory),
-        Err(_) => Err(PartError::BadForm),
-    }
+    let bytes = hex_of(alloc, only_member(value, "hex")?)?;
+    Ok(ByteString::new(bytes))
 }
 
 // The cell that a value stands for.
@@ -58,10 +53,7 @@ fn hex_value(alloc: Global, bytes: &[u8]) -> Result<Value, AllocError>
     ensures read { IfOk result (λ value. cell_in (view value) ≡ Some (Cell.Bytes bytes.now)) }
     ensures depth { IfOk result (λ value. depth (view value) ≤ 1) }
 {
-    let digits = hex::encode(alloc, bytes)?;
-    let mut members = Map::new(alloc);
-    put(&mut members, alloc, "hex", Value::String(digits))?;
-    Ok(Value::Object(members))
+    labelled(alloc, "hex", hex::encode(alloc, bytes)?)
 }
 
 // What stands for a cell.

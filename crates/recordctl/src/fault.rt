@@ -3,8 +3,9 @@ ghost use Rattle.recordctl.specs.declared.fault.PartError.TheVariants.{OutOfMemo
 
 use std::alloc::{AllocError, AllocFailed};
 use thiserror::Error;
+use tuple_codec::UnpackErrorKind;
 
-/// Why no step of a script is run. Its text is the line on standard error.
+/// Why a command doesn't do its work. Its text is the line on standard error.
 #[derive(Clone, Copy, Debug, PartialEq, Eq, Drop, Error)]
 pub enum Fault {
     /// The input can't be read.
@@ -13,9 +14,25 @@ pub enum Fault {
     /// The script is refused at this step, counted from 1; 0 is the script's frame.
     #[error("bad script at step {0}")]
     BadScript(usize),
+    /// A word of the command line isn't of its form.
+    #[error("bad argument")]
+    BadArgument,
+    /// The bytes spell no tuple: what is wrong with the first element that is refused, and the place where it begins.
+    #[error("refused {0:?} at {1}")]
+    Refused(UnpackErrorKind, usize),
     /// Memory is wanting.
     #[error("out of memory")]
     OutOfMemory,
+}
+
+impl From<AllocError> for Fault {
+    ghost use Rattle.recordctl.specs.declared.fault.Fault.{Fault};
+
+    ghost from_gives = { λ _ fault. fault ≡ Fault.OutOfMemory };
+
+    fn from(_error: AllocError) -> Fault {
+        Fault::OutOfMemory
+    }
 }
 
 /// Why a part of a script isn't read.
@@ -44,14 +61,22 @@ impl<T: Drop> From<AllocFailed<T>> for PartError {
 }
 
 impl PartError {
+    // This error as a fault, where a bad form is the given one.
+    pub(crate) fn fault(self, bad_form: Fault) -> Fault
+        ensures form { self ≡ PartError.BadForm → result ≡ bad_form }
+        ensures memory { self ≡ PartError.OutOfMemory → result ≡ Fault.OutOfMemory }
+    {
+        match self {
+            PartError::BadForm => bad_form,
+            PartError::OutOfMemory => Fault::OutOfMemory,
+        }
+    }
+
     // The fault of a script with this error in the step of this number.
     pub(crate) fn at(self, step: usize) -> Fault
         ensures form { self ≡ PartError.BadForm → result ≡ Fault.BadScript step }
         ensures memory { self ≡ PartError.OutOfMemory → result ≡ Fault.OutOfMemory }
     {
-        match self {
-            PartError::BadForm => Fault::BadScript(step),
-            PartError::OutOfMemory => Fault::OutOfMemory,
-        }
+        self.fault(Fault::BadScript(step))
     }
 }

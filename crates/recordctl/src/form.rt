@@ -1,11 +1,12 @@
-ghost use Rattle.std.specs.Prelude.{◌≡◌, ◌↔◌, Some, None, IsTrue, IfOk, IfErr, option_and_then, map};
+ghost use Rattle.std.specs.Prelude.{◌≡◌, ◌↔◌, Some, None, IsTrue, IfOk, IfErr, option_and_then, map, string_bytes};
 ghost use Rattle.serde_json.specs.Find.{as_number, as_str, as_u64, get};
 ghost use Rattle.serde_json.specs.View.{view};
-ghost use Rattle.recordctl.specs.Json.{key_count, list_in, only_member};
+ghost use Rattle.recordctl.specs.Json.{hex_in, key_count, labelled, list_in, only_member};
 
 use crate::fault::PartError;
-use serde_json::Value;
-use std::alloc::Global;
+use hex::FromHexError;
+use serde_json::{Map, Value, put};
+use std::alloc::{AllocError, Global};
 use tuple_codec::Text;
 
 // The items of a list.
@@ -34,6 +35,18 @@ pub(crate) fn text_of(alloc: Global, value: &Value) -> Result<Text, PartError>
 {
     let text = String::from_str(alloc, str_of(value)?)?;
     Ok(Text::new(text))
+}
+
+// The bytes that a text writes in pairs of hexadecimal digits.
+pub(crate) fn hex_of(alloc: Global, value: &Value) -> Result<Vec<u8>, PartError>
+    ensures ok { IfOk result (λ bytes. hex_in (view value.now) ≡ Some bytes.items) }
+    ensures err { IfErr result (λ error. error ≡ PartError.BadForm → hex_in (view value.now) ≡ None) }
+{
+    match hex::decode(alloc, str_of(value)?) {
+        Ok(bytes) => Ok(bytes),
+        Err(FromHexError::OutOfMemory) => Err(PartError::OutOfMemory),
+        Err(_) => Err(PartError::BadForm),
+    }
 }
 
 // The number of a client.
@@ -74,4 +87,13 @@ pub(crate) fn only_member<'a>(object: &'a Value, key: &str) -> Result<&'a Value,
     } else {
         Err(PartError::BadForm)
     }
+}
+
+// An object of one key, at which a text stands.
+pub(crate) fn labelled(alloc: Global, key: &str, text: String) -> Result<Value, AllocError>
+    ensures { IfOk result (λ value. view value ≡ labelled key.now (string_bytes text)) }
+{
+    let mut members = Map::new(alloc);
+    put(&mut members, alloc, key, Value::String(text))?;
+    Ok(Value::Object(members))
 }

@@ -1,4 +1,4 @@
-//! The program `recordctl`: runs scripts of steps over a record store.
+//! The program `recordctl`: runs scripts of steps over a record store, and packs and unpacks tuples.
 #![tactic(auto)]
 
 mod cell_json;
@@ -10,6 +10,10 @@ mod schema_json;
 mod script;
 #[cfg(test)]
 mod tests;
+mod tuple_json;
+#[cfg(test)]
+mod tuple_tests;
+mod tuples;
 
 use clap::error::ErrorKind;
 use clap::{Arg, ArgMatches, Command, Error};
@@ -19,6 +23,7 @@ use std::alloc::{AllocError, Global};
 use std::fs::File;
 use std::process::ExitCode;
 use std::{env, io};
+use tuples::{pack, unpack};
 
 // The status of a command line that isn't taken.
 const BAD_COMMAND_LINE: u8 = 2;
@@ -29,10 +34,24 @@ fn command_line<'a>(alloc: Global) -> Result<Command<'a>, AllocError> {
     let run = Command::new(alloc, "run")
         .about("Runs the steps of a script and prints what each replies")
         .arg(file)?;
+    let json = Arg::new(alloc, "JSON")
+        .help("The tuple, as a list")
+        .required(true);
+    let pack = Command::new(alloc, "pack")
+        .about("Prints the pack of a tuple in hexadecimal digits")
+        .arg(json)?;
+    let hex = Arg::new(alloc, "HEX")
+        .help("The bytes, in hexadecimal digits")
+        .required(true);
+    let unpack = Command::new(alloc, "unpack")
+        .about("Prints the tuple that bytes spell")
+        .arg(hex)?;
     Command::new(alloc, "recordctl")
-        .about("Runs scripts over a record store")
+        .about("Runs scripts over a record store, and packs and unpacks tuples")
         .subcommand_required(true)
-        .subcommand(run)
+        .subcommand(run)?
+        .subcommand(pack)?
+        .subcommand(unpack)
 }
 
 // What the words of the command line ask for.
@@ -73,8 +92,16 @@ fn perform(rt: &HostRuntime, words: &[String]) -> ExitCode {
         Ok(matches) => matches,
         Err(error) => return refuse_command_line(rt, &error),
     };
-    let run = matches.subcommand_matches("run");
-    match run.and_then(|run| run.get_str("FILE")) {
+    let pack_words = matches.subcommand_matches("pack");
+    if let Some(word) = pack_words.and_then(|words| words.get_str("JSON")) {
+        return pack(rt.alloc(), word, &mut rt.stdout(), &mut rt.stderr());
+    }
+    let unpack_words = matches.subcommand_matches("unpack");
+    if let Some(word) = unpack_words.and_then(|words| words.get_str("HEX")) {
+        return unpack(rt.alloc(), word, &mut rt.stdout(), &mut rt.stderr());
+    }
+    let run_words = matches.subcommand_matches("run");
+    match run_words.and_then(|words| words.get_str("FILE")) {
         Some(path) => run_file(rt, path),
         None => run_standard_input(rt),
     }

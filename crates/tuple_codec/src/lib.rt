@@ -1,4 +1,5 @@
-// The tuple encoding: the packed form of a tuple of typed elements, whose byte order is the order of tuples.
+//! The tuple encoding of FoundationDB's `design/tuple.md`: the packed form of a tuple of typed elements, whose byte order
+//! is the order of tuples, and the keys under a prefix.
 #![tactic(auto)]
 
 ghost use Rattle.std.specs.Prelude.{◌≡◌, ◌<◌, ◌≤◌, ◌^◌, ◌↔◌, ℤ, pos, List, [], ◌∷◌, ◌++◌, map, length, IsSome, IfOk, IfErr, SomeIff, IsTrue, string_bytes};
@@ -6,10 +7,13 @@ ghost use Rattle.tuple_codec.specs.Item.{magnitude};
 ghost use Rattle.tuple_codec.specs.Writing.{IsSigned};
 ghost use Rattle.tuple_codec.specs.Reading.{signed};
 
+#[cfg(test)]
+mod changes;
 mod keys;
 mod nest;
 mod order;
 mod read;
+mod room;
 #[cfg(test)]
 mod tests;
 mod unpacking;
@@ -19,6 +23,7 @@ pub use keys::{integers_do_not_begin_each_other, keys_are_tuples, prefixes_are_r
 pub use order::compare;
 use std::alloc::{AllocError, Global};
 use std::marker::Model;
+use thiserror::Error;
 pub use unpacking::{
     bytes_are_spelled_or_refused, packs_are_ordered, spellings_are_unique, unpack,
 };
@@ -46,7 +51,7 @@ impl Model for TupleInt {
 }
 
 impl TupleInt {
-    /// The number, where it is one of a tuple.
+    /// The number, where its magnitude is at most `2^64 - 1`, and else None. It takes no memory.
     pub fn new(value: i128) -> Option<TupleInt>
         ensures { SomeIff result (magnitude value < 2 ^ 64) value }
     {
@@ -57,7 +62,7 @@ impl TupleInt {
         }
     }
 
-    /// The number as a machine's.
+    /// The number, whose magnitude is at most `2^64 - 1`.
     pub fn get(self) -> i128
         ensures value { result ≡ self }
         ensures fits { magnitude result < 2 ^ 64 }
@@ -133,25 +138,28 @@ impl Model for ByteString {
 }
 
 impl ByteString {
+    /// These bytes, which may be any.
     pub fn new(bytes: Vec<u8>) -> ByteString
         ensures { result ≡ bytes.items }
     {
         ByteString { bytes }
     }
 
+    /// The bytes.
     pub fn as_slice(&self) -> &[u8]
         ensures { result.now ≡ self.now }
     {
         self.bytes.as_slice()
     }
 
+    /// The bytes, handed back.
     pub fn into_vec(self) -> Vec<u8>
         ensures { result.items ≡ self }
     {
         self.bytes
     }
 
-    /// An equal byte string.
+    /// An equal byte string, unless memory is wanting.
     pub fn copy(&self) -> Result<ByteString, AllocError>
         ensures { IfOk result (λ copy. copy ≡ self.now) }
     {
@@ -176,25 +184,28 @@ impl Model for Text {
 }
 
 impl Text {
+    /// This text.
     pub fn new(text: String) -> Text
         ensures { result ≡ string_bytes text }
     {
         Text { text }
     }
 
+    /// The text.
     pub fn as_str(&self) -> &str
         ensures { result.now ≡ self.now }
     {
         self.text.as_str()
     }
 
+    /// The text, handed back.
     pub fn into_string(self) -> String
         ensures { string_bytes result ≡ self }
     {
         self.text
     }
 
-    /// An equal text.
+    /// An equal text, unless memory is wanting.
     pub fn copy(&self) -> Result<Text, AllocError>
         ensures { IfOk result (λ copy. copy ≡ self.now) }
     {
@@ -203,12 +214,18 @@ impl Text {
     }
 }
 
+/// What is wrong with an element.
 #[derive(Clone, Copy, Debug, PartialEq, Eq, Drop)]
 pub enum UnpackErrorKind {
+    /// No element begins with this byte.
     UnknownCode,
+    /// The bytes end inside the element.
     Truncated,
+    /// A whole number is written in more bytes than it needs.
     NotMinimal,
+    /// A text isn't UTF-8.
     NotUtf8,
+    /// A nested tuple would be the 17th level.
     TooDeep,
 }
 
@@ -216,13 +233,21 @@ pub enum UnpackErrorKind {
 #[cycle(tuple)]
 #[derive(Drop)]
 pub enum Element {
+    /// Nothing.
     Null,
+    /// A byte string.
     Bytes(ByteString),
+    /// A text.
     Text(Text),
+    /// A tuple within the tuple.
     Nested(Tuple),
+    /// A whole number.
     Int(TupleInt),
+    /// False or true.
     Bool(bool),
+    /// A UUID.
     Uuid(Uuid),
+    /// A versionstamp of 96 bits.
     Stamp([u8; 12]),
 }
 
@@ -265,7 +290,8 @@ pub enum TupleError {
 }
 
 /// The first element of the bytes that a reader refuses.
-#[derive(Drop)]
+#[derive(Clone, Copy, Debug, PartialEq, Eq, Drop, Error)]
+#[error("{kind:?} at {at}")]
 pub struct UnpackError {
     /// Where its first byte stands.
     pub at: usize,
@@ -274,9 +300,13 @@ pub struct UnpackError {
 }
 
 /// Why bytes were not unpacked.
-#[derive(Drop)]
+#[derive(Clone, Copy, Debug, PartialEq, Eq, Drop, Error)]
 pub enum UnpackFailure {
+    /// Memory is wanting.
+    #[error("out of memory")]
     Memory,
+    /// The bytes spell no tuple.
+    #[error("refused: {0}")]
     Refused(UnpackError),
 }
 
@@ -302,11 +332,15 @@ pub struct SubspaceRange {
 }
 
 /// Why a key has no tuple in a subspace.
-#[derive(Drop)]
+#[derive(Clone, Copy, Debug, PartialEq, Eq, Drop, Error)]
 pub enum StripError {
+    /// Memory is wanting.
+    #[error("out of memory")]
     Memory,
     /// The key does not begin with the prefix.
+    #[error("outside the subspace")]
     Outside,
     /// What stands behind the prefix is refused, at a place counted from there.
+    #[error("refused behind the prefix: {0}")]
     Bad(UnpackError),
 }

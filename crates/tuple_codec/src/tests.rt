@@ -1,4 +1,5 @@
 // Worked rows of the encoding, from outside.
+use crate::changes::{CHANGES, PACK, PREFIXES};
 use crate::keys::strinc;
 use crate::unpacking::unpack;
 use crate::write::{pack, pack_into};
@@ -25,7 +26,7 @@ fn packed(alloc: Global, value: i128) -> Option<Vec<u8>> {
 
 #[test]
 fn packs_integers(rt: HostRuntime) {
-    let rows: [(i128, &[u8]); 8] = [
+    let rows: [(i128, &[u8]); 9] = [
         (0, &[0x14]),
         (-1, &[0x13, 0xfe]),
         (255, &[0x15, 0xff]),
@@ -33,13 +34,18 @@ fn packs_integers(rt: HostRuntime) {
         (-255, &[0x13, 0x00]),
         (-256, &[0x12, 0xfe, 0xff]),
         (-5551212, &[0x11, 0xab, 0x4b, 0x93]),
+        (
+            18446744073709551615,
+            &[0x1c, 255, 255, 255, 255, 255, 255, 255, 255],
+        ),
         (-18446744073709551615, &[0x0c, 0, 0, 0, 0, 0, 0, 0, 0]),
     ];
     for (value, bytes) in rows {
         let found = packed(rt.alloc(), value);
         assert_eq!(rt; found.as_deref(), Some(bytes), "{value}");
     }
-    assert_eq!(rt; packed(rt.alloc(), 18446744073709551616).is_none(), true);
+    assert_eq!(rt; TupleInt::new(18446744073709551616).is_none(), true);
+    assert_eq!(rt; TupleInt::new(-18446744073709551616).is_none(), true);
 }
 
 #[test]
@@ -82,6 +88,49 @@ fn refuses(rt: HostRuntime) {
     for (bytes, kind, at) in rows {
         assert_eq!(rt; refusal(rt.alloc(), bytes), Some((kind, at)));
     }
+}
+
+#[test]
+fn refuses_as_the_grammar_does(rt: HostRuntime) -> Result<(), Fail> {
+    let alloc = rt.alloc();
+    for (length, expected) in PREFIXES.iter().enumerate() {
+        assert_eq!(rt;
+            refusal(alloc, &PACK[..length]),
+            *expected,
+            "prefix of {length}"
+        );
+    }
+    for (place, byte, expected) in CHANGES {
+        let mut bytes = Vec::from_slice(alloc, &PACK)?;
+        bytes[place] = byte;
+        assert_eq!(rt;
+            refusal(alloc, bytes.as_slice()),
+            expected,
+            "{byte} at {place}"
+        );
+    }
+    Ok(())
+}
+
+#[test]
+fn refuses_long_bytes(rt: HostRuntime) -> Result<(), Fail> {
+    let alloc = rt.alloc();
+    let deep = vec![in alloc; 5u8; 10_000]?;
+    assert_eq!(rt;
+        refusal(alloc, deep.as_slice()),
+        Some((UnpackErrorKind::TooDeep, 16))
+    );
+    let mut open = vec![in alloc; 1u8]?;
+    for _ in 0..5_000 {
+        open.extend_from_slice(&[0, 255])?;
+    }
+    assert_eq!(rt;
+        refusal(alloc, open.as_slice()),
+        Some((UnpackErrorKind::Truncated, 0))
+    );
+    open.push(0)?;
+    assert_eq!(rt; refusal(alloc, open.as_slice()), None);
+    Ok(())
 }
 
 #[test]

@@ -1,0 +1,25 @@
+//! Measures the crates: `bench tuples` packs and unpacks tuples. It prints what it measured.
+#![tactic(auto)]
+
+mod tuples;
+
+use std::process::ExitCode;
+use std::{env, io};
+
+// The name of the benchmark that the command line asks for, if it is one.
+fn asked(rt: &HostRuntime) -> io::Result<Option<String>> {
+    let mut words: Vec<String> = env::args(rt)?.collect(rt.alloc())?;
+    let word = words.pop();
+    Ok(if words.len() == 1 { word } else { None })
+}
+
+fn main(rt: HostRuntime) -> io::Result<ExitCode> {
+    match asked(&rt)?.as_deref() {
+        Some("tuples") => tuples::measure(&rt)?,
+        _ => {
+            rt.eprintln("usage: bench tuples")?;
+            return Ok(ExitCode::from(2));
+        }
+    }
+    Ok(ExitCode::SUCCESS)
+}

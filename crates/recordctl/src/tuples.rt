@@ -1,0 +1,133 @@
+ghost use Rattle.std.specs.Prelude.{◌≡◌, ◌≤◌, List, ℕ, Some, Ok, IfOk, IfErr, OnOk, MatchOption, MatchResult, string_bytes};
+ghost use Rattle.std.specs.Io.KnownBytes.{Appends};
+ghost use Rattle.std.specs.Process.{exit_status};
+ghost use Rattle.hex.specs.Hex.{decode_of};
+ghost use Rattle.recordctl.specs.TupleJson.{tuple_of_text};
+ghost use Rattle.recordctl.specs.TupleLines.{packed_line, IsUnpackedLine, explains_pack, explains_unpack};
+
+use crate::fault::Fault;
+use crate::run::refuse;
+use crate::tuple_json::{tuple_of, tuple_text};
+use hex::FromHexError;
+use serde_json::Value;
+use std::alloc::Global;
+use std::io;
+use std::io::Write;
+use std::process::ExitCode;
+use tuple_codec::{Tuple, UnpackFailure, pack as pack_tuple, unpack as unpack_tuple};
+
+// The tuple that a text of JSON stands for.
+fn read_tuple(alloc: Global, word: &str) -> Result<Tuple, Fault>
+    ensures ok { IfOk result (λ tuple. tuple_of_text word.now ≡ Some tuple) }
+    ensures err { IfErr result (explains_pack word.now) }
+{
+    let value = match Value::from_str(alloc, word) {
+        Ok(value) => value,
+        Err(error) if error.is_memory() => return Err(Fault::OutOfMemory),
+        Err(_) => return Err(Fault::BadArgument),
+    };
+    match tuple_of(alloc, &value) {
+        Ok(tuple) => Ok(tuple),
+        Err(error) => Err(error.fault(Fault::BadArgument)),
+    }
+}
+
+// The line that `pack` prints for a word of the command line.
+fn line_of_pack(alloc: Global, word: &str) -> Result<String, Fault>
+    ensures ok { IfOk result (λ line. MatchOption (tuple_of_text word.now) ⊥ (λ tuple. string_bytes line ≡ packed_line tuple)) }
+    ensures err { IfErr result (explains_pack word.now) }
+{
+    let tuple = read_tuple(alloc, word)?;
+    let bytes = pack_tuple(alloc, &tuple)?;
+    let mut line = hex::encode(alloc, bytes.as_slice())?;
+    line.push_str("\n")?;
+    Ok(line)
+}
+
+// The bytes that a word writes in hexadecimal digits.
+fn bytes_of(alloc: Global, word: &str) -> Result<Vec<u8>, Fault>
+    ensures ok { IfOk result (λ bytes. decode_of word.now ≡ Ok bytes.items) }
+    ensures err { IfErr result (explains_unpack word.now) }
+{
+    match hex::decode(alloc, word) {
+        Ok(bytes) => Ok(bytes),
+        Err(FromHexError::OutOfMemory) => Err(Fault::OutOfMemory),
+        Err(_) => Err(Fault::BadArgument),
+    }
+}
+
+// The line that `unpack` prints for a word of the command line.
+fn line_of_unpack(alloc: Global, word: &str) -> Result<String, Fault>
+    ensures ok { IfOk result (λ line. IsUnpackedLine word.now (string_bytes line)) }
+    ensures err { IfErr result (explains_unpack word.now) }
+{
+    let bytes = bytes_of(alloc, word)?;
+    let tuple = match unpack_tuple(alloc, bytes.as_slice()) {
+        Ok(tuple) => tuple,
+        Err(UnpackFailure::Memory) => return Err(Fault::OutOfMemory),
+        Err(UnpackFailure::Refused(error)) => return Err(Fault::Refused(error.kind, error.at)),
+    };
+    let mut line = tuple_text(alloc, &tuple)?;
+    line.push_str("\n")?;
+    Ok(line)
+}
+
+// Writes a line.
+fn write_line<W: Write>(output: &mut W, line: &str) -> io::Result<()>
+    ensures { OnOk result (Appends (W.contents output.old) (W.contents output.new) line.now) }
+{
+    output.write_all(line.as_bytes())?;
+    output.flush()
+}
+
+// Prints a line, or the line of a fault, and answers the exit status.
+fn print_line<W: Write, E: Write>(
+    output: &mut W,
+    errors: &mut E,
+    line: Result<String, Fault>,
+) -> ExitCode
+    ensures status { exit_status result ≤ 1 }
+    ensures printed { exit_status result ≡ 0 → MatchResult line (λ text. Appends (W.contents output.old) (W.contents output.new) (string_bytes text)) (λ _. ⊥) }
+    ensures quiet { exit_status result ≡ 0 → E.contents errors.new ≡ E.contents errors.old }
+{
+    let line = match line {
+        Ok(line) => line,
+        Err(fault) => return refuse(errors, fault),
+    };
+    match write_line(output, line.as_str()) {
+        Ok(()) => ExitCode::SUCCESS,
+        Err(_) => ExitCode::FAILURE,
+    }
+}
+
+/// Prints the pack of the tuple that a JSON text stands for, in lower-case hexadecimal digits and a line of its own. Answers
+/// the exit status: 0, or 1 with a line on `errors` where the text stands for no tuple (`bad argument`) or memory is
+/// wanting, and 1 without one where `output` can't be written.
+pub fn pack<W: Write, E: Write>(
+    alloc: Global,
+    word: &str,
+    output: &mut W,
+    errors: &mut E,
+) -> ExitCode
+    ensures status { exit_status result ≤ 1 }
+    ensures printed { exit_status result ≡ 0 → MatchOption (tuple_of_text word.now) ⊥ (λ tuple. Appends (W.contents output.old) (W.contents output.new) (packed_line tuple)) }
+    ensures quiet { exit_status result ≡ 0 → E.contents errors.new ≡ E.contents errors.old }
+{
+    print_line(output, errors, line_of_pack(alloc, word))
+}
+
+/// Prints the tuple that bytes spell, which the word writes in hexadecimal digits, as JSON on a line of its own. Answers
+/// the exit status: 0, or 1 with a line on `errors` where the word isn't of such digits (`bad argument`), the bytes are
+/// refused (`refused NAME at N`) or memory is wanting, and 1 without one where `output` can't be written.
+pub fn unpack<W: Write, E: Write>(
+    alloc: Global,
+    word: &str,
+    output: &mut W,
+    errors: &mut E,
+) -> ExitCode
+    ensures status { exit_status result ≤ 1 }
+    ensures printed { exit_status result ≡ 0 → (line : List ℕ) × IsUnpackedLine word.now line × Appends (W.contents output.old) (W.contents output.new) line }
+    ensures quiet { exit_status result ≡ 0 → E.contents errors.new ≡ E.contents errors.old }
+{
+    print_line(output, errors, line_of_unpack(alloc, word))
+}
