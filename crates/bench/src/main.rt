@@ -1,6 +1,8 @@
-//! Measures the crates: `bench tuples` packs and unpacks tuples. It prints what it measured.
+//! Measures the crates: `bench tuples` packs and unpacks tuples, `bench ranges` fills lists of ranges. It
+//! prints what it measured.
 #![tactic(auto)]
 
+mod ranges;
 mod tuples;
 
 use std::process::ExitCode;
@@ -15,9 +17,10 @@ fn asked(rt: &HostRuntime) -> io::Result<Option<String>> {
 
 fn main(rt: HostRuntime) -> io::Result<ExitCode> {
     match asked(&rt)?.as_deref() {
+        Some("ranges") => ranges::measure(&rt)?,
         Some("tuples") => tuples::measure(&rt)?,
         _ => {
-            rt.eprintln("usage: bench tuples")?;
+            rt.eprintln("usage: bench ranges|tuples")?;
             return Ok(ExitCode::from(2));
         }
     }

@@ -6,5 +6,9 @@ pub mod Listed
 pub mod Rows
 pub mod Covering
 pub mod Stored
+pub mod Stretches
+pub mod Swallowed
+pub mod Growth
+pub mod Indexes
 pub mod Sums
 pub mod Refusals

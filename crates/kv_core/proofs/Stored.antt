@@ -1,18 +1,20 @@
 -- A map of the standard library against the finite map that it stands for.
-use Rattle.std.proofs.Common.{◌≡◌, ℕ, zero, Bool, true, false, cond, not, ◌&&◌, suc, ◌+◌, ◌-◌, ◌<◌, ◌≤◌, length, take, drop, get_or, reverse, T, arith, None, Some, List, [], ◌∷◌, ◌++◌, inl, inr, refl, sym, ap, subst, ◌∙◌}
-use Rattle.std.proofs.lemmas.Bool.{true≢false, cases_Bool, false_from_ne_true}
-use Rattle.std.proofs.lemmas.Cmp.{nat_list_cmp_total, tied_itself}
-use Rattle.std.proofs.lemmas.List.{reverse-append}
+use Rattle.std.proofs.Common.{◌≡◌, ℕ, zero, Bool, true, false, cond, not, ◌&&◌, ◌||◌, Option, suc, ◌+◌, ◌-◌, ◌<◌, ◌≤◌, length, take, get_or, reverse, T, arith, None, Some, List, [], ◌∷◌, ◌++◌, refl, sym, ap, subst, ◌∙◌}
+use Rattle.std.proofs.lemmas.Cmp.{nat_list_cmp_total}
+use Rattle.std.proofs.lemmas.List.{reverse-append, take_more}
+use Rattle.std.proofs.lemmas.List.Folds.{list_any-append}
+use Rattle.std.proofs.lemmas.Map.Made.{is_some-lookup}
 use Rattle.std.proofs.lemmas.Map.Entries.{lookup-filter-keys}
 use Rattle.std.specs.declared.cmp.Ordering.{Ordering}
 use Rattle.std.specs.declared.cmp.Ordering.TheVariants.{Less, Equal, Greater}
 use Rattle.std.specs.List.{filter, AllByRecursion}
 use Rattle.std.specs.List.Sorted.{IsStrictlySortedBy}
-use Rattle.std.specs.Map.{keys_of, lookup, remove_entry}
+use Rattle.std.specs.Map.{keys_of, lookup}
+use Rattle.std.specs.Option.{is_some}
 use Rattle.std.specs.BTreeMap.{insert_entry, is_at}
 use Rattle.std.specs.Ordering.{is_lt, is_gt, is_le, is_eq, ordering_reverse, match_ordering}
 use Rattle.std.specs.FinMap.{FinMap, entries, get, insert, retain_keys, from_entries, from_sorted, empty, find, put, is_sorted, entries-from_sorted, get-from_sorted, get-from_entries, get-entries, get-insert}
-use Rattle.kv_core.specs.Bytes.{key_cmp, key_le}
+use Rattle.kv_core.specs.Bytes.{has_key, key_cmp, key_le}
 use Rattle.kv_core.specs.Addition.{added}
 use Rattle.kv_core.specs.Range.{KeyRange, contains, entries_in, entries_outside}
 use Rattle.kv_core.specs.Map.{Map, after, pairs_in}
@@ -24,9 +26,8 @@ use Rattle.std.proofs.lemmas.Map.Keys.{sorted_head, sorted_tail}
 use Rattle.std.proofs.lemmas.Bool.{and_parts}
 use Rattle.kv_core.specs.Range.{is_key_range}
 use Rattle.kv_core.specs.Bytes.{end_of_keys}
-use Rattle.kv_core.proofs.Order.{tied_keys, le_gives, lt_is_gt}
+use Rattle.kv_core.proofs.Order.{tied_keys, tied_swap, le_gives, lt_is_gt}
 use Rattle.kv_core.proofs.Changes.{get-kept, get-set, same_maps}
-use Rattle.kv_core.proofs.Lists.{filter_here, filter_not}
 use Rattle.kv_core.proofs.Pairs.{entries-kept}
 
 abbrev Pair : Type 0
@@ -105,72 +106,30 @@ stored-set es k v = same_maps _ _
     (λ q. get-from_entries nat_list_cmp_total _ q ∙ ap (find key_cmp q) (inserted_is es k v) ∙ find-put key_cmp nat_list_cmp_total q k v es
     ∙ ap (λ o. cond (is_eq (key_cmp q k)) (Some v) o) (sym (get-from_entries nat_list_cmp_total es q)) ∙ sym (get-set (stored es) k v q))
 
-pub stored-cleared : (es : List Pair) (range : KeyRange) → stored (entries_outside range es) ≡ after (ClearRange range) (stored es)
-stored-cleared es range = same_maps _ _
-    (λ q. get-stored (entries_outside range es) q
-    ∙ lookup-filter-keys (is_at (key_cmp q)) (λ k. not (contains range k)) (not (contains range q)) (λ k t. ap (λ x. not (contains range x)) (sym (tied_keys q k t))) es
+-- the keys of a range's entries are gone, and the others stay, where those in the range are taken out
+cleared_at : (range : KeyRange) (es : List Pair) (q : List ℕ) →
+    cond (has_key (keys_of (entries_in range es)) q) None (lookup (is_at (key_cmp q)) es) ≡ cond (not (contains range q)) (lookup (is_at (key_cmp q)) es) None
+cleared_at range es q =
+    ap (λ b. cond b None (lookup (is_at (key_cmp q)) es))
+    (sym (is_some-lookup (is_at (key_cmp q)) (entries_in range es)) ∙ ap is_some (lookup-filter-keys (is_at (key_cmp q)) (contains range) (contains range q) (λ k t. ap (contains range) (sym (tied_keys q k t))) es))
+    ∙ either (contains range q) (lookup (is_at (key_cmp q)) es)
+  where
+    either : (b : Bool) (o : Option (List ℕ)) → cond (is_some (cond b o None)) None o ≡ cond (not b) o None
+    either true (Some v) = refl
+    either true None = refl
+    either false o = refl
+
+pub stored-without : (es new : List Pair) (range : KeyRange) →
+    ((q : List ℕ) → lookup (is_at (key_cmp q)) new ≡ cond (has_key (keys_of (entries_in range es)) q) None (lookup (is_at (key_cmp q)) es)) →
+    stored new ≡ after (ClearRange range) (stored es)
+stored-without es new range gone = same_maps _ _
+    (λ q. get-stored new q ∙ gone q ∙ cleared_at range es q
     ∙ ap (λ o. cond (not (contains range q)) o None) (sym (get-stored es q)) ∙ sym (get-kept (stored es) (λ k. not (contains range k)) q))
 
--- to take out the first entry of a range leaves the others of the range, and all outside it
-head_of : List (List ℕ) → List ℕ
-head_of [] = []
-head_of (k ∷ ks) = k
-
-tail_of : List (List ℕ) → List (List ℕ)
-tail_of [] = []
-tail_of (k ∷ ks) = ks
-
-nothing : {X : Type 0} (P : Type 0) (k : X) (ks : List X) → [] ≡ k ∷ ks → P
-nothing P k ks e = let l : 0 ≡ suc (length ks) = ap length e in absurd (omega (arith, l))
-
-first_inside : (range : KeyRange) (es : List Pair) (k : List ℕ) (ks : List (List ℕ)) → keys_of (entries_in range es) ≡ k ∷ ks → contains range k ≡ true
-unfolding head_of
-first_inside range [] k ks h = nothing _ k ks h
-first_inside range (e ∷ es) k ks h = elim (cases_Bool (contains range e.0)) [
-  | inl here ↦ subst (λ x. contains range x ≡ true) (ap head_of (ap keys_of (sym (filter_here (λ x. contains range x.0) e es here)) ∙ h)) here
-  | inr gone ↦ first_inside range es k ks (ap keys_of (sym (filter_not (λ x. contains range x.0) e es gone)) ∙ h)
-]
-
--- to take out the entry with the first key of a range leaves the others of the range, and all outside it
-pub removed : (range : KeyRange) (es : List Pair) (k : List ℕ) (ks : List (List ℕ)) → keys_of (entries_in range es) ≡ k ∷ ks →
-    (keys_of (entries_in range (remove_entry (is_at (key_cmp k)) es)) ≡ ks) × (entries_outside range (remove_entry (is_at (key_cmp k)) es) ≡ entries_outside range es)
-unfolding head_of tail_of
-removed range [] k ks h = nothing _ k ks h
-removed range (e ∷ es) k ks h = elim (cases_Bool (contains range e.0)) [
-  | inl here ↦
-      let split : e.0 ∷ keys_of (entries_in range es) ≡ k ∷ ks = ap keys_of (sym (filter_here (λ x. contains range x.0) e es here)) ∙ h in
-      let same : e.0 ≡ k = ap head_of split in
-      let at : is_eq (key_cmp k e.0) ≡ true = subst (λ x. is_eq (key_cmp x e.0) ≡ true) same (ap is_eq (tied_itself nat_list_cmp_total e.0)) in
-      let left : remove_entry (is_at (key_cmp k)) (e ∷ es) ≡ es = ap (λ b. cond b es (e ∷ remove_entry (is_at (key_cmp k)) es)) at in (
-        ap (λ xs. keys_of (entries_in range xs)) left ∙ ap tail_of split,
-        ap (entries_outside range) left ∙ sym (filter_not (λ x. not (contains range x.0)) e es (ap not here)),
-      )
-  | inr gone ↦
-      let rest : keys_of (entries_in range es) ≡ k ∷ ks = ap keys_of (sym (filter_not (λ x. contains range x.0) e es gone)) ∙ h in
-      let apart : is_eq (key_cmp k e.0) ≡ false =
-      false_from_ne_true (is_eq (key_cmp k e.0)) (λ t. true≢false (sym (subst (λ x. contains range x ≡ true) (tied_keys k e.0 t) (first_inside range es k ks rest)) ∙ gone)) in
-      let left : remove_entry (is_at (key_cmp k)) (e ∷ es) ≡ e ∷ remove_entry (is_at (key_cmp k)) es = ap (λ b. cond b es (e ∷ remove_entry (is_at (key_cmp k)) es)) apart in
-      let ih = removed range es k ks rest in
-      let out : not (contains range e.0) ≡ true = ap not gone in (
-        ap (λ xs. keys_of (entries_in range xs)) left ∙ ap keys_of (filter_not (λ x. contains range x.0) e (remove_entry (is_at (key_cmp k)) es) gone) ∙ ih.0,
-        ap (entries_outside range) left ∙ filter_here (λ x. not (contains range x.0)) e (remove_entry (is_at (key_cmp k)) es) out ∙ ap (λ xs. e ∷ xs) ih.1
-            ∙ sym (filter_here (λ x. not (contains range x.0)) e es out),
-      )
-]
-
-no_keys : (es : List Pair) → keys_of es ≡ [] → es ≡ []
-no_keys [] h = refl
-no_keys (e ∷ es) h = nothing _ e.0 (keys_of es) (sym h)
-
--- with no entry left in the range, all are outside it
-pub all_without : (range : KeyRange) (es : List Pair) → keys_of (entries_in range es) ≡ [] → entries_outside range es ≡ es
-all_without range [] h = refl
-all_without range (e ∷ es) h = elim (cases_Bool (contains range e.0)) [
-  | inl here ↦ nothing _ e.0 (keys_of (entries_in range es)) (sym h ∙ ap keys_of (filter_here (λ x. contains range x.0) e es here))
-  | inr gone ↦
-      filter_here (λ x. not (contains range x.0)) e es (ap not gone)
-      ∙ ap (λ xs. e ∷ xs) (all_without range es (sym (ap keys_of (filter_not (λ x. contains range x.0) e es gone)) ∙ h))
-]
+pub stored-cleared : (es : List Pair) (range : KeyRange) → stored (entries_outside range es) ≡ after (ClearRange range) (stored es)
+stored-cleared es range = stored-without es (entries_outside range es) range
+    (λ q. lookup-filter-keys (is_at (key_cmp q)) (λ k. not (contains range k)) (not (contains range q)) (λ k t. ap (λ x. not (contains range x)) (sym (tied_keys q k t))) es
+    ∙ sym (cleared_at range es q))
 
 -- a walk along entries up to a limit, which has ps so far: one turn, and its ends
 nothing_left : {X : Type 0} (ps : List X) → ps ++ [] ≡ ps
@@ -218,19 +177,29 @@ add_applied m es new c k o l w view is p q done =
     q done
     ∙ ap (λ x. after x m) (sym is)
 
-pub clear_applied : (m : Map) (es new : List Pair) (c : Mutation) (range : KeyRange) → stored es ≡ m → c ≡ ClearRange range →
-    new ≡ entries_outside range es → stored new ≡ after c m
-clear_applied m es new c range view is done = ap stored done ∙ stored-cleared es range ∙ ap (after (ClearRange range)) view ∙ ap (λ x. after x m) (sym is)
+pub clear_applied : (m : Map) (es new : List Pair) (c : Mutation) (range : KeyRange) (keys : List (List ℕ)) → stored es ≡ m → c ≡ ClearRange range →
+    keys ≡ keys_of (entries_in range es) → ((q : List ℕ) → lookup (is_at (key_cmp q)) new ≡ cond (has_key keys q) None (lookup (is_at (key_cmp q)) es)) → stored new ≡ after c m
+clear_applied m es new c range keys view is listed gone =
+    stored-without es new range (λ q. gone q ∙ ap (λ ks. cond (has_key ks q) None (lookup (is_at (key_cmp q)) es)) listed)
+    ∙ ap (after (ClearRange range)) view ∙ ap (λ x. after x m) (sym is)
 
 pub starts : {X : Type 0} (ps rest all : List X) (limit : ℕ) → ps ≡ [] → rest ≡ all → ps ++ take (limit - 0) rest ≡ take limit all
 starts ps rest all limit p q = let n : limit - 0 ≡ limit = omega arith in (λ i. p i ++ take (n i) (q i))
 
-pub drop_item : {X : Type 0} (xs : List X) (i : ℕ) (x : X) → i < length xs → x ≡ get_or xs i x → drop i xs ≡ x ∷ drop (i + 1) xs
-drop_item [] i x below is = absurd (omega (arith, below))
-drop_item (y ∷ xs) zero x below is = λ i. sym is i ∷ xs
-drop_item (y ∷ xs) (suc i) x below is =
-    let n : suc (i + 1) ≡ suc i + 1 = omega arith in
-    drop_item xs i x (omega (arith, below)) is ∙ ap (λ m. x ∷ drop m (y ∷ xs)) n
+-- to take out one key more
+pub taken_more : (keys : List (List ℕ)) (i : ℕ) (k q : List ℕ) (was now after : Option (List ℕ)) → i < length keys → k ≡ get_or keys i k →
+    now ≡ cond (has_key (take i keys) q) None was → after ≡ cond (is_eq (key_cmp k q)) None now → after ≡ cond (has_key (take (i + 1) keys) q) None was
+taken_more keys i k q was now after below is before step =
+    step ∙ ap (cond (is_eq (key_cmp k q)) None) before ∙ both (is_eq (key_cmp k q)) (has_key (take i keys) q) was
+    ∙ ap (λ b. cond (has_key (take i keys) q || (b || false)) None was) (tied_swap k q ∙ ap (λ x. is_eq (key_cmp q x)) is)
+    ∙ ap (λ b. cond b None was) (sym (list_any-append (λ own. is_eq (key_cmp q own)) (take i keys) (get_or keys i k ∷ [])))
+    ∙ ap (λ ks. cond (has_key ks q) None was) (sym (take_more keys i k below))
+  where
+    both : (a b : Bool) (o : Option (List ℕ)) → cond a None (cond b None o) ≡ cond (b || (a || false)) None o
+    both true true o = refl
+    both true false o = refl
+    both false true o = refl
+    both false false o = refl
 
 -- a map with these pairs put into it, the last one first
 abbrev pub put_before : List Pair → Map → Map

@@ -1,5 +1,6 @@
 pub mod Bytes
 pub mod Range
+pub mod Coverage
 pub mod Addition
 pub mod Change
 pub mod Map

@@ -1,6 +1,9 @@
 -- Ranges of keys.
 use Rattle.std.specs.Prelude.{ℕ, Bool, not, ◌&&◌, if◌then◌else◌, List, [], ◌∷◌, ◌++◌}
-use Rattle.std.specs.Ordering.{is_eq}
+use Rattle.std.specs.declared.cmp.Ordering.{Ordering}
+use Rattle.std.specs.Ordering.{is_eq, ordering_then}
+use Rattle.std.specs.Cmp.{IsTotalOrder}
+use Rattle.std.proofs.lemmas.Cmp.{nat_list_cmp_total, on_total, then_total}
 use Rattle.std.specs.List.{filter, list_any}
 use Rattle.kv_core.specs.Bytes.{key_cmp, key_lt, key_le, key_max, key_min, next_key, end_of_keys}
 
@@ -40,6 +43,18 @@ covers ranges key = list_any (λ range. contains range key) ranges
 -- whether two ranges have the same begin and the same end
 abbrev pub is_same_range : KeyRange → KeyRange → Bool
 is_same_range a b = is_eq (key_cmp a.begin b.begin) && is_eq (key_cmp a.end b.end)
+
+-- the order of ranges: by their begins, and those with one begin by their ends
+abbrev pub range_cmp : KeyRange → KeyRange → Ordering
+range_cmp a b = ordering_then (key_cmp a.begin b.begin) (key_cmp a.end b.end)
+
+-- it is total: each two ranges compare, and comparisons agree with one another
+pub range_cmp_total : IsTotalOrder range_cmp
+range_cmp_total = then_total (on_total (λ (range : KeyRange). range.begin) nat_list_cmp_total) (on_total (λ (range : KeyRange). range.end) nat_list_cmp_total)
+
+-- whether a range lies within another one
+abbrev pub is_within : KeyRange → KeyRange → Bool
+is_within range other = key_le other.begin range.begin && key_le range.end other.end
 
 -- the list with a range added at its end, unless it has that range
 abbrev pub with_range : KeyRange → List KeyRange → List KeyRange

@@ -4,7 +4,8 @@ ghost use Rattle.kv_core.specs.declared.change.WriteError.TheVariants.{Memory};
 
 use crate::addition::plus;
 use crate::bytes::Bytes;
-use crate::range::{KeyRange, RangeList};
+use crate::range::KeyRange;
+use crate::range_list::RangeList;
 use std::alloc::AllocError;
 use std::marker::Model;
 use thiserror::Error;

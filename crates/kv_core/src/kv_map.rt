@@ -5,7 +5,7 @@ ghost use Rattle.std.specs.BTreeMap.{IsOrdered};
 ghost use Rattle.std.specs.FinMap as finite;
 ghost use Rattle.kv_core.specs.Bytes.{key_cmp};
 ghost use Rattle.kv_core.specs.Map.{after, after_all};
-ghost use Rattle.kv_core.specs.Range.{entries_in, entries_outside};
+ghost use Rattle.kv_core.specs.Range.{entries_in};
 ghost use Rattle.kv_core.specs.Read.{read_of};
 
 use crate::addition::plus;
@@ -13,6 +13,7 @@ use crate::bytes::Bytes;
 use crate::change::Mutation;
 use crate::pair::Pair;
 use crate::range::KeyRange;
+use crate::removal::remove_each;
 use std::alloc::{AllocError, Global};
 use std::collections::BTreeMap;
 use std::marker::Model;
@@ -87,23 +88,14 @@ fn keys_between(
     map: &BTreeMap<Bytes, Bytes>,
     range: &KeyRange,
 ) -> Result<Vec<Bytes>, AllocError>
-    ensures { IfOk result (λ keys. keys.items ≡ keys_of (entries_in range.now map.now.entries)) }
+    ensures keys { IfOk result (λ keys. keys.items ≡ keys_of (entries_in range.now map.now.entries)) }
+    ensures ordered { IsOrdered key_cmp map.now }
 {
     let mut keys = Vec::new(alloc);
     for (key, _) in map.range(range.begin()..range.end()) {
         keys.push(key.copy()?)?;
     }
     Ok(keys)
-}
-
-/// Takes out the pairs of the range, whose keys are these.
-fn remove_each(map: &mut BTreeMap<Bytes, Bytes>, range: &KeyRange, keys: &[Bytes])
-    requires { keys.now ≡ keys_of (entries_in range.now map.old.entries) }
-    ensures { map.new.entries ≡ entries_outside range.now map.old.entries }
-{
-    for key in keys {
-        map.remove(key);
-    }
 }
 
 impl KvMap {
@@ -199,7 +191,7 @@ impl KvMap {
             }
             Mutation::ClearRange(range) => {
                 let keys = keys_between(self.alloc, &self.pairs, range)?;
-                remove_each(&mut self.pairs, range, keys.as_slice());
+                remove_each(&mut self.pairs, keys.as_slice());
                 Ok(())
             }
         }

@@ -5,11 +5,14 @@
 mod addition;
 mod bytes;
 mod change;
+mod coverage;
 mod kv_map;
 mod laws;
 mod limits;
 mod pair;
 mod range;
+mod range_list;
+mod removal;
 mod size;
 #[cfg(test)]
 mod tests;
@@ -21,5 +24,6 @@ pub use kv_map::KvMap;
 pub use laws::{maps_by_their_keys, ranges_by_their_keys, refusals_by_size, sums_wrap};
 pub use limits::{MAX_KEY_BYTES, MAX_RANGE_END_BYTES, MAX_TRANSACTION_BYTES, MAX_VALUE_BYTES};
 pub use pair::Pair;
-pub use range::{KeyRange, RangeList};
+pub use range::KeyRange;
+pub use range_list::RangeList;
 pub use size::total_size;

@@ -1,15 +1,18 @@
-ghost use Rattle.std.specs.Prelude.{◌≡◌, List, [], ◌∷◌, ◌++◌, ℕ, IsTrue, IfOk, IsOk, IfNone, OnOk, OnErr, IfSome, false};
-ghost use Rattle.std.specs.List.{list_any};
-ghost use Rattle.kv_core.specs.Bytes.{next_key, key_lt, end_of_keys};
-ghost use Rattle.kv_core.specs.Range.{KeyRange as Range, is_key_range, contains, meets, point, is_same_range, with_range, any_meets};
+ghost use Rattle.std.specs.Prelude.{◌≡◌, IsTrue, IfOk, IfNone, IfSome, Some, not, false, refl};
+ghost use Rattle.std.specs.Ordering.{eq_by_cmp};
+ghost use Rattle.std.specs.Cmp.{eq_by_cmp_equiv, partial_equiv_from_equiv, partial_order_from_agreeing_total};
+ghost use Rattle.kv_core.specs.Bytes.{key_lt, end_of_keys};
+ghost use Rattle.kv_core.specs.Range.{KeyRange as Range, is_key_range, has_keys, contains, meets, point, is_same_range, range_cmp, range_cmp_total};
 
 use crate::bytes::Bytes;
 use std::alloc::{AllocError, Global};
+use std::cmp::Ordering;
 use std::marker::Model;
 
 /// The keys from a begin up to, and not including, an end.
 ///
-/// The begin isn't after the end, nor the end after the byte FF. A range may be empty.
+/// The begin isn't after the end, nor the end after the byte FF. A range may be empty. Ranges are
+/// ordered by their begins, and those with one begin by their ends.
 #[derive(Debug, Drop)]
 pub struct KeyRange {
     begin: Bytes,
@@ -25,6 +28,44 @@ impl Model for KeyRange {
     ghost view = { λ a. record { begin = a.begin; end = a.end } };
 
     ghost invariant = { λ a. IsTrue (is_key_range (record { begin = a.begin; end = a.end })) };
+}
+
+impl PartialEq for KeyRange {
+    ghost eq = { eq_by_cmp range_cmp };
+
+    ghost laws = { partial_equiv_from_equiv (eq_by_cmp_equiv range_cmp_total) };
+
+    fn eq(&self, other: &KeyRange) -> bool {
+        self.compare(other).is_eq()
+    }
+}
+
+impl Eq for KeyRange {
+    ghost laws = { eq_by_cmp_equiv range_cmp_total };
+}
+
+impl PartialOrd for KeyRange {
+    ghost partial_cmp = { λ x y. Some (range_cmp x y) };
+
+    ghost laws = { partial_order_from_agreeing_total range_cmp range_cmp_total (λ x y. refl) (λ x y. refl) };
+
+    fn partial_cmp(&self, other: &KeyRange) -> Option<Ordering> {
+        Some(self.compare(other))
+    }
+}
+
+impl Ord for KeyRange {
+    ghost cmp = { range_cmp };
+
+    ghost total = { range_cmp_total };
+
+    ghost matches_partial_cmp = { λ x y. refl };
+
+    ghost matches_eq = { λ x y. refl };
+
+    fn cmp(&self, other: &KeyRange) -> Ordering {
+        self.compare(other)
+    }
 }
 
 impl KeyRange {
@@ -92,6 +133,21 @@ impl KeyRange {
         begin.is_before(end)
     }
 
+    /// How this range compares with another one, as the type's order says.
+    pub fn compare(&self, other: &KeyRange) -> Ordering
+        ensures { result ≡ range_cmp self.now other.now }
+    {
+        let by_begin = self.begin.compare(&other.begin);
+        by_begin.then(self.end.compare(&other.end))
+    }
+
+    /// Whether no key lies in the range.
+    pub fn is_empty(&self) -> bool
+        ensures { result ≡ not (has_keys self.now) }
+    {
+        !self.begin.is_before(&self.end)
+    }
+
     /// Whether both ranges have the same begin and the same end.
     pub fn is_same(&self, other: &KeyRange) -> bool
         ensures { result ≡ is_same_range self.now other.now }
@@ -106,64 +162,5 @@ impl KeyRange {
         let begin = self.begin.copy()?;
         let end = self.end.copy()?;
         Ok(KeyRange { begin, end })
-    }
-}
-
-/// Ranges of keys, in the order in which they were added.
-#[derive(Debug, Drop)]
-pub struct RangeList {
-    ranges: Vec<KeyRange>,
-}
-
-impl Model for RangeList {
-    ghost use Rattle.std.specs.Prelude.{List};
-    ghost use Rattle.kv_core.specs.Range.{KeyRange as Range};
-
-    ghost Value = { List Range };
-
-    ghost view = { λ a. a.ranges.items };
-}
-
-impl RangeList {
-    /// The list of these ranges, as they stand.
-    pub fn new(ranges: Vec<KeyRange>) -> RangeList
-        ensures { result ≡ ranges.items }
-    {
-        RangeList { ranges }
-    }
-
-    /// The ranges, in order.
-    pub fn as_slice(&self) -> &[KeyRange]
-        ensures { result.now ≡ self.now }
-    {
-        self.ranges.as_slice()
-    }
-
-    /// Whether the list has a range with this begin and this end.
-    pub fn has(&self, range: &KeyRange) -> bool
-        ensures { result ≡ list_any (is_same_range range.now) self.now }
-    {
-        self.ranges.iter().any(|own| range.is_same(own))
-    }
-
-    /// Adds a range at the end, unless the list has it, which takes no memory. Where memory runs
-    /// out the list stays as it was.
-    pub fn add(&mut self, range: KeyRange) -> Result<(), AllocError>
-        ensures ok { OnOk result (self.new ≡ with_range range self.old) }
-        ensures err { OnErr result (self.new ≡ self.old) }
-        ensures had { IsTrue (list_any (is_same_range range) self.old) → IsOk result }
-    {
-        if self.has(&range) {
-            return Ok(());
-        }
-        self.ranges.push(range)?;
-        Ok(())
-    }
-
-    /// Whether some key lies in the range and in one of the list.
-    pub fn intersects(&self, range: &KeyRange) -> bool
-        ensures { result ≡ any_meets range.now self.now }
-    {
-        self.ranges.iter().any(|own| range.meets(own))
     }
 }

@@ -96,13 +96,60 @@ fn points(rt: HostRuntime) -> Result<(), Fail> {
 }
 
 #[test]
+fn range_order(rt: HostRuntime) -> Result<(), Fail> {
+    let first = between(rt.alloc(), &[0x61], &[0x62])?;
+    let longer = between(rt.alloc(), &[0x61], &[0x63])?;
+    let later = between(rt.alloc(), &[0x62], &[0x62])?;
+    assert!(rt; first < longer && longer < later && first == first.copy()?);
+    assert!(rt; first.compare(&later).is_lt());
+    assert!(rt; later.is_empty() && !first.is_empty());
+    Ok(())
+}
+
+/// The ranges of keys of one byte with these begins and ends.
+fn ranges_of(alloc: Global, ends: &[(u8, u8)]) -> Result<Vec<KeyRange>, Fail> {
+    let mut ranges = Vec::new(alloc);
+    for (begin, end) in ends {
+        ranges.push(between(alloc, &[*begin], &[*end])?)?;
+    }
+    Ok(ranges)
+}
+
+#[test]
 fn range_lists(rt: HostRuntime) -> Result<(), Fail> {
-    let mut list = RangeList::new(Vec::new(rt.alloc()));
-    for (begin, end) in [(0x61, 0x63), (0x62, 0x64), (0x61, 0x63)] {
-        list.add(between(rt.alloc(), &[begin], &[end])?)?;
+    let mut list = RangeList::new(rt.alloc());
+    for range in &ranges_of(rt.alloc(), &[(0x61, 0x63), (0x62, 0x64), (0x61, 0x63)])? {
+        list.add(range.copy()?)?;
+        assert!(rt; list.has(range));
     }
     assert_eq!(rt; list.as_slice().len(), 2);
     for (begin, end, intersects) in [(0x63, 0x65, true), (0x64, 0x65, false)] {
+        let range = between(rt.alloc(), &[begin], &[end])?;
+        assert_eq!(rt; list.intersects(&range), intersects, "{begin:x}..{end:x}");
+    }
+    Ok(())
+}
+
+#[test]
+fn range_lists_as_they_stand(rt: HostRuntime) -> Result<(), Fail> {
+    let ends = [
+        (0x66, 0x66),
+        (0x61, 0x65),
+        (0x62, 0x63),
+        (0x61, 0x65),
+        (0x64, 0x68),
+    ];
+    let mut list = RangeList::from_ranges(rt.alloc(), ranges_of(rt.alloc(), &ends)?)?;
+    list.add(between(rt.alloc(), &[0x62], &[0x63])?)?;
+    assert_eq!(rt; list.as_slice().len(), 5);
+    let cases = [
+        (0x60, 0x61, false),
+        (0x60, 0x62, true),
+        (0x63, 0x63, false),
+        (0x65, 0x66, true),
+        (0x68, 0x69, false),
+    ];
+    for (begin, end, intersects) in cases {
         let range = between(rt.alloc(), &[begin], &[end])?;
         assert_eq!(rt; list.intersects(&range), intersects, "{begin:x}..{end:x}");
     }

@@ -10,7 +10,8 @@ returns-in_ok-insert-in-Set-clause-ok c =
 
 pub returns-in_ok-keys-in-ClearRange-clause-ok : goal.returns-in_ok-keys-in-ClearRange-clause-ok
 returns-in_ok-keys-in-ClearRange-clause-ok c =
-    clear_applied c.args.self.now c.self.inside.pairs.entries c.remove_each.new.map.entries c.args.mutation.now c.in-ClearRange.range c.self.view_is c.in-ClearRange.is c.remove_each.ensures
+    clear_applied c.args.self.now c.self.inside.pairs.entries c.remove_each.new.map.entries c.args.mutation.now c.in-ClearRange.range _ c.self.view_is c.in-ClearRange.is
+    (c.as_slice.ensures.value ∙ c.in_ok-keys-in-ClearRange.ensures.keys) c.remove_each.ensures.gone
 
 pub returns-in_ok-insert-in-Add-clause-ok : goal.returns-in_ok-insert-in-Add-clause-ok
 returns-in_ok-insert-in-Add-clause-ok c =

@@ -1,0 +1,66 @@
+// Lists of ranges: so many distinct ranges are added, and then asked for as often.
+use kv_core::{Bytes, KeyRange, RangeList};
+use std::alloc::{AllocError, Global};
+use std::io;
+use std::time::Instant;
+
+// How many ranges are added.
+const COUNTS: [u32; 2] = [10_000, 40_000];
+
+// The key with a number that goes through all numbers in a scattered order.
+fn key(alloc: Global, number: u32) -> Result<Bytes, AllocError> {
+    let scattered = number.wrapping_mul(2_654_435_761);
+    let mut bytes = "record/".as_bytes().to_vec(alloc)?;
+    bytes.extend_from_slice(scattered.to_be_bytes().as_slice())?;
+    Ok(Bytes::new(bytes))
+}
+
+// The range of that key alone.
+fn point(alloc: Global, number: u32) -> Result<Option<KeyRange>, AllocError> {
+    let key = key(alloc, number)?;
+    let next = key.next()?;
+    Ok(KeyRange::new(key, next))
+}
+
+// The list of the ranges of the even numbers below twice this one.
+fn list_of(alloc: Global, count: u32) -> Result<RangeList, AllocError> {
+    let mut list = RangeList::new(alloc);
+    for number in 0..count {
+        if let Some(range) = point(alloc, number.wrapping_mul(2))? {
+            list.add(range)?;
+        }
+    }
+    Ok(list)
+}
+
+// How many of the ranges of the numbers below this one meet a range of the list.
+fn met_by(alloc: Global, list: &RangeList, count: u32) -> Result<u32, AllocError> {
+    let mut met: u32 = 0;
+    for number in 0..count {
+        if let Some(range) = point(alloc, number)? {
+            if list.intersects(&range) {
+                met = met.wrapping_add(1);
+            }
+        }
+    }
+    Ok(met)
+}
+
+// Adds so many ranges, asks for as many, and prints both times in milliseconds.
+fn measure_list(rt: &HostRuntime, count: u32) -> io::Result<()> {
+    let start = Instant::now(rt)?;
+    let list = list_of(rt.alloc(), count)?;
+    let added = start.elapsed(rt)?.as_millis();
+    let start = Instant::now(rt)?;
+    let met = met_by(rt.alloc(), &list, count)?;
+    let asked = start.elapsed(rt)?.as_millis();
+    println!(rt; "{count} ranges: add {added} ms, intersects {asked} ms, {met} met")
+}
+
+/// Prints how long lists of ranges take.
+pub fn measure(rt: &HostRuntime) -> io::Result<()> {
+    for count in COUNTS {
+        measure_list(rt, count)?;
+    }
+    Ok(())
+}

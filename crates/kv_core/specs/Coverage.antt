@@ -1,0 +1,33 @@
+-- The keys that ranges cover, as stretches: entries from begins to ends.
+use Rattle.std.specs.Prelude.{◌≡◌, ◌↔◌, ℕ, IsTrue, Some, List, map}
+use Rattle.std.specs.List.{list_any}
+use Rattle.std.specs.Map.{lookup}
+use Rattle.std.specs.BTreeMap.{is_at}
+use Rattle.std.specs.BTreeSet.{BTreeSet, contains as has}
+use Rattle.kv_core.specs.Bytes.{has_key, key_cmp, key_le, key_lt}
+use Rattle.kv_core.specs.Range.{KeyRange, covers, is_same_range, range_cmp}
+
+-- entries from begins to ends, as ranges
+abbrev pub stretches_of : List (List ℕ × List ℕ) → List KeyRange
+stretches_of entries = map (λ entry. record { begin = entry.0; end = entry.1 }) entries
+
+-- the end of the stretch that begins with a key is this one
+abbrev pub EndsAt : List (List ℕ × List ℕ) → List ℕ → List ℕ → Type 0
+EndsAt entries begin end = lookup (is_at (key_cmp begin)) entries ≡ Some end
+
+-- there is a key in each stretch, and of two stretches the one that begins first ends first
+pub record AreStretches (entries : List (List ℕ × List ℕ)) : Type 0 where
+  pub have_keys : (begin end : List ℕ) → EndsAt entries begin end → IsTrue (key_lt begin end)
+  pub rise : (begin end next next_end : List ℕ) → EndsAt entries begin end → EndsAt entries next next_end → IsTrue (key_lt begin next) → IsTrue (key_lt end next_end)
+
+-- of the stretches these are the begins of those that begin after a range does and end within it
+abbrev pub AreSwallowed : KeyRange → List (List ℕ × List ℕ) → List (List ℕ) → Type 0
+AreSwallowed range entries begins =
+    (begin : List ℕ) →
+    IsTrue (has_key begins begin)
+    ↔ ((end : List ℕ) × EndsAt entries begin end × IsTrue (key_lt range.begin begin) × IsTrue (key_le end range.end))
+
+-- a set and stretches are those of a list of ranges: the set has just its ranges, and the stretches cover just its keys
+pub record IsIndex (known : BTreeSet KeyRange) (stretches ranges : List KeyRange) : Type 0 where
+  pub has_ranges : (range : KeyRange) → has range_cmp known range ≡ list_any (is_same_range range) ranges
+  pub covers_keys : (key : List ℕ) → covers stretches key ≡ covers ranges key

@@ -1,0 +1,105 @@
+ghost use Rattle.std.specs.Prelude.{◌≡◌, [], IsTrue, IfOk, IsOk, OnOk, OnErr};
+ghost use Rattle.std.specs.List.{list_any};
+ghost use Rattle.kv_core.specs.Range.{is_same_range, with_range, any_meets};
+
+use crate::coverage::Coverage;
+use crate::range::KeyRange;
+use std::alloc::{AllocError, Global};
+use std::collections::BTreeSet;
+use std::marker::Model;
+
+/// Ranges of keys, in the order in which they were added.
+///
+/// Beside the list stand its ranges in their order and the keys that they cover, so that to add a
+/// range, or to ask for one or for its keys, takes time that grows as the logarithm of the list.
+#[derive(Debug, Drop)]
+pub struct RangeList {
+    ranges: Vec<KeyRange>,
+    known: BTreeSet<KeyRange>,
+    coverage: Coverage,
+}
+
+impl Model for RangeList {
+    ghost use Rattle.std.specs.Prelude.{List};
+    ghost use Rattle.kv_core.specs.Range.{KeyRange as Range};
+    ghost use Rattle.kv_core.specs.Coverage.{IsIndex};
+
+    ghost Value = { List Range };
+
+    ghost view = { λ a. a.ranges.items };
+
+    ghost invariant = { λ a. IsIndex a.known a.coverage a.ranges.items };
+}
+
+impl RangeList {
+    /// The list without ranges, which takes no memory.
+    pub fn new(alloc: Global) -> RangeList
+        ensures { result ≡ [] }
+    {
+        RangeList {
+            ranges: Vec::new(alloc),
+            known: BTreeSet::new(alloc),
+            coverage: Coverage::new(alloc),
+        }
+    }
+
+    /// The list of these ranges, as they stand, unless memory runs out.
+    pub fn from_ranges(alloc: Global, ranges: Vec<KeyRange>) -> Result<RangeList, AllocError>
+        ensures { IfOk result (λ list. list ≡ ranges.items) }
+    {
+        let mut known = BTreeSet::new(alloc);
+        let mut coverage = Coverage::new(alloc);
+        for range in &ranges {
+            known.insert(range.copy()?)?;
+            coverage.add(range)?;
+        }
+        Ok(RangeList {
+            ranges,
+            known,
+            coverage,
+        })
+    }
+
+    /// The ranges, in order.
+    pub fn as_slice(&self) -> &[KeyRange]
+        ensures { result.now ≡ self.now }
+    {
+        self.ranges.as_slice()
+    }
+
+    /// Whether the list has a range with this begin and this end.
+    pub fn has(&self, range: &KeyRange) -> bool
+        ensures { result ≡ list_any (is_same_range range.now) self.now }
+    {
+        self.known.contains(range)
+    }
+
+    /// Adds a range at the end, unless the list has it, which takes no memory. Where memory runs
+    /// out the list stays as it was.
+    pub fn add(&mut self, range: KeyRange) -> Result<(), AllocError>
+        ensures ok { OnOk result (self.new ≡ with_range range self.old) }
+        ensures err { OnErr result (self.new ≡ self.old) }
+        ensures had { IsTrue (list_any (is_same_range range) self.old) → IsOk result }
+    {
+        if self.has(&range) {
+            return Ok(());
+        }
+        // Room for the range is made first, so that nothing fails once its keys are covered.
+        let own = range.copy()?;
+        self.ranges.reserve(1)?;
+        self.known.insert(own)?;
+        if let Err(error) = self.coverage.add(&range) {
+            self.known.remove(&range);
+            return Err(error);
+        }
+        self.ranges.push(range)?;
+        Ok(())
+    }
+
+    /// Whether some key lies in the range and in one of the list.
+    pub fn intersects(&self, range: &KeyRange) -> bool
+        ensures { result ≡ any_meets range.now self.now }
+    {
+        self.coverage.meets(range)
+    }
+}
