@@ -71,30 +71,29 @@ def nested(data, opened, depth):
     raise Refused("Truncated", opened)
 
 
-def outcome(data):
+LETTERS = {"UnknownCode": "U", "Truncated": "T", "NotMinimal": "M", "NotUtf8": "8", "TooDeep": "D"}
+
+
+def told(data):
+    """`ok`, or the letter of the refusal and its place."""
     try:
         at = 0
         while at < len(data):
             at = element(data, at, 0)
-        return "None"
+        return "ok"
     except Refused as refused:
-        return f"Some(({refused.args[0]}, {refused.args[1]}))"
+        return f"{LETTERS[refused.args[0]]}{refused.args[1]}"
 
 
 def main():
-    print("pub(crate) static PREFIXES: [Expected; %d] = [" % (len(PACK) + 1))
-    for length in range(len(PACK) + 1):
-        print(f"    {outcome(PACK[:length])},")
-    print("];\n")
-    rows = [
-        (place, byte, outcome(PACK[:place] + bytes([byte]) + PACK[place + 1 :]))
-        for place in range(len(PACK))
-        for byte in BYTES
-        if byte != PACK[place]
-    ]
-    print(f"pub(crate) static CHANGES: [(usize, u8, Expected); {len(rows)}] = [")
-    for place, byte, expected in rows:
-        print(f"    ({place}, 0x{byte:02x}, {expected}),")
+    prefixes = " ".join(told(PACK[:length]) for length in range(len(PACK) + 1))
+    print(f'pub(crate) static PREFIXES: &str = "{prefixes}";\n')
+    print("pub(crate) static BYTES: [u8; %d] = [" % len(BYTES))
+    print("    " + ", ".join(f"0x{byte:02x}" for byte in BYTES) + ",\n];\n")
+    print("pub(crate) static CHANGES: [&str; %d] = [" % len(PACK))
+    for place in range(len(PACK)):
+        row = " ".join(told(PACK[:place] + bytes([byte]) + PACK[place + 1 :]) for byte in BYTES)
+        print(f'    "{row}",')
     print("];")
 
 

@@ -1,10 +1,11 @@
 // Worked rows of the encoding, from outside.
-use crate::changes::{CHANGES, PACK, PREFIXES};
+use crate::changes::{BYTES, CHANGES, PACK, PREFIXES};
 use crate::keys::strinc;
 use crate::unpacking::unpack;
 use crate::write::{pack, pack_into};
 use crate::{Element, StripError, Subspace, Tuple, TupleInt, UnpackErrorKind, UnpackFailure};
-use std::alloc::Global;
+use std::alloc::{AllocError, Global};
+use std::fmt::Write;
 use std::test::Fail;
 
 // The kind and place of a refusal.
@@ -90,25 +91,61 @@ fn refuses(rt: HostRuntime) {
     }
 }
 
-#[test]
-fn refuses_as_the_grammar_does(rt: HostRuntime) -> Result<(), Fail> {
-    let alloc = rt.alloc();
-    for (length, expected) in PREFIXES.iter().enumerate() {
-        assert_eq!(rt;
-            refusal(alloc, &PACK[..length]),
-            *expected,
-            "prefix of {length}"
-        );
+// Writes behind a line what is told of bytes: `ok`, or the letter of the refusal and its place.
+fn tell(alloc: Global, line: &mut String, bytes: &[u8]) -> Result<(), AllocError> {
+    match unpack(alloc, bytes) {
+        Ok(_) => line.push_str("ok"),
+        Err(UnpackFailure::Memory) => line.push_str("memory"),
+        Err(UnpackFailure::Refused(error)) => write!(line, "{}{}", letter(error.kind), error.at),
     }
-    for (place, byte, expected) in CHANGES {
+}
+
+fn letter(kind: UnpackErrorKind) -> &'static str {
+    match kind {
+        UnpackErrorKind::UnknownCode => "U",
+        UnpackErrorKind::Truncated => "T",
+        UnpackErrorKind::NotMinimal => "M",
+        UnpackErrorKind::NotUtf8 => "8",
+        UnpackErrorKind::TooDeep => "D",
+    }
+}
+
+// What is told of the pack with each of the bytes at a place.
+fn told_of_changes(alloc: Global, place: usize) -> Result<String, AllocError> {
+    let mut line = String::new(alloc);
+    let mut separator = "";
+    for byte in BYTES {
         let mut bytes = Vec::from_slice(alloc, &PACK)?;
-        bytes[place] = byte;
-        assert_eq!(rt;
-            refusal(alloc, bytes.as_slice()),
-            expected,
-            "{byte} at {place}"
-        );
+        if let Some(changed) = bytes.get_mut(place) {
+            *changed = byte;
+        }
+        line.push_str(separator)?;
+        tell(alloc, &mut line, bytes.as_slice())?;
+        separator = " ";
     }
+    Ok(line)
+}
+
+#[test]
+fn refuses_changes_as_the_grammar_does(rt: HostRuntime) -> Result<(), Fail> {
+    for (place, row) in CHANGES.iter().enumerate() {
+        let told = told_of_changes(rt.alloc(), place)?;
+        assert_eq!(rt; told.as_str(), *row, "{place}");
+    }
+    Ok(())
+}
+
+#[test]
+fn refuses_prefixes_as_the_grammar_does(rt: HostRuntime) -> Result<(), Fail> {
+    let alloc = rt.alloc();
+    let mut line = String::new(alloc);
+    let mut separator = "";
+    for length in 0..=PACK.len() {
+        line.push_str(separator)?;
+        tell(alloc, &mut line, &PACK[..length])?;
+        separator = " ";
+    }
+    assert_eq!(rt; line.as_str(), PREFIXES);
     Ok(())
 }
 
