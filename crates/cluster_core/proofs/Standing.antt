@@ -1,0 +1,269 @@
+-- The order in which the roles stand, after one step of a role.
+use Rattle.std.proofs.Common.{◌≡◌, ℕ, ◌+◌, ◌-◌, ◌<◌, ◌≤◌, ◌^◌, Bool, true, false, ◌&&◌, cond, nat_lt, is_none, None, Some, List, [], ◌∷◌, ◌++◌, length, map, replicate, get_or, set, refl, sym, ap, subst, ◌∙◌, arith}
+use Rattle.std.proofs.lemmas.Bool.{ltb-true}
+use Rattle.std.proofs.lemmas.List.{get_or-map, length-map, length-replicate, length-set, length_push}
+use Rattle.std.proofs.lemmas.List.Elements.{All-from_recursion, All-get_or, All-push, All-replicate, All-set, All-weaker, recursion_from_All}
+use Rattle.std.proofs.lemmas.List.Folds.{list_all-map}
+use Rattle.std.proofs.lemmas.Option.{get_or_from_slice_get, slice_get-map, slice_get_read}
+use Rattle.std.specs.List.{AllByRecursion, All, slice_get, list_all}
+use Rattle.std.specs.Option.{option_map, option_or, option_map_or, unwrap_or}
+use Rattle.kv_core.specs.declared.change.CommitRequest.{CommitRequest}
+use Rattle.cluster_core.specs.History.{Entry, IsLegal}
+use Rattle.cluster_core.specs.Decision.{Owned, owners, owners_from, agrees, newer_agreed, first_cause, cause, is_committed, committed, numbered, logged, log}
+use Rattle.cluster_core.specs.Laws.{ReadsBelow}
+use Rattle.cluster_core.specs.Progress.{ResolverState, IsResolver, IsLog, IsPipeline, answer_of, fresh, has_agreed, first_kept, state_of}
+use Rattle.cluster_core.specs.Roles.{PipelineState, outcome, told, told_of}
+use Rattle.cluster_core.proofs.Bridge.{entry_of, numbered_at, version_at}
+use Rattle.cluster_core.proofs.Causes.{agrees-none}
+use Rattle.cluster_core.proofs.Growth.{numbered-push}
+use Rattle.cluster_core.proofs.Legality.{committed_is_legal}
+use Rattle.cluster_core.proofs.Versions.{rising-numbered}
+use Rattle.cluster_core.proofs.Keeping.{entry_here, log_appended, log_submitted, resolver_submitted}
+use Rattle.cluster_core.proofs.Telling.{map-set_same}
+
+-- what all pass is passed by each
+each_passes : {X : Type 0} (p : X → Bool) (xs : List X) → list_all p xs ≡ true → AllByRecursion (λ x. p x ≡ true) xs
+each_passes p [] all = tt
+each_passes p (x ∷ xs) all = let parts = Rattle.std.proofs.lemmas.Bool.and_parts (p x) (list_all p xs) all in (parts.0, each_passes p xs parts.1)
+
+each_past : {X : Type 0} (n : ℕ) (f : X → ℕ) (xs : List X) → list_all (λ x. nat_lt n (f x)) xs ≡ true → All (λ x. n < f x) xs
+each_past n f xs all =
+    All-weaker (λ x. nat_lt n (f x) ≡ true) (λ x. n < f x) (λ x is. ltb-true n (f x) is) xs
+    (All-from_recursion (λ x. nat_lt n (f x) ≡ true) xs (each_passes (λ x. nat_lt n (f x)) xs all))
+
+-- some item of a list that isn't empty
+some_of : {X : Type 0} (P : X → Type 0) (xs : List X) → 1 ≤ length xs → All P xs → (x : X) × P x
+some_of P [] some all = absurd (omega (arith, some))
+some_of P (x ∷ xs) some all = (x, all 0 x (omega arith))
+
+some_owner : (from : List ℕ) (splits : List (List ℕ)) → 1 ≤ length (owners_from from splits)
+some_owner from [] = omega arith
+some_owner from (split ∷ splits) = omega arith
+
+module _ (splits : List (List ℕ)) (start : ℕ) (requests : List CommitRequest) (resolvers : List ResolverState) (logs : List (List Bool)) (reported : ℕ)
+    (was : IsPipeline splits start requests resolvers logs reported) where
+  abbrev es : List Entry
+  es = numbered start requests
+
+  some_resolver : 1 ≤ length resolvers
+  some_resolver =
+      let len : length resolvers ≡ length (owners splits) = sym (length-map resolvers (λ r. r.owner)) ∙ ap length was.owned in
+      let some = some_owner [] splits in
+      omega (arith, len, some)
+
+  -- what is committed of the requests is a legal history
+  pub legal : IsLegal (committed splits (numbered start requests))
+  legal = committed_is_legal splits es (rising-numbered start requests) was.reads
+
+  -- after one more request
+  pub stands_submitted : (q : CommitRequest) → start + length requests + 1 < 2 ^ 64 → q.read_version ≤ start + length requests →
+      IsPipeline splits start (requests ++ q ∷ []) resolvers logs reported
+  stands_submitted q small reads =
+      let more = length_push requests q in
+      let told = was.told in
+      record {
+        versions = omega (arith, more, small);
+        reads =
+            subst ReadsBelow (sym (numbered-push start requests q))
+            (All-push (λ e. e.request.read_version < e.version) es (record { version = start + length requests + 1; request = q }) was.reads (omega (arith, reads)));
+        owned = was.owned;
+        resolving = All-weaker (IsResolver start requests reported) (IsResolver start (requests ++ q ∷ []) reported) (resolver_submitted start requests q reported) resolvers was.resolving;
+        some_log = was.some_log;
+        logging = All-weaker (IsLog splits start requests reported) (IsLog splits start (requests ++ q ∷ []) reported) (log_submitted splits start requests q reported) logs was.logging;
+        ordered = was.ordered;
+        told = omega (arith, more, told);
+      }
+
+  -- after one more answer of a resolver
+  pub stands_resolved : (i : ℕ) (new d : ResolverState) → i < length resolvers → new.owner ≡ (get_or resolvers i d).owner →
+      length new.causes ≡ length (get_or resolvers i d).causes + 1 → IsResolver start requests reported new →
+      IsPipeline splits start requests (set resolvers i new) logs reported
+  stands_resolved i new d inside owner counted is =
+      record {
+        versions = was.versions;
+        reads = was.reads;
+        owned = map-set_same (λ r. r.owner) resolvers i new d owner ∙ was.owned;
+        resolving = All-set (IsResolver start requests reported) resolvers i new is was.resolving;
+        some_log = was.some_log;
+        logging = was.logging;
+        ordered =
+            All-weaker (λ passes. All (λ r. length passes ≤ length r.causes) resolvers) (λ passes. All (λ r. length passes ≤ length r.causes) (set resolvers i new))
+            (λ passes all.
+            let before = All-get_or (λ r. length passes ≤ length r.causes) resolvers i d inside all in
+            All-set (λ r. length passes ≤ length r.causes) resolvers i new (omega (arith, before, counted)) all)
+            logs was.ordered;
+        told = was.told;
+      }
+
+  -- what the resolvers answered for a request that isn't reported yet
+  all_answered : (place : ℕ) (entry : Entry) → reported ≤ place → All (λ r. place < length r.causes) resolvers → slice_get (numbered start requests) place ≡ Some entry →
+      AllByRecursion (λ r. slice_get r.causes place ≡ Some (answer_of r.owner (numbered start requests) entry)) resolvers
+  all_answered place entry after past there =
+      recursion_from_All (λ r. slice_get r.causes place ≡ Some (answer_of r.owner es entry)) resolvers
+      (λ k d below. (was.resolving k d below).answers place entry after (past k d below) there)
+
+  -- all resolvers agreed to a request exactly where it is committed
+  all_agree : (place : ℕ) (entry : Entry) → reported ≤ place → All (λ r. place < length r.causes) resolvers → slice_get (numbered start requests) place ≡ Some entry →
+      list_all (has_agreed place) resolvers ≡ is_committed splits (numbered start requests) entry
+  all_agree place entry after past there =
+      same resolvers (all_answered place entry after past there)
+      ∙ sym (list_all-map (λ owner. agrees owner es entry) (λ r. r.owner) resolvers)
+      ∙ ap (list_all (λ owner. agrees owner es entry)) was.owned
+    where
+      same : (rs : List ResolverState) → AllByRecursion (λ r. slice_get r.causes place ≡ Some (answer_of r.owner (numbered start requests) entry)) rs →
+          list_all (has_agreed place) rs ≡ list_all (λ r. agrees r.owner (numbered start requests) entry) rs
+      same [] all = refl
+      same (r ∷ rs) all = λ i.
+          (ap (λ o. option_map_or (λ why. is_none why) o false) all.0 ∙ sym (agrees-none r.owner (newer_agreed r.owner (numbered start requests) entry) entry.request.reads)) i
+          && same rs all.1 i
+
+  -- the first cause that the resolvers keep is the one against the request
+  pub first_is : (place : ℕ) (entry : Entry) → reported ≤ place → All (λ r. place < length r.causes) resolvers → slice_get (numbered start requests) place ≡ Some entry →
+      first_kept place resolvers ≡ cause splits (numbered start requests) entry
+  first_is place entry after past there =
+      same resolvers (all_answered place entry after past there) ∙ ap (λ all. first_cause all es entry) was.owned
+    where
+      same : (rs : List ResolverState) → AllByRecursion (λ r. slice_get r.causes place ≡ Some (answer_of r.owner (numbered start requests) entry)) rs →
+          first_kept place rs ≡ first_cause (map (λ r. r.owner) rs) (numbered start requests) entry
+      same [] all = refl
+      same (r ∷ rs) all = λ i. option_or (ap (λ o. unwrap_or o None) all.0 i) (same rs all.1 i)
+
+  -- after one more request in a log
+  pub stands_appended : (i : ℕ) (new d : List Bool) (passes : Bool) → i < length logs → new ≡ get_or logs i d ++ passes ∷ [] →
+      list_all (λ r. nat_lt (length (get_or logs i d)) (length r.causes)) resolvers ≡ true → passes ≡ list_all (has_agreed (length (get_or logs i d))) resolvers →
+      IsPipeline splits start requests resolvers (set logs i new) reported
+  stands_appended i new d passes inside items past agreed =
+      let old = get_or logs i d in
+      let before : IsLog splits start requests reported old = All-get_or (IsLog splits start requests reported) logs i d inside was.logging in
+      let answered = each_past (length old) (λ r. length r.causes) resolvers past in
+      let some = some_of (λ r. (length old < length r.causes) × IsResolver start requests reported r) resolvers some_resolver (λ k e below. (answered k e below, was.resolving k e below)) in
+      let here : length old < length requests = (let a = some.1.0 in let b = some.1.1.within in omega (arith, a, b)) in
+      let grown : IsLog splits start requests reported (old ++ passes ∷ []) =
+      log_appended splits start requests reported old passes before here (λ entry there. agreed ∙ all_agree (length old) entry before.behind answered there) in
+      let more = length_push old passes in
+      let set_len = length-set logs i new in
+      let some_log = was.some_log in
+      record {
+        versions = was.versions;
+        reads = was.reads;
+        owned = was.owned;
+        resolving = was.resolving;
+        some_log = omega (arith, set_len, some_log);
+        logging = All-set (IsLog splits start requests reported) logs i new (subst (IsLog splits start requests reported) (sym items) grown) was.logging;
+        ordered =
+            All-set (λ passes. All (λ r. length passes ≤ length r.causes) resolvers) logs i new
+            (subst (λ xs. All (λ r. length xs ≤ length r.causes) resolvers) (sym items)
+            (All-weaker (λ r. length old < length r.causes) (λ r. length (old ++ passes ∷ []) ≤ length r.causes) (λ r below. omega (arith, below, more)) resolvers answered))
+            was.ordered;
+        told = was.told;
+      }
+
+  -- a request that every log has was answered for by every resolver
+  pub past_logs : list_all (λ passes. nat_lt reported (length passes)) logs ≡ true → All (λ r. reported < length r.causes) resolvers
+  past_logs all =
+      let some = some_of (λ passes. (reported < length passes) × All (λ r. length passes ≤ length r.causes) resolvers) logs was.some_log
+      (λ k d below. (each_past reported (λ passes. length passes) logs all k d below, was.ordered k d below)) in
+      let past = some.1.0 in
+      All-weaker (λ r. length some.0 ≤ length r.causes) (λ r. reported < length r.causes) (λ r before. omega (arith, past, before)) resolvers some.1.1
+
+  pub past_requests : list_all (λ passes. nat_lt reported (length passes)) logs ≡ true → reported < length requests
+  past_requests all =
+      let some = some_of (λ r. (reported < length r.causes) × IsResolver start requests reported r) resolvers some_resolver (λ k d below. (past_logs all k d below, was.resolving k d below)) in
+      let a = some.1.0 in
+      let b = some.1.1.within in
+      omega (arith, a, b)
+
+  -- after one more report
+  pub stands_reported : (after : List ResolverState) → list_all (λ passes. nat_lt reported (length passes)) logs ≡ true →
+      map (λ r. r.owner) after ≡ map (λ r. r.owner) resolvers → map (λ r. length r.causes) after ≡ map (λ r. length r.causes) resolvers →
+      All (IsResolver start requests (reported + 1)) after →
+      IsPipeline splits start requests after logs (reported + 1)
+  stands_reported after all same_owners same_counts resolving =
+      let inside = past_requests all in
+      let logged = each_past reported (λ passes. length passes) logs all in
+      record {
+        versions = was.versions;
+        reads = was.reads;
+        owned = same_owners ∙ was.owned;
+        resolving = resolving;
+        some_log = was.some_log;
+        logging = λ k d below.
+            let log = was.logging k d below in
+            let next = logged k d below in
+            record { behind = omega (arith, next); within = log.within; answers = log.answers };
+        ordered = λ k d below. same_all (length (get_or logs k d)) (was.ordered k d below);
+        told = omega (arith, inside);
+      }
+    where
+      same_all : (n : ℕ) → All (λ r. n ≤ length r.causes) resolvers → All (λ r. n ≤ length r.causes) after
+      same_all n before k d below =
+          let len : length after ≡ length resolvers = sym (length-map after (λ r. length r.causes)) ∙ ap length same_counts ∙ length-map resolvers (λ r. length r.causes) in
+          let below' : k < length resolvers = omega (arith, below, len) in
+          let count : length (get_or after k d).causes ≡ length (get_or resolvers k d).causes =
+          sym (get_or-map (λ r. length r.causes) after k d 0 below) ∙ ap (λ ns. get_or ns k 0) same_counts ∙ get_or-map (λ r. length r.causes) resolvers k d 0 below' in
+          let old = before k d below' in
+          omega (arith, count, old)
+
+  -- what a log has of a request that it has appended
+  pub logged_here : (i place : ℕ) (d : List Bool) (request : CommitRequest) (passes : Bool) → i < length logs → place < length (get_or logs i d) →
+      request ≡ get_or requests place request → passes ≡ get_or (get_or logs i d) place true →
+      slice_get (log splits (numbered start requests)) place ≡ Some (cond passes request.mutations [])
+  logged_here i place d request passes inside below is passed =
+      let own : IsLog splits start requests reported (get_or logs i d) = All-get_or (IsLog splits start requests reported) logs i d inside was.logging in
+      let within = own.within in
+      let there : slice_get es place ≡ Some (entry_of start place request) =
+      numbered_at start requests place ∙ ap (option_map (entry_of start place)) (slice_get_read requests (length requests) place request refl (omega (arith, below, within)) is) in
+      let test : passes ≡ is_committed splits es (entry_of start place request) =
+      passed ∙ get_or_from_slice_get (get_or logs i d) place (is_committed splits es (entry_of start place request)) true (own.answers place (entry_of start place request) below there) in
+      slice_get-map (logged (is_committed splits es)) es place ∙ ap (option_map (logged (is_committed splits es))) there ∙ ap (λ b. Some (cond b request.mutations [])) (sym test)
+
+  pub logged_nothing : (i place : ℕ) (d : List Bool) → i < length logs → place < length (get_or logs i d) → false ≡ get_or (get_or logs i d) place true →
+      slice_get (log splits (numbered start requests)) place ≡ Some []
+  logged_nothing i place d inside below passed =
+      let own : IsLog splits start requests reported (get_or logs i d) = All-get_or (IsLog splits start requests reported) logs i d inside was.logging in
+      let within = own.within in
+      let here = entry_here start requests place (omega (arith, below, within)) in
+      let test : false ≡ is_committed splits es here.0 =
+      passed ∙ get_or_from_slice_get (get_or logs i d) place (is_committed splits es here.0) true (own.answers place here.0 below here.1) in
+      slice_get-map (logged (is_committed splits es)) es place ∙ ap (option_map (logged (is_committed splits es))) here.1 ∙ ap (λ b. Some (cond b here.0.request.mutations [])) (sym test)
+
+  -- what is told is the outcome of the request that is reported next
+  pub told_next : (window : ℕ) → list_all (λ passes. nat_lt reported (length passes)) logs ≡ true →
+      told (first_kept reported resolvers) (start + reported + 1) ≡ outcome (state_of splits window start requests resolvers logs reported) (start + reported + 1)
+  told_next window all =
+      let here = entry_here start requests reported (past_requests all) in
+      let number : start + reported + 1 ≡ here.0.version = sym (version_at start requests reported here.0 here.1) in
+      let place : reported ≡ (start + reported + 1) - start - 1 = omega arith in
+      let p : PipelineState = state_of splits window start requests resolvers logs reported in
+      (λ i. told (first_is reported here.0 (omega arith) (past_logs all) here.1 i) (number i))
+      ∙ ap (told_of p) (sym here.1)
+      ∙ ap (λ n. told_of p (slice_get es n)) place
+
+-- the pipeline at the start
+pub stands_first : (splits : List (List ℕ)) (start count : ℕ) → start < 2 ^ 64 → 1 ≤ count → IsPipeline splits start [] (map fresh (owners splits)) (replicate count []) 0
+stands_first splits start count small some =
+    let len = length-replicate count (let none : List Bool = [] in none) in
+    record {
+      versions = omega (arith, small);
+      reads = All-from_recursion (λ e. e.request.read_version < e.version) [] tt;
+      owned = same (owners splits);
+      resolving = All-from_recursion (IsResolver start [] 0) (map fresh (owners splits)) (each (owners splits));
+      some_log = omega (arith, len, some);
+      logging = All-replicate (IsLog splits start [] 0) count [] (record { behind = omega arith; within = omega arith; answers = λ place entry below there. absurd (omega (arith, below)) });
+      ordered = All-replicate (λ passes. All (λ r. length passes ≤ length r.causes) (map fresh (owners splits))) count []
+          (All-from_recursion (λ r. 0 ≤ length r.causes) (map fresh (owners splits)) (all_above (owners splits)));
+      told = omega arith;
+    }
+  where
+    same : (all : List Owned) → map (λ r. r.owner) (map fresh all) ≡ all
+    same [] = refl
+    same (owner ∷ all) = ap (λ xs. owner ∷ xs) (same all)
+
+    each : (all : List Owned) → AllByRecursion (IsResolver start [] 0) (map fresh all)
+    each [] = tt
+    each (owner ∷ all) =
+        (record { within = omega arith; kept = refl; answers = λ place entry after below there. absurd (omega (arith, below)) }, each all)
+
+    all_above : (all : List Owned) → AllByRecursion (λ r. 0 ≤ length r.causes) (map fresh all)
+    all_above [] = tt
+    all_above (owner ∷ all) = (omega arith, all_above all)

@@ -1,0 +1,12 @@
+use Rattle.std.proofs.Common.{◌∙◌, ap, take}
+use Rattle.std.specs.List.{flat_map}
+use Rattle.cluster_core.specs.Server.{pairs_at, turned}
+use Rattle.cluster_core.proofs.TierReads.{tier_read}
+use Rattle.cluster_core.proofs.tier.Tier.read.Goals as goal
+
+pub returns-clause-pairs : goal.returns-clause-pairs
+returns-clause-pairs c =
+    let fields = c.self.inside in
+    c.in_ok-pairs.ensures
+    ∙ ap (λ servers. take c.args.limit (flat_map (pairs_at c.args.range.now c.args.version c.args.reverse) (turned c.args.reverse servers))) c.as_slice-servers.ensures.value
+    ∙ tier_read c.args.self.now fields.splits fields.window fields.servers.items c.args.range.now c.args.version c.args.limit c.args.reverse c.self.view_is c.self.invariant

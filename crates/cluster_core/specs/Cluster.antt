@@ -1,0 +1,57 @@
+-- The whole cluster: the pipeline, and how far each server has pulled what the logs have.
+use Rattle.std.specs.Prelude.{◌≡◌, ℕ, zero, suc, ◌-◌, ◌%◌, Bool, true, false, nat_lt, min, List, [], ◌∷◌, length, slice_index}
+use Rattle.kv_core.specs.Map.{Map}
+use Rattle.cluster_core.specs.declared.answers.Work.{Work}
+use Rattle.cluster_core.specs.declared.answers.Work.TheVariants.{Done, NothingToDo}
+use Rattle.cluster_core.specs.History.{map_at}
+use Rattle.cluster_core.specs.Decision.{Owned, owners}
+use Rattle.cluster_core.specs.Roles.{PipelineState, history, raised}
+use Rattle.cluster_core.specs.Tier.{ServerState, TierState, part}
+
+-- the pipeline, the splits between the servers, and the clock of each server
+pub record ClusterState : Type 0 where
+  pub pipeline : PipelineState
+  pub splits : List (List ℕ)
+  pub pulled : List ℕ
+
+-- the map of the whole database at a version
+abbrev pub database_at : ClusterState → ℕ → Map
+database_at c version = map_at (history c.pipeline) version
+
+-- the maps of an owner's keys from this version down, one more than this number of them
+abbrev pub maps_back : PipelineState → Owned → ℕ → ℕ → List Map
+maps_back p owner version zero = part owner (map_at (history p) version) ∷ []
+maps_back p owner version (suc count) = part owner (map_at (history p) version) ∷ maps_back p owner (version - 1) count
+
+-- what a server has that has pulled up to this version
+abbrev pub server_at : PipelineState → Owned → ℕ → ServerState
+server_at p owner clock = record { version = clock; maps = maps_back p owner clock (min p.window (clock - p.start)) }
+
+abbrev pub servers_at : PipelineState → List Owned → List ℕ → List ServerState
+servers_at p [] clocks = []
+servers_at p (owner ∷ others) [] = []
+servers_at p (owner ∷ others) (clock ∷ clocks) = server_at p owner clock ∷ servers_at p others clocks
+
+-- the servers of a cluster: each has its part of the database at its clock and as far back as the window
+abbrev pub tier_of : ClusterState → TierState
+tier_of c = record { splits = c.splits; window = c.pipeline.window; servers = servers_at c.pipeline (owners c.splits) c.pulled }
+
+-- the log that serves a server
+abbrev pub log_of : ClusterState → ℕ → ℕ
+log_of c s = slice_index c.pipeline.logged (s % length c.pipeline.logged)
+
+-- a server may pull the next version once its log has it
+abbrev pub may_pull : ClusterState → ℕ → Bool
+may_pull c s = nat_lt (slice_index c.pulled s) (log_of c s)
+
+abbrev pub pull : ℕ → ClusterState → ClusterState
+pull s c = record c { pulled = raised c.pulled s }
+
+-- a role did its next step where it might, and else left the state as it was
+abbrev pub Did : {State : Type 0} → Work → Bool → State → State → State → Type 0
+Did Done may old new next = (may ≡ true) × (new ≡ next)
+Did NothingToDo may old new next = (may ≡ false) × (new ≡ old)
+
+-- the cluster with another state of its pipeline
+abbrev pub with_pipeline : PipelineState → ClusterState → ClusterState
+with_pipeline pipeline c = record c { pipeline = pipeline }

@@ -1,0 +1,13 @@
+pub mod History
+pub mod Decision
+pub mod Laws
+pub mod Serial
+pub mod Roles
+pub mod Tier
+pub mod Configuration
+pub mod Cluster
+pub mod Kept
+pub mod Progress
+pub mod Server
+pub mod TierCode
+pub mod Pulled

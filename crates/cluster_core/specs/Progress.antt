@@ -1,0 +1,84 @@
+-- What the resolvers and the logs keep of the requests, by their places in version order.
+use Rattle.std.specs.Prelude.{◌≡◌, ℕ, ◌+◌, ◌<◌, ◌≤◌, ◌^◌, Bool, false, is_none, Option, Some, None, unwrap_or, List, [], ◌∷◌, length, map, slice_get, All}
+use Rattle.std.specs.Option.{option_or, option_map_or}
+use Rattle.kv_core.specs.declared.change.CommitRequest.{CommitRequest}
+use Rattle.cluster_core.specs.History.{Entry}
+use Rattle.cluster_core.specs.Decision.{Owned, Cause, owners, numbered, agreed_above, newer_agreed, earlier, first_disturbed, is_committed}
+use Rattle.cluster_core.specs.Laws.{ReadsBelow}
+use Rattle.cluster_core.specs.Kept.{AreAt}
+use Rattle.cluster_core.specs.Roles.{PipelineState}
+
+-- the owner that a resolver answers for, the places of the requests to which it agreed, and its answer for each request so far
+pub record ResolverState : Type 0 where
+  pub owner : Owned
+  pub agreed : List ℕ
+  pub causes : List (Option Cause)
+
+-- a resolver that has answered for no request
+abbrev pub fresh : Owned → ResolverState
+fresh owner = record { owner = owner; agreed = []; causes = [] }
+
+-- the owners that resolvers answer for
+abbrev pub owners_of : List ResolverState → List Owned
+owners_of resolvers = map (λ resolver. resolver.owner) resolvers
+
+-- for how many requests each resolver has answered
+abbrev pub counts_of : List ResolverState → List ℕ
+counts_of resolvers = map (λ resolver. length resolver.causes) resolvers
+
+-- an owner's answer for an entry: the cause against it, or None where the owner agrees
+abbrev pub answer_of : Owned → List Entry → Entry → Option Cause
+answer_of owner entries entry = first_disturbed owner (newer_agreed owner entries entry) entry.request.reads
+
+-- whether a resolver has agreed to the request at a place
+abbrev pub has_agreed : ℕ → ResolverState → Bool
+has_agreed place resolver = option_map_or (λ cause. is_none cause) (slice_get resolver.causes place) false
+
+-- the first cause that the resolvers, in their order, keep against the request at a place
+abbrev pub first_kept : ℕ → List ResolverState → Option Cause
+first_kept place [] = None
+first_kept place (resolver ∷ others) = option_or (unwrap_or (slice_get resolver.causes place) None) (first_kept place others)
+
+-- these are the places of the entries before a version to which the owner agrees
+abbrev pub AgreedBefore : Owned → List Entry → List ℕ → ℕ → Type 0
+AgreedBefore owner entries places version = AreAt entries places (agreed_above owner 0 (earlier entries version))
+
+-- a resolver knows to which of the requests it agreed, and keeps its answer for each of them that isn't reported yet
+pub record IsResolver (start : ℕ) (requests : List CommitRequest) (reported : ℕ) (resolver : ResolverState) : Type 0 where
+  pub within : length resolver.causes ≤ length requests
+  pub kept : AgreedBefore resolver.owner (numbered start requests) resolver.agreed (start + length resolver.causes + 1)
+  pub answers :
+      (place : ℕ) (entry : Entry) → reported ≤ place → place < length resolver.causes → slice_get (numbered start requests) place ≡ Some entry →
+      slice_get resolver.causes place ≡ Some (answer_of resolver.owner (numbered start requests) entry)
+
+-- a log has for each request so far whether it is committed, and for each that is reported
+pub record IsLog (splits : List (List ℕ)) (start : ℕ) (requests : List CommitRequest) (reported : ℕ) (passes : List Bool) : Type 0 where
+  pub behind : reported ≤ length passes
+  pub within : length passes ≤ length requests
+  pub answers :
+      (place : ℕ) (entry : Entry) → place < length passes → slice_get (numbered start requests) place ≡ Some entry →
+      slice_get passes place ≡ Some (is_committed splits (numbered start requests) entry)
+
+-- the roles stand in their order: a log has only what every resolver answered for, and only what a log has is reported
+pub record IsPipeline (splits : List (List ℕ)) (start : ℕ) (requests : List CommitRequest) (resolvers : List ResolverState) (logs : List (List Bool)) (reported : ℕ) : Type 0 where
+  pub versions : start + length requests < 2 ^ 64
+  pub reads : ReadsBelow (numbered start requests)
+  pub owned : owners_of resolvers ≡ owners splits
+  pub resolving : All (IsResolver start requests reported) resolvers
+  pub some_log : 1 ≤ length logs
+  pub logging : All (IsLog splits start requests reported) logs
+  pub ordered : All (λ passes. All (λ resolver. length passes ≤ length resolver.causes) resolvers) logs
+  pub told : reported ≤ length requests
+
+-- the pipeline as its callers see it, with a version in the place of each number of requests
+abbrev pub state_of : List (List ℕ) → ℕ → ℕ → List CommitRequest → List ResolverState → List (List Bool) → ℕ → PipelineState
+state_of splits window start requests resolvers logs reported =
+    record {
+      splits = splits;
+      window = window;
+      start = start;
+      requests = requests;
+      resolved = map (λ resolver. start + length resolver.causes) resolvers;
+      logged = map (λ passes. start + length passes) logs;
+      reported = start + reported;
+    }

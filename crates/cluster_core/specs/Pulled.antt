@@ -1,0 +1,23 @@
+-- What the pipeline and the servers of a cluster keep together.
+use Rattle.std.specs.Prelude.{◌≡◌, ℕ, ◌≤◌, List, length, map}
+use Rattle.std.specs.List.{AllByRecursion}
+use Rattle.cluster_core.specs.Cluster.{ClusterState, tier_of}
+use Rattle.cluster_core.specs.Decision.{owners}
+use Rattle.cluster_core.specs.Roles.{PipelineState, submitted}
+use Rattle.cluster_core.specs.Tier.{TierState}
+
+-- the clock of each server: its last version
+abbrev pub clocks_of : TierState → List ℕ
+clocks_of tier = map (λ server. server.version) tier.servers
+
+-- the state of a pipeline and its servers
+abbrev pub cluster_of : PipelineState → TierState → ClusterState
+cluster_of pipeline tier = record { pipeline = pipeline; splits = tier.splits; pulled = clocks_of tier }
+
+-- the servers are those that the clocks say, one for each owner, and have pulled no version that isn't submitted
+pub record IsCluster (pipeline : PipelineState) (tier : TierState) : Type 0 where
+  pub servers : tier ≡ tier_of (cluster_of pipeline tier)
+  pub counts : length (clocks_of tier) ≡ length (owners tier.splits)
+  pub some_log : 1 ≤ length pipeline.logged
+  pub started : AllByRecursion (λ clock. pipeline.start ≤ clock) (clocks_of tier)
+  pub given : AllByRecursion (λ clock. clock ≤ submitted pipeline) (clocks_of tier)

@@ -1,0 +1,170 @@
+ghost use Rattle.std.specs.Prelude.{◌≡◌, ◌⊎◌, ◌+◌, ◌<◌, ◌≤◌, Some, IsNone, IfOk, IfErr, OnOk, OnErr, if◌then◌else◌, length};
+ghost use Rattle.kv_core.specs.Read.{read_of};
+ghost use Rattle.cluster_core.specs.Cluster.{Did, database_at, may_pull, pull as with_pulled, tier_of, with_pipeline};
+ghost use Rattle.cluster_core.specs.Configuration.{config_refusal, first_cluster};
+ghost use Rattle.cluster_core.specs.History.{IsLegal};
+ghost use Rattle.cluster_core.specs.Roles.{append as with_appended, history, may_append, may_report, may_resolve, outcome, report as with_reported, resolve as with_resolved, submit as with_submitted, submit_refusal, submitted};
+ghost use Rattle.cluster_core.specs.Tier.{refusal};
+
+use crate::answers::{Config, ConfigError, ReadError, Reported, SubmitError, Work};
+use crate::pipeline::{Pipeline, Ticket};
+use crate::tier::Tier;
+use kv_core::{CommitRequest, KeyRange, Pair};
+use std::alloc::{AllocError, Global};
+use std::marker::Model;
+
+/// The whole cluster: the sequencer, the resolvers and the logs, and the storage servers, which
+/// pull from the logs.
+#[derive(Debug, Drop)]
+pub struct Cluster {
+    pipeline: Pipeline,
+    tier: Tier,
+}
+
+impl Model for Cluster {
+    ghost use Rattle.cluster_core.specs.Cluster.{ClusterState};
+    ghost use Rattle.cluster_core.specs.Pulled.{IsCluster, cluster_of};
+
+    ghost Value = { ClusterState };
+
+    ghost view = { λ a. cluster_of a.pipeline a.tier };
+
+    ghost invariant = { λ a. IsCluster a.pipeline a.tier };
+}
+
+impl Cluster {
+    /// The cluster at the start, without requests.
+    ///
+    /// It is refused with `BadCount` where a number of roles or the window is out of its bounds,
+    /// else with `BadSplits` where the splits of the resolvers or those of the servers can't be
+    /// splits, and else with `Memory` where memory runs out.
+    pub fn new(alloc: Global, config: &Config) -> Result<Cluster, ConfigError>
+        ensures made { IfOk result (λ cluster. cluster ≡ first_cluster config.now) }
+        ensures allowed { OnOk result (IsNone (config_refusal config.now)) }
+        ensures refused { IfErr result (λ error. (error ≡ ConfigError.Memory) ⊎ (config_refusal config.now ≡ Some error)) }
+    {
+        let pipeline = Pipeline::new(alloc, config)?;
+        let tier = Tier::new(alloc, config)?;
+        Ok(Cluster { pipeline, tier })
+    }
+
+    /// The last reported version.
+    pub fn read_version(&self) -> u64
+        ensures { result ≡ self.now.pipeline.reported }
+    {
+        self.pipeline.read_version()
+    }
+
+    /// All requests that were submitted, in version order. Those of them that are committed make
+    /// a legal history: each would have read the same just before its own version.
+    pub fn requests(&self) -> &[CommitRequest]
+        ensures value { result.now ≡ self.now.pipeline.requests }
+        ensures legal { IsLegal (history self.now.pipeline) }
+    {
+        self.pipeline.requests()
+    }
+
+    /// The number of resolvers.
+    pub fn resolvers(&self) -> usize
+        ensures { result ≡ length self.now.pipeline.resolved }
+    {
+        self.pipeline.resolvers()
+    }
+
+    /// The number of logs.
+    pub fn logs(&self) -> usize
+        ensures { result ≡ length self.now.pipeline.logged }
+    {
+        self.pipeline.logs()
+    }
+
+    /// The number of storage servers.
+    pub fn servers(&self) -> usize
+        ensures { result ≡ length self.now.pulled }
+    {
+        self.tier.servers()
+    }
+
+    /// Gives the request the next version, as `Pipeline::submit` does.
+    pub fn submit(&mut self, request: CommitRequest) -> Result<Ticket, SubmitError>
+        requires { request.read_version ≤ self.old.pipeline.reported }
+        ensures given { IfOk result (λ ticket. (self.new ≡ with_pipeline (with_submitted request self.old.pipeline) self.old) × (ticket ≡ submitted self.new.pipeline)) }
+        ensures allowed { OnOk result (IsNone (submit_refusal self.old.pipeline request.read_version)) }
+        ensures unchanged { OnErr result (self.new ≡ self.old) }
+        ensures refused { IfErr result (λ error. (error ≡ SubmitError.Memory) ⊎ (submit_refusal self.old.pipeline request.read_version ≡ Some error)) }
+    {
+        let ticket = self.pipeline.submit(request)?;
+        Ok(ticket)
+    }
+
+    /// Has a resolver answer for its next version, unless memory runs out, which leaves the
+    /// cluster as it was.
+    pub fn resolve(&mut self, r: usize) -> Result<Work, AllocError>
+        requires { r < length self.old.pipeline.resolved }
+        ensures step { IfOk result (λ work. Did work (may_resolve self.old.pipeline r) self.old self.new (with_pipeline (with_resolved r self.old.pipeline) self.old)) }
+        ensures unchanged { OnErr result (self.new ≡ self.old) }
+    {
+        let work = self.pipeline.resolve(r)?;
+        Ok(work)
+    }
+
+    /// Has a log append its next version, unless memory runs out, which leaves the cluster as it
+    /// was.
+    pub fn append_log(&mut self, l: usize) -> Result<Work, AllocError>
+        requires { l < length self.old.pipeline.logged }
+        ensures step { IfOk result (λ work. Did work (may_append self.old.pipeline l) self.old self.new (with_pipeline (with_appended l self.old.pipeline) self.old)) }
+        ensures unchanged { OnErr result (self.new ≡ self.old) }
+    {
+        let work = self.pipeline.append_log(l)?;
+        Ok(work)
+    }
+
+    /// Reports the next version, as `Pipeline::report` does, which takes no memory.
+    pub fn report(&mut self) -> Reported
+        ensures told { result ≡ (if may_report self.old.pipeline then outcome self.old.pipeline (self.old.pipeline.reported + 1) else Reported.NothingToDo) }
+        ensures step { self.new ≡ (if may_report self.old.pipeline then with_pipeline (with_reported self.old.pipeline) self.old else self.old) }
+    {
+        self.pipeline.report()
+    }
+
+    /// Reports the next version to nobody: the same step as `report`, which takes no memory.
+    pub fn report_lost(&mut self) -> Work
+        ensures { Did result (may_report self.old.pipeline) self.old self.new (with_pipeline (with_reported self.old.pipeline) self.old) }
+    {
+        self.pipeline.report_lost()
+    }
+
+    /// Has a server apply the next version of its log, once the log has it, unless memory runs
+    /// out, which leaves the cluster as it was.
+    pub fn pull(&mut self, s: usize) -> Result<Work, AllocError>
+        requires { s < length self.old.pulled }
+        ensures step { IfOk result (λ work. Did work (may_pull self.old s) self.old self.new (with_pulled s self.old)) }
+        ensures unchanged { OnErr result (self.new ≡ self.old) }
+    {
+        let log = s % self.pipeline.logs();
+        let version = self.tier.version(s);
+        let Some(mutations) = self.pipeline.logged_after(log, version) else {
+            return Ok(Work::NothingToDo);
+        };
+        self.tier.pull(s, mutations)?;
+        Ok(Work::Done)
+    }
+
+    /// The pairs of the range in the database at a version: the first ones in the order of their
+    /// keys, or with `reverse` the last ones with the last one first, as many as there are up to
+    /// the limit. It is refused as `Tier::read` is.
+    pub fn read(
+        &self,
+        range: &KeyRange,
+        version: u64,
+        limit: usize,
+        reverse: bool,
+    ) -> Result<Vec<Pair>, ReadError>
+        ensures pairs { IfOk result (λ pairs. pairs.items ≡ read_of (database_at self.now version) range.now limit reverse) }
+        ensures allowed { OnOk result (IsNone (refusal (tier_of self.now) range.now version)) }
+        ensures refused { IfErr result (λ error. (error ≡ ReadError.Memory) ⊎ (refusal (tier_of self.now) range.now version ≡ Some error)) }
+    {
+        let pairs = self.tier.read(range, version, limit, reverse)?;
+        Ok(pairs)
+    }
+}

@@ -1,0 +1,29 @@
+//! The roles of the cluster: which requests are committed, and the map at each version.
+#![tactic(auto)]
+
+mod answers;
+mod cluster;
+#[cfg(test)]
+mod cluster_tests;
+mod config;
+mod kept;
+mod laws;
+mod log;
+mod part;
+mod pipeline;
+mod resolver;
+mod server;
+#[cfg(test)]
+mod tests;
+mod tier;
+#[cfg(test)]
+mod tier_tests;
+
+pub use answers::{Config, ConfigError, HoldError, ReadError, Reported, Splits, SubmitError, Work};
+pub use cluster::Cluster;
+pub use laws::{
+    agreement_by_versions, cause_is_exact, history_is_legal, history_only_grows,
+    servers_follow_logs,
+};
+pub use pipeline::{Pipeline, Ticket};
+pub use tier::Tier;

@@ -1,0 +1,358 @@
+ghost use Rattle.std.specs.Prelude.{◌≡◌, ◌⊎◌, ℕ, List, [], slice_index, ◌+◌, ◌-◌, ◌<◌, ◌≤◌, Some, None, IsNone, IfOk, IfErr, OnOk, OnErr, if◌then◌else◌, length, map, replicate, slice_get, true, nat_lt, All, ◌^◌, IsSome, IfSome, is_some};
+ghost use Rattle.std.specs.List.{list_all};
+ghost use Rattle.cluster_core.specs.History.{IsLegal};
+ghost use Rattle.cluster_core.specs.Decision.{log, owners};
+ghost use Rattle.cluster_core.specs.Configuration.{config_refusal, first_pipeline};
+ghost use Rattle.cluster_core.specs.Cluster.{Did};
+ghost use Rattle.cluster_core.specs.Roles.{PipelineState, entries, history, submitted, submit_refusal, submit as with_submitted, may_resolve, resolve as with_resolved, may_append, append as with_appended, may_report, report as with_reported, outcome};
+ghost use Rattle.cluster_core.specs.Progress.{IsResolver, counts_of, first_kept, fresh, has_agreed, owners_of, state_of};
+
+use crate::answers::{Config, ConfigError, Reported, Splits, SubmitError, Work};
+use crate::config::refusal_of;
+use crate::kept::Cause;
+use crate::log::Log;
+use crate::part::Part;
+use crate::resolver::Resolver;
+use kv_core::{Bytes, CommitRequest, Mutation};
+use std::alloc::{AllocError, Global};
+use std::marker::Model;
+
+/// The version that was given to a request.
+#[derive(Clone, Copy, Debug, PartialEq, Eq)]
+pub struct Ticket {
+    version: u64,
+}
+
+impl Model for Ticket {
+    ghost use Rattle.std.specs.Prelude.{ℕ};
+
+    ghost Value = { ℕ };
+
+    ghost view = { λ a. a.version };
+
+    ghost inverse = { λ n. record { version = n } };
+}
+
+impl Ticket {
+    /// The version.
+    pub fn version(self) -> u64
+        ensures { result ≡ self }
+    {
+        self.version
+    }
+}
+
+/// The sequencer, the resolvers and the logs.
+///
+/// Each version passes them in turn: the sequencer gives it to a request, each resolver answers
+/// for it, each log appends it, and then it is reported.
+#[derive(Debug, Drop)]
+pub struct Pipeline {
+    window: u64,
+    start: u64,
+    splits: Splits,
+    requests: Vec<CommitRequest>,
+    resolvers: Vec<Resolver>,
+    logs: Vec<Log>,
+    reported: usize,
+}
+
+impl Model for Pipeline {
+    ghost use Rattle.cluster_core.specs.Roles.{PipelineState};
+    ghost use Rattle.cluster_core.specs.Progress.{IsPipeline, state_of};
+
+    ghost Value = { PipelineState };
+
+    ghost view = { λ a.
+        state_of a.splits a.window a.start a.requests.items a.resolvers.items a.logs.items a.reported };
+
+    ghost invariant = { λ a.
+        IsPipeline a.splits a.start a.requests.items a.resolvers.items a.logs.items a.reported };
+}
+
+/// A resolver for the keys between each two neighbours of the splits, in key order.
+fn resolvers_between(alloc: Global, splits: &[Bytes]) -> Result<Vec<Resolver>, AllocError>
+    ensures { IfOk result (λ resolvers. resolvers.items ≡ map fresh (owners splits.now)) }
+{
+    let mut resolvers = Vec::new(alloc);
+    let mut from = Bytes::new(Vec::new(alloc));
+    for split in splits {
+        let part = Part::new(from, Some(split.copy()?));
+        resolvers.push(Resolver::new(alloc, part))?;
+        from = split.copy()?;
+    }
+    resolvers.push(Resolver::new(alloc, Part::new(from, None)))?;
+    Ok(resolvers)
+}
+
+/// So many logs without requests.
+fn empty_logs(alloc: Global, count: u64) -> Result<Vec<Log>, AllocError>
+    ensures { IfOk result (λ logs. logs.items ≡ replicate count []) }
+{
+    let mut logs = Vec::new(alloc);
+    for _ in 0..count {
+        logs.push(Log::new(alloc))?;
+    }
+    Ok(logs)
+}
+
+/// Whether every resolver has answered for the request at a place.
+fn all_answered(resolvers: &[Resolver], place: usize) -> bool
+    ensures { result ≡ list_all (λ resolver. nat_lt place (length resolver.causes)) resolvers.now }
+{
+    resolvers.iter().all(|resolver| place < resolver.answered())
+}
+
+/// Whether every resolver has agreed to the request at a place.
+fn all_agree(resolvers: &[Resolver], place: usize) -> bool
+    ensures { result ≡ list_all (has_agreed place) resolvers.now }
+{
+    resolvers.iter().all(|resolver| resolver.has_agreed(place))
+}
+
+/// Whether every log has the request at a place.
+fn all_logged(logs: &[Log], place: usize) -> bool
+    ensures { result ≡ list_all (λ passes. nat_lt place (length passes)) logs.now }
+{
+    logs.iter().all(|log| place < log.len())
+}
+
+/// Takes the first cause against the request at a place from the resolver that has it.
+fn take_cause(resolvers: &mut [Resolver], place: usize) -> Option<Cause>
+    requires { All (λ resolver. place < length resolver.causes) resolvers.old }
+    ensures cause { result ≡ first_kept place resolvers.old }
+    ensures owners { owners_of resolvers.new ≡ owners_of resolvers.old }
+    ensures counts { counts_of resolvers.new ≡ counts_of resolvers.old }
+    ensures kept { (start : ℕ) (requests : List CommitRequest) →
+        All (IsResolver start requests place) resolvers.old → All (IsResolver start requests (place + 1)) resolvers.new }
+{
+    for resolver in resolvers.iter_mut() {
+        if let Some(cause) = resolver.take_cause(place) {
+            return Some(cause);
+        }
+    }
+    None
+}
+
+impl Pipeline {
+    /// The pipeline at the start, without requests.
+    ///
+    /// It is refused with `BadCount` where a number of roles or the window is out of its bounds,
+    /// else with `BadSplits` where the splits of the resolvers or those of the servers can't be
+    /// splits, and else with `Memory` where memory runs out.
+    pub fn new(alloc: Global, config: &Config) -> Result<Pipeline, ConfigError>
+        ensures made { IfOk result (λ pipeline. pipeline ≡ first_pipeline config.now) }
+        ensures allowed { OnOk result (IsNone (config_refusal config.now)) }
+        ensures refused { IfErr result (λ error. (error ≡ ConfigError.Memory) ⊎ (config_refusal config.now ≡ Some error)) }
+    {
+        if let Some(error) = refusal_of(config) {
+            return Err(error);
+        }
+        let splits = config.resolver_splits.copy()?;
+        let pipeline = Pipeline::with_roles(
+            alloc,
+            config.window,
+            config.start,
+            splits,
+            config.logs,
+        )?;
+        Ok(pipeline)
+    }
+
+    /// The pipeline without requests that has a resolver for each part between the splits, and so
+    /// many logs.
+    fn with_roles(
+        alloc: Global,
+        window: u64,
+        start: u64,
+        splits: Splits,
+        logs: u64,
+    ) -> Result<Pipeline, AllocError>
+        requires { 1 ≤ logs }
+        ensures { IfOk result (λ pipeline. pipeline ≡ state_of splits window start [] (map fresh (owners splits)) (replicate logs []) 0) }
+    {
+        let resolvers = resolvers_between(alloc, splits.as_slice())?;
+        let logs = empty_logs(alloc, logs)?;
+        Ok(Pipeline {
+            window,
+            start,
+            splits,
+            requests: Vec::new(alloc),
+            resolvers,
+            logs,
+            reported: 0,
+        })
+    }
+
+    /// The last reported version.
+    pub fn read_version(&self) -> u64
+        ensures { result ≡ self.now.reported }
+    {
+        self.start + self.reported as u64
+    }
+
+    /// All requests that were submitted, in version order. Those of them that are committed make
+    /// a legal history: each would have read the same just before its own version.
+    pub fn requests(&self) -> &[CommitRequest]
+        ensures value { result.now ≡ self.now.requests }
+        ensures legal { IsLegal (history self.now) }
+    {
+        self.requests.as_slice()
+    }
+
+    /// The number of resolvers.
+    pub fn resolvers(&self) -> usize
+        ensures { result ≡ length self.now.resolved }
+    {
+        self.resolvers.len()
+    }
+
+    /// The number of logs.
+    pub fn logs(&self) -> usize
+        ensures { result ≡ length self.now.logged }
+    {
+        self.logs.len()
+    }
+
+    /// The last version that was given.
+    fn submitted(&self) -> u64
+        ensures value { result ≡ submitted self.now }
+        ensures reported { self.now.reported ≤ result }
+    {
+        self.start + self.requests.len() as u64
+    }
+
+    /// Gives the request the next version.
+    ///
+    /// It is refused with `VersionsExhausted` where there is no version left, else with `TooOld`
+    /// where it read longer ago than the window allows, and else with `Memory` where memory runs
+    /// out. A refusal leaves the pipeline as it was.
+    pub fn submit(&mut self, request: CommitRequest) -> Result<Ticket, SubmitError>
+        requires { request.read_version ≤ self.old.reported }
+        ensures given { IfOk result (λ ticket. (self.new ≡ with_submitted request self.old) × (ticket ≡ submitted self.new)) }
+        ensures allowed { OnOk result (IsNone (submit_refusal self.old request.read_version)) }
+        ensures unchanged { OnErr result (self.new ≡ self.old) }
+        ensures refused { IfErr result (λ error. (error ≡ SubmitError.Memory) ⊎ (submit_refusal self.old request.read_version ≡ Some error)) }
+    {
+        let last = self.submitted();
+        if last == u64::MAX {
+            return Err(SubmitError::VersionsExhausted);
+        }
+        if last - request.read_version > self.window {
+            return Err(SubmitError::TooOld);
+        }
+        self.requests.push(request)?;
+        Ok(Ticket { version: last + 1 })
+    }
+
+    /// Has a resolver answer for its next version, if it is submitted. Where memory runs out the
+    /// pipeline stays as it was.
+    pub fn resolve(&mut self, r: usize) -> Result<Work, AllocError>
+        requires { r < length self.old.resolved }
+        ensures step { IfOk result (λ work. Did work (may_resolve self.old r) self.old self.new (with_resolved r self.old)) }
+        ensures unchanged { OnErr result (self.new ≡ self.old) }
+    {
+        if self.resolvers[r].answered() == self.requests.len() {
+            return Ok(Work::NothingToDo);
+        }
+        self.resolvers[r].answer_next(self.start, self.requests.as_slice())?;
+        Ok(Work::Done)
+    }
+
+    /// Has a log append its next version, if every resolver has answered for it. Where memory runs
+    /// out the pipeline stays as it was.
+    pub fn append_log(&mut self, l: usize) -> Result<Work, AllocError>
+        requires { l < length self.old.logged }
+        ensures step { IfOk result (λ work. Did work (may_append self.old l) self.old self.new (with_appended l self.old)) }
+        ensures unchanged { OnErr result (self.new ≡ self.old) }
+    {
+        let place = self.logs[l].len();
+        if !all_answered(self.resolvers.as_slice(), place) {
+            return Ok(Work::NothingToDo);
+        }
+        let passes = all_agree(self.resolvers.as_slice(), place);
+        self.logs[l].push(passes)?;
+        Ok(Work::Done)
+    }
+
+    /// Whether the next version may be reported: every log has it.
+    fn may_report(&self) -> bool
+        ensures { result ≡ may_report self.now }
+    {
+        all_logged(self.logs.as_slice(), self.reported)
+    }
+
+    /// Reports the next version.
+    fn report_next(&mut self) -> Reported
+        requires { may_report self.old ≡ true }
+        ensures told { result ≡ outcome self.old (self.old.reported + 1) }
+        ensures step { self.new ≡ with_reported self.old }
+    {
+        let place = self.reported;
+        let version = self.start + place as u64 + 1;
+        let cause = take_cause(self.resolvers.as_mut_slice(), place);
+        self.reported = place + 1;
+        match cause {
+            Some(cause) => Reported::Conflict {
+                seen: cause.seen,
+                range: cause.range,
+            },
+            None => Reported::Committed(version),
+        }
+    }
+
+    /// Reports the next version, if every log has it: that its request is committed, or the newest
+    /// version that wrote what the request read. This takes no memory.
+    pub fn report(&mut self) -> Reported
+        ensures told { result ≡ (if may_report self.old then outcome self.old (self.old.reported + 1) else Reported.NothingToDo) }
+        ensures step { self.new ≡ (if may_report self.old then with_reported self.old else self.old) }
+    {
+        if self.may_report() {
+            self.report_next()
+        } else {
+            Reported::NothingToDo
+        }
+    }
+
+    /// Reports the next version to nobody: the step of `report`, whose answer is lost.
+    pub fn report_lost(&mut self) -> Work
+        ensures { Did result (may_report self.old) self.old self.new (with_reported self.old) }
+    {
+        if !self.may_report() {
+            return Work::NothingToDo;
+        }
+        self.report_next();
+        Work::Done
+    }
+
+    /// What a log has of the request at a place: its mutations where it is committed, and else
+    /// nothing.
+    pub(crate) fn logged(&self, l: usize, place: usize) -> &[Mutation]
+        requires log { l < length self.now.logged }
+        requires place { self.now.start + place < slice_index self.now.logged l }
+        ensures { slice_get (log self.now.splits (entries self.now)) place ≡ Some result.now }
+    {
+        if self.logs[l].passes(place) {
+            self.requests[place].mutations.as_slice()
+        } else {
+            &[]
+        }
+    }
+
+    /// What a log has of the version after this one, or None where it doesn't have it yet.
+    pub(crate) fn logged_after(&self, l: usize, version: u64) -> Option<&[Mutation]>
+        requires log { l < length self.now.logged }
+        requires from { self.now.start ≤ version }
+        ensures some { IfSome result (λ mutations. slice_get (log self.now.splits (entries self.now)) (version - self.now.start) ≡ Some mutations.now) }
+        ensures given { IsSome result → version < submitted self.now }
+        ensures next { IsSome result → version + 1 < 2 ^ 64 }
+        ensures may { is_some result ≡ nat_lt version (slice_index self.now.logged l) }
+    {
+        let place = (version - self.start) as usize;
+        if place < self.logs[l].len() {
+            Some(self.logged(l, place))
+        } else {
+            None
+        }
+    }
+}

@@ -1,0 +1,155 @@
+ghost use Rattle.std.specs.Prelude.{◌≡◌, ◌⊎◌, ◌+◌, ◌<◌, ◌^◌, ◌↔◌, Some, IsTrue, IsNone, IfOk, IfErr, OnOk, OnErr, All, length, map, slice_get, slice_set};
+ghost use Rattle.std.specs.List.{AllByRecursion};
+ghost use Rattle.kv_core.specs.Read.{read_of};
+ghost use Rattle.cluster_core.specs.Configuration.{config_refusal, first_tier};
+ghost use Rattle.cluster_core.specs.Decision.{Owned, owners};
+ghost use Rattle.cluster_core.specs.Server.{first_server, owner_of, server_state};
+ghost use Rattle.cluster_core.specs.Tier.{ServerState, absorb, absorb_all, refusal, whole_map};
+
+use crate::answers::{Config, ConfigError, ReadError, Splits};
+use crate::config::refusal_of;
+use crate::part::Part;
+use crate::server::{Server, have_next, pull_each, read_each, refusal_among};
+use kv_core::{Bytes, KeyRange, Mutation, Pair};
+use std::alloc::{AllocError, Global};
+use std::marker::Model;
+
+/// The storage servers, in key order: each has the maps of its keys at its last versions, as far
+/// back as the window.
+#[derive(Debug, Drop)]
+pub struct Tier {
+    alloc: Global,
+    window: u64,
+    splits: Splits,
+    servers: Vec<Server>,
+}
+
+impl Model for Tier {
+    ghost use Rattle.std.specs.Prelude.{map};
+    ghost use Rattle.cluster_core.specs.TierCode.{tier_code};
+    ghost use Rattle.cluster_core.specs.Tier.{TierState};
+
+    ghost Value = { TierState };
+
+    ghost coded = { tier_code };
+
+    ghost use Rattle.cluster_core.specs.Server.{IsTier, server_state};
+
+    ghost view = { λ a. record { splits = a.splits; window = a.window; servers = map server_state a.servers.items } };
+
+    ghost invariant = { λ a. IsTier a.splits a.servers.items };
+}
+
+/// A server with the empty map at a version for each part between the splits.
+fn servers_between(alloc: Global, splits: &[Bytes], version: u64) -> Result<Vec<Server>, AllocError>
+    ensures owners { IfOk result (λ servers. map owner_of servers.items ≡ owners splits.now) }
+    ensures states { IfOk result (λ servers. AllByRecursion (λ server. server_state server ≡ first_server version) servers.items) }
+{
+    let mut servers = Vec::new(alloc);
+    let mut from = Bytes::new(Vec::new(alloc));
+    for split in splits {
+        let part = Part::new(from, Some(split.copy()?));
+        servers.push(Server::new(alloc, part, version)?)?;
+        from = split.copy()?;
+    }
+    servers.push(Server::new(alloc, Part::new(from, None), version)?)?;
+    Ok(servers)
+}
+
+impl Tier {
+    /// The servers at the start: each has the empty map at the first version.
+    ///
+    /// It is refused with `BadCount` where a number of roles or the window is out of its bounds,
+    /// else with `BadSplits` where the splits of the resolvers or those of the servers can't be
+    /// splits, and else with `Memory` where memory runs out.
+    pub fn new(alloc: Global, config: &Config) -> Result<Tier, ConfigError>
+        ensures made { IfOk result (λ tier. tier ≡ first_tier config.now) }
+        ensures allowed { OnOk result (IsNone (config_refusal config.now)) }
+        ensures refused { IfErr result (λ error. (error ≡ ConfigError.Memory) ⊎ (config_refusal config.now ≡ Some error)) }
+    {
+        if let Some(error) = refusal_of(config) {
+            return Err(error);
+        }
+        let splits = config.storage_splits.copy()?;
+        let servers = servers_between(alloc, splits.as_slice(), config.start)?;
+        Ok(Tier {
+            alloc,
+            window: config.window,
+            splits,
+            servers,
+        })
+    }
+
+    /// The number of servers.
+    pub fn servers(&self) -> usize
+        ensures { result ≡ length self.now.servers }
+    {
+        self.servers.len()
+    }
+
+    /// The last version that a server applied.
+    pub(crate) fn version(&self, s: usize) -> u64
+        requires { s < length self.now.servers }
+        ensures { slice_get (map (λ server. server.version) self.now.servers) s ≡ Some result }
+    {
+        self.servers[s].version()
+    }
+
+    /// Whether there is a version left for `pull_entry`.
+    pub fn has_next(&self) -> bool
+        ensures { IsTrue result ↔ All (λ server. server.version + 1 < 2 ^ 64) self.now.servers }
+    {
+        have_next(self.servers.as_slice())
+    }
+
+    /// Applies one version with these mutations at every server, unless memory runs out, which
+    /// leaves all of them as they were.
+    pub fn pull_entry(&mut self, mutations: &[Mutation]) -> Result<(), AllocError>
+        requires { All (λ server. server.version + 1 < 2 ^ 64) self.old.servers }
+        ensures ok { OnOk result (self.new ≡ absorb_all mutations.now self.old) }
+        ensures err { OnErr result (self.new ≡ self.old) }
+    {
+        pull_each(self.servers.as_mut_slice(), self.window, mutations)
+    }
+
+    /// Applies one version with these mutations at one server, unless memory runs out, which
+    /// leaves it as it was.
+    pub(crate) fn pull(&mut self, s: usize, mutations: &[Mutation]) -> Result<(), AllocError>
+        requires server { s < length self.old.servers }
+        requires next { (server : ServerState) → slice_get self.old.servers s ≡ Some server → server.version + 1 < 2 ^ 64 }
+        ensures ok { OnOk result ((owner : Owned) (server : ServerState) → slice_get (owners self.old.splits) s ≡ Some owner → slice_get self.old.servers s ≡ Some server →
+            self.new ≡ record self.old { servers = slice_set self.old.servers s (absorb self.old.window owner mutations.now server) }) }
+        ensures err { OnErr result (self.new ≡ self.old) }
+    {
+        let window = self.window;
+        let server = &mut self.servers[s];
+        server.pull(window, mutations)?;
+        Ok(())
+    }
+
+    /// The pairs of the range at a version: the first ones in the order of their keys, or with
+    /// `reverse` the last ones with the last one first, as many as there are up to the limit.
+    ///
+    /// The first server in key order that owns a key of the range and can't tell refuses the
+    /// read, also where the limit is reached before its keys: with `FutureVersion` where it
+    /// hasn't applied the version yet, and with `TooOld` where the version lies longer ago than
+    /// the window. Else the read is refused with `Memory` where memory runs out.
+    pub fn read(
+        &self,
+        range: &KeyRange,
+        version: u64,
+        limit: usize,
+        reverse: bool,
+    ) -> Result<Vec<Pair>, ReadError>
+        ensures pairs { IfOk result (λ pairs. pairs.items ≡ read_of (whole_map self.now version) range.now limit reverse) }
+        ensures allowed { OnOk result (IsNone (refusal self.now range.now version)) }
+        ensures refused { IfErr result (λ error. (error ≡ ReadError.Memory) ⊎ (refusal self.now range.now version ≡ Some error)) }
+    {
+        let servers = self.servers.as_slice();
+        if let Some(error) = refusal_among(servers, self.window, range, version) {
+            return Err(error);
+        }
+        let pairs = read_each(self.alloc, servers, range, version, limit, reverse)?;
+        Ok(pairs)
+    }
+}
