@@ -71,18 +71,18 @@ def nested(data, opened, depth):
     raise Refused("Truncated", opened)
 
 
-LETTERS = {"UnknownCode": "U", "Truncated": "T", "NotMinimal": "M", "NotUtf8": "8", "TooDeep": "D"}
+WORDS = {"UnknownCode": "code@", "Truncated": "cut@", "NotMinimal": "long@", "NotUtf8": "text@", "TooDeep": "deep@"}
 
 
 def told(data):
-    """`ok`, or the letter of the refusal and its place."""
+    """`ok`, or the word of the refusal and its place."""
     try:
         at = 0
         while at < len(data):
             at = element(data, at, 0)
         return "ok"
     except Refused as refused:
-        return f"{LETTERS[refused.args[0]]}{refused.args[1]}"
+        return f"{WORDS[refused.args[0]]}{refused.args[1]}"
 
 
 def main():

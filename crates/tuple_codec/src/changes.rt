@@ -1,6 +1,5 @@
 // What each prefix and each single-byte change of one pack is refused for, worked out from the grammar by
-// tools/tuple_refusals.py, which prints these rows: `ok`, or the letter of the refusal (8 for a text that isn't UTF-8) and its
-// place.
+// tools/tuple_refusals.py, which prints these rows: `ok`, or a word for the refusal and its place.
 
 /// The pack of `("a\0", (null, 5), -1, true)`.
 pub(crate) static PACK: [u8; 14] = [
@@ -8,7 +7,8 @@ pub(crate) static PACK: [u8; 14] = [
 ];
 
 /// Each prefix of the pack, from the empty one on.
-pub(crate) static PREFIXES: &str = "ok T0 T0 ok T0 ok T5 ok T5 T8 T5 ok T11 ok ok";
+pub(crate) static PREFIXES: &str =
+    "ok cut@0 cut@0 ok cut@0 ok cut@5 ok cut@5 cut@8 cut@5 ok cut@11 ok ok";
 
 /// The bytes that each byte of the pack is changed to.
 pub(crate) static BYTES: [u8; 19] = [
@@ -18,18 +18,18 @@ pub(crate) static BYTES: [u8; 19] = [
 
 /// A row for each place of the pack, with each of the bytes there.
 pub(crate) static CHANGES: [&str; 14] = [
-    "U1 ok ok U1 U0 ok U3 U1 U3 U3 ok U0 U1 T0 ok U0 U0 U0 U0",
-    "U3 ok ok ok ok ok ok ok ok ok ok ok ok ok ok ok 80 80 80",
-    "ok 80 80 80 80 80 80 80 80 80 80 80 80 80 80 80 80 80 80",
-    "ok ok ok ok U3 U12 ok ok M3 M3 M3 U3 ok T3 T3 U3 U3 U3 ok",
-    "ok ok ok ok ok ok ok ok ok ok ok ok ok ok ok ok 80 80 80",
-    "U7 ok ok ok U5 ok U7 U7 M5 M5 M5 U5 U7 T5 T5 U5 U5 U5 ok",
-    "ok T5 86 U7 U6 T6 M6 U7 ok T5 T6 U6 U7 T6 T6 U6 U6 U6 U6",
-    "ok ok ok ok U7 T7 ok ok ok ok T7 U7 ok T7 T7 U7 U7 U7 ok",
-    "ok T5 T5 T8 U8 T8 ok T5 ok T5 T8 U8 T5 T8 T8 U8 U8 U8 U8",
-    "M8 ok ok ok ok ok ok ok ok ok ok ok ok ok ok ok ok ok ok",
-    "ok T10 T10 T10 U10 T10 U12 T5 U12 T5 T10 U10 T5 T10 T10 U10 U10 U10 U10",
-    "U12 T11 T11 U12 U11 T11 ok U12 ok ok T11 U11 U12 T11 T11 U11 U11 U11 U12",
-    "ok ok ok ok ok ok ok ok ok ok ok ok ok ok ok ok ok ok M11",
-    "ok T13 T13 T13 U13 T13 T13 ok T13 T13 T13 U13 ok T13 T13 U13 U13 U13 U13",
+    "code@1 ok ok code@1 code@0 ok code@3 code@1 code@3 code@3 ok code@0 code@1 cut@0 ok code@0 code@0 code@0 code@0",
+    "code@3 ok ok ok ok ok ok ok ok ok ok ok ok ok ok ok text@0 text@0 text@0",
+    "ok text@0 text@0 text@0 text@0 text@0 text@0 text@0 text@0 text@0 text@0 text@0 text@0 text@0 text@0 text@0 text@0 text@0 text@0",
+    "ok ok ok ok code@3 code@12 ok ok long@3 long@3 long@3 code@3 ok cut@3 cut@3 code@3 code@3 code@3 ok",
+    "ok ok ok ok ok ok ok ok ok ok ok ok ok ok ok ok text@0 text@0 text@0",
+    "code@7 ok ok ok code@5 ok code@7 code@7 long@5 long@5 long@5 code@5 code@7 cut@5 cut@5 code@5 code@5 code@5 ok",
+    "ok cut@5 text@6 code@7 code@6 cut@6 long@6 code@7 ok cut@5 cut@6 code@6 code@7 cut@6 cut@6 code@6 code@6 code@6 code@6",
+    "ok ok ok ok code@7 cut@7 ok ok ok ok cut@7 code@7 ok cut@7 cut@7 code@7 code@7 code@7 ok",
+    "ok cut@5 cut@5 cut@8 code@8 cut@8 ok cut@5 ok cut@5 cut@8 code@8 cut@5 cut@8 cut@8 code@8 code@8 code@8 code@8",
+    "long@8 ok ok ok ok ok ok ok ok ok ok ok ok ok ok ok ok ok ok",
+    "ok cut@10 cut@10 cut@10 code@10 cut@10 code@12 cut@5 code@12 cut@5 cut@10 code@10 cut@5 cut@10 cut@10 code@10 code@10 code@10 code@10",
+    "code@12 cut@11 cut@11 code@12 code@11 cut@11 ok code@12 ok ok cut@11 code@11 code@12 cut@11 cut@11 code@11 code@11 code@11 code@12",
+    "ok ok ok ok ok ok ok ok ok ok ok ok ok ok ok ok ok ok long@11",
+    "ok cut@13 cut@13 cut@13 code@13 cut@13 cut@13 ok cut@13 cut@13 cut@13 code@13 ok cut@13 cut@13 code@13 code@13 code@13 code@13",
 ];

@@ -91,22 +91,22 @@ fn refuses(rt: HostRuntime) {
     }
 }
 
-// Writes behind a line what is told of bytes: `ok`, or the letter of the refusal and its place.
+// Writes behind a line what is told of bytes: `ok`, or the word of the refusal and its place.
 fn tell(alloc: Global, line: &mut String, bytes: &[u8]) -> Result<(), AllocError> {
     match unpack(alloc, bytes) {
         Ok(_) => line.push_str("ok"),
         Err(UnpackFailure::Memory) => line.push_str("memory"),
-        Err(UnpackFailure::Refused(error)) => write!(line, "{}{}", letter(error.kind), error.at),
+        Err(UnpackFailure::Refused(error)) => write!(line, "{}{}", word(error.kind), error.at),
     }
 }
 
-fn letter(kind: UnpackErrorKind) -> &'static str {
+fn word(kind: UnpackErrorKind) -> &'static str {
     match kind {
-        UnpackErrorKind::UnknownCode => "U",
-        UnpackErrorKind::Truncated => "T",
-        UnpackErrorKind::NotMinimal => "M",
-        UnpackErrorKind::NotUtf8 => "8",
-        UnpackErrorKind::TooDeep => "D",
+        UnpackErrorKind::UnknownCode => "code@",
+        UnpackErrorKind::Truncated => "cut@",
+        UnpackErrorKind::NotMinimal => "long@",
+        UnpackErrorKind::NotUtf8 => "text@",
+        UnpackErrorKind::TooDeep => "deep@",
     }
 }
 
