@@ -1,8 +1,10 @@
-//! Measures the crates: `bench tuples` packs and unpacks tuples, `bench ranges` fills lists of ranges. It
-//! prints what it measured.
+//! Measures the crates: `bench tuples` packs and unpacks tuples, `bench ranges` fills lists of ranges, and
+//! `bench transactions` writes and reads in transactions. It prints what it measured.
 #![tactic(auto)]
 
+mod keys;
 mod ranges;
+mod transactions;
 mod tuples;
 
 use std::process::ExitCode;
@@ -18,9 +20,10 @@ fn asked(rt: &HostRuntime) -> io::Result<Option<String>> {
 fn main(rt: HostRuntime) -> io::Result<ExitCode> {
     match asked(&rt)?.as_deref() {
         Some("ranges") => ranges::measure(&rt)?,
+        Some("transactions") => transactions::measure(&rt)?,
         Some("tuples") => tuples::measure(&rt)?,
         _ => {
-            rt.eprintln("usage: bench ranges|tuples")?;
+            rt.eprintln("usage: bench ranges|transactions|tuples")?;
             return Ok(ExitCode::from(2));
         }
     }

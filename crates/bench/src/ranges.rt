@@ -1,19 +1,12 @@
 // Lists of ranges: so many distinct ranges are added, and then asked for as often.
-use kv_core::{Bytes, KeyRange, RangeList};
+use crate::keys::key;
+use kv_core::{KeyRange, RangeList};
 use std::alloc::{AllocError, Global};
 use std::io;
 use std::time::Instant;
 
 // How many ranges are added.
 const COUNTS: [u32; 2] = [10_000, 40_000];
-
-// The key with a number that goes through all numbers in a scattered order.
-fn key(alloc: Global, number: u32) -> Result<Bytes, AllocError> {
-    let scattered = number.wrapping_mul(2_654_435_761);
-    let mut bytes = "record/".as_bytes().to_vec(alloc)?;
-    bytes.extend_from_slice(scattered.to_be_bytes().as_slice())?;
-    Ok(Bytes::new(bytes))
-}
 
 // The range of that key alone.
 fn point(alloc: Global, number: u32) -> Result<Option<KeyRange>, AllocError> {

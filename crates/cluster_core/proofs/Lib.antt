@@ -20,3 +20,4 @@ pub mod TierReads
 pub mod TierStarts
 pub mod PulledMaps
 pub mod ClusterSteps
+pub mod Ordered

@@ -45,7 +45,7 @@ module _ (splits : List (List ℕ)) (start : ℕ) (requests : List CommitRequest
   abbrev es : List Entry
   es = numbered start requests
 
-  some_resolver : 1 ≤ length resolvers
+  pub some_resolver : 1 ≤ length resolvers
   some_resolver =
       let len : length resolvers ≡ length (owners splits) = sym (length-map resolvers (λ r. r.owner)) ∙ ap length was.owned in
       let some = some_owner [] splits in

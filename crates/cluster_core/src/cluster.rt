@@ -3,7 +3,7 @@ ghost use Rattle.kv_core.specs.Read.{read_of};
 ghost use Rattle.cluster_core.specs.Cluster.{Did, database_at, may_pull, pull as with_pulled, tier_of, with_pipeline};
 ghost use Rattle.cluster_core.specs.Configuration.{config_refusal, first_cluster};
 ghost use Rattle.cluster_core.specs.History.{IsLegal};
-ghost use Rattle.cluster_core.specs.Roles.{append as with_appended, history, may_append, may_report, may_resolve, outcome, report as with_reported, resolve as with_resolved, submit as with_submitted, submit_refusal, submitted};
+ghost use Rattle.cluster_core.specs.Roles.{AreInOrder, append as with_appended, history, may_append, may_report, may_resolve, outcome, report as with_reported, resolve as with_resolved, submit as with_submitted, submit_refusal, submitted};
 ghost use Rattle.cluster_core.specs.Tier.{refusal};
 
 use crate::answers::{Config, ConfigError, ReadError, Reported, SubmitError, Work};
@@ -48,9 +48,11 @@ impl Cluster {
         Ok(Cluster { pipeline, tier })
     }
 
-    /// The last reported version.
+    /// The last reported version. The clocks of the pipeline's roles stand in order, from it up to
+    /// the last version that was given.
     pub fn read_version(&self) -> u64
-        ensures { result ≡ self.now.pipeline.reported }
+        ensures value { result ≡ self.now.pipeline.reported }
+        ensures clocks { AreInOrder self.now.pipeline }
     {
         self.pipeline.read_version()
     }

@@ -4,7 +4,7 @@ ghost use Rattle.cluster_core.specs.History.{IsLegal};
 ghost use Rattle.cluster_core.specs.Decision.{log, owners};
 ghost use Rattle.cluster_core.specs.Configuration.{config_refusal, first_pipeline};
 ghost use Rattle.cluster_core.specs.Cluster.{Did};
-ghost use Rattle.cluster_core.specs.Roles.{PipelineState, entries, history, submitted, submit_refusal, submit as with_submitted, may_resolve, resolve as with_resolved, may_append, append as with_appended, may_report, report as with_reported, outcome};
+ghost use Rattle.cluster_core.specs.Roles.{AreInOrder, PipelineState, entries, history, submitted, submit_refusal, submit as with_submitted, may_resolve, resolve as with_resolved, may_append, append as with_appended, may_report, report as with_reported, outcome};
 ghost use Rattle.cluster_core.specs.Progress.{IsResolver, counts_of, first_kept, fresh, has_agreed, owners_of, state_of};
 
 use crate::answers::{Config, ConfigError, Reported, Splits, SubmitError, Work};
@@ -184,9 +184,11 @@ impl Pipeline {
         })
     }
 
-    /// The last reported version.
+    /// The last reported version. The clocks of the roles stand in order, from it up to the last
+    /// version that was given.
     pub fn read_version(&self) -> u64
-        ensures { result ≡ self.now.reported }
+        ensures value { result ≡ self.now.reported }
+        ensures clocks { AreInOrder self.now }
     {
         self.start + self.reported as u64
     }

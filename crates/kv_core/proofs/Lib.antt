@@ -2,6 +2,8 @@ pub mod Lists
 pub mod Order
 pub mod Changes
 pub mod Pairs
+pub mod Parts
+pub mod Counts
 pub mod Listed
 pub mod Rows
 pub mod Covering
@@ -9,6 +11,8 @@ pub mod Stored
 pub mod Stretches
 pub mod Swallowed
 pub mod Growth
+pub mod Reaching
+pub mod Retracing
 pub mod Indexes
 pub mod Sums
 pub mod Refusals

@@ -37,7 +37,7 @@ pairs_by_key m range = (
 )
 
 -- y lies beyond x in the direction of a read
-abbrev beyond : Bool → List ℕ → List ℕ → Bool
+abbrev pub beyond : Bool → List ℕ → List ℕ → Bool
 beyond false x y = key_lt x y
 beyond true x y = key_lt y x
 
@@ -45,7 +45,7 @@ beyond true x y = key_lt y x
 abbrev within : Bool → List ℕ → List ℕ → Bool
 within b last k = not (beyond b last k)
 
-abbrev InOrder : Bool → List Pair → Type 0
+abbrev pub InOrder : Bool → List Pair → Type 0
 InOrder b [] = Unit {0}
 InOrder b (e ∷ es) = AllByRecursion (λ later. beyond b e.0 later.0 ≡ true) es × InOrder b es
 
@@ -145,7 +145,7 @@ not_before_nothing [] = refl
 not_before_nothing (x ∷ k) = refl
 
 -- no key comes between a key and the next one
-next_least : (a k : List ℕ) → key_lt a k ≡ true → key_lt k (next_key a) ≡ false
+pub next_least : (a k : List ℕ) → key_lt a k ≡ true → key_lt k (next_key a) ≡ false
 next_least [] [] h = absurd (true≢false (sym h))
 next_least [] (x ∷ k) h =
     ap (λ t. is_lt (ordering_then (cond t Less (cond (eqb x 0) Equal Greater)) (key_cmp k []))) (le-ltb x 0 (omega arith))
@@ -254,7 +254,7 @@ read_of-same m n range limit b some same = by (nat_lt (length (read_of m range l
         (λ q h. same q (subst (λ t. contains (cond t range (through b range (last_key range.begin (read_of m range limit b)))) q ≡ true) (sym e) h))
 
 -- the pairs of a map in order, and all in the range
-ordered_pairs : (m : Map) (range : KeyRange) (b : Bool) → InOrder b (directed b (pairs_in m range))
+pub ordered_pairs : (m : Map) (range : KeyRange) (b : Bool) → InOrder b (directed b (pairs_in m range))
 ordered_pairs m range b = InOrder-directed b (pairs_in m range) (in_order (pairs_in m range) (entries_sorted (retain_keys m (contains range))))
 
 inside_pairs : (m : Map) (range : KeyRange) (b : Bool) → AllByRecursion (λ e. contains range e.0 ≡ true) (directed b (pairs_in m range))
@@ -366,3 +366,22 @@ read_of-enough m n range most limit b some enough = by (nat_lt (length (read_of 
         let is : read_of n (range_read range most b (read_of m range most b)) limit b ≡ read_of n (through b range (last_key range.begin (read_of m range most b))) limit b =
         ap (λ t. read_of n (cond t range (through b range (last_key range.begin (read_of m range most b)))) limit b) e in
         is ∙ stopped_at (last_key range.begin (read_of m range most b)) (stopped_inside m range most b some long) (subst (λ es. limit ≤ length es) is enough)
+
+-- the last key of a read that stopped at its limit lies in the range
+pub last_inside : (m : Map) (range : KeyRange) (limit : ℕ) (b : Bool) → 1 ≤ limit → limit ≤ length (read_of m range limit b) → contains range (last_key range.begin (read_of m range limit b)) ≡ true
+last_inside m range limit b some full = stopped_inside m range limit b some (length-take-most limit (directed b (pairs_in m range)) full)
+
+-- the range that decides a read is a part of the range that is read
+pub inside_read : (m : Map) (range : KeyRange) (limit : ℕ) (b : Bool) → 1 ≤ limit → (q : List ℕ) →
+    contains (range_read range limit b (read_of m range limit b)) q ≡ true → contains range q ≡ true
+inside_read m range limit b some q h = by (nat_lt (length (read_of m range limit b)) limit) refl
+  where
+    last : List ℕ
+    last = last_key range.begin (read_of m range limit b)
+
+    by : (t : Bool) → nat_lt (length (read_of m range limit b)) limit ≡ t → contains range q ≡ true
+    by true e = subst (λ t. contains (cond t range (through b range last)) q ≡ true) e h
+    by false e =
+        let inside = last_inside m range limit b some (ltb-false (length (read_of m range limit b)) limit e) in
+        (and_parts (contains range q) (within b last q)
+        (sym (contains-through b range last inside q) ∙ subst (λ t. contains (cond t range (through b range last)) q ≡ true) e h)).0

@@ -15,12 +15,11 @@ use Rattle.std.specs.BTreeMap.{insert_entry, is_at}
 use Rattle.std.specs.Ordering.{is_lt, is_gt, is_le, is_eq, ordering_reverse, match_ordering}
 use Rattle.std.specs.FinMap.{FinMap, entries, get, insert, retain_keys, from_entries, from_sorted, empty, find, put, is_sorted, entries-from_sorted, get-from_sorted, get-from_entries, get-entries, get-insert}
 use Rattle.kv_core.specs.Bytes.{has_key, key_cmp, key_le}
-use Rattle.kv_core.specs.Addition.{added}
 use Rattle.kv_core.specs.Range.{KeyRange, contains, entries_in, entries_outside}
 use Rattle.kv_core.specs.Map.{Map, after, pairs_in}
 use Rattle.kv_core.specs.Read.{read_of, limited}
 use Rattle.kv_core.specs.declared.change.Mutation.{Mutation}
-use Rattle.kv_core.specs.declared.change.Mutation.TheVariants.{Set, ClearRange, Add}
+use Rattle.kv_core.specs.declared.change.Mutation.TheVariants.{Set, ClearRange}
 use Rattle.std.specs.FinMap.Entries.{below_all, find-put}
 use Rattle.std.proofs.lemmas.Map.Keys.{sorted_head, sorted_tail}
 use Rattle.std.proofs.lemmas.Bool.{and_parts}
@@ -165,17 +164,6 @@ last_first rest more e is = ap reverse is ∙ reverse-append more (e ∷ [])
 pub read-stored : (m : Map) (es : List Pair) → stored es ≡ m → IsStrictlySortedBy key_cmp (keys_of es) → (range : KeyRange) (limit : ℕ) (b : Bool) →
     limited limit b (entries_in range es) ≡ read_of m range limit b
 read-stored m es v h range limit b = ap (limited limit b) (sym (pairs_in-stored es range h) ∙ ap (λ x. pairs_in x range) v)
-
-pub set_applied : (m : Map) (es new : List Pair) (c : Mutation) (k v l w : List ℕ) → stored es ≡ m → c ≡ Set k v → l ≡ k → w ≡ v →
-    new ≡ insert_entry key_cmp es l w → stored new ≡ after c m
-set_applied m es new c k v l w view is p q done = ap stored done ∙ stored-set es l w ∙ (λ i. after (Set (p i) (q i)) (view i)) ∙ ap (λ x. after x m) (sym is)
-
-pub add_applied : (m : Map) (es new : List Pair) (c : Mutation) (k o l w : List ℕ) → stored es ≡ m → c ≡ Add k o → l ≡ k →
-    w ≡ added (get m k) o → new ≡ insert_entry key_cmp es l w → stored new ≡ after c m
-add_applied m es new c k o l w view is p q done =
-    set_applied m es new (Set k (added (get m k) o)) k (added (get m k) o) l w view refl p
-    q done
-    ∙ ap (λ x. after x m) (sym is)
 
 pub clear_applied : (m : Map) (es new : List Pair) (c : Mutation) (range : KeyRange) (keys : List (List ℕ)) → stored es ≡ m → c ≡ ClearRange range →
     keys ≡ keys_of (entries_in range es) → ((q : List ℕ) → lookup (is_at (key_cmp q)) new ≡ cond (has_key keys q) None (lookup (is_at (key_cmp q)) es)) → stored new ≡ after c m

@@ -1,5 +1,5 @@
 -- The keys that ranges cover, as stretches: entries from begins to ends.
-use Rattle.std.specs.Prelude.{◌≡◌, ◌↔◌, ℕ, IsTrue, Some, List, map}
+use Rattle.std.specs.Prelude.{◌≡◌, ◌↔◌, ℕ, IsTrue, false, Some, List, map}
 use Rattle.std.specs.List.{list_any}
 use Rattle.std.specs.Map.{lookup}
 use Rattle.std.specs.BTreeMap.{is_at}
@@ -26,6 +26,18 @@ AreSwallowed range entries begins =
     (begin : List ℕ) →
     IsTrue (has_key begins begin)
     ↔ ((end : List ℕ) × EndsAt entries begin end × IsTrue (key_lt range.begin begin) × IsTrue (key_le end range.end))
+
+-- what is covered up to a place and on begins there: from each byte string before it on, some before it aren't covered
+abbrev pub BeginsAt : List KeyRange → List ℕ → Type 0
+BeginsAt stretches place =
+    (begin : List ℕ) → IsTrue (key_lt begin place) → (q : List ℕ) × IsTrue (key_le begin q) × IsTrue (key_lt q place) × (covers stretches q ≡ false)
+
+-- the stretches cover the keys from one up to a place, and end at the place or before it, but for those that begin after the key, which don't end before the place
+pub record Reaches (entries : List (List ℕ × List ℕ)) (key place : List ℕ) : Type 0 where
+  pub from : IsTrue (key_le key place)
+  pub covered : (q : List ℕ) → IsTrue (key_le key q) → IsTrue (key_lt q place) → IsTrue (covers (stretches_of entries) q)
+  pub others : (begin end : List ℕ) → EndsAt entries begin end → IsTrue (key_le begin key) → IsTrue (key_le end place)
+  pub ahead : (begin end : List ℕ) → EndsAt entries begin end → IsTrue (key_lt key begin) → IsTrue (key_le place end)
 
 -- a set and stretches are those of a list of ranges: the set has just its ranges, and the stretches cover just its keys
 pub record IsIndex (known : BTreeSet KeyRange) (stretches ranges : List KeyRange) : Type 0 where

@@ -1,5 +1,5 @@
 -- What maps after mutations, their pairs, sums and refusals come to.
-use Rattle.std.specs.Prelude.{◌≡◌, ◌+◌, ◌%◌, ◌^◌, ℕ, IsTrue, if◌then◌else◌, Option, None, unwrap_or, List, [], length}
+use Rattle.std.specs.Prelude.{◌≡◌, ◌+◌, ◌%◌, ◌^◌, ◌≤◌, ℕ, IsTrue, if◌then◌else◌, Option, None, Some, unwrap_or, List, [], length}
 use Rattle.std.specs.FinMap.{get}
 use Rattle.std.specs.FinMap.Entries.{find, is_sorted}
 use Rattle.kv_core.specs.Addition.{added, number_of}
@@ -26,6 +26,12 @@ SumsWrap =
     (stored : Option (List ℕ)) (operand : List ℕ) →
     (length (added stored operand) ≡ length operand)
     × (number_of (added stored operand) ≡ (number_of (unwrap_or stored []) + number_of operand) % 256 ^ length operand)
+
+-- to add two operands, the second no longer than the first, is to add the sum of both
+abbrev pub SumsJoin : Type 0
+SumsJoin =
+    (stored : Option (List ℕ)) (first second : List ℕ) → length second ≤ length first →
+    added (Some (added stored first)) second ≡ added stored (added (Some first) second)
 
 -- of the mutations before a list only their bytes matter to its refusal
 abbrev pub RefusalsBySize : Type 0

@@ -28,6 +28,14 @@ point key = record { begin = key; end = next_key key }
 abbrev pub common : KeyRange → KeyRange → KeyRange
 common a b = record { begin = key_max a.begin b.begin; end = key_min a.end b.end }
 
+-- the part of a range before a key, which begins where the range does
+abbrev pub part_before : List ℕ → KeyRange → KeyRange
+part_before key range = record { begin = range.begin; end = key_max range.begin (key_min key range.end) }
+
+-- the part of a range from a key on, which ends where the range does
+abbrev pub part_from : List ℕ → KeyRange → KeyRange
+part_from key range = record { begin = key_min range.end (key_max range.begin key); end = range.end }
+
 -- whether there is a key in the range
 abbrev pub has_keys : KeyRange → Bool
 has_keys range = key_lt range.begin range.end

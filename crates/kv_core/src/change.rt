@@ -79,6 +79,14 @@ impl Mutation {
     }
 }
 
+impl Clone for Mutation {
+    ghost is_clone = { λ x y. y ≡ x };
+
+    fn clone(&self) -> Result<Mutation, AllocError> {
+        self.copy()
+    }
+}
+
 /// The value at a key after the mutations, where there was this value or none before.
 fn value_after_each(
     mutations: &[Mutation],
@@ -115,6 +123,14 @@ impl Mutations {
         ensures { result ≡ mutations.items }
     {
         Mutations { mutations }
+    }
+
+    /// An equal list, unless memory runs out.
+    pub fn copy(&self) -> Result<Mutations, AllocError>
+        ensures { IfOk result (λ copy. copy ≡ self.now) }
+    {
+        let mutations = self.mutations.clone()?;
+        Ok(Mutations { mutations })
     }
 
     /// Adds a mutation at the end. Where memory runs out the list stays as it was.
@@ -172,6 +188,21 @@ pub struct CommitRequest {
     pub reads: RangeList,
     /// What it writes.
     pub mutations: Mutations,
+}
+
+impl CommitRequest {
+    /// An equal request, unless memory runs out.
+    pub fn copy(&self) -> Result<CommitRequest, AllocError>
+        ensures { IfOk result (λ copy. copy ≡ self.now) }
+    {
+        let reads = self.reads.copy()?;
+        let mutations = self.mutations.copy()?;
+        Ok(CommitRequest {
+            read_version: self.read_version,
+            reads,
+            mutations,
+        })
+    }
 }
 
 /// Why a mutation isn't taken.

@@ -169,6 +169,16 @@ impl KvMap {
         }
     }
 
+    /// Puts a pair, in the place of the key's pair where there is one. Where memory runs out the map
+    /// stays as it was.
+    pub fn insert(&mut self, key: Bytes, value: Bytes) -> Result<(), AllocError>
+        ensures ok { OnOk result (self.new ≡ finite.insert self.old key value) }
+        ensures err { OnErr result (self.new ≡ self.old) }
+    {
+        self.pairs.insert(key, value)?;
+        Ok(())
+    }
+
     /// Applies a mutation: a Set puts its pair, a ClearRange takes out each pair whose key lies
     /// in its range, and an Add puts the sum of the key's value and its operand. Where memory
     /// runs out the map stays as it was.
@@ -180,14 +190,12 @@ impl KvMap {
             Mutation::Set { key, value } => {
                 let key = key.copy()?;
                 let value = value.copy()?;
-                self.pairs.insert(key, value)?;
-                Ok(())
+                self.insert(key, value)
             }
             Mutation::Add { key, operand } => {
                 let sum = plus(self.get(key), operand)?;
                 let key = key.copy()?;
-                self.pairs.insert(key, sum)?;
-                Ok(())
+                self.insert(key, sum)
             }
             Mutation::ClearRange(range) => {
                 let keys = keys_between(self.alloc, &self.pairs, range)?;

@@ -1,12 +1,13 @@
-ghost use Rattle.kv_core.specs.MapLaws.{PairsByKey, RefusalsBySize, SumsWrap, ValuesByKey};
-ghost use Rattle.kv_core.specs.RangeLaws.{AddedCovers, AgreeByPairs, MeetsInAKey};
+ghost use Rattle.kv_core.specs.MapLaws.{PairsByKey, RefusalsBySize, SumsJoin, SumsWrap, ValuesByKey};
+ghost use Rattle.kv_core.specs.RangeLaws.{AddedCovers, AgreeByPairs, MeetsInAKey, PartsByKey};
 
 /// Two ranges meet exactly where some key lies in both, and a list with a range added covers just
-/// the keys of the list and those of the range. Maps agree on ranges where they have the same
-/// pairs there.
+/// the keys of the list and those of the range. The parts of a range before a key and from it on
+/// share its keys. Maps agree on ranges where they have the same pairs there.
 pub fn ranges_by_their_keys()
     ensures meets { MeetsInAKey }
     ensures added { AddedCovers }
+    ensures parts { PartsByKey }
     ensures agree { AgreeByPairs }
 {}
 
@@ -17,9 +18,11 @@ pub fn maps_by_their_keys()
     ensures pairs { PairsByKey }
 {}
 
-/// A sum has the operand's length and wraps there.
+/// A sum has the operand's length and wraps there. Two operands, the second no longer than the
+/// first, can be added as one, their sum.
 pub fn sums_wrap()
-    ensures { SumsWrap }
+    ensures wrap { SumsWrap }
+    ensures join { SumsJoin }
 {}
 
 /// Whether mutations are refused depends on those before them by their bytes alone.

@@ -6,6 +6,8 @@ mod addition;
 mod bytes;
 mod change;
 mod coverage;
+#[cfg(test)]
+mod coverage_tests;
 mod kv_map;
 mod laws;
 mod limits;
@@ -20,6 +22,7 @@ mod tests;
 pub use addition::add_le;
 pub use bytes::Bytes;
 pub use change::{CommitRequest, Mutation, Mutations, WriteError};
+pub use coverage::Coverage;
 pub use kv_map::KvMap;
 pub use laws::{maps_by_their_keys, ranges_by_their_keys, refusals_by_size, sums_wrap};
 pub use limits::{MAX_KEY_BYTES, MAX_RANGE_END_BYTES, MAX_TRANSACTION_BYTES, MAX_VALUE_BYTES};

@@ -1,8 +1,8 @@
 ghost use Rattle.std.specs.Prelude.{◌≡◌, IsTrue, IfOk, IfNone, IfSome, Some, not, false, refl};
 ghost use Rattle.std.specs.Ordering.{eq_by_cmp};
 ghost use Rattle.std.specs.Cmp.{eq_by_cmp_equiv, partial_equiv_from_equiv, partial_order_from_agreeing_total};
-ghost use Rattle.kv_core.specs.Bytes.{key_lt, end_of_keys};
-ghost use Rattle.kv_core.specs.Range.{KeyRange as Range, is_key_range, has_keys, contains, meets, point, is_same_range, range_cmp, range_cmp_total};
+ghost use Rattle.kv_core.specs.Bytes.{key_lt, key_max, key_min, end_of_keys};
+ghost use Rattle.kv_core.specs.Range.{KeyRange as Range, is_key_range, has_keys, contains, meets, part_before, part_from, point, is_same_range, range_cmp, range_cmp_total};
 
 use crate::bytes::Bytes;
 use std::alloc::{AllocError, Global};
@@ -68,6 +68,36 @@ impl Ord for KeyRange {
     }
 }
 
+impl Clone for KeyRange {
+    ghost is_clone = { λ x y. y ≡ x };
+
+    fn clone(&self) -> Result<KeyRange, AllocError> {
+        self.copy()
+    }
+}
+
+/// The later of two byte strings.
+fn later<'a>(first: &'a Bytes, second: &'a Bytes) -> &'a Bytes
+    ensures { result.now ≡ key_max first.now second.now }
+{
+    if first.is_before(second) {
+        second
+    } else {
+        first
+    }
+}
+
+/// The earlier of two byte strings.
+fn earlier<'a>(first: &'a Bytes, second: &'a Bytes) -> &'a Bytes
+    ensures { result.now ≡ key_min first.now second.now }
+{
+    if second.is_before(first) {
+        second
+    } else {
+        first
+    }
+}
+
 impl KeyRange {
     /// The range with this begin and this end. It is None exactly where the begin comes after the
     /// end or the end after the byte FF, and takes no memory.
@@ -120,16 +150,8 @@ impl KeyRange {
     pub fn meets(&self, other: &KeyRange) -> bool
         ensures { result ≡ meets self.now other.now }
     {
-        let begin = if self.begin().is_before(other.begin()) {
-            other.begin()
-        } else {
-            self.begin()
-        };
-        let end = if other.end().is_before(self.end()) {
-            other.end()
-        } else {
-            self.end()
-        };
+        let begin = later(self.begin(), other.begin());
+        let end = earlier(self.end(), other.end());
         begin.is_before(end)
     }
 
@@ -146,6 +168,28 @@ impl KeyRange {
         ensures { result ≡ not (has_keys self.now) }
     {
         !self.begin.is_before(&self.end)
+    }
+
+    /// The part of the range before a byte string, unless memory runs out. It begins where the
+    /// range does, and is empty where the byte string doesn't come after that.
+    pub fn upto(&self, key: &Bytes) -> Result<KeyRange, AllocError>
+        ensures { IfOk result (λ part. part ≡ part_before key.now self.now) }
+    {
+        let end = later(self.begin(), earlier(key, self.end()));
+        let begin = self.begin().copy()?;
+        let end = end.copy()?;
+        Ok(KeyRange { begin, end })
+    }
+
+    /// The part of the range from a byte string on, unless memory runs out. It ends where the range
+    /// does, and is empty where the byte string doesn't come before that.
+    pub fn starting_at(&self, key: &Bytes) -> Result<KeyRange, AllocError>
+        ensures { IfOk result (λ part. part ≡ part_from key.now self.now) }
+    {
+        let begin = earlier(self.end(), later(self.begin(), key));
+        let begin = begin.copy()?;
+        let end = self.end().copy()?;
+        Ok(KeyRange { begin, end })
     }
 
     /// Whether both ranges have the same begin and the same end.

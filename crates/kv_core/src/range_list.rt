@@ -60,6 +60,20 @@ impl RangeList {
         })
     }
 
+    /// An equal list, unless memory runs out.
+    pub fn copy(&self) -> Result<RangeList, AllocError>
+        ensures { IfOk result (λ copy. copy ≡ self.now) }
+    {
+        let ranges = self.ranges.clone()?;
+        let known = self.known.clone()?;
+        let coverage = self.coverage.copy()?;
+        Ok(RangeList {
+            ranges,
+            known,
+            coverage,
+        })
+    }
+
     /// The ranges, in order.
     pub fn as_slice(&self) -> &[KeyRange]
         ensures { result.now ≡ self.now }

@@ -2,7 +2,7 @@ use super::*;
 use std::alloc::{AllocError, Global};
 use std::test::Fail;
 
-fn bytes(alloc: Global, bytes: &[u8]) -> Result<Bytes, AllocError> {
+pub(super) fn bytes(alloc: Global, bytes: &[u8]) -> Result<Bytes, AllocError> {
     Ok(Bytes::new(bytes.to_vec(alloc)?))
 }
 
@@ -106,8 +106,20 @@ fn range_order(rt: HostRuntime) -> Result<(), Fail> {
     Ok(())
 }
 
+#[test]
+fn parts(rt: HostRuntime) -> Result<(), Fail> {
+    let range = between(rt.alloc(), &[0x61], &[0x65])?;
+    for (key, cut) in [(0x60, 0x61), (0x63, 0x63), (0x66, 0x65)] {
+        let key = bytes(rt.alloc(), &[key])?;
+        let before = between(rt.alloc(), &[0x61], &[cut])?;
+        let from = between(rt.alloc(), &[cut], &[0x65])?;
+        assert!(rt; range.upto(&key)? == before && range.starting_at(&key)? == from);
+    }
+    Ok(())
+}
+
 /// The ranges of keys of one byte with these begins and ends.
-fn ranges_of(alloc: Global, ends: &[(u8, u8)]) -> Result<Vec<KeyRange>, Fail> {
+pub(super) fn ranges_of(alloc: Global, ends: &[(u8, u8)]) -> Result<Vec<KeyRange>, Fail> {
     let mut ranges = Vec::new(alloc);
     for (begin, end) in ends {
         ranges.push(between(alloc, &[*begin], &[*end])?)?;
@@ -139,7 +151,8 @@ fn range_lists_as_they_stand(rt: HostRuntime) -> Result<(), Fail> {
         (0x61, 0x65),
         (0x64, 0x68),
     ];
-    let mut list = RangeList::from_ranges(rt.alloc(), ranges_of(rt.alloc(), &ends)?)?;
+    let list = RangeList::from_ranges(rt.alloc(), ranges_of(rt.alloc(), &ends)?)?;
+    let mut list = list.copy()?;
     list.add(between(rt.alloc(), &[0x62], &[0x63])?)?;
     assert_eq!(rt; list.as_slice().len(), 5);
     let cases = [
@@ -251,13 +264,30 @@ fn changes(alloc: Global) -> Result<Mutations, Fail> {
     Ok(mutations)
 }
 
+/// A request that makes those changes.
+fn request(alloc: Global) -> Result<CommitRequest, Fail> {
+    Ok(CommitRequest {
+        read_version: 7,
+        reads: RangeList::new(alloc),
+        mutations: changes(alloc)?,
+    })
+}
+
+#[test]
+fn request_copies(rt: HostRuntime) -> Result<(), Fail> {
+    let copy = request(rt.alloc())?.copy()?;
+    assert_eq!(rt; copy.read_version, 7);
+    assert_eq!(rt; copy.mutations.as_slice().len(), 2);
+    Ok(())
+}
+
 /// The keys 61 to 63 with those changes.
 fn changed(alloc: Global) -> Result<KvMap, Fail> {
     let mut pairs = Vec::new(alloc);
     for (key, value) in [(0x63, 0x03), (0x61, 0x01), (0x62, 0x02), (0x61, 0x09)] {
         pairs.push((bytes(alloc, &[key])?, bytes(alloc, &[value])?))?;
     }
-    let mutations = changes(alloc)?;
+    let mutations = changes(alloc)?.copy()?;
     Ok(KvMap::from_pairs(alloc, pairs)?.with_all(mutations.as_slice())?)
 }
 
@@ -281,6 +311,17 @@ fn reads(rt: HostRuntime) -> Result<(), Fail> {
     ];
     for (limit, reverse, keys) in cases {
         assert_eq!(rt; keys_read(rt.alloc(), limit, reverse)?.as_slice(), keys);
+    }
+    Ok(())
+}
+
+#[test]
+fn insertions(rt: HostRuntime) -> Result<(), Fail> {
+    let mut map = KvMap::new(rt.alloc());
+    let key = bytes(rt.alloc(), &[0x61])?;
+    for value in [0x01, 0x02] {
+        map.insert(key.copy()?, bytes(rt.alloc(), &[value])?)?;
+        assert!(rt; map.get(&key) == Some(&bytes(rt.alloc(), &[value])?));
     }
     Ok(())
 }

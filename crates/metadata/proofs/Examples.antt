@@ -12,7 +12,9 @@ use Rattle.metadata.specs.declared.refusal.Refusal.TheVariants.{BadName, NameTak
 use Rattle.metadata.specs.Cell.{all_fit, cells_at, cells_of, fits, items_of}
 use Rattle.metadata.specs.Schema.{Schema, find_type, key_kinds}
 use Rattle.metadata.specs.Record.{key_of, primary_key, record_of}
-use Rattle.metadata.specs.Change.{add_type, is_name, schema_of}
+use Rattle.metadata.specs.Change.{add_type, empty_schema, is_name, schema_of}
+use Rattle.metadata.specs.Written.{nested_item, schema_bytes, type_item}
+use Rattle.tuple_codec.specs.Spelling.{byte_count, int_spelling}
 
 -- "t", "k", "a", "b", "z"
 abbrev t : List ℕ
@@ -190,3 +192,23 @@ found = refl
 
 kinds_of_key : key_kinds t_type ≡ kind.Int ∷ []
 kinds_of_key = refl
+
+-- the written form of s, with t's fields
+abbrev s_bytes : List ℕ
+s_bytes = 21 ∷ 1 ∷ 21 ∷ 1 ∷ 20 ∷ 5 ∷ 5 ∷ 21 ∷ 1 ∷ 2 ∷ 116 ∷ 0 ∷ 5 ∷ 5 ∷ 2 ∷ 107 ∷ 0 ∷ 21 ∷ 1 ∷ 0 ∷ 5 ∷ 2 ∷ 97 ∷ 0 ∷ 21 ∷ 1 ∷ 0 ∷ 5 ∷ 2 ∷ 98 ∷ 0 ∷ 21 ∷ 1 ∷ 0 ∷ 0 ∷ 5 ∷ 20 ∷ 0 ∷ 0 ∷ 0 ∷ 5 ∷ 0 ∷ []
+
+s_written : schema_bytes s ≡ s_bytes
+unfolding int_spelling byte_count
+s_written = refl
+
+-- without types: (1, 0, 0, (), ())
+empty_written : schema_bytes empty_schema ≡ 21 ∷ 1 ∷ 20 ∷ 20 ∷ 5 ∷ 0 ∷ 5 ∷ 0 ∷ []
+unfolding int_spelling byte_count
+empty_written = refl
+
+-- kinds, and places in the key's order
+abbrev z_type : TypeDefinition
+z_type = record { number = 2; name = z; fields = record { name = a; kind = kind.Text } ∷ record { name = b; kind = kind.Bytes } ∷ []; key = 1 ∷ 0 ∷ [] }
+
+z_item : type_item z_type ≡ nested_item (item.int (pos 2) ∷ item.text z ∷ nested_item (nested_item (item.text a ∷ item.int (pos 2) ∷ []) ∷ nested_item (item.text b ∷ item.int (pos 3) ∷ []) ∷ []) ∷ nested_item (item.int (pos 1) ∷ item.int (pos 0) ∷ []) ∷ [])
+z_item = refl

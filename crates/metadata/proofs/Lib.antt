@@ -1,5 +1,11 @@
 pub mod CellItems
+mod AllRead
 mod CellKinds
 mod CellSteps
 mod Examples
 mod Lists
+mod MadeSchemas
+mod OneSchema
+mod ReadBack
+mod WrittenDepth
+mod WrittenItems

@@ -6,11 +6,14 @@
 mod cells;
 mod definition;
 mod names;
+mod reading;
 mod record;
 mod refusal;
 mod schema;
 #[cfg(test)]
 mod tests;
+mod writing;
+mod written;
 
 pub use cells::{Cell, Cells, Kind};
 pub use definition::{Field, Fields, Names, Places, SchemaRequest, TypeDefinition, TypeRequest};
@@ -18,3 +21,4 @@ pub use names::MAX_NAME_BYTES;
 pub use record::{Record, key_of};
 pub use refusal::{MetadataError, Refusal};
 pub use schema::{MAX_FIELDS, MAX_KEY_FIELDS, MAX_TYPES, Schema};
+pub use written::schemas_are_written_once;

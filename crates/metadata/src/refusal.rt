@@ -24,7 +24,7 @@ pub enum Refusal {
     WrongKind,
     /// A key field is null.
     NullKey,
-    /// A type has no key field, or one twice.
+    /// A type has no key field, or one twice; or bytes are those of no schema.
     BadSchema,
     /// More types, fields or key fields than there may be.
     TooMany,

@@ -73,6 +73,13 @@ impl Schema {
         Ok(schema)
     }
 
+    // The types, in the order of their numbers.
+    pub(crate) fn types(&self) -> &[TypeDefinition]
+        ensures { result.now ≡ self.now.types }
+    {
+        self.types.as_slice()
+    }
+
     /// The type of this name, if there is one.
     pub fn type_named(&self, name: &Text) -> Option<&TypeDefinition>
         ensures { option_copied result ≡ find_type self.now name.now }

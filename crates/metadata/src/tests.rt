@@ -181,3 +181,61 @@ fn refuses_records(rt: HostRuntime) -> Result<(), Fail> {
     }
     Ok(())
 }
+
+// The bytes of the schema of t.
+const BYTES_OF_T: [u8; 42] = [
+    0x15, 0x01, 0x15, 0x01, 0x14, 0x05, 0x05, 0x15, 0x01, 0x02, 0x74, 0x00, 0x05, 0x05, 0x02, 0x6b,
+    0x00, 0x15, 0x01, 0x00, 0x05, 0x02, 0x61, 0x00, 0x15, 0x01, 0x00, 0x05, 0x02, 0x62, 0x00, 0x15,
+    0x01, 0x00, 0x00, 0x05, 0x14, 0x00, 0x00, 0x00, 0x05, 0x00,
+];
+
+#[test]
+fn writes_schemas(rt: HostRuntime) -> Result<(), Fail> {
+    let alloc = rt.alloc();
+    let bytes = schema_of_t(alloc)?.encode(alloc)?;
+    assert_eq!(rt; bytes.as_slice(), BYTES_OF_T.as_slice());
+    Ok(())
+}
+
+#[test]
+fn reads_schemas(rt: HostRuntime) -> Result<(), Fail> {
+    let alloc = rt.alloc();
+    let schema = Schema::decode(alloc, &BYTES_OF_T)?;
+    let name = text(alloc, "t")?;
+    assert_eq!(rt; schema.type_named(&name).map(|found| found.number), Some(1));
+    let bytes = schema.encode(alloc)?;
+    assert_eq!(rt; bytes.as_slice(), BYTES_OF_T.as_slice());
+    Ok(())
+}
+
+// Reads the bytes of t as a schema, with another byte at a place, or with none there.
+fn decode_changed(alloc: Global, place: usize, byte: Option<u8>) -> Result<Schema, MetadataError> {
+    let mut bytes = Vec::new(alloc);
+    for (i, one) in BYTES_OF_T.iter().enumerate() {
+        if i != place {
+            bytes.push(*one)?;
+        } else if let Some(byte) = byte {
+            bytes.push(byte)?;
+        }
+    }
+    Schema::decode(alloc, &bytes)
+}
+
+#[test]
+fn refuses_bytes(rt: HostRuntime) -> Result<(), Fail> {
+    // Without the last byte; then another form, last type number, type number, name, kind and key field.
+    let rows: [(usize, Option<u8>); 7] = [
+        (41, None),
+        (1, Some(2)),
+        (3, Some(2)),
+        (8, Some(2)),
+        (10, Some(0x2d)),
+        (18, Some(4)),
+        (36, Some(0x26)),
+    ];
+    for (place, byte) in rows {
+        let changed = decode_changed(rt.alloc(), place, byte);
+        assert_eq!(rt; refusal(changed), Some(Refusal::BadSchema), "{place}");
+    }
+    Ok(())
+}

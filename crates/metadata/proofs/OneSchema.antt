@@ -1,0 +1,60 @@
+-- Bytes are those of one schema at most, and readers refuse none of a schema that types made.
+use Rattle.std.proofs.Common.{◌≡◌, ℕ, Bool, false, List, Option, Some, None, sym, ap, subst, ◌∙◌}
+use Rattle.std.specs.Prelude.{is_some, unwrap_or}
+use Rattle.std.specs.Str.{bytes_eq}
+use Rattle.std.proofs.lemmas.Slice.Eq.{bytes_eq-Decides}
+use Rattle.std.proofs.lemmas.Bool.{true≢false}
+use Rattle.tuple_codec.specs.Item.{Item}
+use Rattle.tuple_codec.specs.Spelling.{Spells}
+use Rattle.tuple_codec.proofs.Spellings.{one_tuple, spelling_spells}
+use Rattle.metadata.specs.declared.refusal.MetadataError.{MetadataError}
+use Rattle.metadata.specs.declared.refusal.MetadataError.TheVariants.{Memory, Refused}
+use Rattle.metadata.specs.Schema.{Schema}
+use Rattle.metadata.specs.Written.{IsMade, IsNoSchema, IsNoTuple, schema_bytes, written}
+use Rattle.metadata.specs.Reading.{IsUnread, schema_in}
+use Rattle.metadata.proofs.MadeSchemas.{is_tuple-written, schema_in-written}
+
+-- the bytes of a schema spell its written form
+pub bytes_spell : (schema : Schema) → IsMade schema → Spells (written schema) (schema_bytes schema)
+bytes_spell schema made = let is = is_tuple-written schema made in spelling_spells (written schema) is.items is.depth
+
+-- a tuple that these bytes spell is the written form
+pub tuple_is : (schema : Schema) (bytes : List ℕ) (tuple : List Item) → IsMade schema → bytes ≡ schema_bytes schema → Spells tuple bytes → tuple ≡ written schema
+tuple_is schema bytes tuple made same spelled = one_tuple tuple (written schema) bytes spelled (subst (Spells (written schema)) (sym same) (bytes_spell schema made))
+
+-- the schema is read from it
+pub schema_is : (schema : Schema) (bytes : List ℕ) (tuple : List Item) → IsMade schema → bytes ≡ schema_bytes schema → Spells tuple bytes → schema_in tuple ≡ Some schema
+schema_is schema bytes tuple made same spelled = ap schema_in (tuple_is schema bytes tuple made same spelled) ∙ schema_in-written schema made
+
+some_same : (a b : Schema) → ◌≡◌ {A = Option Schema} (Some a) (Some b) → a ≡ b
+some_same a b is = ap (λ found. unwrap_or found a) is
+
+pub written_once : (a b : Schema) → IsMade a → IsMade b → schema_bytes a ≡ schema_bytes b → a ≡ b
+written_once a b a_made b_made same =
+    some_same a b (sym (schema_in-written a a_made) ∙ schema_is b (schema_bytes a) (written a) b_made same (bytes_spell a a_made))
+
+-- no schema has bytes that spell no tuple
+pub none_spelled : (bytes : List ℕ) → ((tuple : List Item) → Spells tuple bytes → ⊥) → (schema : Schema) → IsMade schema → bytes ≡ schema_bytes schema → ⊥
+none_spelled bytes none schema made same = none (written schema) (subst (Spells (written schema)) (sym same) (bytes_spell schema made))
+
+-- no schema has bytes of a tuple from which none is read
+pub none_read : (bytes : List ℕ) (tuple : List Item) → Spells tuple bytes → schema_in tuple ≡ None → (schema : Schema) → IsMade schema → bytes ≡ schema_bytes schema → ⊥
+none_read bytes tuple spelled none schema made same = true≢false (ap is_some (sym (schema_is schema bytes tuple made same spelled) ∙ none))
+
+-- no schema has bytes of a tuple from which a schema with other bytes is read
+pub none_other : (bytes : List ℕ) (tuple : List Item) (read : Schema) → Spells tuple bytes → schema_in tuple ≡ Some read → (schema_bytes read ≡ bytes → ⊥) → (schema : Schema) → IsMade schema → bytes ≡ schema_bytes schema → ⊥
+none_other bytes tuple read spelled is other schema made same =
+    other (ap schema_bytes (some_same read schema (sym is ∙ schema_is schema bytes tuple made same spelled)) ∙ sym same)
+
+-- what is refused as the bytes of no tuple, or as a tuple from which no schema is read, is refused as those of no schema
+pub refused_bytes : (error : MetadataError) (bytes : List ℕ) → IsNoTuple error bytes → IsNoSchema error bytes
+refused_bytes Memory bytes is = tt
+refused_bytes (Refused refusal) bytes is = (is.0, none_spelled bytes is.1)
+
+pub refused_tuple : (error : MetadataError) (bytes : List ℕ) (tuple : List Item) → Spells tuple bytes → IsUnread error tuple → IsNoSchema error bytes
+refused_tuple Memory bytes tuple spelled is = tt
+refused_tuple (Refused refusal) bytes tuple spelled is = (is.0, none_read bytes tuple spelled is.1)
+
+-- the test tells that bytes are others
+pub others : (written bytes : List ℕ) (same : Bool) → same ≡ bytes_eq written bytes → same ≡ false → written ≡ bytes → ⊥
+others written bytes same is differs equal = true≢false (sym ((bytes_eq-Decides written bytes).1 equal) ∙ sym is ∙ differs)

@@ -1,0 +1,208 @@
+// The types that a schema's tuple asks for. What is passed over here, as the numbers of types, is
+// compared with the schema's own written form.
+ghost use Rattle.std.specs.Prelude.{◌≡◌, IfOk, IfErr};
+ghost use Rattle.std.specs.Option.{option_copied};
+ghost use Rattle.tuple_codec.specs.Elements.{item_in, items_in};
+ghost use Rattle.metadata.specs.Reading.{all_read, asked_of, field_in, field_of, kind_of, name_of, read_at, request_in, request_of, requests_in, small_of, text_of, tuple_of};
+
+use crate::cells::Kind;
+use crate::definition::{Field, Fields, Names, SchemaRequest, TypeRequest};
+use std::alloc::{AllocError, Global};
+use tuple_codec::{Element, Text, Tuple};
+
+// The text that an element is.
+fn text_of(element: &Element) -> Option<&Text>
+    ensures { option_copied result ≡ text_of (item_in element.now) }
+{
+    match element {
+        Element::Text(text) => Some(text),
+        _ => None,
+    }
+}
+
+// The nested tuple that an element is.
+fn tuple_of(element: &Element) -> Option<&Tuple>
+    ensures { option_copied result ≡ tuple_of (item_in element.now) }
+{
+    match element {
+        Element::Nested(tuple) => Some(tuple),
+        _ => None,
+    }
+}
+
+// The kind number or place that an element is.
+fn small_of(element: &Element) -> Option<u8>
+    ensures { result ≡ small_of (item_in element.now) }
+{
+    match element {
+        Element::Int(value) => u8::try_from(value.get()).ok(),
+        _ => None,
+    }
+}
+
+// The text at a place of a tuple.
+fn text_at(tuple: &Tuple, place: usize) -> Option<&Text>
+    ensures { option_copied result ≡ read_at text_of tuple.now place }
+{
+    text_of(tuple.elements().get(place)?)
+}
+
+// The nested tuple at a place of a tuple.
+fn tuple_at(tuple: &Tuple, place: usize) -> Option<&Tuple>
+    ensures { option_copied result ≡ read_at tuple_of tuple.now place }
+{
+    tuple_of(tuple.elements().get(place)?)
+}
+
+// The small number at a place of a tuple.
+fn small_at(tuple: &Tuple, place: usize) -> Option<u8>
+    ensures { result ≡ read_at small_of tuple.now place }
+{
+    small_of(tuple.elements().get(place)?)
+}
+
+// The kind of a number.
+fn kind_of(number: u8) -> Option<Kind>
+    ensures { result ≡ kind_of number }
+{
+    match number {
+        1 => Some(Kind::Int),
+        2 => Some(Kind::Text),
+        3 => Some(Kind::Bytes),
+        _ => None,
+    }
+}
+
+// The field that a tuple of its name and kind is.
+fn field_in(parts: &Tuple) -> Result<Option<Field>, AllocError>
+    ensures { IfOk result (λ field. field ≡ field_in parts.now) }
+{
+    let Some(name) = text_at(parts, 0) else {
+        return Ok(None);
+    };
+    let Some(kind) = small_at(parts, 1).and_then(kind_of) else {
+        return Ok(None);
+    };
+    let name = name.copy()?;
+    Ok(Some(Field { name, kind }))
+}
+
+// The field that an element is.
+fn field_of(element: &Element) -> Result<Option<Field>, AllocError>
+    ensures { IfOk result (λ field. field ≡ field_of (item_in element.now)) }
+{
+    match tuple_of(element) {
+        Some(parts) => field_in(parts),
+        None => Ok(None),
+    }
+}
+
+// The fields that elements are.
+fn fields_of(alloc: Global, elements: &[Element]) -> Result<Option<Fields>, AllocError>
+    ensures { IfOk result (λ fields. fields ≡ all_read field_of (items_in elements.now)) }
+{
+    let mut fields = Vec::new(alloc);
+    for element in elements {
+        let Some(field) = field_of(element)? else {
+            return Ok(None);
+        };
+        fields.push(field)?;
+    }
+    Ok(Some(Fields::new(fields)))
+}
+
+// The name of the field at the place that an element is.
+fn name_of<'a>(fields: &'a [Field], element: &Element) -> Option<&'a Text>
+    ensures { option_copied result ≡ name_of fields.now (item_in element.now) }
+{
+    let place = small_of(element)?;
+    let field = fields.get(usize::from(place))?;
+    Some(&field.name)
+}
+
+// The names of the fields at the places that elements are.
+fn names_of(
+    alloc: Global,
+    fields: &[Field],
+    elements: &[Element],
+) -> Result<Option<Names>, AllocError>
+    ensures { IfOk result (λ names. names ≡ all_read (name_of fields.now) (items_in elements.now)) }
+{
+    let mut names = Vec::new(alloc);
+    for element in elements {
+        let Some(name) = name_of(fields, element) else {
+            return Ok(None);
+        };
+        names.push(name.copy()?)?;
+    }
+    Ok(Some(Names::new(names)))
+}
+
+// The request for a type of this name, and of the fields and key that two tuples are.
+fn asked_of(
+    alloc: Global,
+    name: &Text,
+    fields: &Tuple,
+    places: &Tuple,
+) -> Result<Option<TypeRequest>, AllocError>
+    ensures { IfOk result (λ request. request ≡ asked_of name.now fields.now places.now) }
+{
+    let Some(fields) = fields_of(alloc, fields.elements())? else {
+        return Ok(None);
+    };
+    let Some(key) = names_of(alloc, fields.as_slice(), places.elements())? else {
+        return Ok(None);
+    };
+    let name = name.copy()?;
+    Ok(Some(TypeRequest { name, fields, key }))
+}
+
+// The request for the type that a tuple is.
+fn request_in(alloc: Global, parts: &Tuple) -> Result<Option<TypeRequest>, AllocError>
+    ensures { IfOk result (λ request. request ≡ request_in parts.now) }
+{
+    let Some(name) = text_at(parts, 1) else {
+        return Ok(None);
+    };
+    let Some(fields) = tuple_at(parts, 2) else {
+        return Ok(None);
+    };
+    let Some(places) = tuple_at(parts, 3) else {
+        return Ok(None);
+    };
+    asked_of(alloc, name, fields, places)
+}
+
+// The request for the type that an element is.
+fn request_of(alloc: Global, element: &Element) -> Result<Option<TypeRequest>, AllocError>
+    ensures { IfOk result (λ request. request ≡ request_of (item_in element.now)) }
+{
+    match tuple_of(element) {
+        Some(parts) => request_in(alloc, parts),
+        None => Ok(None),
+    }
+}
+
+// The requests for the types that elements are.
+fn requests_of(alloc: Global, elements: &[Element]) -> Result<Option<SchemaRequest>, AllocError>
+    ensures { IfOk result (λ request. request ≡ all_read request_of (items_in elements.now)) }
+{
+    let mut types = Vec::new(alloc);
+    for element in elements {
+        let Some(request) = request_of(alloc, element)? else {
+            return Ok(None);
+        };
+        types.push(request)?;
+    }
+    Ok(Some(SchemaRequest::new(types)))
+}
+
+// The requests for the types of a schema's tuple.
+pub(crate) fn requests_in(alloc: Global, tuple: &Tuple) -> Result<Option<SchemaRequest>, AllocError>
+    ensures { IfOk result (λ request. request ≡ requests_in tuple.now) }
+{
+    match tuple_at(tuple, 3) {
+        Some(types) => requests_of(alloc, types.elements()),
+        None => Ok(None),
+    }
+}

@@ -1,0 +1,110 @@
+// The written form of a schema, as elements of a tuple.
+ghost use Rattle.std.specs.Prelude.{◌≡◌, ◌<◌, map, IfOk};
+ghost use Rattle.tuple_codec.specs.Item.{nesting};
+ghost use Rattle.tuple_codec.specs.Elements.{item_in, items_in};
+ghost use Rattle.metadata.specs.Written.{field_item, kind_number, nested_item, number_item, type_item, written};
+
+use crate::cells::Kind;
+use crate::definition::{Field, TypeDefinition};
+use std::alloc::{AllocError, Global};
+use tuple_codec::{Element, Tuple, TupleInt};
+
+// The tuple within a tuple, in which tuples nest fewer than 16 deep.
+fn nested(elements: Vec<Element>) -> Element
+    requires { nesting (items_in elements.items) < 16 }
+    ensures { item_in result ≡ nested_item (items_in elements.items) }
+{
+    match Tuple::new(elements) {
+        Ok(tuple) => Element::Nested(tuple),
+        Err(_) => unreachable!(),
+    }
+}
+
+// A count, a number or a place.
+fn number(value: u64) -> Element
+    ensures { item_in result ≡ number_item value }
+{
+    Element::Int(TupleInt::from(value))
+}
+
+// The number of a kind.
+fn kind_number(kind: Kind) -> u64
+    ensures { result ≡ kind_number kind }
+{
+    match kind {
+        Kind::Int => 1,
+        Kind::Text => 2,
+        Kind::Bytes => 3,
+    }
+}
+
+// A field's name and kind.
+fn field_element(alloc: Global, field: &Field) -> Result<Element, AllocError>
+    ensures { IfOk result (λ element. item_in element ≡ field_item field.now) }
+{
+    let mut parts = Vec::new(alloc);
+    parts.push(Element::Text(field.name.copy()?))?;
+    parts.push(number(kind_number(field.kind)))?;
+    Ok(nested(parts))
+}
+
+// Fields, in order.
+fn fields_element(alloc: Global, fields: &[Field]) -> Result<Element, AllocError>
+    ensures { IfOk result (λ element. item_in element ≡ nested_item (map field_item fields.now)) }
+{
+    let mut parts = Vec::new(alloc);
+    for field in fields {
+        parts.push(field_element(alloc, field)?)?;
+    }
+    Ok(nested(parts))
+}
+
+// Places of fields, in order.
+fn places_element(alloc: Global, places: &[usize]) -> Result<Element, AllocError>
+    ensures { IfOk result (λ element. item_in element ≡ nested_item (map number_item places.now)) }
+{
+    let mut parts = Vec::new(alloc);
+    for place in places {
+        parts.push(number(*place as u64))?;
+    }
+    Ok(nested(parts))
+}
+
+// A type's number, name, fields and places of key fields.
+fn type_element(alloc: Global, definition: &TypeDefinition) -> Result<Element, AllocError>
+    ensures { IfOk result (λ element. item_in element ≡ type_item definition.now) }
+{
+    let mut parts = Vec::new(alloc);
+    parts.push(number(definition.number))?;
+    parts.push(Element::Text(definition.name.copy()?))?;
+    parts.push(fields_element(alloc, definition.fields.as_slice())?)?;
+    parts.push(places_element(alloc, definition.key.as_slice())?)?;
+    Ok(nested(parts))
+}
+
+// Types, in order.
+fn types_element(alloc: Global, types: &[TypeDefinition]) -> Result<Element, AllocError>
+    ensures { IfOk result (λ element. item_in element ≡ nested_item (map type_item types.now)) }
+{
+    let mut parts = Vec::new(alloc);
+    for definition in types {
+        parts.push(type_element(alloc, definition)?)?;
+    }
+    Ok(nested(parts))
+}
+
+// The written form of the schema of these types.
+pub(crate) fn schema_tuple(alloc: Global, types: &[TypeDefinition]) -> Result<Tuple, AllocError>
+    ensures { IfOk result (λ tuple. tuple ≡ written (record { types = types.now })) }
+{
+    let mut parts = Vec::new(alloc);
+    parts.push(number(1))?;
+    parts.push(number(types.len() as u64))?;
+    parts.push(number(0))?;
+    parts.push(types_element(alloc, types)?)?;
+    parts.push(nested(Vec::new(alloc)))?;
+    match Tuple::new(parts) {
+        Ok(tuple) => Ok(tuple),
+        Err(_) => unreachable!(),
+    }
+}

@@ -1,0 +1,217 @@
+-- How far the roles have come as they handle a version more, one after another.
+use Rattle.std.proofs.Common.{◌≡◌, ◌∙◌, ℕ, zero, suc, ◌+◌, ◌-◌, ◌<◌, true, nat_lt, Option, None, Some, List, [], ◌∷◌, ◌++◌, All, IsNone, ap, arith, cond, get_or, length, length-append, map, refl, subst, sym}
+use Rattle.std.proofs.lemmas.Bool.{and_from, lt-ltb, true≢false}
+use Rattle.std.proofs.lemmas.List.Elements.{All-get_or, All-map}
+use Rattle.std.specs.List.{list_all, slice_get}
+use Rattle.std.specs.Option.{option_map}
+use Rattle.kv_core.specs.declared.change.CommitRequest.{CommitRequest}
+use Rattle.cluster_core.specs.declared.answers.Reported.{Reported}
+use Rattle.cluster_core.specs.declared.answers.Reported.TheVariants.{NothingToDo as Idle}
+use Rattle.cluster_core.specs.declared.answers.Work.{Work}
+use Rattle.cluster_core.specs.declared.answers.Work.TheVariants.{Done, NothingToDo}
+use Rattle.cluster_core.specs.Cluster.{Did}
+use Rattle.cluster_core.specs.History.{Entry}
+use Rattle.cluster_core.specs.Roles.{AreInOrder, PipelineState, all_handled, append, entries, is_caught_up, may_append, may_report, may_resolve, outcome, raised, report, resolve, submit, submit_refusal, submitted, told_of}
+use Rattle.cluster_core.proofs.Bridge.{entry_of, numbered_at}
+use Rattle.cluster_core.proofs.ClusterSteps.{none_from}
+use Rattle.txn.specs.Holds.{IsHeldAt, first_handled, first_raised, newest, verdict}
+
+-- one clock more is raised
+raised_suc : (clocks : List ℕ) (i : ℕ) → i < length clocks → first_raised (suc i) clocks ≡ raised (first_raised i clocks) i
+raised_suc [] i inside = absurd (omega (arith, inside))
+raised_suc (clock ∷ clocks) zero inside = refl
+raised_suc (clock ∷ clocks) (suc i) inside = ap (λ rest. (clock + 1) ∷ rest) (raised_suc clocks i (omega (arith, inside)))
+
+raised_next : (clocks : List ℕ) (i : ℕ) → i < length clocks → first_raised (i + 1) clocks ≡ raised (first_raised i clocks) i
+raised_next clocks i inside =
+    let next : i + 1 ≡ suc i = omega arith in
+    ap (λ n. first_raised n clocks) next ∙ raised_suc clocks i inside
+
+-- the clock that comes next is as it was
+next_clock : (clocks : List ℕ) (i : ℕ) → get_or (first_raised i clocks) i 0 ≡ get_or clocks i 0
+next_clock [] zero = refl
+next_clock [] (suc i) = refl
+next_clock (clock ∷ clocks) zero = refl
+next_clock (clock ∷ clocks) (suc i) = next_clock clocks i
+
+-- all are raised
+all_raised : (clocks : List ℕ) → first_raised (length clocks) clocks ≡ map (λ clock. clock + 1) clocks
+all_raised [] = refl
+all_raised (clock ∷ clocks) = ap (λ rest. (clock + 1) ∷ rest) (all_raised clocks)
+
+-- each clock that a test passes
+all_past : (n : ℕ) (clocks : List ℕ) → All (λ clock. n < clock) clocks → list_all (λ clock. nat_lt n clock) clocks ≡ true
+all_past n [] all = refl
+all_past n (clock ∷ clocks) all =
+    and_from _ _ (lt-ltb n clock (all 0 0 (omega arith))) (all_past n clocks (λ k d below. all (suc k) d (omega (arith, below))))
+
+-- one resolver more has answered
+pub resolved_next : (p now new : PipelineState) (r : ℕ) (work : Work) → r < length p.resolved → All (λ clock. clock < submitted p) p.resolved →
+    now ≡ first_handled r 0 p → Did work (may_resolve now r) now new (resolve r now) → new ≡ first_handled (r + 1) 0 p
+resolved_next p now new r Done inside waiting was did =
+    did.1 ∙ ap (resolve r) was ∙ (λ i. record p { resolved = sym (raised_next p.resolved r inside) i })
+resolved_next p now new r NothingToDo inside waiting was did =
+    let clock : get_or p.resolved r 0 < submitted p = All-get_or (λ clock. clock < submitted p) p.resolved r 0 inside waiting in
+    let may : may_resolve now r ≡ true =
+    ap (λ q. may_resolve q r) was ∙ ap (λ n. nat_lt n (submitted p)) (next_clock p.resolved r) ∙ lt-ltb _ _ clock in
+    absurd (true≢false (sym may ∙ did.0))
+
+-- one log more has the next version
+pub appended_next : (p now new : PipelineState) (l : ℕ) (work : Work) → l < length p.logged → All (λ log. All (λ clock. log < clock) p.resolved) p.logged →
+    now ≡ first_handled 0 l p → Did work (may_append now l) now new (append l now) → new ≡ first_handled 0 (l + 1) p
+appended_next p now new l Done inside waiting was did =
+    did.1 ∙ ap (append l) was ∙ (λ i. record p { logged = sym (raised_next p.logged l inside) i })
+appended_next p now new l NothingToDo inside waiting was did =
+    let past : All (λ clock. get_or p.logged l 0 < clock) p.resolved = All-get_or (λ log. All (λ clock. log < clock) p.resolved) p.logged l 0 inside waiting in
+    let may : may_append now l ≡ true =
+    ap (λ q. may_append q l) was
+    ∙ ap (λ n. list_all (λ clock. nat_lt n clock) p.resolved) (next_clock p.logged l)
+    ∙ all_past (get_or p.logged l 0) p.resolved past in
+    absurd (true≢false (sym may ∙ did.0))
+
+-- clocks that stand at one version, each raised
+same_raised : (clocks : List ℕ) (v w : ℕ) → v + 1 ≡ w → All (λ clock. clock ≡ v) clocks → map (λ clock. clock + 1) clocks ≡ map (λ _. w) clocks
+same_raised [] v w next all = refl
+same_raised (clock ∷ clocks) v w next all =
+    let first : clock + 1 ≡ w = ap (λ n. n + 1) (all 0 0 (omega arith)) ∙ next in
+    λ i. first i ∷ same_raised clocks v w next (λ k d below. all (suc k) d (omega (arith, below))) i
+
+-- what is told doesn't depend on the clocks
+told-any : (p : PipelineState) (resolved logged : List ℕ) (reported : ℕ) (entry : Option Entry) →
+    told_of (record p { resolved = resolved; logged = logged; reported = reported }) entry ≡ told_of p entry
+told-any p resolved logged reported None = refl
+told-any p resolved logged reported (Some entry) = refl
+
+last_there : {X : Type 0} (xs : List X) (x : X) → slice_get (xs ++ x ∷ []) (length xs) ≡ Some x
+last_there [] x = refl
+last_there (y ∷ xs) x = last_there xs x
+
+-- one commit, from a state that is caught up
+module _ (old : PipelineState) (request : CommitRequest) (order : AreInOrder old) (caught : is_caught_up old) where
+  abbrev given : PipelineState
+  given = submit request old
+
+  abbrev settled : PipelineState
+  settled = first_handled (length old.resolved) (length old.logged) given
+
+  pub submitted-next : submitted (submit request old) ≡ submitted old + 1
+  submitted-next = let more : length (old.requests ++ request ∷ []) ≡ length old.requests + 1 = length-append old.requests (request ∷ []) in omega (arith, more)
+
+  resolved_level : All (λ clock. clock ≡ submitted old) old.resolved
+  resolved_level = λ k d below.
+      let least = order.appended 0 0 order.some_log in
+      let after = order.answered 0 0 order.some_log k d below in
+      let most = order.given k d below in
+      omega (arith, caught, least, after, most)
+
+  logged_level : All (λ clock. clock ≡ submitted old) old.logged
+  logged_level = λ k d below.
+      let least = order.appended k d below in
+      let after = order.answered k d below 0 0 order.some_resolver in
+      let most = order.given 0 0 order.some_resolver in
+      omega (arith, caught, least, after, most)
+
+  -- no resolver has answered for the request
+  pub unresolved : All (λ clock. clock < submitted (submit request old)) old.resolved
+  unresolved = λ k d below. let most = order.given k d below in omega (arith, submitted-next, most)
+
+  -- no log has it
+  pub unlogged : All (λ log. All (λ clock. log < clock) (first_raised (length old.resolved) old.resolved)) old.logged
+  unlogged = λ k d below.
+      let log = get_or old.logged k d in
+      subst (All (λ clock. log < clock)) (sym (all_raised old.resolved))
+      (All-map (λ clock. log < clock) (λ clock. clock + 1) old.resolved (λ j e inside. let after = order.answered k d below j e inside in omega (arith, after)))
+
+  pub may_tell : may_report (first_handled (length old.resolved) (length old.logged) (submit request old)) ≡ true
+  may_tell =
+      ap (list_all (λ clock. nat_lt old.reported clock)) (all_raised old.logged)
+      ∙ all_past old.reported (map (λ clock. clock + 1) old.logged)
+      (All-map (λ clock. old.reported < clock) (λ clock. clock + 1) old.logged (λ k d below. let least = order.appended k d below in omega (arith, least)))
+
+  pub all_done : report (first_handled (length old.resolved) (length old.logged) (submit request old)) ≡ all_handled (submit request old)
+  all_done =
+      let next : submitted old + 1 ≡ submitted given = sym submitted-next in
+      let resolved = all_raised old.resolved ∙ same_raised old.resolved (submitted old) (submitted given) next resolved_level in
+      let logged = all_raised old.logged ∙ same_raised old.logged (submitted old) (submitted given) next logged_level in
+      let reported : old.reported + 1 ≡ submitted given = omega (arith, caught, next) in
+      λ i. record given { resolved = resolved i; logged = logged i; reported = reported i }
+
+  pub outcome-done : outcome (first_handled (length old.resolved) (length old.logged) (submit request old)) (old.reported + 1) ≡ outcome (all_handled (submit request old)) (submitted (submit request old))
+  outcome-done =
+      let version : old.reported + 1 ≡ submitted given = omega (arith, caught, submitted-next) in
+      let entry = slice_get (entries given) (submitted given - given.start - 1) in
+      ap (outcome settled) version
+      ∙ told-any given settled.resolved settled.logged settled.reported entry
+      ∙ sym (told-any given (all_handled given).resolved (all_handled given).logged (all_handled given).reported entry)
+
+  -- the entry of the request is the last one
+  outcome-verdict : outcome (submit request old) (submitted (submit request old)) ≡ verdict request (submit request old)
+  outcome-verdict =
+      let place : submitted given - given.start - 1 ≡ length old.requests = omega (arith, submitted-next) in
+      let version : old.start + length old.requests + 1 ≡ submitted given = sym submitted-next in
+      let entry : slice_get (entries given) (submitted given - given.start - 1) ≡ Some (newest request given) =
+      ap (slice_get (entries given)) place
+      ∙ numbered_at given.start given.requests (length old.requests)
+      ∙ ap (option_map (entry_of given.start (length old.requests))) (last_there old.requests request)
+      ∙ ap (λ v. Some (record { version = v; request = request })) version in
+      ap (told_of given) entry
+
+  -- a commit whose resolvers stopped at one of them
+  pub held_resolving : (now new : PipelineState) → now ≡ submit request old → IsNone (submit_refusal old request.read_version) →
+      (count : ℕ) × (count < length now.resolved) × (new ≡ first_handled count 0 now) →
+      (submit_refusal old request.read_version ≡ None) × ((resolvers logs : ℕ) × IsHeldAt request old new resolvers logs)
+  held_resolving now new was allowed held =
+      let below : held.0 < length old.resolved = subst (λ p. held.0 < length p.resolved) was held.1 in
+      let log = order.some_log in (
+        none_from (submit_refusal old request.read_version) allowed,
+        (
+          held.0,
+          0,
+          record { stands = held.2 ∙ ap (first_handled held.0 0) was; some_resolvers = omega (arith, below); some_logs = omega (arith, log); in_order = λ _. refl },
+        ),
+      )
+
+  -- all resolvers have answered
+  module _ (now mid : PipelineState) (was : now ≡ submit request old) (resolved : mid ≡ first_handled (length now.resolved) 0 now) where
+    mid-is : mid ≡ first_handled (length old.resolved) 0 (submit request old)
+    mid-is = resolved ∙ ap (λ p. first_handled (length p.resolved) 0 p) was
+
+    pub waiting : All (λ log. All (λ clock. log < clock) mid.resolved) mid.logged
+    waiting = subst (λ p. All (λ log. All (λ clock. log < clock) p.resolved) p.logged) (sym mid-is) unlogged
+
+    -- a commit whose logs stopped at one of them
+    pub held_appending : (new : PipelineState) → IsNone (submit_refusal old request.read_version) →
+        (count : ℕ) × (count < length mid.logged) × (new ≡ first_handled 0 count mid) →
+        (submit_refusal old request.read_version ≡ None) × ((resolvers logs : ℕ) × IsHeldAt request old new resolvers logs)
+    held_appending new allowed held =
+        let below : held.0 < length old.logged = subst (λ p. held.0 < length p.logged) mid-is held.1 in (
+          none_from (submit_refusal old request.read_version) allowed,
+          (
+            length old.resolved,
+            held.0,
+            record { stands = held.2 ∙ ap (first_handled 0 held.0) mid-is; some_resolvers = omega arith; some_logs = below; in_order = λ less. absurd (omega (arith, less)) },
+          ),
+        )
+
+    -- all logs have the request too, and it is reported
+    module _ (last new : PipelineState) (result : Reported) (logged : last ≡ first_handled 0 (length mid.logged) mid)
+        (told : result ≡ cond (may_report last) (outcome last (last.reported + 1)) Idle) (step : new ≡ cond (may_report last) (report last) last) where
+      last-is : last ≡ first_handled (length old.resolved) (length old.logged) (submit request old)
+      last-is = logged ∙ ap (λ p. first_handled 0 (length p.logged) p) mid-is
+
+      pub new-is : new ≡ all_handled (submit request old)
+      new-is = step ∙ ap (λ p. cond (may_report p) (report p) p) last-is ∙ ap (λ b. cond b (report settled) settled) may_tell ∙ all_done
+
+      result-is : result ≡ outcome (all_handled (submit request old)) (submitted (submit request old))
+      result-is =
+          told ∙ ap (λ p. cond (may_report p) (outcome p (p.reported + 1)) Idle) last-is
+          ∙ ap (λ b. cond b (outcome settled (old.reported + 1)) Idle) may_tell ∙ outcome-done
+
+      pub result-told : result ≡ outcome new (submitted new)
+      result-told = result-is ∙ ap (λ p. outcome p (submitted p)) (sym new-is)
+
+      pub result-decided : result ≡ verdict request new
+      result-decided =
+          let entry = slice_get (entries given) (submitted given - given.start - 1) in
+          result-is ∙ told-any given (all_handled given).resolved (all_handled given).logged (all_handled given).reported entry
+          ∙ outcome-verdict ∙ ap (verdict request) (sym new-is)

@@ -1,0 +1,5 @@
+pub mod Handling
+pub mod Merging
+pub mod Rounds
+pub mod OneMore
+pub mod Deciding

@@ -1,0 +1,16 @@
+use Rattle.std.proofs.Common.{◌≡◌, ◌≤◌, None}
+use Rattle.kv_core.specs.Map.{Map}
+use Rattle.txn.specs.Own.{IsUnder, state_of}
+use Rattle.txn.specs.Reading.{Gives, IsLeft, left_count}
+use Rattle.txn.proofs.read.read_under.Given as goal
+
+-- the pairs so far are the read, or its beginning, and what is left is a part of the range with fewer stored pairs
+abbrev pub invariant-loop-rest : goal.invariant-loop-rest
+invariant-loop-rest g l =
+    let base = g.S.Snapshot.map_at l.db l.version in
+    (l.limit ≤ l.asked) × IsLeft base l.range l.limit l.pairs.items l.rest
+    × ((m : Map) → IsUnder (state_of l.own) base m → Gives m l.range l.limit l.reverse l.pairs.items l.rest)
+    × (g.S.Snapshot.refusal l.db l.range l.version ≡ None)
+
+abbrev pub decreases-loop-rest : goal.decreases-loop-rest
+decreases-loop-rest g l = left_count (g.S.Snapshot.map_at l.db l.version) l.rest

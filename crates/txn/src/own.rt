@@ -1,0 +1,105 @@
+ghost use Rattle.std.specs.Prelude.{◌≡◌, ℕ, List, Option, IfOk, OnOk, false};
+ghost use Rattle.kv_core.specs.Map.{value_after, value_after_all};
+ghost use Rattle.txn.specs.Reads.{Follow, IsNoted};
+ghost use Rattle.txn.specs.Own.{state_of, sum_at, under, worth, worth_of};
+ghost use Rattle.std.specs.FinMap.{get};
+ghost use Rattle.std.specs.Ordering.{is_eq};
+ghost use Rattle.kv_core.specs.Addition.{added};
+ghost use Rattle.kv_core.specs.Bytes.{key_cmp};
+
+use crate::sum::Sum;
+use kv_core::{Bytes, Coverage, KvMap, Mutation};
+use std::alloc::{AllocError, Global};
+use std::collections::BTreeMap;
+use std::mem;
+
+/// What a transaction's own mutations come to, in the order of the keys.
+///
+/// Beside the map that they make of nothing stand the keys that they clear, and the sums of the
+/// keys whose value they only add to. Mutations are noted when a read needs them.
+#[derive(Debug, Drop)]
+pub(crate) struct OwnWrites {
+    pub(crate) alloc: Global,
+    pub(crate) written: KvMap,
+    pub(crate) cleared: Coverage,
+    pub(crate) sums: BTreeMap<Bytes, Sum>,
+    pub(crate) noted: usize,
+}
+
+impl OwnWrites {
+    /// What no mutation comes to, which takes no memory.
+    pub(crate) fn new(alloc: Global) -> OwnWrites
+        ensures none { result.noted ≡ 0 }
+        ensures same { (key : List ℕ) (before : Option (List ℕ)) → under (state_of result) key before ≡ before }
+    {
+        OwnWrites {
+            alloc,
+            written: KvMap::new(alloc),
+            cleared: Coverage::new(alloc),
+            sums: BTreeMap::new(alloc),
+            noted: 0,
+        }
+    }
+
+    /// What the mutations come to with one more after them. Where memory runs out it is gone.
+    fn with(self, mutation: &Mutation) -> Result<OwnWrites, AllocError>
+        ensures { IfOk result (λ own. (key : List ℕ) (before : Option (List ℕ)) → under (state_of own) key before ≡ value_after mutation.now key (under (state_of self) key before)) }
+    {
+        let mut own = self;
+        match mutation {
+            Mutation::Set { key, .. } => {
+                own.sums.remove(key);
+            }
+            Mutation::Add { key, operand } => own.add(key, operand)?,
+            Mutation::ClearRange(range) => own.cleared.add(range)?,
+        }
+        own.written.apply(mutation)?;
+        Ok(own)
+    }
+
+    /// Notes the operand of an Add, before the map has it, where it is added to a value that own
+    /// mutations don't tell.
+    fn add(&mut self, key: &Bytes, operand: &Bytes) -> Result<(), AllocError>
+        ensures written { OnOk result (self.new.written ≡ self.old.written) }
+        ensures cleared { OnOk result (self.new.cleared ≡ self.old.cleared) }
+        ensures noted { OnOk result (self.new.noted ≡ self.old.noted) }
+        ensures others { OnOk result ((other : List ℕ) → is_eq (key_cmp key.now other) ≡ false → sum_at self.new.sums.entries other ≡ sum_at self.old.sums.entries other) }
+        ensures sum { OnOk result ((before : Option (List ℕ)) →
+            worth (added (get self.old.written key.now) operand.now) (sum_at self.new.sums.entries key.now) before ≡
+            added (worth_of (get self.old.written key.now) (sum_at self.old.sums.entries key.now) before) operand.now) }
+    {
+        let known = self.written.get(key).is_some();
+        let sum = match self.sums.remove(key) {
+            Some(sum) if known => sum.plus(self.alloc, operand)?,
+            None if known => return Ok(()),
+            _ => Sum::new(self.alloc, operand)?,
+        };
+        self.sums.insert(key.copy()?, sum)?;
+        Ok(())
+    }
+
+    /// What the mutations come to with more after them. Where memory runs out it is gone.
+    fn with_all(self, mutations: &[Mutation]) -> Result<OwnWrites, AllocError>
+        ensures { IfOk result (λ own. (key : List ℕ) (before : Option (List ℕ)) → under (state_of own) key before ≡ value_after_all mutations.now key (under (state_of self) key before)) }
+    {
+        let mut own = self;
+        for mutation in mutations {
+            own = own.with(mutation)?;
+        }
+        Ok(own)
+    }
+
+    /// Notes the mutations that aren't noted yet. Where memory runs out all are forgotten, to be
+    /// noted anew.
+    pub(crate) fn catch_up(&mut self, mutations: &[Mutation]) -> Result<(), AllocError>
+        requires { IsNoted self.old mutations.now }
+        ensures ok { OnOk result (Follow self.new mutations.now) }
+        ensures noted { IsNoted self.new mutations.now }
+    {
+        let from = self.noted;
+        let own = mem::replace(self, OwnWrites::new(self.alloc));
+        *self = own.with_all(&mutations[from..])?;
+        self.noted = mutations.len();
+        Ok(())
+    }
+}

@@ -1,0 +1,212 @@
+ghost use Rattle.std.specs.Prelude.{◌≡◌, ◌⊎◌, ℕ, ◌≤◌, [], ◌∷◌, List, IfOk, IfErr, OnOk, OnErr, IsTrue, IsNone, Some, vec_len};
+ghost use Rattle.std.specs.FinMap.{get as value_at};
+ghost use Rattle.kv_core.specs.Bytes.{key_lt, end_of_keys};
+ghost use Rattle.kv_core.specs.Range.{point};
+ghost use Rattle.kv_core.specs.Map.{Map, Agree};
+ghost use Rattle.kv_core.specs.Limits.{write_refusal, write_all_refusal};
+ghost use Rattle.kv_core.specs.Read.{read_of, range_read, first_value};
+ghost use Rattle.txn.specs.Reads.{seen, has_read, with_mutation, with_mutations};
+
+use crate::own::OwnWrites;
+use crate::read::{range_read, read_under};
+use crate::snapshot::Snapshot;
+use cluster_core::ReadError;
+use kv_core::{
+    Bytes, CommitRequest, KeyRange, MAX_TRANSACTION_BYTES, Mutation, Mutations, Pair, RangeList,
+    WriteError, total_size,
+};
+use std::alloc::Global;
+use std::marker::Model;
+
+/// A transaction: the version of the database that it reads, the ranges that it read, and its
+/// mutations.
+///
+/// Its reads see its own mutations, which nobody else sees before they are committed. Beside the
+/// list of mutations it keeps what they come to in the order of the keys, as far as its reads
+/// needed it, so that a read takes time that grows as their logarithm.
+#[derive(Debug, Drop)]
+pub struct Transaction {
+    request: CommitRequest,
+    size: u64,
+    own: OwnWrites,
+}
+
+impl Model for Transaction {
+    ghost use Rattle.kv_core.specs.declared.change.CommitRequest.{CommitRequest as Request};
+    ghost use Rattle.txn.specs.Reads.{IsTransaction};
+
+    ghost Value = { Request };
+
+    ghost view = { λ a. a.request };
+
+    ghost invariant = { λ a. IsTransaction a.request a.size a.own };
+}
+
+/// The value of the only pair.
+fn only_value(found: Vec<Pair>) -> Option<Bytes>
+    requires { vec_len found ≤ 1 }
+    ensures { result ≡ first_value found.items }
+{
+    let mut found = found;
+    match found.pop() {
+        Some(pair) => Some(pair.1),
+        None => None,
+    }
+}
+
+impl Transaction {
+    /// A transaction that reads at a version and has done nothing yet, which takes no memory.
+    pub fn begin(alloc: Global, read_version: u64) -> Transaction
+        ensures { result ≡ record { read_version = read_version; reads = []; mutations = [] } }
+    {
+        Transaction {
+            request: CommitRequest {
+                read_version,
+                reads: RangeList::new(alloc),
+                mutations: Mutations::new(Vec::new(alloc)),
+            },
+            size: 0,
+            own: OwnWrites::new(alloc),
+        }
+    }
+
+    /// The value at a key, or None where there is none, as the transaction sees it. `Bytes::is_key`
+    /// tells whether a byte string is a key.
+    ///
+    /// The key is added to the ranges read, also where the own mutations alone tell its value. The
+    /// read is refused as the snapshot refuses a read of the key, and with `Memory` where memory
+    /// runs out. A refusal leaves the transaction as it was.
+    pub fn get<S: Snapshot>(&mut self, db: &S, key: &Bytes) -> Result<Option<Bytes>, ReadError>
+        requires { IsTrue (key_lt key.now end_of_keys) }
+        ensures answer { IfOk result (λ value. (m : Map) →
+            Agree self.new.reads (S.map_at db.now self.old.read_version) m → value ≡ value_at (seen self.old m) key.now) }
+        ensures reads { OnOk result (self.new ≡ has_read (point key.now) self.old) }
+        ensures allowed { OnOk result (IsNone (S.refusal db.now (point key.now) self.old.read_version)) }
+        ensures kept { OnErr result (self.new ≡ self.old) }
+        ensures refused { IfErr result (λ error. (error ≡ ReadError.Memory) ⊎ (S.refusal db.now (point key.now) self.old.read_version ≡ Some error)) }
+    {
+        let range = KeyRange::point(self.own.alloc, key)?;
+        let found = db.read(&range, self.request.read_version, 1, false)?;
+        self.own.catch_up(self.request.mutations.as_slice())?;
+        let value = self.own.value(key, only_value(found))?;
+        self.request.reads.add(range)?;
+        Ok(value)
+    }
+
+    /// The pairs of a range as the transaction sees them, up to the limit. Nothing is added to the
+    /// ranges read.
+    fn seen_pairs<S: Snapshot>(
+        &mut self,
+        db: &S,
+        range: &KeyRange,
+        limit: usize,
+        reverse: bool,
+    ) -> Result<Vec<Pair>, ReadError>
+        requires { 1 ≤ limit }
+        ensures pairs { IfOk result (λ pairs. pairs.items ≡ read_of (seen self.old (S.map_at db.now self.old.read_version)) range.now limit reverse) }
+        ensures kept { self.new ≡ self.old }
+        ensures allowed { OnOk result (IsNone (S.refusal db.now range.now self.old.read_version)) }
+        ensures refused { IfErr result (λ error. (error ≡ ReadError.Memory) ⊎ (S.refusal db.now range.now self.old.read_version ≡ Some error)) }
+    {
+        let version = self.request.read_version;
+        if self.request.mutations.is_empty() {
+            return db.read(range, version, limit, reverse);
+        }
+        self.own.catch_up(self.request.mutations.as_slice())?;
+        let pairs = read_under(db, &self.own, version, range, limit, reverse)?;
+        Ok(pairs)
+    }
+
+    /// The pairs of a range as the transaction sees them: the first ones in the order of their
+    /// keys, or with `reverse` the last ones with the last one first, as many as there are up to
+    /// the limit.
+    ///
+    /// Where they are fewer than the limit, the whole range is added to the ranges read, and else
+    /// its part through the last pair. The read is refused as the snapshot refuses a read of the
+    /// range, and with `Memory` where memory runs out. A refusal leaves the transaction as it was.
+    pub fn get_range<S: Snapshot>(
+        &mut self,
+        db: &S,
+        range: &KeyRange,
+        limit: usize,
+        reverse: bool,
+    ) -> Result<Vec<Pair>, ReadError>
+        requires { 1 ≤ limit }
+        ensures answer { IfOk result (λ pairs. (m : Map) →
+            Agree self.new.reads (S.map_at db.now self.old.read_version) m → pairs.items ≡ read_of (seen self.old m) range.now limit reverse) }
+        ensures reads { IfOk result (λ pairs. self.new ≡ has_read (range_read range.now limit reverse pairs.items) self.old) }
+        ensures allowed { OnOk result (IsNone (S.refusal db.now range.now self.old.read_version)) }
+        ensures kept { OnErr result (self.new ≡ self.old) }
+        ensures refused { IfErr result (λ error. (error ≡ ReadError.Memory) ⊎ (S.refusal db.now range.now self.old.read_version ≡ Some error)) }
+    {
+        let pairs = self.seen_pairs(db, range, limit, reverse)?;
+        let read = range_read(range, limit, reverse, pairs.as_slice())?;
+        self.request.reads.add(read)?;
+        Ok(pairs)
+    }
+
+    /// Adds a mutation at the end.
+    fn write(&mut self, mutation: Mutation) -> Result<(), WriteError>
+        ensures ok { OnOk result (self.new ≡ with_mutation mutation self.old) }
+        ensures allowed { OnOk result (IsNone (write_refusal self.old.mutations mutation)) }
+        ensures kept { OnErr result (self.new ≡ self.old) }
+        ensures refused { IfErr result (λ error. (error ≡ WriteError.Memory) ⊎ (write_refusal self.old.mutations mutation ≡ Some error)) }
+    {
+        let size = mutation.size()?;
+        let total = self.size + size;
+        if total > MAX_TRANSACTION_BYTES {
+            return Err(WriteError::TransactionTooLarge);
+        }
+        self.request.mutations.push(mutation)?;
+        self.size = total;
+        Ok(())
+    }
+
+    /// Puts a pair, in the place of the key's pair where there is one.
+    ///
+    /// It is refused with `KeyOutside`, `KeyTooLarge` or `ValueTooLarge` as `Mutation::size` says,
+    /// else with `TransactionTooLarge` where the transaction would have more than
+    /// `MAX_TRANSACTION_BYTES`, and else with `Memory` where memory runs out. A refusal leaves the
+    /// transaction as it was.
+    pub fn set(&mut self, key: Bytes, value: Bytes) -> Result<(), WriteError>
+        ensures ok { OnOk result (self.new ≡ with_mutation (Mutation.Set key value) self.old) }
+        ensures allowed { OnOk result (IsNone (write_refusal self.old.mutations (Mutation.Set key value))) }
+        ensures kept { OnErr result (self.new ≡ self.old) }
+        ensures refused { IfErr result (λ error. (error ≡ WriteError.Memory) ⊎ (write_refusal self.old.mutations (Mutation.Set key value) ≡ Some error)) }
+    {
+        self.write(Mutation::Set { key, value })
+    }
+
+    /// Takes out the pairs whose keys lie in a range. It is refused as `set` is.
+    pub fn clear_range(&mut self, range: KeyRange) -> Result<(), WriteError>
+        ensures ok { OnOk result (self.new ≡ with_mutation (Mutation.ClearRange range) self.old) }
+        ensures allowed { OnOk result (IsNone (write_refusal self.old.mutations (Mutation.ClearRange range))) }
+        ensures kept { OnErr result (self.new ≡ self.old) }
+        ensures refused { IfErr result (λ error. (error ≡ WriteError.Memory) ⊎ (write_refusal self.old.mutations (Mutation.ClearRange range) ≡ Some error)) }
+    {
+        self.write(Mutation::ClearRange(range))
+    }
+
+    /// Adds mutations in their order, all of them or none.
+    ///
+    /// The first one that is refused gives the refusal, as `set` is refused. A refusal leaves the
+    /// transaction as it was.
+    pub fn write_all(&mut self, mutations: Vec<Mutation>) -> Result<(), WriteError>
+        ensures ok { OnOk result (self.new ≡ with_mutations mutations.items self.old) }
+        ensures allowed { OnOk result (IsNone (write_all_refusal self.old.mutations mutations.items)) }
+        ensures kept { OnErr result (self.new ≡ self.old) }
+        ensures refused { IfErr result (λ error. (error ≡ WriteError.Memory) ⊎ (write_all_refusal self.old.mutations mutations.items ≡ Some error)) }
+    {
+        let total = total_size(self.size, mutations.as_slice())?;
+        self.request.mutations.append(mutations)?;
+        self.size = total;
+        Ok(())
+    }
+
+    /// What is asked to have committed, which takes no memory.
+    pub fn into_request(self) -> CommitRequest
+        ensures { result ≡ self }
+    {
+        self.request
+    }
+}
