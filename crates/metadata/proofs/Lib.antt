@@ -5,7 +5,7 @@ mod CellSteps
 mod Examples
 mod Lists
 mod MadeSchemas
-mod OneSchema
+pub mod OneSchema
 mod ReadBack
 mod WrittenDepth
 mod WrittenItems

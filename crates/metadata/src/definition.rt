@@ -189,6 +189,17 @@ impl Names {
     {
         self.names.as_slice()
     }
+
+    /// Equal names.
+    pub fn copy(&self) -> Result<Names, AllocError>
+        ensures { IfOk result (λ copy. copy ≡ self.now) }
+    {
+        let mut names = Vec::new(*self.names.allocator());
+        for name in &self.names {
+            names.push(name.copy()?)?;
+        }
+        Ok(Names { names })
+    }
 }
 
 /// A type as it is asked for: its key fields by their names.
@@ -197,6 +208,18 @@ pub struct TypeRequest {
     pub name: Text,
     pub fields: Fields,
     pub key: Names,
+}
+
+impl TypeRequest {
+    /// An equal request.
+    pub fn copy(&self) -> Result<TypeRequest, AllocError>
+        ensures { IfOk result (λ copy. copy ≡ self.now) }
+    {
+        let name = self.name.copy()?;
+        let fields = self.fields.copy()?;
+        let key = self.key.copy()?;
+        Ok(TypeRequest { name, fields, key })
+    }
 }
 
 /// A schema as it is asked for: types, added in this order.
@@ -227,5 +250,16 @@ impl SchemaRequest {
         ensures { result.now ≡ self.now }
     {
         self.types.as_slice()
+    }
+
+    /// An equal request.
+    pub fn copy(&self) -> Result<SchemaRequest, AllocError>
+        ensures { IfOk result (λ copy. copy ≡ self.now) }
+    {
+        let mut types = Vec::new(*self.types.allocator());
+        for one in &self.types {
+            types.push(one.copy()?)?;
+        }
+        Ok(SchemaRequest { types })
     }
 }

@@ -8,7 +8,9 @@ use std::alloc::{AllocError, AllocFailed};
 pub enum Refusal {
     /// There is no client of this number.
     NoSuchClient,
-    /// The client has an open transaction, or a submitted one that isn't settled.
+    /// There is no role of this number.
+    NoSuchRole,
+    /// The client has an open transaction.
     Busy,
     /// The client has no open transaction.
     NoTransaction,
@@ -32,8 +34,20 @@ pub enum Refusal {
     AlreadyThere,
     /// There is no store.
     NoStore,
+    /// A server doesn't have the version yet.
+    FutureVersion,
+    /// The version lies longer ago than the window allows.
+    TooOld,
     /// The last version was given.
     VersionsExhausted,
+    /// A key lies outside the keys of the database.
+    KeyOutside,
+    /// A key is too large.
+    KeyTooLarge,
+    /// A value is too large.
+    ValueTooLarge,
+    /// The transaction's mutations are too large together.
+    TransactionTooLarge,
 }
 
 /// Why a call on schemas and records isn't answered.

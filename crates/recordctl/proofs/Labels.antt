@@ -1,17 +1,15 @@
 -- Objects of one key, and what they stand for.
-use Rattle.std.proofs.Common.{◌≡◌, ℕ, ◌*◌, ◌<◌, ◌^◌, List, length, slice_index, codes, Option, Some, Result, Ok, Err, IfOk, ℤ, ap, ◌∙◌}
-use Rattle.std.specs.Prelude.{option_map}
-use Rattle.std.specs.Result.{result_ok}
+use Rattle.std.proofs.Common.{◌≡◌, ℕ, ◌<◌, ◌^◌, List, length, slice_index, codes, Option, Some, Result, Ok, Err, IfOk, ℤ, ap, ◌∙◌}
 use Rattle.std.specs.Fmt.{signed_decimal}
 use Rattle.hex.proofs.HexLemmas.{decode_of-encode_lower, decode_sized-encode_lower}
-use Rattle.hex.specs.Hex.{decode_of, decode_sized, encode_lower}
+use Rattle.hex.specs.Hex.{encode_lower}
 use Rattle.tuple_codec.specs.Item.{Item, bytes, int, uuid, stamp, magnitude}
 use Rattle.uuid.specs.Text.{parsed}
 use Rattle.serde_json.specs.Data.{Data}
 use Rattle.serde_json.specs.View.{view}
 use Rattle.serde_json.specs.declared.value.Value.{Value}
 use Rattle.recordctl.specs.Json.{labelled}
-use Rattle.recordctl.specs.TupleJson.{item_in, int_in}
+use Rattle.recordctl.specs.TupleJson.{item_in}
 use Rattle.recordctl.proofs.Decimals.{int_written}
 
 pub hex_stands : (levels : ℕ) (text content : List ℕ) → ((i : ℕ) → slice_index content i < 256) → text ≡ encode_lower content → item_in levels (labelled (codes "hex") text) ≡ Some (bytes content)

@@ -5,3 +5,7 @@ pub mod Input
 pub mod Decimals
 pub mod TupleForms
 pub mod Labels
+pub mod Tables
+pub mod Keys
+pub mod BadSteps
+pub mod Values

@@ -1,6 +1,6 @@
 -- Forms of elements in JSON.
-use Rattle.std.proofs.Common.{◌≡◌, ◌↔◌, ℕ, List, Option, Some, None, Result, Ok, Err, IsOk, refl, sym, true≢false, ap, map, Vec, Global, zero, suc, ◌+◌, ◌-◌, ◌<◌, ◌≤◌, length, get_or, take, subst, ◌∙◌, ◌++◌, [], ◌∷◌, arith}
-use Rattle.std.specs.Prelude.{option_map, option_and_then}
+use Rattle.std.proofs.Common.{◌≡◌, ◌↔◌, ℕ, List, Option, Some, None, Result, Err, IsOk, refl, sym, true≢false, ap, map, Vec, Global, zero, suc, ◌+◌, ◌-◌, ◌<◌, ◌≤◌, length, get_or, take, ◌∙◌, ◌++◌, [], ◌∷◌, arith}
+use Rattle.std.specs.Prelude.{option_map}
 use Rattle.serde_json.specs.Data.{Data}
 use Rattle.serde_json.specs.Find.{as_str}
 use Rattle.tuple_codec.specs.Item.{Item}

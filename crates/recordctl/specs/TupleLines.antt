@@ -5,7 +5,7 @@ use Rattle.tuple_codec.specs.Item.{Item}
 use Rattle.tuple_codec.specs.Spelling.{Spells, spelling}
 use Rattle.tuple_codec.specs.Refusal.{Refuses}
 use Rattle.recordctl.specs.declared.fault.Fault.{Fault}
-use Rattle.recordctl.specs.declared.fault.Fault.TheVariants.{CannotRead, BadScript, BadArgument, Refused, OutOfMemory}
+use Rattle.recordctl.specs.declared.fault.Fault.TheVariants.{CannotRead, BadScript, BadConfig, BadArgument, Refused, OutOfMemory}
 use Rattle.recordctl.specs.TupleJson.{tuple_of_text}
 
 -- the line of a text
@@ -32,6 +32,7 @@ explains_pack word OutOfMemory = Unit {0}
 explains_pack word BadArgument = tuple_of_text word ≡ None
 explains_pack word CannotRead = ⊥
 explains_pack word (BadScript step) = ⊥
+explains_pack word (BadConfig why) = ⊥
 explains_pack word (Refused kind at) = ⊥
 
 -- a fault says why a word isn't unpacked: no memory, digits that aren't hexadecimal or not in pairs, or bytes that are refused
@@ -40,4 +41,5 @@ explains_unpack word OutOfMemory = Unit {0}
 explains_unpack word BadArgument = IsOk (decode_of word) → ⊥
 explains_unpack word CannotRead = ⊥
 explains_unpack word (BadScript step) = ⊥
+explains_unpack word (BadConfig why) = ⊥
 explains_unpack word (Refused kind at) = MatchResult (decode_of word) (λ bytes. Refuses bytes at kind) (λ _. ⊥)

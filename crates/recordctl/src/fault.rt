@@ -1,6 +1,7 @@
 ghost use Rattle.std.specs.Prelude.{◌≡◌};
 ghost use Rattle.recordctl.specs.declared.fault.PartError.TheVariants.{OutOfMemory};
 
+use cluster_core::ConfigError;
 use std::alloc::{AllocError, AllocFailed};
 use thiserror::Error;
 use tuple_codec::UnpackErrorKind;
@@ -14,6 +15,9 @@ pub enum Fault {
     /// The script is refused at this step, counted from 1; 0 is the script's frame.
     #[error("bad script at step {0}")]
     BadScript(usize),
+    /// There is no database of the script's configuration.
+    #[error("bad config {0:?}")]
+    BadConfig(ConfigError),
     /// A word of the command line isn't of its form.
     #[error("bad argument")]
     BadArgument,
@@ -31,6 +35,16 @@ impl From<AllocError> for Fault {
     ghost from_gives = { λ _ fault. fault ≡ Fault.OutOfMemory };
 
     fn from(_error: AllocError) -> Fault {
+        Fault::OutOfMemory
+    }
+}
+
+impl<T: Drop> From<AllocFailed<T>> for Fault {
+    ghost use Rattle.recordctl.specs.declared.fault.Fault.{Fault};
+
+    ghost from_gives = { λ _ fault. fault ≡ Fault.OutOfMemory };
+
+    fn from(_error: AllocFailed<T>) -> Fault {
         Fault::OutOfMemory
     }
 }

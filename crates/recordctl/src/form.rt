@@ -1,7 +1,7 @@
-ghost use Rattle.std.specs.Prelude.{◌≡◌, ◌↔◌, Some, None, IsTrue, IfOk, IfErr, option_and_then, map, string_bytes};
-ghost use Rattle.serde_json.specs.Find.{as_number, as_str, as_u64, get};
-ghost use Rattle.serde_json.specs.View.{view};
-ghost use Rattle.recordctl.specs.Json.{hex_in, key_count, labelled, list_in, only_member};
+ghost use Rattle.std.specs.Prelude.{◌≡◌, ◌↔◌, Some, None, IsTrue, IfOk, IfErr, map, string_bytes};
+ghost use Rattle.serde_json.specs.Find.{as_str, get};
+ghost use Rattle.serde_json.specs.View.{view, members_view};
+ghost use Rattle.recordctl.specs.Json.{are_among, has_only, is_among, hex_in, key_count, labelled, list_in, number_in, only_member};
 
 use crate::fault::PartError;
 use hex::FromHexError;
@@ -49,21 +49,49 @@ pub(crate) fn hex_of(alloc: Global, value: &Value) -> Result<Vec<u8>, PartError>
     }
 }
 
-// The number of a client.
-pub(crate) fn client_of(value: &Value) -> Result<u64, PartError>
-    ensures ok { IfOk result (λ client. option_and_then as_u64 (as_number (view value.now)) ≡ Some client) }
-    ensures err { IfErr result (λ error. (error ≡ PartError.BadForm)
-        × (option_and_then as_u64 (as_number (view value.now)) ≡ None)) }
+// A whole number of 64 bits without sign.
+pub(crate) fn number_of(value: &Value) -> Result<u64, PartError>
+    ensures ok { IfOk result (λ number. number_in (view value.now) ≡ Some number) }
+    ensures err { IfErr result (λ error. (error ≡ PartError.BadForm) × (number_in (view value.now) ≡ None)) }
 {
     value.as_u64().ok_or(PartError::BadForm)
 }
 
 // Whether a value is an object of this many keys.
-pub(crate) fn has_keys(value: &Value, keys: usize) -> bool
+fn has_keys(value: &Value, keys: usize) -> bool
     ensures { IsTrue result ↔ (key_count (view value.now) ≡ Some keys) }
 {
     match value.as_object() {
         Some(members) => members.len() == keys,
+        None => false,
+    }
+}
+
+// Whether a text is one of these.
+fn is_among(texts: &[&str], text: &str) -> bool
+    ensures { result ≡ is_among (map (λ one. one.now) texts.now) text.now }
+{
+    texts.contains(&text)
+}
+
+// Whether members have no key but these.
+fn are_among(members: &Map<String, Value>, keys: &[&str]) -> bool
+    ensures { result ≡ are_among (map (λ key. key.now) keys.now) (members_view members.now.entries) }
+{
+    for key in members.keys() {
+        if !is_among(&*keys, key.as_str()) {
+            return false;
+        }
+    }
+    true
+}
+
+// Whether a value is an object that has no key but these.
+pub(crate) fn has_only(value: &Value, keys: &[&str]) -> bool
+    ensures { result ≡ has_only (map (λ key. key.now) keys.now) (view value.now) }
+{
+    match value.as_object() {
+        Some(members) => are_among(members, keys),
         None => false,
     }
 }

@@ -2,12 +2,22 @@
 #![tactic(auto)]
 
 mod cell_json;
+mod config_json;
+#[cfg(test)]
+mod config_tests;
 mod fault;
 mod form;
+#[cfg(test)]
+mod outcome;
 mod print;
+#[cfg(test)]
+mod print_tests;
 mod run;
+#[cfg(test)]
+mod schedule_tests;
 mod schema_json;
 mod script;
+mod step_json;
 #[cfg(test)]
 mod tests;
 mod tuple_json;

@@ -1,4 +1,5 @@
 use crate::cell_json::{cells_text, rows_text};
+use kv_core::{Bytes, KeyRange};
 use metadata::Cells;
 use schedule::{Reply, Report, Rows};
 use std::alloc::{AllocError, Global};
@@ -20,22 +21,47 @@ fn push_rows(alloc: Global, line: &mut String, rows: &Rows) -> Result<(), AllocE
     write!(line, "rows {text}")
 }
 
-fn push_report(line: &mut String, report: &Report) -> Result<(), AllocError> {
+// Writes a conflict: the version that wrote in the range, and the range's ends in hexadecimal digits.
+fn push_conflict(
+    alloc: Global,
+    line: &mut String,
+    client: u64,
+    seen: u64,
+    range: &KeyRange,
+) -> Result<(), AllocError> {
+    let begin = hex::encode(alloc, range.begin().as_slice())?;
+    let end = hex::encode(alloc, range.end().as_slice())?;
+    write!(line, "client {client} conflict {seen} {begin}..{end}")
+}
+
+fn push_report(alloc: Global, line: &mut String, report: &Report) -> Result<(), AllocError> {
     match report {
         Report::Committed { client, version } => {
             write!(line, "client {client} committed {version}")
         }
+        Report::Conflict {
+            client,
+            seen,
+            range,
+        } => push_conflict(alloc, line, *client, *seen, range),
+        Report::Unknown { client } => write!(line, "client {client} unknown"),
     }
 }
 
-fn push_reports(line: &mut String, reports: &[Report]) -> Result<(), AllocError> {
+fn push_reports(alloc: Global, line: &mut String, reports: &[Report]) -> Result<(), AllocError> {
     let mut separator = "";
     for report in reports {
         line.push_str(separator)?;
-        push_report(line, report)?;
+        push_report(alloc, line, report)?;
         separator = ", ";
     }
     Ok(())
+}
+
+// Writes that the pair of a key isn't a store's, the key in hexadecimal digits.
+fn push_corrupt(alloc: Global, line: &mut String, key: &Bytes) -> Result<(), AllocError> {
+    let digits = hex::encode(alloc, key.as_slice())?;
+    write!(line, "refused Corrupt {digits}")
 }
 
 fn push_reply(alloc: Global, line: &mut String, reply: &Reply) -> Result<(), AllocError> {
@@ -51,8 +77,9 @@ fn push_reply(alloc: Global, line: &mut String, reply: &Reply) -> Result<(), All
         Reply::Submitted(version) => write!(line, "submitted {version}"),
         Reply::ReadOnly => line.push_str("read only"),
         Reply::Nothing => line.push_str("nothing"),
-        Reply::Reported(reports) => push_reports(line, reports.as_slice()),
+        Reply::Reported(reports) => push_reports(alloc, line, reports.as_slice()),
         Reply::Refused(refusal) => write!(line, "refused {refusal:?}"),
+        Reply::Corrupt(key) => push_corrupt(alloc, line, key),
     }
 }
 

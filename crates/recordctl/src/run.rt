@@ -1,12 +1,13 @@
-ghost use Rattle.std.specs.Prelude.{◌≡◌, ◌≤◌, take, IfOk, IfSome, OnOk};
+ghost use Rattle.std.specs.Prelude.{◌≡◌, ◌≢◌, ◌≤◌, ◌⊎◌, take, IfOk, IfErr, IfSome};
 ghost use Rattle.std.specs.Process.{exit_status};
-ghost use Rattle.recordctl.specs.Script.{IsScript};
+ghost use Rattle.recordctl.specs.Script.{IsRun, IsTranscriptOf, explains_run};
 ghost use Rattle.recordctl.specs.declared.run.PrintError.TheVariants.{CannotWrite, OutOfMemory};
 
 use crate::fault::Fault;
 use crate::print::make_line;
 use crate::script::{MAX_SCRIPT_BYTES, script_of};
-use schedule::{Config, Replies, ScheduleError, Transcript, run_schedule};
+use cluster_core::ConfigError;
+use schedule::{Replies, ScheduleError, Transcript, run_schedule};
 use std::alloc::{AllocError, Global};
 use std::io;
 use std::io::{BufWriter, ErrorKind, Read, Write};
@@ -37,7 +38,8 @@ impl From<io::Error> for PrintError {
 
 // The input to its end, or as much of it as shows that it is too long for a script.
 fn read_input<R: Read>(alloc: Global, input: &mut R) -> Result<Vec<u8>, Fault>
-    ensures { IfOk result (λ bytes. IfSome (R.remaining input.old) (λ text. bytes.items ≡ take 4000001 text)) }
+    ensures ok { IfOk result (λ bytes. IfSome (R.remaining input.old) (λ text. bytes.items ≡ take 4000001 text)) }
+    ensures err { IfErr result (λ fault. (fault ≡ Fault.CannotRead) ⊎ (fault ≡ Fault.OutOfMemory)) }
 {
     let mut bytes = Vec::new(alloc);
     let most = MAX_SCRIPT_BYTES as u64 + 1;
@@ -48,16 +50,38 @@ fn read_input<R: Read>(alloc: Global, input: &mut R) -> Result<Vec<u8>, Fault>
     }
 }
 
-// What the steps of the script that is read reply.
-fn transcript_of<R: Read>(alloc: Global, input: &mut R) -> Result<Transcript, Fault>
-    ensures { OnOk result (IfSome (R.remaining input.old) IsScript) }
+// The fault of a configuration that is refused.
+fn refused(refusal: ConfigError) -> Fault
+    ensures memory { refusal ≡ ConfigError.Memory → result ≡ Fault.OutOfMemory }
+    ensures named { refusal ≢ ConfigError.Memory → result ≡ Fault.BadConfig refusal }
 {
-    let bytes = read_input(alloc, input)?;
-    let steps = script_of(alloc, bytes.as_slice())?;
-    match run_schedule(alloc, &Config { start: 0 }, steps.as_slice()) {
+    match refusal {
+        ConfigError::Memory => Fault::OutOfMemory,
+        ConfigError::BadCount | ConfigError::BadSplits => Fault::BadConfig(refusal),
+    }
+}
+
+// What the steps of a script reply, from its text.
+fn run_script(alloc: Global, text: &[u8]) -> Result<Transcript, Fault>
+    ensures ok { IfOk result (IsTranscriptOf text.now) }
+    ensures err { IfErr result (explains_run text.now) }
+{
+    let script = script_of(alloc, text)?;
+    match run_schedule(alloc, &script.config, script.steps.as_slice()) {
         Ok(transcript) => Ok(transcript),
+        Err(ScheduleError::Config(refusal)) => Err(refused(refusal)),
         Err(ScheduleError::Memory) => Err(Fault::OutOfMemory),
     }
+}
+
+// What the steps of the script that is read reply.
+fn transcript_of<R: Read>(alloc: Global, input: &mut R) -> Result<Transcript, Fault>
+    ensures ok { IfOk result (λ transcript. IfSome (R.remaining input.old) (λ text. IsTranscriptOf text transcript)) }
+    ensures err { IfErr result (λ fault. IfSome (R.remaining input.old) (λ text. explains_run text fault)) }
+{
+    let text = read_input(alloc, input)?;
+    let transcript = run_script(alloc, text.as_slice())?;
+    Ok(transcript)
 }
 
 // Prints a line for each reply, in order.
@@ -105,7 +129,7 @@ pub fn run<R: Read, W: Write, E: Write>(
     errors: &mut E,
 ) -> ExitCode
     ensures status { exit_status result ≤ 1 }
-    ensures script { exit_status result ≡ 0 → IfSome (R.remaining input.old) IsScript }
+    ensures script { exit_status result ≡ 0 → IfSome (R.remaining input.old) IsRun }
     ensures quiet { exit_status result ≡ 0 → E.contents errors.new ≡ E.contents errors.old }
 {
     let transcript = match transcript_of(alloc, input) {

@@ -1,11 +1,18 @@
+ghost use Rattle.std.specs.Prelude.{◌≡◌, Some, None, IfOk, IfErr};
+ghost use Rattle.serde_json.specs.View.{view};
+ghost use Rattle.recordctl.specs.SchemaJson.{field_in, fields_in, kind_named, names_in, schema_in, type_in};
+
 use crate::fault::PartError;
-use crate::form::{has_keys, list_of, member, only_member, str_of, text_of};
+use crate::form::{has_only, list_of, member, only_member, str_of, text_of};
 use metadata::{Field, Fields, Kind, Names, SchemaRequest, TypeRequest};
 use serde_json::Value;
 use std::alloc::Global;
 
 // The kind of this name.
-fn kind_of(name: &str) -> Result<Kind, PartError> {
+fn kind_of(name: &str) -> Result<Kind, PartError>
+    ensures ok { IfOk result (λ read. kind_named name.now ≡ Some read) }
+    ensures err { IfErr result (λ error. error ≡ PartError.BadForm → kind_named name.now ≡ None) }
+{
     match name {
         "int" => Ok(Kind::Int),
         "text" => Ok(Kind::Text),
@@ -15,7 +22,10 @@ fn kind_of(name: &str) -> Result<Kind, PartError> {
 }
 
 // A field: its name and the name of its kind.
-fn field_of(alloc: Global, value: &Value) -> Result<Field, PartError> {
+fn field_of(alloc: Global, value: &Value) -> Result<Field, PartError>
+    ensures ok { IfOk result (λ read. field_in (view value.now) ≡ Some read) }
+    ensures err { IfErr result (λ error. error ≡ PartError.BadForm → field_in (view value.now) ≡ None) }
+{
     let [name, kind] = list_of(value)? else {
         return Err(PartError::BadForm);
     };
@@ -24,7 +34,11 @@ fn field_of(alloc: Global, value: &Value) -> Result<Field, PartError> {
     Ok(Field { name, kind })
 }
 
-fn fields_of(alloc: Global, value: &Value) -> Result<Fields, PartError> {
+// A list of fields.
+fn fields_of(alloc: Global, value: &Value) -> Result<Fields, PartError>
+    ensures ok { IfOk result (λ read. fields_in (view value.now) ≡ Some read) }
+    ensures err { IfErr result (λ error. error ≡ PartError.BadForm → fields_in (view value.now) ≡ None) }
+{
     let mut fields = Vec::new(alloc);
     for item in list_of(value)? {
         fields.push(field_of(alloc, item)?)?;
@@ -32,7 +46,11 @@ fn fields_of(alloc: Global, value: &Value) -> Result<Fields, PartError> {
     Ok(Fields::new(fields))
 }
 
-fn names_of(alloc: Global, value: &Value) -> Result<Names, PartError> {
+// A list of names.
+fn names_of(alloc: Global, value: &Value) -> Result<Names, PartError>
+    ensures ok { IfOk result (λ read. names_in (view value.now) ≡ Some read) }
+    ensures err { IfErr result (λ error. error ≡ PartError.BadForm → names_in (view value.now) ≡ None) }
+{
     let mut names = Vec::new(alloc);
     for item in list_of(value)? {
         names.push(text_of(alloc, item)?)?;
@@ -40,9 +58,15 @@ fn names_of(alloc: Global, value: &Value) -> Result<Names, PartError> {
     Ok(Names::new(names))
 }
 
+// The keys that a type has.
+const TYPE_KEYS: [&str; 3] = ["name", "fields", "key"];
+
 // A type: its name, its fields and the names of its key fields.
-fn type_of(alloc: Global, value: &Value) -> Result<TypeRequest, PartError> {
-    if !has_keys(value, 3) {
+fn type_of(alloc: Global, value: &Value) -> Result<TypeRequest, PartError>
+    ensures ok { IfOk result (λ read. type_in (view value.now) ≡ Some read) }
+    ensures err { IfErr result (λ error. error ≡ PartError.BadForm → type_in (view value.now) ≡ None) }
+{
+    if !has_only(value, &TYPE_KEYS) {
         return Err(PartError::BadForm);
     }
     let name = text_of(alloc, member(value, "name")?)?;
@@ -52,7 +76,10 @@ fn type_of(alloc: Global, value: &Value) -> Result<TypeRequest, PartError> {
 }
 
 // The schema that an object asks for: a list of types.
-pub(crate) fn schema_of(alloc: Global, value: &Value) -> Result<SchemaRequest, PartError> {
+pub(crate) fn schema_of(alloc: Global, value: &Value) -> Result<SchemaRequest, PartError>
+    ensures ok { IfOk result (λ read. schema_in (view value.now) ≡ Some read) }
+    ensures err { IfErr result (λ error. error ≡ PartError.BadForm → schema_in (view value.now) ≡ None) }
+{
     let mut types = Vec::new(alloc);
     for item in list_of(only_member(value, "types")?)? {
         types.push(type_of(alloc, item)?)?;

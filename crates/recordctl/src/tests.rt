@@ -1,45 +1,10 @@
+use crate::outcome::outcome_of;
 use crate::run::run;
 use std::alloc::{AllocError, Global};
 use std::io;
 use std::io::{ErrorKind, Read, Write};
 use std::process::ExitCode;
 use std::test::Fail;
-
-// What a run answers and writes.
-#[derive(Drop)]
-struct Outcome {
-    status: ExitCode,
-    output: Vec<u8>,
-    errors: Vec<u8>,
-}
-
-fn outcome_of(alloc: Global, script: &[u8]) -> Outcome {
-    let mut input = script;
-    let mut output = Vec::new(alloc);
-    let mut errors = Vec::new(alloc);
-    let status = run(alloc, &mut input, &mut output, &mut errors);
-    Outcome {
-        status,
-        output,
-        errors,
-    }
-}
-
-impl Outcome {
-    // Whether the run ended with this line on its errors, and nothing on its output.
-    fn is_fault(&self, line: &str) -> bool {
-        self.status == ExitCode::FAILURE
-            && self.output.is_empty()
-            && self.errors.as_slice() == line.as_bytes()
-    }
-
-    // Whether the run printed these lines, and nothing on its errors.
-    fn is_printed(&self, lines: &str) -> bool {
-        self.status == ExitCode::SUCCESS
-            && self.errors.is_empty()
-            && self.output.as_slice() == lines.as_bytes()
-    }
-}
 
 // A text of this many bytes: the front, and blanks.
 fn padded(alloc: Global, front: &str, bytes: usize) -> Result<Vec<u8>, AllocError> {
@@ -83,7 +48,7 @@ impl Write for FailingWriter {
     }
 }
 
-static FRAMES: [&str; 16] = [
+static FRAMES: [&str; 15] = [
     "",
     " ",
     "\0",
@@ -92,7 +57,6 @@ static FRAMES: [&str; 16] = [
     "{}",
     "\"steps\"",
     "{\"steps\":{}}",
-    "{\"steps\":[],\"config\":{}}",
     "{\"Steps\":[]}",
     "{\"steps\":[]}}",
     "{\"steps\":[[\"begin\",0],]}",
@@ -134,7 +98,7 @@ fn refuses_long_scripts(rt: HostRuntime) -> Result<(), Fail> {
     Ok(())
 }
 
-static STEPS: [&str; 58] = [
+static STEPS: [&str; 77] = [
     "{}",
     "null",
     "\"settle\"",
@@ -156,7 +120,26 @@ static STEPS: [&str; 58] = [
     "[\"settle\",0]",
     "[\"type\",0,{}]",
     "[\"index\",0,\"i\"]",
-    "[\"report\"]",
+    "[\"report\",0]",
+    "[\"lost\",0]",
+    "[\"Report\"]",
+    "[\"resolve\"]",
+    "[\"resolve\",\"0\"]",
+    "[\"resolve\",-1]",
+    "[\"resolve\",0,0]",
+    "[\"log\"]",
+    "[\"log\",null]",
+    "[\"log\",1.5]",
+    "[\"pull\"]",
+    "[\"pull\",-0]",
+    "[\"pull\",18446744073709551616]",
+    "[\"pull\",0,[]]",
+    "[\"state\",0,\"i\"]",
+    "[\"aggregate\",0,\"i\",[]]",
+    "[\"plan\",0,{\"type\":\"t\"}]",
+    "[\"execute\",0]",
+    "[\"build\",0,\"i\",1]",
+    "[\"field\",0,\"t\",[\"c\",\"int\"]]",
     "[\"save\",0,\"t\"]",
     "[\"save\",0,\"t\",[1],[1]]",
     "[\"save\",\"t\",[1]]",

@@ -1,31 +1,31 @@
 -- The keys of records: their order, and which lie in the range of a type.
-use Rattle.std.proofs.Common.{◌≡◌, ℕ, zero, suc, ◌<◌, ◌^◌, Bool, true, false, not, ◌&&◌, ◌==◌, List, [], ◌∷◌, ◌++◌, refl, sym, ap, ◌∙◌, append_assoc, arith, pos}
+use Rattle.std.proofs.Common.{◌≡◌, ℕ, ◌<◌, ◌^◌, Bool, true, false, not, ◌&&◌, ◌==◌, List, [], ◌∷◌, ◌++◌, refl, sym, ap, ◌∙◌, append_assoc, pos}
 use Rattle.std.specs.declared.cmp.Ordering.{Ordering}
 use Rattle.std.specs.declared.cmp.Ordering.TheVariants.{Less, Equal, Greater}
 use Rattle.std.specs.Ordering.{nat_cmp, ordering_then, is_lt, is_eq}
 use Rattle.std.specs.FinMap.{nat_cmp-IsAntisymmetric}
 use Rattle.std.proofs.lemmas.Bool.{eqb-true, eqb-false}
 use Rattle.tuple_codec.proofs.ByteOrder.{equal}
-use Rattle.tuple_codec.specs.Item.{Item, int, items_of, AreItems, IsTuple}
+use Rattle.tuple_codec.specs.Item.{Item, int, IsTuple}
 use Rattle.tuple_codec.specs.Order.{tuple_cmp}
 use Rattle.tuple_codec.specs.Spelling.{spelling, int_spelling}
 use Rattle.tuple_codec.proofs.ByteOrder.{before_escape}
-use Rattle.tuple_codec.proofs.IntOrder.{cmp_int, int_cmp_pos, cmp_suc}
+use Rattle.tuple_codec.proofs.IntOrder.{cmp_int, int_cmp_pos}
 use Rattle.tuple_codec.proofs.TupleOrder.{outer_tail}
 use Rattle.tuple_codec.proofs.Prefixes.{keys_ordered, cmp_behind}
 use Rattle.std.proofs.lemmas.List.{append-nil}
-use Rattle.kv_core.specs.Bytes.{key_cmp, key_lt, key_le, end_of_keys}
+use Rattle.kv_core.specs.Bytes.{key_cmp, key_le, end_of_keys}
 use Rattle.kv_core.specs.Range.{contains, is_key_range}
-use Rattle.metadata.specs.Record.{Record, primary_key}
-use Rattle.schedule.specs.Layout.{records_prefix, record_key, type_range}
+use Rattle.schedule.specs.Layout.{records_prefix, record_key, schema_key, type_range}
+
+-- the bytes of the schema's key
+pub schema_key_is : 0x15 ∷ 0x01 ∷ 0x14 ∷ [] ≡ schema_key
+unfolding int_spelling
+schema_key_is = refl
 
 -- keys are ordered as their primary keys
 pub key_order : (t u : List Item) → IsTuple t → IsTuple u → key_cmp (record_key t) (record_key u) ≡ tuple_cmp t u
 key_order t u h k = keys_ordered records_prefix t u h k
-
--- the key of a record comes before the end of the keys
-pub key_below_end : (t : List Item) → key_lt (record_key t) end_of_keys ≡ true
-key_below_end t = refl
 
 -- numbers that tie are the same
 tied : (m n : ℕ) → is_eq (nat_cmp m n) ≡ true → m ≡ n

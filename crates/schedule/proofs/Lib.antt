@@ -1,9 +1,22 @@
+pub mod Turning
+pub mod Submitting
+pub mod Composed
+pub mod Growing
+pub mod Refusing
+pub mod Places
+pub mod ClientSteps
+pub mod Submits
+pub mod RoleSteps
+pub mod ReportSteps
+pub mod RunSteps
+pub mod WorkSteps
+pub mod SettleSteps
 pub mod Keys
 pub mod RecordLists
 pub mod Held
 pub mod Decoding
-pub mod Commands
-pub mod Copies
-pub mod Stepping
-pub mod ReplyLists
-mod Examples
+pub mod Reading
+pub mod Outcomes
+pub mod Serving
+pub mod Creating
+pub mod ReadRows

@@ -1,18 +1,17 @@
 -- Lists of records in order: what is there after one is put in its place or taken out.
-use Rattle.std.proofs.Common.{◌≡◌, ℕ, Bool, true, false, not, cond, List, [], ◌∷◌, refl, sym, ap, subst, ◌∙◌, Option, Some, None, IsTrue}
+use Rattle.std.proofs.Common.{◌≡◌, ℕ, Bool, true, false, cond, List, [], ◌∷◌, refl, sym, ap, ◌∙◌, IsTrue}
 use Rattle.std.proofs.lemmas.Cmp.{nat_list_cmp_total}
 use Rattle.std.specs.declared.cmp.Ordering.{Ordering}
 use Rattle.std.specs.declared.cmp.Ordering.TheVariants.{Less, Equal, Greater}
 use Rattle.std.specs.List.{filter, AllByRecursion}
 use Rattle.std.specs.Ordering.{is_lt, is_eq, ordering_reverse}
-use Rattle.tuple_codec.specs.Item.{Item, IsTuple}
 use Rattle.tuple_codec.specs.Order.{tuple_cmp}
-use Rattle.kv_core.specs.Bytes.{key_cmp, key_lt}
+use Rattle.kv_core.specs.Bytes.{key_cmp}
 use Rattle.kv_core.proofs.Order.{lt_le_trans, le_from_lt, tied_keys}
 use Rattle.metadata.specs.Record.{Record, primary_key}
-use Rattle.schedule.specs.Store.{has_primary_key, placed, with_record, without_record}
+use Rattle.schedule.specs.Store.{placed, with_record}
 use Rattle.schedule.specs.Layout.{record_key}
-use Rattle.schedule.specs.Copy.{IsStorable, AreOrdered}
+use Rattle.schedule.specs.Holds.{IsStorable, AreOrdered}
 use Rattle.schedule.proofs.Keys.{key_order}
 
 -- the key of a record

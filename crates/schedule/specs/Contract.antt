@@ -1,15 +1,39 @@
--- What a schedule's replies are, each by the steps and replies before it.
-use Rattle.std.specs.Prelude.{◌≡◌, ℕ, zero, suc, ◌-◌, ◌^◌, true, List, [], ◌∷◌, Option, Some, None}
-use Rattle.std.specs.Option.{option_map}
-use Rattle.metadata.specs.declared.refusal.Refusal.TheVariants.{NoSuchClient, VersionsExhausted}
+-- What a schedule of many clients and of the database's roles replies, and what it leaves.
+use Rattle.std.specs.Prelude.{◌≡◌, ◌≤◌, ◌⊎◌, ℕ, ◌+◌, ◌-◌, Bool, true, List, [], ◌∷◌, ◌++◌, Option, Some, None, IsTrue, if◌then◌else◌, ◌==◌, length, nat_lt, All}
+use Rattle.std.specs.List.{find, range_with_len}
+use Rattle.std.specs.Option.{option_map, option_map_or}
+use Rattle.kv_core.specs.Range.{KeyRange, covers}
+use Rattle.kv_core.specs.declared.change.CommitRequest.{CommitRequest}
+use Rattle.kv_core.specs.declared.change.Mutation.{Mutation}
+use Rattle.cluster_core.specs.declared.answers.Config.{Config}
+use Rattle.cluster_core.specs.declared.answers.Reported.{Reported}
+use Rattle.cluster_core.specs.declared.answers.Reported.TheVariants as reported
+use Rattle.cluster_core.specs.declared.answers.SubmitError.{SubmitError}
+use Rattle.cluster_core.specs.declared.answers.SubmitError.TheVariants as submitting
+use Rattle.cluster_core.specs.Cluster.{ClusterState, database_at, may_pull, tier_of}
+use Rattle.cluster_core.specs.Roles.{PipelineState, may_append, may_report, may_resolve, outcome, submit_refusal, submitted}
+use Rattle.cluster_core.specs.Tier.{refusal}
+use Rattle.metadata.specs.declared.refusal.Refusal.TheVariants.{NoSuchClient, NoSuchRole, Busy, NoTransaction, TooOld, VersionsExhausted}
+use Rattle.schedule.specs.declared.step.Command.{Command}
 use Rattle.schedule.specs.declared.step.Step.{Step}
-use Rattle.schedule.specs.declared.step.Step.TheVariants.{Begin, Perform, Commit, Abandon, Settle}
+use Rattle.schedule.specs.declared.step.Step.TheVariants.{Begin, Perform, Commit, Abandon, Resolve, Log, Pull, Report, Lost, Settle}
+use Rattle.schedule.specs.declared.step.TheConstants.{CLIENTS}
 use Rattle.schedule.specs.declared.reply.Reply.{Reply}
-use Rattle.schedule.specs.declared.reply.Reply.TheVariants.{Done, Refused}
+use Rattle.schedule.specs.declared.reply.Reply.TheVariants.{Begun, Done, ReadOnly, Submitted, Nothing, Refused}
+use Rattle.schedule.specs.declared.reply.Reply.TheVariants as answers
+use Rattle.schedule.specs.declared.reply.Report as telling
+use Rattle.schedule.specs.declared.reply.Report.TheVariants as tells
+use Rattle.schedule.specs.declared.transcript.CommitEntry.{CommitEntry}
 use Rattle.schedule.specs.Store.{Serial}
-use Rattle.schedule.specs.Serve.{IsReply}
-use Rattle.schedule.specs.Past.{Past, Open, is_changed, open_of}
-use Rattle.schedule.specs.OneClient.{last_version, settled_version, committed, view_of, begin_reply, commit_reply, settle_reply, InTransaction, OfClient}
+use Rattle.schedule.specs.Serve.{IsReply, effect}
+use Rattle.schedule.specs.Past.{Past, Attempt, Open, Submission, accepted, is_accepted, is_changed, open_of, submitted_in}
+use Rattle.schedule.specs.Holds.{Holds}
+use Rattle.schedule.specs.Reach.{reach, schema_in, writes}
+use Rattle.schedule.specs.Performed.{IsServed, IsReadRefusal}
+use Rattle.schedule.specs.Commits.{committed, view}
+use Rattle.schedule.specs.Standing.{cluster_after, commits_of, listed}
+
+-- ---- replies
 
 -- there is one reply for each step, and each is right after the steps and replies before it
 abbrev pub EachReply : (Past → Step → Reply → Type 0) → Past → List Step → List Reply → Type 0
@@ -22,57 +46,144 @@ abbrev pub past_of : Past → List Step → List Reply → Past
 past_of past (step ∷ steps) (reply ∷ replies) = past_of ((step, reply) ∷ past) steps replies
 past_of past steps replies = past
 
--- the reply to a command is the serial store's, for what the transaction sees
-abbrev pub IsCommandReply : Past → Step → Reply → Type 0
-IsCommandReply past (Perform client command) reply = OfClient client reply (InTransaction (open_of 0 past) (λ open_now. IsReply (view_of past open_now) command reply) reply)
-IsCommandReply past step reply = Unit {0}
+-- a step of a client that there isn't is refused
+abbrev pub OfClient : ℕ → Reply → Type 0 → Type 0
+OfClient client reply IsRight = (nat_lt client CLIENTS ≡ true → IsRight) × (nat_lt client CLIENTS ≡ Bool.false → reply ≡ Refused NoSuchClient)
 
--- the reply to `begin` is the settled version, or that the client is busy
-abbrev pub IsBeginReply : ℕ → Past → Step → Reply → Type 0
-IsBeginReply start past (Begin client) reply = OfClient client reply (reply ≡ begin_reply start past (open_of 0 past))
-IsBeginReply start past step reply = Unit {0}
+-- a step of a client wants an open transaction
+abbrev pub InTransaction : Option Open → (Open → Type 0) → Reply → Type 0
+InTransaction None IsRight reply = reply ≡ Refused NoTransaction
+InTransaction (Some open_now) IsRight reply = IsRight open_now
 
--- the reply to `commit` is that of the open transaction's changes and the version given last
-abbrev pub IsCommitReply : ℕ → Past → Step → Reply → Type 0
-IsCommitReply start past (Commit client) reply = OfClient client reply (InTransaction (open_of 0 past) (λ open_now. reply ≡ commit_reply start past open_now) reply)
-IsCommitReply start past step reply = Unit {0}
+-- the reply to `begin`: the last reported version, unless a transaction is open
+abbrev pub begin_reply : ClusterState → Option Open → Reply
+begin_reply c (Some open_now) = Refused Busy
+begin_reply c None = Begun c.pipeline.reported
 
--- `abandon` is done where a transaction is open
-abbrev pub IsAbandonReply : Past → Step → Reply → Type 0
-IsAbandonReply past (Abandon client) reply = OfClient client reply (InTransaction (open_of 0 past) (λ open_now. reply ≡ Done) reply)
-IsAbandonReply past step reply = Unit {0}
+-- what commands write one after another
+abbrev pub written : Serial → List Command → List Mutation
+written serial [] = []
+written serial (command ∷ commands) = writes serial command ++ written (effect serial command) commands
 
--- the reply to `settle` tells of what wasn't settled
-abbrev pub IsSettleReply : ℕ → Past → Step → Reply → Type 0
-IsSettleReply start past Settle reply = reply ≡ settle_reply start past
-IsSettleReply start past step reply = Unit {0}
+-- the reply to a command: the serial store's for what the transaction sees, or that a read within the command's reach is refused by a server, or the limit that its writes meet
+abbrev pub IsCommandReply : ClusterState → List CommitEntry → Open → Command → Reply → Type 0
+IsCommandReply c commits open_now command reply =
+    let seen = view commits open_now in
+    IsServed (written (committed commits open_now.read_version) (accepted open_now.attempts)) seen command reply
+    ⊎ IsReadRefusal (λ range. refusal (tier_of c) range open_now.read_version) (reach (schema_in seen) command) reply
 
--- a transaction that changed something isn't submitted where the last version of 64 bits was given
-abbrev pub IsExhausted : ℕ → Past → Step → Reply → Type 0
-IsExhausted start past (Commit zero) reply =
-    (open_now : Open) → open_of 0 past ≡ Some open_now → is_changed open_now.attempts ≡ true → last_version start past ≡ 2 ^ 64 - 1 → reply ≡ Refused VersionsExhausted
-IsExhausted start past step reply = Unit {0}
+-- the reply to `commit`: there was nothing to submit, or no version was left, or the transaction read too long ago, or the next version
+abbrev pub submit_reply : PipelineState → Option SubmitError → Reply
+submit_reply p (Some submitting.TooOld) = Refused TooOld
+submit_reply p (Some other) = Refused VersionsExhausted
+submit_reply p None = Submitted (submitted p + 1)
 
--- what stands after some steps: the versions given last and settled, what is committed, and the read version and the view of the open transaction
-pub record Standing : Type 0 where
-  pub last : ℕ
-  pub settled : ℕ
-  pub committed : Serial
-  pub seen : Option (ℕ × Serial)
+abbrev pub commit_reply : ClusterState → Open → Reply
+commit_reply c open_now = if is_changed open_now.attempts then submit_reply c.pipeline (submit_refusal c.pipeline open_now.read_version) else ReadOnly
 
-abbrev pub standing : ℕ → Past → Standing
-standing start past = record {
-  last = last_version start past;
-  settled = settled_version start past;
-  committed = committed past (last_version start past);
-  seen = option_map (λ (open_now : Open). (open_now.read_version, view_of past open_now)) (open_of 0 past);
-}
+-- the reply to a step of a role: there isn't that role, or the step is done, or there was nothing to do
+abbrev pub role_reply : ℕ → ℕ → Bool → Reply
+role_reply roles role may = if nat_lt role roles then (if may then Done else Nothing) else Refused NoSuchRole
 
--- what a refused step leaves: all as before, but that a refused commit ends the transaction
-abbrev pub left_by_refusal : Step → Standing → Standing
-left_by_refusal (Commit zero) before = record before { seen = None }
-left_by_refusal step before = before
+-- whose submission has this version
+abbrev pub client_of : List Submission → ℕ → ℕ
+client_of submissions version = option_map_or (λ (one : Submission). one.client) (find (λ (one : Submission). one.version == version) submissions) 0
 
-abbrev pub LeavesAll : ℕ → Past → Step → Reply → Type 0
-LeavesAll start past step (Refused refusal) = standing start ((step, Refused refusal) ∷ past) ≡ left_by_refusal step (standing start past)
-LeavesAll start past step reply = Unit {0}
+-- what is told to a client of its submission
+abbrev pub report_to : ℕ → Reported → List telling.Report
+report_to client (reported.Committed version) = tells.Committed client version ∷ []
+report_to client (reported.Conflict seen range) = tells.Conflict client seen range ∷ []
+report_to client reported.NothingToDo = []
+
+-- what is told of some versions, from one on
+abbrev pub reports_of : PipelineState → List Submission → List ℕ → List telling.Report
+reports_of p submissions [] = []
+reports_of p submissions (version ∷ versions) = report_to (client_of submissions version) (outcome p version) ++ reports_of p submissions versions
+
+-- the reply that reports are: where there are none, there was nothing to do
+abbrev pub reports_reply : List telling.Report → Reply
+reports_reply [] = Nothing
+reports_reply (one ∷ others) = answers.Reported (one ∷ others)
+
+-- the reply to `report` tells of the next version, the reply to `lost` doesn't, and the reply to `settle` tells of all that weren't reported
+abbrev pub report_reply : PipelineState → List Submission → Reply
+report_reply p submissions = if may_report p then reports_reply (reports_of p submissions ((p.reported + 1) ∷ [])) else Nothing
+
+abbrev pub lost_reply : PipelineState → List Submission → Reply
+lost_reply p submissions = if may_report p then answers.Reported (tells.Unknown (client_of submissions (p.reported + 1)) ∷ []) else Nothing
+
+abbrev pub settle_reply : PipelineState → List Submission → Reply
+settle_reply p submissions = reports_reply (reports_of p submissions (range_with_len (p.reported + 1) (submitted p - p.reported)))
+
+-- the reply is right for a step, where the cluster and what was submitted stand so
+abbrev pub IsReplyTo : ClusterState → Past → Step → Reply → Type 0
+IsReplyTo c past (Begin client) reply = OfClient client reply (reply ≡ begin_reply c (open_of client past))
+IsReplyTo c past (Perform client command) reply =
+    OfClient client reply (InTransaction (open_of client past) (λ open_now. IsCommandReply c (commits_of c.pipeline (submitted_in past)) open_now command reply) reply)
+IsReplyTo c past (Commit client) reply = OfClient client reply (InTransaction (open_of client past) (λ open_now. reply ≡ commit_reply c open_now) reply)
+IsReplyTo c past (Abandon client) reply = OfClient client reply (InTransaction (open_of client past) (λ open_now. reply ≡ Done) reply)
+IsReplyTo c past (Resolve r) reply = reply ≡ role_reply (length c.pipeline.resolved) r (may_resolve c.pipeline r)
+IsReplyTo c past (Log l) reply = reply ≡ role_reply (length c.pipeline.logged) l (may_append c.pipeline l)
+IsReplyTo c past (Pull s) reply = reply ≡ role_reply (length c.pulled) s (may_pull c s)
+IsReplyTo c past Report reply = reply ≡ report_reply c.pipeline (submitted_in past)
+IsReplyTo c past Lost reply = reply ≡ lost_reply c.pipeline (submitted_in past)
+IsReplyTo c past Settle reply = reply ≡ settle_reply c.pipeline (submitted_in past)
+
+-- REPLIES: each reply is right as the cluster stands after the steps before it
+abbrev pub HasRightReplies : Config → List CommitRequest → List Step → List Reply → Type 0
+HasRightReplies config requests steps replies = EachReply (λ past step reply. IsReplyTo (cluster_after config requests past) past step reply) [] steps replies
+
+-- the open transaction of a client, by its read version and its accepted commands
+abbrev pub open_by_commands : ℕ → Past → Option (ℕ × List Command)
+open_by_commands client past = option_map (λ (open_now : Open). (open_now.read_version, accepted open_now.attempts)) (open_of client past)
+
+-- what a refused step leaves of an open transaction: all, but that a refused commit ends it
+abbrev pub left_open : Step → ℕ → Option (ℕ × List Command) → Option (ℕ × List Command)
+left_open (Commit who) client before = if who == client then None else before
+left_open step client before = before
+
+-- a refused step leaves all as it was
+pub record IsLeft (config : Config) (requests : List CommitRequest) (past : Past) (step : Step) (reply : Reply) : Type 0 where
+  pub cluster : cluster_after config requests ((step, reply) ∷ past) ≡ cluster_after config requests past
+  pub submissions : submitted_in ((step, reply) ∷ past) ≡ submitted_in past
+  pub transactions : (client : ℕ) → open_by_commands client ((step, reply) ∷ past) ≡ left_open step client (open_by_commands client past)
+
+-- REFUSALS: a step that is refused leaves all as it was
+abbrev pub LeavesAll : Config → List CommitRequest → Past → Step → Reply → Type 0
+LeavesAll config requests past step (Refused refusal) = IsLeft config requests past step (Refused refusal)
+LeavesAll config requests past step reply = Unit {0}
+
+-- ---- what is left
+
+-- HOLDS: at each version from the start to the last reported one the database holds what is committed there
+abbrev pub HoldsCommitted : ClusterState → List CommitEntry → Type 0
+HoldsCommitted c commits = (version : ℕ) → c.pipeline.start ≤ version → version ≤ c.pipeline.reported → Holds (database_at c version) (committed commits version)
+
+-- what is there after an attempt at a command
+abbrev pub attempted : Serial → Attempt → Serial
+attempted serial attempt = if is_accepted attempt.reply then effect serial attempt.command else serial
+
+-- SERIAL: each accepted command of a listed transaction has the same reply just before the transaction's version, after its earlier ones
+abbrev pub IsSerialAt : Serial → List Attempt → Type 0
+IsSerialAt serial [] = Unit {0}
+IsSerialAt serial (attempt ∷ attempts) =
+    (is_accepted attempt.reply ≡ true → IsReply serial attempt.command attempt.reply) × IsSerialAt (attempted serial attempt) attempts
+
+abbrev pub IsSerial : ClusterState → List CommitEntry → List Submission → Type 0
+IsSerial c commits submissions = All (λ one. IsSerialAt (committed commits (one.version - 1)) one.transaction.attempts) (listed c.pipeline submissions)
+
+-- what attempts may read one after another
+abbrev pub reach_of : Serial → List Attempt → List KeyRange
+reach_of serial [] = []
+reach_of serial (attempt ∷ attempts) = reach (schema_in serial) attempt.command ++ reach_of (attempted serial attempt) attempts
+
+-- REQUESTS: there is one for each submission, with its read version; it writes just what the accepted commands write, and its reads lie in the reach of all commands
+pub record IsRequestOf (commits : List CommitEntry) (one : Submission) (request : CommitRequest) : Type 0 where
+  pub read_version : request.read_version ≡ one.transaction.read_version
+  pub reads : (key : List ℕ) → IsTrue (covers request.reads key) → IsTrue (covers (reach_of (committed commits one.transaction.read_version) one.transaction.attempts) key)
+  pub mutations : request.mutations ≡ written (committed commits one.transaction.read_version) (accepted one.transaction.attempts)
+
+abbrev pub AreRequestsOf : List CommitEntry → List Submission → List CommitRequest → Type 0
+AreRequestsOf commits [] [] = Unit {0}
+AreRequestsOf commits (one ∷ submissions) (request ∷ requests) = IsRequestOf commits one request × AreRequestsOf commits submissions requests
+AreRequestsOf commits submissions requests = ⊥

@@ -2,8 +2,14 @@ pub mod Store
 pub mod Query
 pub mod Serve
 pub mod Past
-pub mod OneClient
-pub mod Contract
 pub mod Layout
-pub mod Copy
+pub mod Holds
+pub mod Reach
+pub mod Performed
+pub mod Calls
+pub mod Commits
+pub mod Standing
+pub mod Contract
+pub mod Turns
 pub mod Running
+pub mod Settling

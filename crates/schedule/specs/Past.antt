@@ -1,5 +1,5 @@
 -- What the steps so far and their replies say of each client: its open transaction, and what it submitted.
-use Rattle.std.specs.Prelude.{ℕ, Bool, true, false, not, ◌&&◌, List, [], ◌∷◌, ◌++◌, Option, Some, None, ◌==◌, if◌then◌else◌, nat_le, map, filter}
+use Rattle.std.specs.Prelude.{ℕ, Bool, true, false, not, List, [], ◌∷◌, ◌++◌, Option, Some, None, ◌==◌, if◌then◌else◌, map, filter}
 use Rattle.std.specs.List.{list_any}
 use Rattle.std.specs.Option.{option_map}
 use Rattle.schedule.specs.declared.step.Command.{Command}
@@ -7,9 +7,7 @@ use Rattle.schedule.specs.declared.step.Command.TheVariants.{Load, Query, Remove
 use Rattle.schedule.specs.declared.step.Step.{Step}
 use Rattle.schedule.specs.declared.step.Step.TheVariants.{Begin, Perform, Commit, Abandon}
 use Rattle.schedule.specs.declared.reply.Reply.{Reply}
-use Rattle.schedule.specs.declared.reply.Reply.TheVariants.{Begun, Submitted, Refused, Absent}
-use Rattle.schedule.specs.Store.{Serial}
-use Rattle.schedule.specs.Serve.{effects}
+use Rattle.schedule.specs.declared.reply.Reply.TheVariants.{Begun, Done, Submitted, Refused, Corrupt, Absent}
 
 -- the steps so far with their replies, the newest first
 abbrev pub Past : Type 0
@@ -28,6 +26,7 @@ pub record Open : Type 0 where
 -- the reply accepts its command
 abbrev pub is_accepted : Reply → Bool
 is_accepted (Refused refusal) = false
+is_accepted (Corrupt key) = false
 is_accepted reply = true
 
 -- the commands that were accepted, in order
@@ -37,6 +36,7 @@ accepted attempts = map (λ attempt. attempt.command) (filter (λ attempt. is_ac
 -- a command with this reply changes nothing
 abbrev pub is_reading : Command → Reply → Bool
 is_reading command (Refused refusal) = true
+is_reading command (Corrupt key) = true
 is_reading (Load type cells) reply = true
 is_reading (Query query) reply = true
 is_reading (Remove type cells) Absent = true
@@ -55,7 +55,7 @@ abbrev pub open_after : ℕ → Step → Reply → Option Open → Option Open
 open_after client (Begin who) (Begun version) before = if who == client then Some (record { read_version = version; attempts = [] }) else before
 open_after client (Perform who command) reply before = if who == client then grown (record { command = command; reply = reply }) before else before
 open_after client (Commit who) reply before = if who == client then None else before
-open_after client (Abandon who) reply before = if who == client then None else before
+open_after client (Abandon who) Done before = if who == client then None else before
 open_after client step reply before = before
 
 -- a client's open transaction
@@ -83,17 +83,3 @@ submitted_after step reply past before = before
 abbrev pub submitted_in : Past → List Submission
 submitted_in [] = []
 submitted_in (event ∷ past) = submitted_after event.0 event.1 past (submitted_in past)
-
--- what is there after the submissions up to a version that a test commits
-abbrev pub committed_from : (ℕ → Bool) → ℕ → Serial → List Submission → Serial
-committed_from committed version serial [] = serial
-committed_from committed version serial (one ∷ submissions) =
-    committed_from committed version (if nat_le one.version version && committed one.version then effects serial (accepted one.transaction.attempts) else serial) submissions
-
--- the serial store that is committed at a version
-abbrev pub committed_at : (ℕ → Bool) → List Submission → ℕ → Serial
-committed_at committed submissions version = committed_from committed version None submissions
-
--- what an open transaction sees: what is committed at its read version, as its own accepted commands change it
-abbrev pub view : (ℕ → Bool) → List Submission → Open → Serial
-view committed submissions open_now = effects (committed_at committed submissions open_now.read_version) (accepted open_now.attempts)

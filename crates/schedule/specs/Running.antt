@@ -1,38 +1,160 @@
--- What the database of one client is, by the steps and replies so far.
-use Rattle.std.specs.Prelude.{◌≡◌, ◌≤◌, ℕ, ◌∷◌, Option, Some, None}
-use Rattle.std.specs.List.{AllByRecursion}
+-- What the database of a schedule has, by the steps and replies so far.
+use Rattle.std.specs.Prelude.{◌≡◌, ◌≤◌, ◌<◌, ℕ, ◌+◌, ◌-◌, List, [], ◌∷◌, ◌++◌, Option, Some, None, if◌then◌else◌, All, drop, get_or, map, replicate, true, false, Bool}
+use Rattle.kv_core.specs.Map.{Map}
+use Rattle.kv_core.specs.declared.change.CommitRequest.{CommitRequest}
+use Rattle.cluster_core.specs.declared.answers.Config.{Config}
+use Rattle.cluster_core.specs.declared.answers.Reported.TheVariants.{NothingToDo}
+use Rattle.cluster_core.specs.declared.answers.Work.{Work}
+use Rattle.cluster_core.specs.declared.answers.Work.TheVariants as works
+use Rattle.cluster_core.specs.Cluster.{ClusterState, database_at, tier_of, with_pipeline}
+use Rattle.cluster_core.specs.Configuration.{first_cluster}
+use Rattle.cluster_core.specs.Roles.{may_report, outcome, report, submitted}
+use Rattle.cluster_core.specs.Tier.{refusal}
+use Rattle.schedule.specs.declared.step.Command.{Command}
+use Rattle.schedule.specs.declared.step.Step.{Step}
+use Rattle.schedule.specs.declared.step.Step.TheVariants.{Commit}
+use Rattle.schedule.specs.declared.step.TheConstants.{CLIENTS}
+use Rattle.schedule.specs.declared.reply.Reply.{Reply}
+use Rattle.schedule.specs.declared.reply.Reply.TheVariants.{Done, Nothing, Submitted}
+use Rattle.schedule.specs.declared.reply.Report.{Report}
+use Rattle.schedule.specs.declared.transcript.CommitEntry.{CommitEntry}
 use Rattle.schedule.specs.declared.database.Database.{Database}
 use Rattle.schedule.specs.declared.database.OpenTransaction.{OpenTransaction}
-use Rattle.schedule.specs.Past.{Past, Open, is_changed, open_of, submitted_in}
-use Rattle.schedule.specs.OneClient.{last_version, settled_version, committed, view_of, IsRightReply}
-use Rattle.schedule.specs.declared.step.Step.{Step}
-use Rattle.schedule.specs.declared.reply.Reply.{Reply}
-use Rattle.schedule.specs.Copy.{Holds, has_changed}
+use Rattle.schedule.specs.declared.database.Told.{Told}
+use Rattle.schedule.specs.declared.database.Unreported.{Unreported}
+use Rattle.schedule.specs.Past.{Past, Open, Submission, accepted, is_accepted, open_of, submitted_in}
+use Rattle.schedule.specs.Performed.{IsPerformed}
+use Rattle.schedule.specs.Standing.{cluster_after, commits_of, stepped}
+use Rattle.schedule.specs.Contract.{HasRightReplies, IsReplyTo, client_of, commit_reply, past_of, report_to}
+use Rattle.schedule.specs.Turns.{AreSubmitted, IsOpenAs}
 
--- the open transaction is the one of the past: it reads at the version given last, its copy holds what it sees, and tells whether it changed
-pub record IsOpen (start : ℕ) (past : Past) (open_now : Open) (transaction : OpenTransaction) : Type 0 where
-  pub at_last : open_now.read_version ≡ last_version start past
-  pub holds : Holds transaction.copy.schema transaction.copy.map (view_of past open_now)
-  pub changed : has_changed transaction.copy ≡ is_changed open_now.attempts
+-- what is kept of a submission until it is reported
+abbrev pub kept : Submission → Unreported
+kept one = record { client = one.client; read_version = one.transaction.read_version; commands = accepted one.transaction.attempts }
 
-abbrev pub AreOpen : ℕ → Past → Option Open → Option OpenTransaction → Type 0
-AreOpen start past None None = Unit {0}
-AreOpen start past (Some open_now) (Some transaction) = IsOpen start past open_now transaction
-AreOpen start past before after = ⊥
+-- the transaction is the open one, and has its accepted commands
+pub record IsOpen (maps : ℕ → Map) (reported : ℕ) (open_now : Open) (transaction : OpenTransaction) : Type 0 where
+  pub done : IsOpenAs maps reported open_now transaction.transaction
+  pub commands : transaction.commands.items ≡ accepted open_now.attempts
+
+-- a client's place has its open transaction, where there is one
+abbrev pub IsPlace : (ℕ → Map) → ℕ → Option Open → Option OpenTransaction → Type 0
+IsPlace maps reported None None = Unit {0}
+IsPlace maps reported (Some open_now) (Some transaction) = IsOpen maps reported open_now transaction
+IsPlace maps reported before place = ⊥
+
+-- the places have the clients' open transactions
+abbrev pub ArePlaces : (ℕ → Map) → ℕ → (ℕ → Option Open) → List (Option OpenTransaction) → Type 0
+ArePlaces maps reported opens places = (client : ℕ) → client < CLIENTS → IsPlace maps reported (opens client) (get_or places client None)
+
+-- beside a cluster there are kept what the clients have open, what isn't reported yet, and what is listed
+pub record IsStandingAt (c : ClusterState) (opens : ℕ → Option Open) (submissions : List Submission) (transactions : List (Option OpenTransaction)) (waiting : List Unreported) (entries : List CommitEntry) : Type 0 where
+  pub begun : c.pipeline.start ≤ c.pipeline.reported
+  pub given : c.pipeline.reported ≤ submitted c.pipeline
+  pub pulled : All (λ clock. clock ≤ submitted c.pipeline) c.pulled
+  pub places : ArePlaces (database_at c) c.pipeline.reported opens transactions
+  pub unreported : waiting ≡ map kept (drop (c.pipeline.reported - c.pipeline.start) submissions)
+  pub commits : entries ≡ commits_of c.pipeline submissions
+  pub submitted : AreSubmitted (database_at c) c.pipeline.reported c.pipeline.start submissions c.pipeline.requests
+
+-- so it is with the database
+abbrev pub IsStanding : (ℕ → Option Open) → List Submission → Database → Type 0
+IsStanding opens submissions database = IsStandingAt database.cluster opens submissions database.transactions.items database.unreported.items database.commits.items
 
 -- the database is what the steps and replies so far have made
-pub record IsAfter (start : ℕ) (past : Past) (database : Database) : Type 0 where
-  pub last : database.last ≡ last_version start past
-  pub settled : database.settled ≡ settled_version start past
-  pub holds : Holds database.schema database.map (committed past (last_version start past))
-  pub versions : AllByRecursion (λ one. one.version ≤ last_version start past) (submitted_in past)
-  pub transaction : AreOpen start past (open_of 0 past) database.open
+abbrev pub Stands : Past → Database → Type 0
+Stands past database = IsStanding (λ client. open_of client past) (submitted_in past) database
 
--- a step replied rightly, and left the database of the longer past
-pub record Steps (start : ℕ) (past : Past) (step : Step) (reply : Reply) (database : Database) : Type 0 where
-  pub right : IsRightReply start past step reply
-  pub after : IsAfter start ((step, reply) ∷ past) database
+-- the database at the start
+pub record IsFirst (config : Config) (database : Database) : Type 0 where
+  pub cluster : database.cluster ≡ first_cluster config
+  pub places : database.transactions.items ≡ replicate CLIENTS None
+  pub unreported : database.unreported.items ≡ []
+  pub commits : database.commits.items ≡ []
 
--- a step was done, whatever past the database had
+-- a step replied rightly, moved the cluster as its reply says, and left the database of the longer past
+pub record Steps (past : Past) (step : Step) (reply : Reply) (old new : Database) : Type 0 where
+  pub right : IsReplyTo old.cluster past step reply
+  pub moved : (more : List CommitRequest) → stepped (new.cluster.pipeline.requests ++ more) step reply old.cluster ≡ new.cluster
+  pub added : List CommitRequest
+  pub grown : new.cluster.pipeline.requests ≡ old.cluster.pipeline.requests ++ added
+  pub after : Stands ((step, reply) ∷ past) new
+
+-- a step was done, whatever steps the database had behind it
 abbrev pub IsStepped : Step → Reply → Database → Database → Type 0
-IsStepped step reply old new = (start : ℕ) (past : Past) → IsAfter start past old → Steps start past step reply new
+IsStepped step reply old new = (past : Past) → Stands past old → Steps past step reply old new
+
+-- a command was performed in an open transaction, which keeps it where it is accepted
+pub record IsPerformedBy (c : ClusterState) (command : Command) (reply : Reply) (old new : OpenTransaction) : Type 0 where
+  pub performed : IsPerformed (database_at c) (λ range. refusal (tier_of c) range old.transaction.read_version) command reply old.transaction new.transaction
+  pub commands : new.commands.items ≡ old.commands.items ++ (if is_accepted reply then command ∷ [] else [])
+
+-- what was submitted, after a commit with this reply
+abbrev pub submitted_by : ℕ → Open → Reply → List Submission → List Submission
+submitted_by client ended (Submitted version) submissions = submissions ++ record { version = version; client = client; transaction = ended } ∷ []
+submitted_by client ended reply submissions = submissions
+
+-- an ended transaction was submitted, or the reply says why it wasn't
+pub record Submits (opens : ℕ → Option Open) (submissions : List Submission) (client : ℕ) (ended : Open) (reply : Reply) (old new : Database) : Type 0 where
+  pub right : reply ≡ commit_reply old.cluster ended
+  pub moved : (more : List CommitRequest) → stepped (new.cluster.pipeline.requests ++ more) (Commit client) reply old.cluster ≡ new.cluster
+  pub added : List CommitRequest
+  pub grown : new.cluster.pipeline.requests ≡ old.cluster.pipeline.requests ++ added
+  pub after : IsStanding opens (submitted_by client ended reply submissions) new
+
+-- a submission was tried, whatever stood before
+abbrev pub IsSubmit : ℕ → OpenTransaction → Reply → Database → Database → Type 0
+IsSubmit client transaction reply old new =
+    (opens : ℕ → Option Open) (submissions : List Submission) (ended : Open) → IsStanding opens submissions old →
+    IsOpen (database_at old.cluster) old.cluster.pipeline.reported ended transaction → Submits opens submissions client ended reply old new
+
+-- the reply to a step of a role that there is
+abbrev pub work_reply : Work → Reply
+work_reply works.Done = Done
+work_reply works.NothingToDo = Nothing
+
+-- the next version was reported: whose it was, and what is told of it
+pub record IsTold (opens : ℕ → Option Open) (submissions : List Submission) (told : Told) (old new : Database) : Type 0 where
+  pub may : may_report old.cluster.pipeline ≡ true
+  pub client : told.client ≡ client_of submissions (old.cluster.pipeline.reported + 1)
+  pub reported : told.reported ≡ outcome old.cluster.pipeline (old.cluster.pipeline.reported + 1)
+  pub something : told.reported ≡ NothingToDo → ⊥
+  pub cluster : new.cluster ≡ with_pipeline (report old.cluster.pipeline) old.cluster
+  pub after : IsStanding opens submissions new
+
+-- there was no next version
+pub record IsIdle (opens : ℕ → Option Open) (submissions : List Submission) (old new : Database) : Type 0 where
+  pub may : may_report old.cluster.pipeline ≡ false
+  pub cluster : new.cluster ≡ old.cluster
+  pub after : IsStanding opens submissions new
+
+-- the next version was reported, where it might
+abbrev pub IsReportedAs : (ℕ → Option Open) → List Submission → Option Told → Database → Database → Type 0
+IsReportedAs opens submissions None old new = IsIdle opens submissions old new
+IsReportedAs opens submissions (Some told) old new = IsTold opens submissions told old new
+
+-- so it was done, whatever stood before
+abbrev pub IsReported : Option Told → Database → Database → Type 0
+IsReported told old new = (opens : ℕ → Option Open) (submissions : List Submission) → IsStanding opens submissions old → IsReportedAs opens submissions told old new
+
+-- the next version was reported to its client
+pub record Tells (opens : ℕ → Option Open) (submissions : List Submission) (before : List Report) (done : Bool) (after : List Report) (old new : Database) : Type 0 where
+  pub may : done ≡ may_report old.cluster.pipeline
+  pub something : done ≡ true → outcome old.cluster.pipeline (old.cluster.pipeline.reported + 1) ≡ NothingToDo → ⊥
+  pub reports : after ≡ before ++ (if done then report_to (client_of submissions (old.cluster.pipeline.reported + 1)) (outcome old.cluster.pipeline (old.cluster.pipeline.reported + 1)) else [])
+  pub cluster : new.cluster ≡ (if done then with_pipeline (report old.cluster.pipeline) old.cluster else old.cluster)
+  pub standing : IsStanding opens submissions new
+
+-- the same, whatever stood before
+abbrev pub IsTelling : List Report → Bool → List Report → Database → Database → Type 0
+IsTelling before done after old new = (opens : ℕ → Option Open) (submissions : List Submission) → IsStanding opens submissions old → Tells opens submissions before done after old new
+
+-- what is listed of a submission that is committed at a version
+abbrev pub entry_of : ℕ → Unreported → CommitEntry
+entry_of version next = record { version = version; client = next.client; read_version = next.read_version; commands = next.commands }
+
+-- the steps were done one after another from the start: each reply is right however many requests come later, and the cluster is the one after the steps
+pub record HasRun (config : Config) (steps : List Step) (replies : List Reply) (database : Database) : Type 0 where
+  pub right : (more : List CommitRequest) → HasRightReplies config (database.cluster.pipeline.requests ++ more) steps replies
+  pub cluster : (more : List CommitRequest) → cluster_after config (database.cluster.pipeline.requests ++ more) (past_of [] steps replies) ≡ database.cluster
+  pub stands : Stands (past_of [] steps replies) database

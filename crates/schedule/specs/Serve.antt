@@ -1,5 +1,5 @@
 -- What the serial store replies to a command, and the store after it. No key of a database and no packed byte occurs.
-use Rattle.std.specs.Prelude.{◌≡◌, ℕ, Bool, true, false, List, [], ◌∷◌, Option, Some, None, map, Result, Ok, Err, if◌then◌else◌}
+use Rattle.std.specs.Prelude.{◌≡◌, List, [], ◌∷◌, Option, Some, None, Result, Ok, Err}
 use Rattle.std.specs.Option.{option_map}
 use Rattle.tuple_codec.specs.Item.{Item}
 use Rattle.metadata.specs.declared.cells.Cell.{Cell}

@@ -1,56 +1,80 @@
-//! Schedules: the steps of clients and of the database, one at a time, and what each replies.
+//! Schedules: the steps of clients and of the database's roles, one at a time, and what each replies.
 #![tactic(auto)]
 
-ghost use Rattle.std.specs.Prelude.{◌≡◌, [], IfOk, length};
-ghost use Rattle.schedule.specs.Contract.{EachReply, IsAbandonReply, IsBeginReply, IsCommandReply, IsCommitReply, IsExhausted, IsSettleReply, LeavesAll};
-ghost use Rattle.schedule.specs.OneClient.{IsRightReply};
+ghost use Rattle.std.specs.Prelude.{◌≡◌, ◌⊎◌, [], Some, IfOk, IfErr, OnOk, IsNone};
+ghost use Rattle.cluster_core.specs.Configuration.{config_refusal};
+ghost use Rattle.cluster_core.specs.History.{IsLegal};
+ghost use Rattle.cluster_core.specs.Roles.{history};
+ghost use Rattle.cluster_core.specs.declared.answers.ConfigError.{ConfigError as ConfigRefusal};
+ghost use Rattle.schedule.specs.Contract.{AreRequestsOf, EachReply, HasRightReplies, HoldsCommitted, IsSerial, LeavesAll, past_of};
+ghost use Rattle.schedule.specs.Past.{submitted_in};
+ghost use Rattle.schedule.specs.Standing.{cluster_after, commits_of};
 
+mod clients;
+mod create;
 mod database;
+mod error;
 mod layout;
+mod load;
+mod performing;
+#[cfg(test)]
+mod performing_tests;
+mod query;
+mod remove;
 mod reply;
+mod reporting;
+mod roles;
+mod running;
+#[cfg(test)]
+mod running_tests;
+mod save;
+mod settle;
+mod starting;
 mod step;
+mod store;
 #[cfg(test)]
 mod tests;
 mod transcript;
-mod working_copy;
 
-use database::Database;
+use cluster_core::Config;
+pub use performing::perform;
 pub use reply::{Reply, Report, Reports, Rows};
+use running::start;
+use starting::laws_of;
 use std::alloc::{AllocError, Global};
-pub use step::{Command, Query, Step};
-pub use transcript::{Config, Replies, ScheduleError, Transcript};
+pub use step::{CLIENTS, Command, Query, Step};
+pub use transcript::{Commands, CommitEntry, Commits, Replies, ScheduleError, Transcript};
 
-// Runs the steps one after another.
-fn run_steps(alloc: Global, config: &Config, steps: &[Step]) -> Result<Replies, AllocError>
-    ensures { IfOk result (λ replies. EachReply (IsRightReply config.now.start) [] steps.now replies) }
-{
-    let mut database = Database::new(alloc, config);
-    let mut replies = Vec::new(alloc);
-    for step in steps {
-        let reply = database.step(alloc, step)?;
-        replies.push(reply)?;
-    }
-    Ok(Replies::new(replies))
-}
-
-/// Runs a schedule over an empty database, one step at a time, and answers what each step replied. A refused step is a
-/// reply and changes nothing, but that a refused commit ends the transaction. The only error is want of memory.
+/// Runs a schedule over an empty database, one step at a time.
+///
+/// It answers what each step replied, the transactions that are committed, and the cluster after
+/// the last step. A refused step is a reply. The schedule is refused with `Config` where the
+/// configuration is, and else with `Memory` where memory runs out.
 pub fn run_schedule(
     alloc: Global,
     config: &Config,
     steps: &[Step],
 ) -> Result<Transcript, ScheduleError>
-    ensures one_each { IfOk result (λ run. length run.replies ≡ length steps.now) }
-    ensures commands { IfOk result (λ run. EachReply IsCommandReply [] steps.now run.replies) }
-    ensures begins { IfOk result (λ run. EachReply (IsBeginReply config.now.start) [] steps.now run.replies) }
-    ensures commits { IfOk result (λ run. EachReply (IsCommitReply config.now.start) [] steps.now run.replies) }
-    ensures abandons { IfOk result (λ run. EachReply IsAbandonReply [] steps.now run.replies) }
-    ensures settles { IfOk result (λ run. EachReply (IsSettleReply config.now.start) [] steps.now run.replies) }
-    ensures exhausted { IfOk result (λ run. EachReply (IsExhausted config.now.start) [] steps.now run.replies) }
-    ensures refusals { IfOk result (λ run. EachReply (LeavesAll config.now.start) [] steps.now run.replies) }
+    ensures replies { IfOk result (λ run. HasRightReplies config.now run.cluster.pipeline.requests steps.now run.replies) }
+    ensures cluster { IfOk result (λ run. run.cluster ≡ cluster_after config.now run.cluster.pipeline.requests (past_of [] steps.now run.replies)) }
+    ensures commits { IfOk result (λ run. run.commits ≡ commits_of run.cluster.pipeline (submitted_in (past_of [] steps.now run.replies))) }
+    ensures legal { IfOk result (λ run. IsLegal (history run.cluster.pipeline)) }
+    ensures holds { IfOk result (λ run. HoldsCommitted run.cluster run.commits) }
+    ensures serial { IfOk result (λ run. IsSerial run.cluster run.commits (submitted_in (past_of [] steps.now run.replies))) }
+    ensures requests { IfOk result (λ run. AreRequestsOf run.commits (submitted_in (past_of [] steps.now run.replies)) run.cluster.pipeline.requests) }
+    ensures refusals { IfOk result (λ run. EachReply (LeavesAll config.now run.cluster.pipeline.requests) [] steps.now run.replies) }
+    ensures allowed { OnOk result (IsNone (config_refusal config.now)) }
+    ensures refused { IfErr result (λ error. (error ≡ ScheduleError.Memory) ⊎ ((why : ConfigRefusal) × (error ≡ ScheduleError.Config why) × (config_refusal config.now ≡ Some why))) }
 {
-    match run_steps(alloc, config, steps) {
-        Ok(replies) => Ok(Transcript { replies }),
-        Err(_) => Err(ScheduleError::Memory),
-    }
+    let mut database = start(alloc, config)?;
+    let replies = match database.steps(alloc, steps) {
+        Ok(replies) => replies,
+        Err(AllocError) => return Err(ScheduleError::Memory),
+    };
+    laws_of(&database.cluster);
+    Ok(Transcript {
+        replies: Replies::new(replies),
+        commits: Commits::new(database.commits),
+        cluster: database.cluster,
+    })
 }

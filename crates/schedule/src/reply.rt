@@ -1,5 +1,6 @@
 ghost use Rattle.std.specs.Prelude.{◌≡◌};
 
+use kv_core::{Bytes, KeyRange};
 use metadata::{Cells, Refusal};
 use std::marker::Model;
 
@@ -34,11 +35,25 @@ impl Rows {
     }
 }
 
-/// What became of a submitted transaction.
+/// What is told of a submitted transaction.
 #[derive(Drop)]
 pub enum Report {
     /// The client's transaction is committed at the version.
-    Committed { client: u64, version: u64 },
+    Committed {
+        client: u64,
+        version: u64,
+    },
+    /// The client's transaction is refused: the version `seen` is the newest that wrote in
+    /// `range`, which the transaction read.
+    Conflict {
+        client: u64,
+        seen: u64,
+        range: KeyRange,
+    },
+    /// The client isn't told what became of its transaction.
+    Unknown {
+        client: u64,
+    },
 }
 
 /// Reports, in version order.
@@ -99,6 +114,8 @@ pub enum Reply {
     Nothing,
     /// What became of submitted transactions.
     Reported(Reports),
-    /// The step is refused.
+    /// The step is refused, and changes nothing, but that a refused commit ends its transaction.
     Refused(Refusal),
+    /// The command is refused: the pair of this key isn't one that a store has there.
+    Corrupt(Bytes),
 }

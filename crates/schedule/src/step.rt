@@ -1,11 +1,27 @@
+ghost use Rattle.std.specs.Prelude.{◌≡◌, IfOk};
+
 use metadata::{Cells, SchemaRequest};
+use std::alloc::AllocError;
 use tuple_codec::Text;
+
+/// The number of clients of a schedule.
+pub const CLIENTS: usize = 16;
 
 /// A query: all records of a type.
 #[derive(Drop)]
 pub struct Query {
     /// The name of the type.
     pub record_type: Text,
+}
+
+impl Query {
+    /// An equal query.
+    pub fn copy(&self) -> Result<Query, AllocError>
+        ensures { IfOk result (λ copy. copy ≡ self.now) }
+    {
+        let record_type = self.record_type.copy()?;
+        Ok(Query { record_type })
+    }
 }
 
 /// A command on the store, in a transaction.
@@ -23,10 +39,25 @@ pub enum Command {
     Query(Query),
 }
 
-/// A step of a schedule.
+impl Command {
+    /// An equal command.
+    pub fn copy(&self) -> Result<Command, AllocError>
+        ensures { IfOk result (λ copy. copy ≡ self.now) }
+    {
+        match self {
+            Command::Create(request) => Ok(Command::Create(request.copy()?)),
+            Command::Save(name, cells) => Ok(Command::Save(name.copy()?, cells.copy()?)),
+            Command::Load(name, cells) => Ok(Command::Load(name.copy()?, cells.copy()?)),
+            Command::Remove(name, cells) => Ok(Command::Remove(name.copy()?, cells.copy()?)),
+            Command::Query(query) => Ok(Command::Query(query.copy()?)),
+        }
+    }
+}
+
+/// A step of a schedule: of a client, of which there are `CLIENTS`, or of a role of the database.
 #[derive(Drop)]
 pub enum Step {
-    /// A client begins a transaction, which reads at the last settled version.
+    /// A client begins a transaction, which reads at the last reported version.
     Begin(u64),
     /// A client performs a command in its open transaction.
     Perform(u64, Command),
@@ -34,6 +65,16 @@ pub enum Step {
     Commit(u64),
     /// A client ends its open transaction, whose changes are dropped.
     Abandon(u64),
-    /// What is submitted is committed and reported.
+    /// A resolver answers for the next version.
+    Resolve(u64),
+    /// A log appends the next version.
+    Log(u64),
+    /// A storage server pulls the next version from its log.
+    Pull(u64),
+    /// The next version is reported to its client.
+    Report,
+    /// The next version is reported, and the report is lost.
+    Lost,
+    /// All roles do what there is to do, and every version is reported.
     Settle,
 }

@@ -1,16 +1,19 @@
 // Schedules run: what no clause says, that memory of an ordinary size is enough.
-use crate::{Command, Config, Query, Replies, Reply, Report, Step, run_schedule};
+use crate::{Command, Query, Reply, Report, Step, Transcript, perform, run_schedule};
+use cluster_core::{Cluster, Config, Splits};
+use kv_core::Bytes;
 use metadata::{Cell, Cells, Field, Fields, Kind, Names, Refusal, SchemaRequest, TypeRequest};
 use std::alloc::{AllocError, Global};
 use std::test::Fail;
 use tuple_codec::Text;
+use txn::Transaction;
 
 fn text(alloc: Global, name: &str) -> Result<Text, AllocError> {
     Ok(Text::new(String::from_str(alloc, name)?))
 }
 
-// The type t of whole numbers k, a, b with key k.
-fn create(alloc: Global) -> Result<Step, AllocError> {
+// Creates a store with the type t of whole numbers k, a, b with key k.
+fn creation(alloc: Global) -> Result<Command, AllocError> {
     let mut fields = Vec::new(alloc);
     for name in ["k", "a", "b"] {
         fields.push(Field {
@@ -24,7 +27,7 @@ fn create(alloc: Global) -> Result<Step, AllocError> {
         key: Names::new(vec![in alloc; text(alloc, "k")?]?),
     };
     let types = SchemaRequest::new(vec![in alloc; request]?);
-    Ok(Step::Perform(0, Command::Create(types)))
+    Ok(Command::Create(types))
 }
 
 fn cells(alloc: Global, values: &[i64]) -> Result<Cells, AllocError> {
@@ -35,20 +38,35 @@ fn cells(alloc: Global, values: &[i64]) -> Result<Cells, AllocError> {
     Ok(Cells::new(cells))
 }
 
-fn save(alloc: Global, values: &[i64]) -> Result<Step, AllocError> {
-    let type_name = text(alloc, "t")?;
-    let cells = cells(alloc, values)?;
-    Ok(Step::Perform(0, Command::Save(type_name, cells)))
+fn save(alloc: Global, client: u64, values: &[i64]) -> Result<Step, AllocError> {
+    let command = Command::Save(text(alloc, "t")?, cells(alloc, values)?);
+    Ok(Step::Perform(client, command))
 }
 
-fn query(alloc: Global) -> Result<Step, AllocError> {
+fn load(alloc: Global, client: u64, key: i64) -> Result<Step, AllocError> {
+    let command = Command::Load(text(alloc, "t")?, cells(alloc, &[key])?);
+    Ok(Step::Perform(client, command))
+}
+
+fn query(alloc: Global, client: u64) -> Result<Step, AllocError> {
     let record_type = text(alloc, "t")?;
-    Ok(Step::Perform(0, Command::Query(Query { record_type })))
+    Ok(Step::Perform(client, Command::Query(Query { record_type })))
 }
 
-fn run(alloc: Global, start: u64, steps: Vec<Step>) -> Option<Replies> {
-    let transcript = run_schedule(alloc, &Config { start }, steps.as_slice()).ok()?;
-    Some(transcript.replies)
+// One of each role, and a window of 1000 versions.
+fn config(alloc: Global, start: u64) -> Config {
+    Config {
+        resolver_splits: Splits::new(Vec::new(alloc)),
+        storage_splits: Splits::new(Vec::new(alloc)),
+        logs: 1,
+        window: 1000,
+        start,
+        places: 4,
+    }
+}
+
+fn run(alloc: Global, start: u64, steps: Vec<Step>) -> Option<Transcript> {
+    run_schedule(alloc, &config(alloc, start), steps.as_slice()).ok()
 }
 
 // The first cells of the rows.
@@ -64,52 +82,110 @@ fn keys(alloc: Global, reply: &Reply) -> Result<Vec<i64>, AllocError> {
     Ok(keys)
 }
 
+// Whether the reply tells that this client's transaction is committed at this version, and no more.
+fn tells_commit(reply: &Reply, of: u64, at: u64) -> bool {
+    match reply {
+        Reply::Reported(reports) => match reports.as_slice() {
+            [Report::Committed { client, version }] => *client == of && *version == at,
+            _ => false,
+        },
+        _ => false,
+    }
+}
+
 #[test]
 fn gives_the_last_version_once(rt: HostRuntime) -> Result<(), Fail> {
     let alloc = rt.alloc();
-    let mut steps = vec![in alloc;
-        Step::Begin(0),
-        create(alloc)?,
-        Step::Commit(0),
-        Step::Settle,
-    ]?;
-    steps.push(Step::Begin(0))?;
-    steps.push(save(alloc, &[1, 0, 0])?)?;
+    let mut steps = vec![in alloc; Step::Begin(0), Step::Perform(0, creation(alloc)?)]?;
     steps.push(Step::Commit(0))?;
-    let replies = run(alloc, 18446744073709551614, steps).ok_or("out of memory")?;
-    let replies = replies.as_slice();
+    steps.push(Step::Settle)?;
+    steps.push(Step::Begin(0))?;
+    steps.push(save(alloc, 0, &[1, 0, 0])?)?;
+    steps.push(Step::Commit(0))?;
+    let transcript = run(alloc, 18446744073709551614, steps).ok_or("out of memory")?;
+    let replies = transcript.replies.as_slice();
     assert_eq!(rt; replies.len(), 7);
     assert!(rt; matches!(replies[0], Reply::Begun(18446744073709551614)));
     assert!(rt; matches!(replies[2], Reply::Submitted(18446744073709551615)));
+    assert!(rt; tells_commit(&replies[3], 0, 18446744073709551615));
     assert!(rt; matches!(replies[4], Reply::Begun(18446744073709551615)));
     assert!(rt; matches!(replies[5], Reply::SavedNew));
     assert!(rt; matches!(replies[6], Reply::Refused(Refusal::VersionsExhausted)));
-    if let Reply::Reported(reports) = &replies[3] {
-        for report in reports.as_slice() {
-            let Report::Committed { client, version } = report;
-            assert_eq!(rt; *client, 0);
-            assert_eq!(rt; *version, 18446744073709551615);
-        }
-        assert_eq!(rt; reports.as_slice().len(), 1);
-    } else {
-        assert!(rt; false, "no report");
-    }
     Ok(())
 }
 
 #[test]
 fn rows_come_in_the_order_of_keys(rt: HostRuntime) -> Result<(), Fail> {
     let alloc = rt.alloc();
-    let mut steps = vec![in alloc; Step::Begin(0), create(alloc)?]?;
+    let mut steps = vec![in alloc; Step::Begin(3), Step::Perform(3, creation(alloc)?)]?;
     for key in [300, -300, 0, 255, 256, -1, i64::MIN, i64::MAX] {
-        steps.push(save(alloc, &[key, 0, 0])?)?;
+        steps.push(save(alloc, 3, &[key, 0, 0])?)?;
     }
-    steps.push(query(alloc)?)?;
-    let replies = run(alloc, 0, steps).ok_or("out of memory")?;
-    let replies = replies.as_slice();
+    steps.push(query(alloc, 3)?)?;
+    let transcript = run(alloc, 0, steps).ok_or("out of memory")?;
+    let replies = transcript.replies.as_slice();
     assert_eq!(rt; replies.len(), 11);
     let keys = keys(alloc, &replies[10])?;
     let wanted = [i64::MIN, -300, -1, 0, 255, 256, 300, i64::MAX];
     assert_eq!(rt; keys.as_slice(), wanted.as_slice());
+    Ok(())
+}
+
+#[test]
+fn lists_what_is_committed(rt: HostRuntime) -> Result<(), Fail> {
+    let alloc = rt.alloc();
+    let mut steps = vec![in alloc; Step::Begin(0), Step::Perform(0, creation(alloc)?)]?;
+    steps.push(Step::Commit(0))?;
+    steps.push(Step::Settle)?;
+    for client in [1, 2] {
+        steps.push(Step::Begin(client))?;
+        steps.push(load(alloc, client, 7)?)?;
+        steps.push(save(alloc, client, &[7, 0, 0])?)?;
+    }
+    steps.push(Step::Commit(2))?;
+    steps.push(Step::Commit(1))?;
+    steps.push(Step::Settle)?;
+    let transcript = run(alloc, 0, steps).ok_or("out of memory")?;
+    let commits = transcript.commits.as_slice();
+    assert_eq!(rt; commits.len(), 2);
+    assert_eq!(rt;
+        (
+            commits[0].version,
+            commits[0].client,
+            commits[0].read_version
+        ),
+        (1, 0, 0)
+    );
+    assert_eq!(rt;
+        (
+            commits[1].version,
+            commits[1].client,
+            commits[1].read_version
+        ),
+        (2, 2, 1)
+    );
+    assert_eq!(rt; commits[1].commands.as_slice().len(), 2);
+    assert_eq!(rt; transcript.cluster.requests().len(), 3);
+    assert_eq!(rt; transcript.cluster.read_version(), 3);
+    Ok(())
+}
+
+#[test]
+fn damaged_schemas_are_corrupt(rt: HostRuntime) -> Result<(), Fail> {
+    let alloc = rt.alloc();
+    let cluster = Cluster::new(alloc, &config(alloc, 0)).map_err(|_| "no cluster")?;
+    let mut transaction = Transaction::begin(alloc, 0);
+    // The schema's key is the packs of (1) and (0).
+    let key = Bytes::new(Vec::from_slice(alloc, &[0x15, 0x01, 0x14])?);
+    let value = Bytes::new(Vec::from_slice(alloc, &[0x15])?);
+    transaction.set(key, value).map_err(|_| "not set")?;
+    let record_type = text(alloc, "t")?;
+    let asked = Command::Query(Query { record_type });
+    match perform(alloc, &asked, &mut transaction, &cluster)? {
+        Reply::Corrupt(key) => assert_eq!(rt; key.as_slice(), [0x15, 0x01, 0x14].as_slice()),
+        _ => assert!(rt; false, "not corrupt"),
+    }
+    let created = perform(alloc, &creation(alloc)?, &mut transaction, &cluster)?;
+    assert!(rt; matches!(created, Reply::Refused(Refusal::AlreadyThere)));
     Ok(())
 }

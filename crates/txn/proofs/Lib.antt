@@ -3,3 +3,5 @@ pub mod Merging
 pub mod Rounds
 pub mod OneMore
 pub mod Deciding
+pub mod Running
+pub mod Whole

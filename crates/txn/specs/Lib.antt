@@ -5,3 +5,4 @@ pub mod Narrowing
 pub mod Own
 pub mod Reading
 pub mod Reads
+pub mod Runs

@@ -2,7 +2,7 @@ ghost use Rattle.std.specs.Prelude.{◌≡◌, ◌⊎◌, ℕ, ◌≤◌, [], �
 ghost use Rattle.std.specs.FinMap.{get as value_at};
 ghost use Rattle.kv_core.specs.Bytes.{key_lt, end_of_keys};
 ghost use Rattle.kv_core.specs.Range.{point};
-ghost use Rattle.kv_core.specs.Map.{Map, Agree};
+ghost use Rattle.kv_core.specs.Map.{Map, Agree, pairs_in};
 ghost use Rattle.kv_core.specs.Limits.{write_refusal, write_all_refusal};
 ghost use Rattle.kv_core.specs.Read.{read_of, range_read, first_value};
 ghost use Rattle.txn.specs.Reads.{seen, has_read, with_mutation, with_mutations};
@@ -142,6 +142,22 @@ impl Transaction {
         let pairs = self.seen_pairs(db, range, limit, reverse)?;
         let read = range_read(range, limit, reverse, pairs.as_slice())?;
         self.request.reads.add(read)?;
+        Ok(pairs)
+    }
+
+    /// All pairs of a range as the transaction sees them, in the order of their keys.
+    ///
+    /// The whole range is added to the ranges read. The read is refused as `get_range` is. A
+    /// refusal leaves the transaction as it was.
+    pub fn get_all<S: Snapshot>(&mut self, db: &S, range: &KeyRange) -> Result<Vec<Pair>, ReadError>
+        ensures answer { IfOk result (λ pairs. (m : Map) →
+            Agree self.new.reads (S.map_at db.now self.old.read_version) m → pairs.items ≡ pairs_in (seen self.old m) range.now) }
+        ensures reads { OnOk result (self.new ≡ has_read range.now self.old) }
+        ensures allowed { OnOk result (IsNone (S.refusal db.now range.now self.old.read_version)) }
+        ensures kept { OnErr result (self.new ≡ self.old) }
+        ensures refused { IfErr result (λ error. (error ≡ ReadError.Memory) ⊎ (S.refusal db.now range.now self.old.read_version ≡ Some error)) }
+    {
+        let pairs = self.get_range(db, range, usize::MAX, false)?;
         Ok(pairs)
     }
 

@@ -1,29 +1,32 @@
-use Rattle.std.proofs.Common.{[]}
-use Rattle.schedule.specs.OneClient.{IsRightReply}
-use Rattle.schedule.specs.Contract.{IsAbandonReply, IsBeginReply, IsCommandReply, IsCommitReply, IsExhausted, IsSettleReply, LeavesAll}
-use Rattle.schedule.proofs.ReplyLists.{each-length, each-because, command_right, begin_right, commit_right, abandon_right, settle_right, exhausted_right, leaves_right}
+use Rattle.schedule.proofs.RunSteps.{ended}
 use Rattle.schedule.proofs.run_schedule.Goals as goal
 
-pub returns-in-Ok-clause-one_each : goal.returns-in-Ok-clause-one_each
-returns-in-Ok-clause-one_each c = each-length (IsRightReply c.args.config.now.start) [] c.args.steps.now c.in-Ok.replies c.in-Ok.ensures
+pub returns-clause-replies : goal.returns-clause-replies
+returns-clause-replies c =
+    let ends = ended c.args.config.now c.args.steps.now c.in-Ok.replies.items c.new.result c.new-2.result c.steps.new.self c.new.ensures c.new-2.ensures (c.in-Ok.ensures c.args.config.now c.in_ok-database.ensures.made) c.laws_of.ensures.legal in
+    ends.replies
 
-pub returns-in-Ok-clause-commands : goal.returns-in-Ok-clause-commands
-returns-in-Ok-clause-commands c = each-because (IsRightReply c.args.config.now.start) IsCommandReply (command_right c.args.config.now.start) [] c.args.steps.now c.in-Ok.replies c.in-Ok.ensures
+pub returns-clause-cluster : goal.returns-clause-cluster
+returns-clause-cluster c =
+    let ends = ended c.args.config.now c.args.steps.now c.in-Ok.replies.items c.new.result c.new-2.result c.steps.new.self c.new.ensures c.new-2.ensures (c.in-Ok.ensures c.args.config.now c.in_ok-database.ensures.made) c.laws_of.ensures.legal in
+    ends.cluster
 
-pub returns-in-Ok-clause-begins : goal.returns-in-Ok-clause-begins
-returns-in-Ok-clause-begins c = each-because (IsRightReply c.args.config.now.start) (IsBeginReply c.args.config.now.start) (begin_right c.args.config.now.start) [] c.args.steps.now c.in-Ok.replies c.in-Ok.ensures
+pub returns-clause-holds : goal.returns-clause-holds
+returns-clause-holds c =
+    let ends = ended c.args.config.now c.args.steps.now c.in-Ok.replies.items c.new.result c.new-2.result c.steps.new.self c.new.ensures c.new-2.ensures (c.in-Ok.ensures c.args.config.now c.in_ok-database.ensures.made) c.laws_of.ensures.legal in
+    ends.holds
 
-pub returns-in-Ok-clause-commits : goal.returns-in-Ok-clause-commits
-returns-in-Ok-clause-commits c = each-because (IsRightReply c.args.config.now.start) (IsCommitReply c.args.config.now.start) (commit_right c.args.config.now.start) [] c.args.steps.now c.in-Ok.replies c.in-Ok.ensures
+pub returns-clause-serial : goal.returns-clause-serial
+returns-clause-serial c =
+    let ends = ended c.args.config.now c.args.steps.now c.in-Ok.replies.items c.new.result c.new-2.result c.steps.new.self c.new.ensures c.new-2.ensures (c.in-Ok.ensures c.args.config.now c.in_ok-database.ensures.made) c.laws_of.ensures.legal in
+    ends.serial
 
-pub returns-in-Ok-clause-abandons : goal.returns-in-Ok-clause-abandons
-returns-in-Ok-clause-abandons c = each-because (IsRightReply c.args.config.now.start) IsAbandonReply (abandon_right c.args.config.now.start) [] c.args.steps.now c.in-Ok.replies c.in-Ok.ensures
+pub returns-clause-requests : goal.returns-clause-requests
+returns-clause-requests c =
+    let ends = ended c.args.config.now c.args.steps.now c.in-Ok.replies.items c.new.result c.new-2.result c.steps.new.self c.new.ensures c.new-2.ensures (c.in-Ok.ensures c.args.config.now c.in_ok-database.ensures.made) c.laws_of.ensures.legal in
+    ends.requests
 
-pub returns-in-Ok-clause-settles : goal.returns-in-Ok-clause-settles
-returns-in-Ok-clause-settles c = each-because (IsRightReply c.args.config.now.start) (IsSettleReply c.args.config.now.start) (settle_right c.args.config.now.start) [] c.args.steps.now c.in-Ok.replies c.in-Ok.ensures
-
-pub returns-in-Ok-clause-exhausted : goal.returns-in-Ok-clause-exhausted
-returns-in-Ok-clause-exhausted c = each-because (IsRightReply c.args.config.now.start) (IsExhausted c.args.config.now.start) (exhausted_right c.args.config.now.start) [] c.args.steps.now c.in-Ok.replies c.in-Ok.ensures
-
-pub returns-in-Ok-clause-refusals : goal.returns-in-Ok-clause-refusals
-returns-in-Ok-clause-refusals c = each-because (IsRightReply c.args.config.now.start) (LeavesAll c.args.config.now.start) (leaves_right c.args.config.now.start) [] c.args.steps.now c.in-Ok.replies c.in-Ok.ensures
+pub returns-clause-refusals : goal.returns-clause-refusals
+returns-clause-refusals c =
+    let ends = ended c.args.config.now c.args.steps.now c.in-Ok.replies.items c.new.result c.new-2.result c.steps.new.self c.new.ensures c.new-2.ensures (c.in-Ok.ensures c.args.config.now c.in_ok-database.ensures.made) c.laws_of.ensures.legal in
+    ends.refusals

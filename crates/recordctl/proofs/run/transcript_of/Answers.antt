@@ -1,5 +1,13 @@
-use Rattle.recordctl.proofs.Input.{script_is_whole}
+use Rattle.std.proofs.Common.{IfSome, rules}
+use Rattle.recordctl.specs.Script.{explains_run}
+use Rattle.recordctl.proofs.Input.{explained_of_front, transcript_of_front}
 use Rattle.recordctl.proofs.run.transcript_of.Goals as goal
 
-pub returns-in-Ok : goal.returns-in-Ok
-returns-in-Ok g c = script_is_whole (g.R.Read.remaining c.args.input.now) c.in_ok-bytes.bytes.items c.in_ok-bytes.ensures (rw c.as_slice.ensures.value at c.in_ok-steps.ensures.script)
+pub returns-in_err-transcript-clause-err : goal.returns-in_err-transcript-clause-err
+returns-in_err-transcript-clause-err g c =
+    let told : IfSome (g.R.Read.remaining c.args.input.now) (λ text. explains_run text c.in_err-transcript.field-0.0) =
+    explained_of_front (g.R.Read.remaining c.args.input.now) c.in_ok-text.text.items c.in_err-transcript.field-0.0 c.in_ok-text.ensures.ok (rw c.as_slice.ensures.value at c.in_err-transcript.ensures.err) in
+    search (rules, told)
+
+pub returns-clause-ok : goal.returns-clause-ok
+returns-clause-ok g c = transcript_of_front (g.R.Read.remaining c.args.input.now) c.in_ok-text.text.items c.in_ok-transcript.transcript c.in_ok-text.ensures.ok (rw c.as_slice.ensures.value at c.in_ok-transcript.ensures.ok)

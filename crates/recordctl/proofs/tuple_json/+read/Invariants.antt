@@ -1,4 +1,4 @@
-use Rattle.std.proofs.Common.{◌≡◌, ◌+◌, ◌*◌, ◌≤◌, Some, take, map}
+use Rattle.std.proofs.Common.{◌≡◌, ◌≤◌, Some, take, map}
 use Rattle.serde_json.specs.View.{view}
 use Rattle.tuple_codec.specs.Item.{nesting}
 use Rattle.tuple_codec.specs.Elements.{items_in}

@@ -1,4 +1,4 @@
-use Rattle.std.proofs.Common.{ℕ, ◌<◌, slice_index, arith}
+use Rattle.std.proofs.Common.{ℕ, ◌<◌, slice_index}
 use Rattle.recordctl.proofs.Labels.{stamp_stands, made}
 use Rattle.recordctl.proofs.tuple_json.stamp_value.Goals as goal
 

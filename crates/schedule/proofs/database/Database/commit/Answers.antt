@@ -1,8 +1,13 @@
-use Rattle.std.proofs.Common.{arith}
-use Rattle.schedule.proofs.Stepping.{commit_tested}
+use Rattle.std.proofs.Common.{ap, arith, refl, slice_set, sym, ◌∙◌}
+use Rattle.schedule.proofs.ClientSteps.{commit_none, commit_steps}
 use Rattle.schedule.proofs.database.Database.commit.Goals as goal
 
-pub returns : goal.returns
-returns c =
-    commit_tested c.args.self.now c.in-Some.transaction c.take.new.self c.is_changed.result
-    c.in-Some.ensures.value c.in-Some.ensures.after c.is_changed.ensures c.if-not-is_changed.false c.if-self.false (omega arith)
+pub returns-in_ok-reply-in-Some : goal.returns-in_ok-reply-in-Some
+returns-in_ok-reply-in-Some c =
+    commit_steps c.args.self.now _ _ c.args.client c.in_ok-reply-in-Some.reply c.index_mut.result.now c.in-Some.ended (omega arith) c.index_mut.ensures.value
+    (sym c.take.ensures.value ∙ c.in-Some.is) (record { cluster = refl; transactions = ap (λ o. slice_set c.args.self.now.transactions.items c.args.client o) c.take.ensures.after; unreported = refl; commits = refl }) c.in_ok-reply-in-Some.ensures
+
+pub returns-in-None : goal.returns-in-None
+returns-in-None c =
+    commit_none c.args.self.now _ c.args.client c.index_mut.result.now (omega arith) c.index_mut.ensures.value (sym c.take.ensures.value ∙ c.in-None.is)
+    (record { cluster = refl; transactions = ap (λ o. slice_set c.args.self.now.transactions.items c.args.client o) c.take.ensures.after; unreported = refl; commits = refl })

@@ -1,0 +1,112 @@
+// Tests of whole schedules: clients that take turns, conflicts, and steps of the database's roles.
+use crate::outcome::outcome_of;
+use std::alloc::{AllocError, Global};
+use std::test::Fail;
+
+// What a schedule shows, its script, and the lines that it prints.
+static SCHEDULES: [(&str, &str, &str); 14] = [
+    (
+        "a client reads its own writes, and another what was committed when it began",
+        "{\"steps\":[[\"begin\",0],[\"create\",0,{\"types\":[{\"name\":\"t\",\"fields\":[[\"k\",\"int\"],[\"a\",\"int\"],[\"b\",\"int\"]],\"key\":[\"k\"]}]}],[\"commit\",0],[\"settle\"],[\"begin\",1],[\"begin\",0],[\"query\",0,{\"type\":\"t\"}],[\"save\",0,\"t\",[1,5,null]],[\"query\",0,{\"type\":\"t\"}],[\"commit\",0],[\"settle\"],[\"query\",1,{\"type\":\"t\"}],[\"commit\",1]]}",
+        "1 begun 0\n2 ok\n3 submitted 1\n4 client 0 committed 1\n5 begun 1\n6 begun 1\n7 rows []\n8 saved new\n9 rows [[1,5,null]]\n10 submitted 2\n11 client 0 committed 2\n12 rows []\n13 read only\n",
+    ),
+    (
+        "a read that a later commit overwrote is a conflict",
+        "{\"steps\":[[\"begin\",0],[\"create\",0,{\"types\":[{\"name\":\"t\",\"fields\":[[\"k\",\"int\"],[\"a\",\"int\"],[\"b\",\"int\"]],\"key\":[\"k\"]}]}],[\"save\",0,\"t\",[1,0,0]],[\"save\",0,\"t\",[2,0,0]],[\"commit\",0],[\"settle\"],[\"begin\",0],[\"begin\",1],[\"load\",0,\"t\",[2]],[\"save\",0,\"t\",[1,1,0]],[\"load\",1,\"t\",[1]],[\"save\",1,\"t\",[2,1,0]],[\"commit\",0],[\"commit\",1],[\"settle\"]]}",
+        "1 begun 0\n2 ok\n3 saved new\n4 saved new\n5 submitted 1\n6 client 0 committed 1\n7 begun 1\n8 begun 1\n9 found [2,0,0]\n10 saved over [1,0,0]\n11 found [1,0,0]\n12 saved over [2,0,0]\n13 submitted 2\n14 submitted 3\n15 client 0 committed 2, client 1 conflict 2 1501150115011501..150115011501150100\n",
+    ),
+    (
+        "two resolvers, each of which refuses one request",
+        "{\"config\":{\"resolver_splits\":[\"1501150115011502\"]},\"steps\":[[\"begin\",0],[\"create\",0,{\"types\":[{\"name\":\"t\",\"fields\":[[\"k\",\"int\"],[\"a\",\"int\"],[\"b\",\"int\"]],\"key\":[\"k\"]}]}],[\"save\",0,\"t\",[1,0,0]],[\"save\",0,\"t\",[2,0,0]],[\"commit\",0],[\"settle\"],[\"begin\",0],[\"begin\",1],[\"begin\",2],[\"save\",0,\"t\",[1,1,0]],[\"load\",1,\"t\",[1]],[\"save\",1,\"t\",[2,1,0]],[\"load\",2,\"t\",[2]],[\"save\",2,\"t\",[3,0,0]],[\"commit\",0],[\"commit\",1],[\"commit\",2],[\"settle\"]]}",
+        "1 begun 0\n2 ok\n3 saved new\n4 saved new\n5 submitted 1\n6 client 0 committed 1\n7 begun 1\n8 begun 1\n9 begun 1\n10 saved over [1,0,0]\n11 found [1,0,0]\n12 saved over [2,0,0]\n13 found [2,0,0]\n14 saved new\n15 submitted 2\n16 submitted 3\n17 submitted 4\n18 client 0 committed 2, client 1 conflict 2 1501150115011501..150115011501150100, client 2 conflict 3 1501150115011502..150115011501150200\n",
+    ),
+    (
+        "a read ahead of its server, and one that is older than the window",
+        "{\"config\":{\"window\":1},\"steps\":[[\"begin\",0],[\"create\",0,{\"types\":[{\"name\":\"t\",\"fields\":[[\"k\",\"int\"],[\"a\",\"int\"],[\"b\",\"int\"]],\"key\":[\"k\"]}]}],[\"commit\",0],[\"resolve\",0],[\"log\",0],[\"report\"],[\"begin\",0],[\"query\",0,{\"type\":\"t\"}],[\"pull\",0],[\"query\",0,{\"type\":\"t\"}],[\"pull\",0],[\"begin\",2],[\"save\",2,\"t\",[3,0,0]],[\"begin\",1],[\"save\",1,\"t\",[1,0,0]],[\"commit\",1],[\"settle\"],[\"query\",0,{\"type\":\"t\"}],[\"begin\",1],[\"save\",1,\"t\",[2,0,0]],[\"commit\",1],[\"settle\"],[\"query\",0,{\"type\":\"t\"}],[\"commit\",0],[\"commit\",2]]}",
+        "1 begun 0\n2 ok\n3 submitted 1\n4 ok\n5 ok\n6 client 0 committed 1\n7 begun 1\n8 refused FutureVersion\n9 ok\n10 rows []\n11 nothing\n12 begun 1\n13 saved new\n14 begun 1\n15 saved new\n16 submitted 2\n17 client 1 committed 2\n18 rows []\n19 begun 2\n20 saved new\n21 submitted 3\n22 client 1 committed 3\n23 refused TooOld\n24 read only\n25 refused TooOld\n",
+    ),
+    (
+        "the last version of 64 bits is given once",
+        "{\"config\":{\"start\":18446744073709551614},\"steps\":[[\"begin\",0],[\"create\",0,{\"types\":[{\"name\":\"t\",\"fields\":[[\"k\",\"int\"],[\"a\",\"int\"],[\"b\",\"int\"]],\"key\":[\"k\"]}]}],[\"commit\",0],[\"settle\"],[\"begin\",0],[\"save\",0,\"t\",[1,0,0]],[\"commit\",0]]}",
+        "1 begun 18446744073709551614\n2 ok\n3 submitted 18446744073709551615\n4 client 0 committed 18446744073709551615\n5 begun 18446744073709551615\n6 saved new\n7 refused VersionsExhausted\n",
+    ),
+    (
+        "clients and transactions that there are not",
+        "{\"steps\":[[\"commit\",0],[\"begin\",16],[\"begin\",0],[\"begin\",0],[\"save\",0,\"t\",[1,1,1]]]}",
+        "1 refused NoTransaction\n2 refused NoSuchClient\n3 begun 0\n4 refused Busy\n5 refused NoStore\n",
+    ),
+    (
+        "a record that is taken out is a write",
+        "{\"steps\":[[\"begin\",0],[\"create\",0,{\"types\":[{\"name\":\"t\",\"fields\":[[\"k\",\"int\"],[\"a\",\"int\"],[\"b\",\"int\"]],\"key\":[\"k\"]}]}],[\"save\",0,\"t\",[1,5,0]],[\"commit\",0],[\"settle\"],[\"begin\",0],[\"begin\",1],[\"load\",1,\"t\",[1]],[\"save\",1,\"t\",[2,0,0]],[\"remove\",0,\"t\",[1]],[\"commit\",0],[\"commit\",1],[\"settle\"]]}",
+        "1 begun 0\n2 ok\n3 saved new\n4 submitted 1\n5 client 0 committed 1\n6 begun 1\n7 begun 1\n8 found [1,5,0]\n9 saved new\n10 removed\n11 submitted 2\n12 submitted 3\n13 client 0 committed 2, client 1 conflict 2 1501150115011501..150115011501150100\n",
+    ),
+    (
+        "the first range that was read and overwritten is told",
+        "{\"steps\":[[\"begin\",0],[\"create\",0,{\"types\":[{\"name\":\"t\",\"fields\":[[\"k\",\"int\"],[\"a\",\"int\"],[\"b\",\"int\"]],\"key\":[\"k\"]}]}],[\"save\",0,\"t\",[1,5,0]],[\"save\",0,\"t\",[2,5,0]],[\"commit\",0],[\"settle\"],[\"begin\",0],[\"begin\",1],[\"begin\",2],[\"load\",2,\"t\",[2]],[\"load\",2,\"t\",[1]],[\"save\",2,\"t\",[3,0,0]],[\"save\",0,\"t\",[1,9,9]],[\"commit\",0],[\"save\",1,\"t\",[2,9,9]],[\"commit\",1],[\"commit\",2],[\"settle\"]]}",
+        "1 begun 0\n2 ok\n3 saved new\n4 saved new\n5 submitted 1\n6 client 0 committed 1\n7 begun 1\n8 begun 1\n9 begun 1\n10 found [2,5,0]\n11 found [1,5,0]\n12 saved new\n13 saved over [1,5,0]\n14 submitted 2\n15 saved over [2,5,0]\n16 submitted 3\n17 submitted 4\n18 client 0 committed 2, client 1 committed 3, client 2 conflict 3 1501150115011502..150115011501150200\n",
+    ),
+    (
+        "the newest version that wrote in the range is told",
+        "{\"steps\":[[\"begin\",0],[\"create\",0,{\"types\":[{\"name\":\"t\",\"fields\":[[\"k\",\"int\"],[\"a\",\"int\"],[\"b\",\"int\"]],\"key\":[\"k\"]}]}],[\"save\",0,\"t\",[1,5,0]],[\"commit\",0],[\"settle\"],[\"begin\",2],[\"begin\",0],[\"save\",0,\"t\",[1,9,9]],[\"commit\",0],[\"settle\"],[\"begin\",0],[\"save\",0,\"t\",[1,9,9]],[\"commit\",0],[\"settle\"],[\"load\",2,\"t\",[1]],[\"save\",2,\"t\",[3,0,0]],[\"commit\",2],[\"settle\"]]}",
+        "1 begun 0\n2 ok\n3 saved new\n4 submitted 1\n5 client 0 committed 1\n6 begun 1\n7 begun 1\n8 saved over [1,5,0]\n9 submitted 2\n10 client 0 committed 2\n11 begun 2\n12 saved over [1,9,9]\n13 submitted 3\n14 client 0 committed 3\n15 found [1,5,0]\n16 saved new\n17 submitted 4\n18 client 2 conflict 3 1501150115011501..150115011501150100\n",
+    ),
+    (
+        "a transaction goes on to see what it began with",
+        "{\"steps\":[[\"begin\",0],[\"create\",0,{\"types\":[{\"name\":\"t\",\"fields\":[[\"k\",\"int\"],[\"a\",\"int\"],[\"b\",\"int\"]],\"key\":[\"k\"]}]}],[\"save\",0,\"t\",[1,5,0]],[\"commit\",0],[\"settle\"],[\"begin\",0],[\"begin\",1],[\"save\",0,\"t\",[1,6,0]],[\"commit\",0],[\"settle\"],[\"load\",1,\"t\",[1]]]}",
+        "1 begun 0\n2 ok\n3 saved new\n4 submitted 1\n5 client 0 committed 1\n6 begun 1\n7 begun 1\n8 saved over [1,5,0]\n9 submitted 2\n10 client 0 committed 2\n11 found [1,5,0]\n",
+    ),
+    (
+        "what a refused request would have written refuses no other",
+        "{\"steps\":[[\"begin\",0],[\"create\",0,{\"types\":[{\"name\":\"t\",\"fields\":[[\"k\",\"int\"],[\"a\",\"int\"],[\"b\",\"int\"]],\"key\":[\"k\"]}]}],[\"save\",0,\"t\",[1,5,0]],[\"commit\",0],[\"settle\"],[\"begin\",0],[\"begin\",1],[\"begin\",2],[\"load\",1,\"t\",[1]],[\"save\",1,\"t\",[2,0,0]],[\"save\",0,\"t\",[1,6,0]],[\"load\",2,\"t\",[2]],[\"save\",2,\"t\",[3,0,0]],[\"commit\",0],[\"commit\",1],[\"commit\",2],[\"settle\"]]}",
+        "1 begun 0\n2 ok\n3 saved new\n4 submitted 1\n5 client 0 committed 1\n6 begun 1\n7 begun 1\n8 begun 1\n9 found [1,5,0]\n10 saved new\n11 saved over [1,5,0]\n12 none\n13 saved new\n14 submitted 2\n15 submitted 3\n16 submitted 4\n17 client 0 committed 2, client 1 conflict 2 1501150115011501..150115011501150100, client 2 committed 4\n",
+    ),
+    (
+        "steps of roles one by one, and roles that there are not",
+        "{\"config\":{\"resolver_splits\":[\"16\"],\"storage_splits\":[\"1501\"],\"logs\":3},\"steps\":[[\"resolve\",0],[\"log\",0],[\"pull\",0],[\"report\"],[\"lost\"],[\"resolve\",2],[\"log\",3],[\"pull\",2],[\"resolve\",18446744073709551615],[\"begin\",0],[\"create\",0,{\"types\":[{\"name\":\"t\",\"fields\":[[\"k\",\"int\"]],\"key\":[\"k\"]}]}],[\"commit\",0],[\"log\",0],[\"report\"],[\"resolve\",1],[\"log\",0],[\"resolve\",0],[\"resolve\",0],[\"log\",2],[\"log\",1],[\"report\"],[\"log\",0],[\"pull\",1],[\"pull\",0],[\"report\"],[\"report\"],[\"settle\"]]}",
+        "1 nothing\n2 nothing\n3 nothing\n4 nothing\n5 nothing\n6 refused NoSuchRole\n7 refused NoSuchRole\n8 refused NoSuchRole\n9 refused NoSuchRole\n10 begun 0\n11 ok\n12 submitted 1\n13 nothing\n14 nothing\n15 ok\n16 nothing\n17 ok\n18 nothing\n19 ok\n20 ok\n21 nothing\n22 ok\n23 ok\n24 ok\n25 client 0 committed 1\n26 nothing\n27 nothing\n",
+    ),
+    (
+        "a client is not told what became of its request",
+        "{\"steps\":[[\"begin\",1],[\"create\",1,{\"types\":[{\"name\":\"t\",\"fields\":[[\"k\",\"int\"]],\"key\":[\"k\"]}]}],[\"commit\",1],[\"resolve\",0],[\"log\",0],[\"lost\"],[\"lost\"],[\"pull\",0],[\"begin\",1],[\"query\",1,{\"type\":\"t\"}]]}",
+        "1 begun 0\n2 ok\n3 submitted 1\n4 ok\n5 ok\n6 client 1 unknown\n7 nothing\n8 ok\n9 begun 1\n10 rows []\n",
+    ),
+    (
+        "a client begins again before its request is reported",
+        "{\"steps\":[[\"begin\",0],[\"create\",0,{\"types\":[{\"name\":\"t\",\"fields\":[[\"k\",\"int\"]],\"key\":[\"k\"]}]}],[\"commit\",0],[\"begin\",0],[\"load\",0,\"t\",[1]],[\"abandon\",0],[\"settle\"],[\"begin\",0],[\"abandon\",0],[\"commit\",0]]}",
+        "1 begun 0\n2 ok\n3 submitted 1\n4 begun 0\n5 refused NoStore\n6 ok\n7 client 0 committed 1\n8 begun 1\n9 ok\n10 refused NoTransaction\n",
+    ),
+];
+
+#[test]
+fn prints_schedules(rt: HostRuntime) -> Result<(), Fail> {
+    for (shown, script, lines) in SCHEDULES {
+        let outcome = outcome_of(rt.alloc(), script.as_bytes());
+        assert!(rt; outcome.is_printed(lines), "{shown}");
+    }
+    Ok(())
+}
+
+// A script that saves a text of so many letters.
+fn script_with_text(alloc: Global, letters: usize) -> Result<String, AllocError> {
+    let mut script = String::from_str(
+        alloc,
+        "{\"steps\":[[\"begin\",0],[\"create\",0,{\"types\":[{\"name\":\"v\",\"fields\":[[\"k\",\"int\"],[\"s\",\"text\"]],\"key\":[\"k\"]}]}],[\"save\",0,\"v\",[1,\"",
+    )?;
+    for _ in 0..letters {
+        script.push_str("n")?;
+    }
+    script.push_str("\"]]]}")?;
+    Ok(script)
+}
+
+#[test]
+fn refuses_large_values(rt: HostRuntime) -> Result<(), Fail> {
+    let alloc = rt.alloc();
+    let longest = script_with_text(alloc, 99_996)?;
+    let outcome = outcome_of(alloc, longest.as_bytes());
+    assert!(rt; outcome.is_printed("1 begun 0\n2 ok\n3 saved new\n"));
+    let too_long = script_with_text(alloc, 99_997)?;
+    let outcome = outcome_of(alloc, too_long.as_bytes());
+    assert!(rt; outcome.is_printed("1 begun 0\n2 ok\n3 refused ValueTooLarge\n"));
+    Ok(())
+}

@@ -1,0 +1,319 @@
+-- What the submitted transactions come to: the database holds what is committed at each version, and version order is a serial order.
+use Rattle.std.proofs.Common.{◌≡◌, ℕ, suc, ◌+◌, ◌-◌, ◌≤◌, Bool, true, false, cond, ◌&&◌, ◌⊎◌, inl, inr, List, [], ◌∷◌, map, slice_get, refl, sym, ap, subst, ◌∙◌, Option, Some, None, arith, nat_le, is_none, fold}
+use Rattle.std.specs.Prelude.{IsTrue}
+use Rattle.std.specs.List.{All, AllByRecursion, filter}
+use Rattle.std.specs.Option.{option_map_or}
+use Rattle.std.specs.FinMap.{empty}
+use Rattle.std.proofs.lemmas.Bool.{le-leb, leb-true, true≢false}
+use Rattle.std.proofs.lemmas.List.Elements.{recursion_from_All, All-from_recursion}
+use Rattle.kv_core.specs.Range.{KeyRange, covers}
+use Rattle.kv_core.specs.Map.{Map, after_all}
+use Rattle.kv_core.specs.declared.change.CommitRequest.{CommitRequest}
+use Rattle.cluster_core.specs.Cluster.{ClusterState, database_at, tier_of}
+use Rattle.cluster_core.specs.History.{Entry, map_at, IsRising, IsLegal}
+use Rattle.cluster_core.specs.Decision.{numbered, cause, is_committed, committed as committed_entries}
+use Rattle.cluster_core.specs.Roles.{PipelineState, entries, history, outcome, told, told_of}
+use Rattle.cluster_core.specs.Serial.{after_commands, AllReplied, Replays, state_at}
+use Rattle.cluster_core.specs.Tier.{refusal}
+use Rattle.cluster_core.proofs.Causes.{cause_decides}
+use Rattle.cluster_core.proofs.Composition.{holds_at, replied_at}
+use Rattle.cluster_core.proofs.Versions.{rising-filter, rising-numbered}
+use Rattle.txn.specs.Reads.{seen}
+use Rattle.schedule.specs.declared.step.Command.{Command}
+use Rattle.schedule.specs.declared.reply.Reply.{Reply}
+use Rattle.schedule.specs.declared.transcript.CommitEntry.{CommitEntry}
+use Rattle.schedule.specs.Store.{Serial}
+use Rattle.schedule.specs.Serve.{IsReply, effects}
+use Rattle.schedule.specs.Past.{Attempt, Open, Submission, accepted, is_accepted}
+use Rattle.schedule.specs.Holds.{Holds}
+use Rattle.schedule.specs.Reach.{reach, schema_in}
+use Rattle.schedule.specs.Performed.{IsServed, IsReadRefusal, IsPerformed}
+use Rattle.schedule.specs.Commits.{committed, view}
+use Rattle.schedule.specs.Standing.{is_told, is_listed, listed, commit_entry, commits_of}
+use Rattle.schedule.specs.Contract.{attempted, written, reach_of, IsSerialAt, IsSerial, HoldsCommitted, AreRequestsOf, IsCommandReply}
+use Rattle.schedule.specs.Turns.{fresh, IsOpenAs, AreSubmitted}
+use Rattle.schedule.proofs.Turning.{after_attempts, attempts_effects, done_serve, done_writes, done_reads}
+
+-- an attempt has its reply, where it was accepted
+abbrev Replied : Serial → Attempt → Type 0
+Replied serial attempt = is_accepted attempt.reply ≡ true → IsReply serial attempt.command attempt.reply
+
+-- an empty map holds no store
+holds_nothing : Holds empty None
+holds_nothing = record { lawful = tt; pairs = λ bytes. refl }
+
+serial_replied : (serial : Serial) (attempts : List Attempt) → IsSerialAt serial attempts → AllReplied Holds Replied attempted serial attempts
+serial_replied serial [] is = tt
+serial_replied serial (attempt ∷ attempts) is = (is.0, serial_replied (attempted serial attempt) attempts is.1)
+
+replied_serial : (serial : Serial) (attempts : List Attempt) → AllReplied Holds Replied attempted serial attempts → IsSerialAt serial attempts
+replied_serial serial [] is = tt
+replied_serial serial (attempt ∷ attempts) is = (is.0, replied_serial (attempted serial attempt) attempts is.1)
+
+-- told to be committed is what has no cause against it
+told_committed : (why : Option Rattle.cluster_core.specs.Decision.Cause) (version : ℕ) → is_told (told why version) ≡ is_none why
+told_committed None version = refl
+told_committed (Some why) version = refl
+
+module _ (p : PipelineState) (subs : List Submission) where
+  abbrev maps : ℕ → Map
+  maps version = map_at (history p) version
+
+  -- the attempts of the submission of an entry
+  abbrev commands_of : Entry → List Attempt
+  commands_of entry = option_map_or (λ (one : Submission). one.transaction.attempts) (slice_get subs (entry.version - p.start - 1)) []
+
+  -- an entry and its submission
+  record IsPair (entry : Entry) (one : Submission) : Type 0 where
+    same_version : entry.version ≡ one.version
+    commands : commands_of entry ≡ one.transaction.attempts
+    open_as : IsOpenAs maps p.reported one.transaction entry.request
+    same_end : is_told (outcome p one.version) ≡ is_committed p.splits (entries p) entry
+
+  abbrev ArePairs : List Entry → List Submission → Type 0
+  ArePairs [] [] = Unit {0}
+  ArePairs (entry ∷ es) (one ∷ ss) = IsPair entry one × ArePairs es ss
+  ArePairs es ss = ⊥
+
+  pairs_from : (n : ℕ) (ss : List Submission) (requests : List CommitRequest) → AreSubmitted maps p.reported (p.start + n) ss requests →
+      ((i : ℕ) → slice_get subs (n + i) ≡ slice_get ss i) → ((i : ℕ) → slice_get (entries p) (n + i) ≡ slice_get (numbered (p.start + n) requests) i) →
+      ArePairs (numbered (p.start + n) requests) ss
+  pairs_from n [] [] are in_subs in_entries = tt
+  pairs_from n [] (request ∷ requests) are in_subs in_entries = absurd are
+  pairs_from n (one ∷ ss) [] are in_subs in_entries = absurd are
+  pairs_from n (one ∷ ss) (request ∷ requests) are in_subs in_entries = (
+    record {
+      same_version = sym at;
+      commands = ap (λ place. option_map_or (λ (s : Submission). s.transaction.attempts) (slice_get subs place) []) place_is ∙ ap (λ o. option_map_or (λ (s : Submission). s.transaction.attempts) o []) (in_subs 0);
+      open_as = are.0.open_as;
+      same_end = ap (λ v. is_told (told_of p (slice_get (entries p) (v - p.start - 1)))) at
+          ∙ ap (λ place. is_told (told_of p (slice_get (entries p) place))) place_is ∙ ap (λ o. is_told (told_of p o)) (in_entries 0)
+          ∙ told_committed (cause p.splits (entries p) entry) entry.version ∙ sym (cause_decides p.splits (entries p) entry);
+    },
+    subst (λ last. ArePairs (numbered last requests) ss) (sym next)
+        (pairs_from (suc n) ss requests (subst (λ last. AreSubmitted maps p.reported last ss requests) next are.1)
+        (λ i. ap (slice_get subs) (shift i) ∙ in_subs (suc i))
+        (λ i. ap (slice_get (entries p)) (shift i) ∙ in_entries (suc i) ∙ ap (λ last. slice_get (numbered last requests) i) next)),
+  )
+    where
+      entry : Entry
+      entry = record { version = p.start + n + 1; request = request }
+
+      at : one.version ≡ p.start + n + 1
+      at = are.0.given
+
+      place_is : (p.start + n + 1) - p.start - 1 ≡ n + 0
+      place_is = omega arith
+
+      next : p.start + n + 1 ≡ p.start + suc n
+      next = omega arith
+
+      shift : (i : ℕ) → suc n + i ≡ n + suc i
+      shift i = omega arith
+
+  -- ---- what is there at a version, by the history and by the committed transactions
+
+  abbrev after_entry : Serial → Entry → Serial
+  after_entry serial entry = after_commands Holds Replied attempted serial (commands_of entry)
+
+  abbrev after_commit : Serial → CommitEntry → Serial
+  after_commit serial one = effects serial one.commands
+
+  abbrev passing : List Entry → List Entry
+  passing es = filter (is_committed p.splits (entries p)) es
+
+  abbrev entries_upto : ℕ → List Entry → List Entry
+  entries_upto v es = filter (λ (e : Entry). nat_le e.version v) (passing es)
+
+  abbrev commits_upto : ℕ → List Submission → List CommitEntry
+  commits_upto v ss = filter (λ (c : CommitEntry). nat_le c.version v) (map commit_entry (filter (is_listed p) ss))
+
+  states_same : (v : ℕ) → v ≤ p.reported → (es : List Entry) (ss : List Submission) → ArePairs es ss → (serial : Serial) →
+      fold after_entry serial (entries_upto v es) ≡ fold after_commit serial (commits_upto v ss)
+  states_same v below [] [] pairs serial = refl
+  states_same v below [] (one ∷ ss) pairs serial = absurd pairs
+  states_same v below (entry ∷ es) [] pairs serial = absurd pairs
+  states_same v below (entry ∷ es) (one ∷ ss) (pair, pairs) serial =
+      ap (fold after_entry serial) (left (is_committed p.splits (entries p) entry))
+      ∙ by_test (is_committed p.splits (entries p) entry) (nat_le entry.version v) (nat_le one.version p.reported) shown (states_same v below es ss pairs)
+      ∙ (λ i. fold after_commit serial (cond (nat_le one.version p.reported && sym pair.same_end i) (cond (nat_le (pair.same_version i) v) (commit_entry one ∷ commits_upto v ss) (commits_upto v ss)) (commits_upto v ss)))
+      ∙ ap (fold after_commit serial) (sym (right (nat_le one.version p.reported && is_told (outcome p one.version))))
+    where
+      left : (b : Bool) → filter (λ (e : Entry). nat_le e.version v) (cond b (entry ∷ passing es) (passing es)) ≡ cond b (cond (nat_le entry.version v) (entry ∷ entries_upto v es) (entries_upto v es)) (entries_upto v es)
+      left true = refl
+      left false = refl
+
+      right : (b : Bool) → filter (λ (c : CommitEntry). nat_le c.version v) (map commit_entry (cond b (one ∷ filter (is_listed p) ss) (filter (is_listed p) ss)))
+          ≡ cond b (cond (nat_le one.version v) (commit_entry one ∷ commits_upto v ss) (commits_upto v ss)) (commits_upto v ss)
+      right true = refl
+      right false = refl
+
+      shown : nat_le entry.version v ≡ true → nat_le one.version p.reported ≡ true
+      shown h = let at : entry.version ≡ one.version = pair.same_version in let e : entry.version ≤ v = leb-true entry.version v h in le-leb one.version p.reported (omega (arith, at, e, below))
+
+      same_step : after_entry serial entry ≡ after_commit serial (commit_entry one)
+      same_step = ap (after_attempts serial) pair.commands ∙ attempts_effects serial one.transaction.attempts
+
+      by_test : (b u r : Bool) → (u ≡ true → r ≡ true) → ((s : Serial) → fold after_entry s (entries_upto v es) ≡ fold after_commit s (commits_upto v ss)) →
+          fold after_entry serial (cond b (cond u (entry ∷ entries_upto v es) (entries_upto v es)) (entries_upto v es))
+          ≡ fold after_commit serial (cond (r && b) (cond u (commit_entry one ∷ commits_upto v ss) (commits_upto v ss)) (commits_upto v ss))
+      by_test false u true so rest = rest serial
+      by_test false u false so rest = rest serial
+      by_test true true true so rest = rest (after_entry serial entry) ∙ ap (λ s. fold after_commit s (commits_upto v ss)) same_step
+      by_test true true false so rest = absurd (true≢false (sym (so refl)))
+      by_test true false true so rest = rest serial
+      by_test true false false so rest = rest serial
+
+  -- ---- the submissions of a cluster whose history is legal
+
+  module _ (legal : IsLegal (history p)) (are : AreSubmitted maps p.reported p.start subs p.requests) where
+    pairs_now : ArePairs (entries p) subs
+    pairs_now = subst (λ last. ArePairs (numbered last p.requests) subs) (sym here)
+        (pairs_from 0 subs p.requests (subst (λ last. AreSubmitted maps p.reported last subs p.requests) here are) (λ i. ap (slice_get subs) (none_added i)) (λ i. ap (slice_get (entries p)) (none_added i) ∙ ap (λ last. slice_get (numbered last p.requests) i) here))
+      where
+        none_added : (i : ℕ) → 0 + i ≡ i
+        none_added i = omega arith
+
+        here : p.start ≡ p.start + 0
+        here = omega arith
+
+    one_replays : (entry : Entry) (one : Submission) → IsPair entry one → Replays Holds Replied attempted commands_of (history p) entry
+    one_replays entry one pair m serial holds agree =
+        let served = done_serve maps one.transaction.attempts (fresh one.transaction.read_version) entry.request pair.open_as.done m serial agree holds in (
+          subst (AllReplied Holds Replied attempted serial) (sym pair.commands) (serial_replied serial one.transaction.attempts served.0),
+          subst (λ attempts. Holds (after_all entry.request.mutations m) (after_attempts serial attempts)) (sym pair.commands) served.1,
+        )
+
+    each_replays : (es : List Entry) (ss : List Submission) → ArePairs es ss → AllByRecursion (Replays Holds Replied attempted commands_of (history p)) (passing es)
+    each_replays [] [] pairs = tt
+    each_replays [] (one ∷ ss) pairs = absurd pairs
+    each_replays (entry ∷ es) [] pairs = absurd pairs
+    each_replays (entry ∷ es) (one ∷ ss) (pair, pairs) = by_test (is_committed p.splits (entries p) entry) (one_replays entry one pair) (each_replays es ss pairs)
+      where
+        by_test : (b : Bool) → Replays Holds Replied attempted commands_of (history p) entry → AllByRecursion (Replays Holds Replied attempted commands_of (history p)) (passing es) →
+            AllByRecursion (Replays Holds Replied attempted commands_of (history p)) (cond b (entry ∷ passing es) (passing es))
+        by_test true now rest = (now, rest)
+        by_test false now rest = rest
+
+    replays : All (Replays Holds Replied attempted commands_of (history p)) (history p)
+    replays = All-from_recursion (Replays Holds Replied attempted commands_of (history p)) (history p) (each_replays (entries p) subs pairs_now)
+
+    rising : IsRising (history p)
+    rising = rising-filter (is_committed p.splits (entries p)) (entries p) (rising-numbered p.start p.requests)
+
+    state_is : (v : ℕ) → v ≤ p.reported → state_at Holds Replied attempted commands_of None (history p) v ≡ committed (commits_of p subs) v
+    state_is v below = states_same v below (entries p) subs pairs_now None
+
+    -- HOLDS: the map at each version up to the last reported one holds what is committed there
+    pub holds_committed : (v : ℕ) → v ≤ p.reported → Holds (maps v) (committed (commits_of p subs) v)
+    holds_committed v below = subst (Holds (maps v)) (state_is v below) (holds_at Holds Replied attempted commands_of None holds_nothing (history p) rising legal replays v)
+
+    -- SERIAL: each listed transaction has its replies just before its version
+    serial_each : (es : List Entry) (ss : List Submission) → ArePairs es ss →
+        AllByRecursion (λ (e : Entry). AllReplied Holds Replied attempted (state_at Holds Replied attempted commands_of None (history p) (e.version - 1)) (commands_of e)) (passing es) →
+        AllByRecursion (λ (one : Submission). IsSerialAt (committed (commits_of p subs) (one.version - 1)) one.transaction.attempts) (filter (is_listed p) ss)
+    serial_each [] [] pairs all = tt
+    serial_each [] (one ∷ ss) pairs all = absurd pairs
+    serial_each (entry ∷ es) [] pairs all = absurd pairs
+    serial_each (entry ∷ es) (one ∷ ss) (pair, pairs) all =
+        subst (λ b. AllByRecursion Y (cond (nat_le one.version p.reported && b) (one ∷ filter (is_listed p) ss) (filter (is_listed p) ss))) (sym pair.same_end)
+        (by_test (is_committed p.splits (entries p) entry) (nat_le one.version p.reported) refl all (serial_each es ss pairs))
+      where
+        X : Entry → Type 0
+        X e = AllReplied Holds Replied attempted (state_at Holds Replied attempted commands_of None (history p) (e.version - 1)) (commands_of e)
+
+        Y : Submission → Type 0
+        Y s = IsSerialAt (committed (commits_of p subs) (s.version - 1)) s.transaction.attempts
+
+        here : nat_le one.version p.reported ≡ true → X entry → Y one
+        here h x =
+            let below : one.version ≤ p.reported = leb-true one.version p.reported h in
+            let at : entry.version ≡ one.version = pair.same_version in
+            replied_serial (committed (commits_of p subs) (one.version - 1)) one.transaction.attempts
+            (subst (AllReplied Holds Replied attempted (committed (commits_of p subs) (one.version - 1))) pair.commands
+            (subst (λ s. AllReplied Holds Replied attempted s (commands_of entry)) (ap (λ v. state_at Holds Replied attempted commands_of None (history p) (v - 1)) at ∙ state_is (one.version - 1) (omega (arith, below))) x))
+
+        by_test : (b r : Bool) → nat_le one.version p.reported ≡ r → AllByRecursion X (cond b (entry ∷ passing es) (passing es)) → (AllByRecursion X (passing es) → AllByRecursion Y (filter (is_listed p) ss)) →
+            AllByRecursion Y (cond (r && b) (one ∷ filter (is_listed p) ss) (filter (is_listed p) ss))
+        by_test false true is every rest = rest every
+        by_test false false is every rest = rest every
+        by_test true true is every rest = (here is every.0, rest every.1)
+        by_test true false is every rest = rest every.1
+
+    pub serial_all : All (λ (one : Submission). IsSerialAt (committed (commits_of p subs) (one.version - 1)) one.transaction.attempts) (listed p subs)
+    serial_all = All-from_recursion (λ (one : Submission). IsSerialAt (committed (commits_of p subs) (one.version - 1)) one.transaction.attempts) (listed p subs)
+        (serial_each (entries p) subs pairs_now
+        (recursion_from_All (λ (e : Entry). AllReplied Holds Replied attempted (state_at Holds Replied attempted commands_of None (history p) (e.version - 1)) (commands_of e)) (history p)
+        (replied_at Holds Replied attempted commands_of None holds_nothing (history p) rising legal replays)))
+
+    -- OPEN: what an open transaction wrote and read, and what it sees
+    open_writes : (open_now : Open) (request : CommitRequest) → IsOpenAs maps p.reported open_now request → request.mutations ≡ written (committed (commits_of p subs) open_now.read_version) (accepted open_now.attempts)
+    open_writes open_now request is =
+        done_writes maps open_now.attempts (fresh open_now.read_version) request is.done (maps open_now.read_version) (committed (commits_of p subs) open_now.read_version)
+        (λ key h. ap (λ v. Rattle.std.specs.FinMap.get (maps v) key) is.at) (holds_committed open_now.read_version is.seen)
+
+    open_reads : (open_now : Open) (request : CommitRequest) → IsOpenAs maps p.reported open_now request → (key : List ℕ) → IsTrue (covers request.reads key) →
+        IsTrue (covers (reach_of (committed (commits_of p subs) open_now.read_version) open_now.attempts) key)
+    open_reads open_now request is key read =
+        elim (done_reads maps open_now.attempts (fresh open_now.read_version) request is.done (maps open_now.read_version) (committed (commits_of p subs) open_now.read_version)
+        (λ k h. ap (λ v. Rattle.std.specs.FinMap.get (maps v) k) is.at) (holds_committed open_now.read_version is.seen) key read) [
+          | inl none ↦ absurd (true≢false (sym none))
+          | inr within ↦ within
+        ]
+
+    open_sees : (open_now : Open) (request : CommitRequest) → IsOpenAs maps p.reported open_now request → Holds (seen request (maps open_now.read_version)) (view (commits_of p subs) open_now)
+    open_sees open_now request is =
+        subst (Holds (seen request (maps open_now.read_version))) (attempts_effects (committed (commits_of p subs) open_now.read_version) open_now.attempts)
+        (done_serve maps open_now.attempts (fresh open_now.read_version) request is.done (maps open_now.read_version) (committed (commits_of p subs) open_now.read_version)
+        (λ key h. ap (λ v. Rattle.std.specs.FinMap.get (maps v) key) is.at) (holds_committed open_now.read_version is.seen)).1
+
+    -- REQUESTS: each is that of its submission
+    requests_each : (last : ℕ) (ss : List Submission) (requests : List CommitRequest) → AreSubmitted maps p.reported last ss requests → AreRequestsOf (commits_of p subs) ss requests
+    requests_each last [] [] each = tt
+    requests_each last [] (request ∷ requests) each = absurd each
+    requests_each last (one ∷ ss) [] each = absurd each
+    requests_each last (one ∷ ss) (request ∷ requests) each = (
+      record {
+        read_version = each.0.open_as.at;
+        reads = open_reads one.transaction request each.0.open_as;
+        mutations = open_writes one.transaction request each.0.open_as;
+      },
+      requests_each (last + 1) ss requests each.1,
+    )
+
+    pub requests_all : AreRequestsOf (commits_of p subs) subs p.requests
+    requests_all = requests_each p.start subs p.requests are
+
+    -- a reply that was right over every map is right by what the transaction sees
+    pub performed_right : (open_now : Open) (request new : CommitRequest) (refuses : ℕ → KeyRange → Option Rattle.cluster_core.specs.declared.answers.ReadError.ReadError) (command : Command) (answer : Reply) →
+        IsOpenAs maps p.reported open_now request → IsPerformed maps (refuses request.read_version) command answer request new →
+        IsServed (written (committed (commits_of p subs) open_now.read_version) (accepted open_now.attempts)) (view (commits_of p subs) open_now) command answer
+        ⊎ IsReadRefusal (refuses open_now.read_version) (reach (schema_in (view (commits_of p subs) open_now)) command) answer
+    performed_right open_now request new refuses command answer is performed =
+        let base : maps request.read_version ≡ maps open_now.read_version = ap maps is.at in
+        let at = performed.ran.over (maps open_now.read_version) (λ key h. ap (λ m. Rattle.std.specs.FinMap.get m key) base) (view (commits_of p subs) open_now) (open_sees open_now request is) in
+        elim at.right [
+          | inl served ↦ inl (subst (λ before. IsServed before (view (commits_of p subs) open_now) command answer) (open_writes open_now request is) served)
+          | inr refused ↦ inr (subst (λ v. IsReadRefusal (refuses v) (reach (schema_in (view (commits_of p subs) open_now)) command) answer) is.at refused)
+        ]
+
+-- ---- as the clauses of a schedule say it
+
+pub command_right : (c : ClusterState) (subs : List Submission) (open_now : Open) (request new : CommitRequest) (command : Command) (answer : Reply) →
+    IsLegal (history c.pipeline) → AreSubmitted (database_at c) c.pipeline.reported c.pipeline.start subs c.pipeline.requests → IsOpenAs (database_at c) c.pipeline.reported open_now request →
+    IsPerformed (database_at c) (λ range. refusal (tier_of c) range request.read_version) command answer request new →
+    IsCommandReply c (commits_of c.pipeline subs) open_now command answer
+command_right c subs open_now request new command answer legal are is performed =
+    performed_right c.pipeline subs legal are open_now request new (λ version range. refusal (tier_of c) range version) command answer is performed
+
+pub holds_all : (c : ClusterState) (subs : List Submission) → IsLegal (history c.pipeline) → AreSubmitted (database_at c) c.pipeline.reported c.pipeline.start subs c.pipeline.requests →
+    HoldsCommitted c (commits_of c.pipeline subs)
+holds_all c subs legal are version from upto = holds_committed c.pipeline subs legal are version upto
+
+pub is_serial : (c : ClusterState) (subs : List Submission) → IsLegal (history c.pipeline) → AreSubmitted (database_at c) c.pipeline.reported c.pipeline.start subs c.pipeline.requests →
+    IsSerial c (commits_of c.pipeline subs) subs
+is_serial c subs legal are = serial_all c.pipeline subs legal are
+
+pub are_requests : (c : ClusterState) (subs : List Submission) → IsLegal (history c.pipeline) → AreSubmitted (database_at c) c.pipeline.reported c.pipeline.start subs c.pipeline.requests →
+    AreRequestsOf (commits_of c.pipeline subs) subs c.pipeline.requests
+are_requests c subs legal are = requests_all c.pipeline subs legal are

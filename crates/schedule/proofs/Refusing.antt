@@ -1,0 +1,100 @@
+-- What a refused step leaves.
+use Rattle.std.proofs.Common.{◌≡◌, ℕ, Bool, true, false, cond, ◌==◌, List, [], ◌∷◌, ◌++◌, Option, Some, None, map, refl, ap}
+use Rattle.std.specs.Prelude.{filter}
+use Rattle.std.specs.Option.{option_map}
+use Rattle.kv_core.specs.declared.change.CommitRequest.{CommitRequest}
+use Rattle.cluster_core.specs.declared.answers.Config.{Config}
+use Rattle.metadata.specs.declared.refusal.Refusal.{Refusal}
+use Rattle.schedule.specs.declared.step.Command.{Command}
+use Rattle.schedule.specs.declared.step.Step.{Step}
+use Rattle.schedule.specs.declared.step.Step.TheVariants.{Begin, Perform, Commit, Abandon, Resolve, Log, Pull, Report, Lost, Settle}
+use Rattle.schedule.specs.declared.reply.Reply.{Reply}
+use Rattle.schedule.specs.declared.reply.Reply.TheVariants.{Begun, Done, SavedNew, SavedOver, Found, Absent, Removed, Rows, Submitted, ReadOnly, Nothing, Reported, Refused, Corrupt}
+use Rattle.schedule.specs.declared.reply.Report as telling
+use Rattle.schedule.specs.Past.{Past, Attempt, Open, accepted, is_accepted, grown, open_of}
+use Rattle.schedule.specs.Standing.{cluster_after}
+use Rattle.schedule.specs.Contract.{EachReply, HasRightReplies, IsReplyTo, IsLeft, LeavesAll, open_by_commands, reports_reply}
+
+-- a refused attempt isn't among the accepted ones
+accepted_grown : (attempts : List Attempt) (command : Command) (refusal : Refusal) → accepted (attempts ++ (record { command = command; reply = Refused refusal }) ∷ []) ≡ accepted attempts
+accepted_grown [] command refusal = refl
+accepted_grown (first ∷ attempts) command refusal = by_test (is_accepted first.reply) (accepted_grown attempts command refusal)
+  where
+    later : List Attempt
+    later = attempts ++ (record { command = command; reply = Refused refusal }) ∷ []
+
+    kept : List Attempt → List Attempt
+    kept = filter (λ (a : Attempt). is_accepted a.reply)
+
+    by_test : (b : Bool) → map (λ (a : Attempt). a.command) (kept later) ≡ map (λ (a : Attempt). a.command) (kept attempts) →
+        map (λ (a : Attempt). a.command) (cond b (first ∷ kept later) (kept later)) ≡ map (λ (a : Attempt). a.command) (cond b (first ∷ kept attempts) (kept attempts))
+    by_test true rest = ap (λ cs. first.command ∷ cs) rest
+    by_test false rest = rest
+
+abbrev by_commands : Open → ℕ × List Command
+by_commands open_now = (open_now.read_version, accepted open_now.attempts)
+
+grown_same : (command : Command) (refusal : Refusal) (before : Option Open) → option_map by_commands (grown (record { command = command; reply = Refused refusal }) before) ≡ option_map by_commands before
+grown_same command refusal None = refl
+grown_same command refusal (Some open_now) = ap (λ cs. Some (open_now.read_version, cs)) (accepted_grown open_now.attempts command refusal)
+
+-- a report isn't a refusal
+not_refused : (reports : List telling.Report) (refusal : Refusal) → Refused refusal ≡ reports_reply reports → ⊥
+not_refused [] refusal is = cc
+not_refused (one ∷ others) refusal is = cc
+
+leaves : (config : Config) (requests : List CommitRequest) (past : Past) (step : Step) (refusal : Refusal) → IsReplyTo (cluster_after config requests past) past step (Refused refusal) → IsLeft config requests past step (Refused refusal)
+leaves config requests past (Begin who) refusal right = record { cluster = refl; submissions = refl; transactions = λ client. refl }
+leaves config requests past (Perform who command) refusal right = record {
+  cluster = refl;
+  submissions = refl;
+  transactions = λ client. by_test (who == client) client;
+}
+  where
+    by_test : (b : Bool) (client : ℕ) →
+        option_map by_commands (cond b (grown (record { command = command; reply = Refused refusal }) (open_of client past)) (open_of client past)) ≡ open_by_commands client past
+    by_test true client = grown_same command refusal (open_of client past)
+    by_test false client = refl
+leaves config requests past (Commit who) refusal right = record {
+  cluster = refl;
+  submissions = refl;
+  transactions = λ client. by_test (who == client) client;
+}
+  where
+    by_test : (b : Bool) (client : ℕ) → option_map by_commands (cond b None (open_of client past)) ≡ cond b None (open_by_commands client past)
+    by_test true client = refl
+    by_test false client = refl
+leaves config requests past (Abandon who) refusal right = record { cluster = refl; submissions = refl; transactions = λ client. refl }
+leaves config requests past (Resolve r) refusal right = record { cluster = refl; submissions = refl; transactions = λ client. refl }
+leaves config requests past (Log l) refusal right = record { cluster = refl; submissions = refl; transactions = λ client. refl }
+leaves config requests past (Pull s) refusal right = record { cluster = refl; submissions = refl; transactions = λ client. refl }
+leaves config requests past Report refusal right = record { cluster = refl; submissions = refl; transactions = λ client. refl }
+leaves config requests past Lost refusal right = record { cluster = refl; submissions = refl; transactions = λ client. refl }
+leaves config requests past Settle refusal right = absurd (not_refused _ refusal right)
+
+leaves_any : (config : Config) (requests : List CommitRequest) (past : Past) (step : Step) (reply : Reply) → IsReplyTo (cluster_after config requests past) past step reply → LeavesAll config requests past step reply
+leaves_any config requests past step (Refused refusal) right = leaves config requests past step refusal right
+leaves_any config requests past step (Corrupt key) right = tt
+leaves_any config requests past step (Begun version) right = tt
+leaves_any config requests past step Done right = tt
+leaves_any config requests past step SavedNew right = tt
+leaves_any config requests past step (SavedOver cells) right = tt
+leaves_any config requests past step (Found cells) right = tt
+leaves_any config requests past step Absent right = tt
+leaves_any config requests past step Removed right = tt
+leaves_any config requests past step (Rows rows) right = tt
+leaves_any config requests past step (Submitted version) right = tt
+leaves_any config requests past step ReadOnly right = tt
+leaves_any config requests past step Nothing right = tt
+leaves_any config requests past step (Reported reports) right = tt
+
+each_leaves : (config : Config) (requests : List CommitRequest) (past : Past) (steps : List Step) (replies : List Reply) →
+    EachReply (λ past step reply. IsReplyTo (cluster_after config requests past) past step reply) past steps replies → EachReply (LeavesAll config requests) past steps replies
+each_leaves config requests past [] [] each = tt
+each_leaves config requests past [] (other ∷ replies) each = absurd each
+each_leaves config requests past (other ∷ steps) [] each = absurd each
+each_leaves config requests past (first ∷ steps) (one ∷ replies) each = (leaves_any config requests past first one each.0, each_leaves config requests ((first, one) ∷ past) steps replies each.1)
+
+-- REFUSALS: where each reply is right, each refused step leaves all as it was
+pub refusals_leave : (config : Config) (requests : List CommitRequest) (steps : List Step) (replies : List Reply) → HasRightReplies config requests steps replies → EachReply (LeavesAll config requests) [] steps replies
+refusals_leave config requests steps replies each = each_leaves config requests [] steps replies each

@@ -1,0 +1,117 @@
+-- Steps one after another, over plain values.
+use Rattle.std.proofs.Common.{◌≡◌, ℕ, zero, suc, ◌+◌, ◌-◌, ◌<◌, ◌≤◌, List, [], ◌∷◌, ◌++◌, length, take, get_or, map, refl, sym, ap, subst, subst₂, ◌∙◌, Option, None, replicate, append-nil, append_assoc, arith}
+use Rattle.std.specs.Prelude.{All}
+use Rattle.std.proofs.Math.Seq.{drop-nil}
+use Rattle.std.proofs.lemmas.List.{take_more}
+use Rattle.kv_core.specs.declared.change.CommitRequest.{CommitRequest}
+use Rattle.cluster_core.specs.declared.answers.Config.{Config}
+use Rattle.cluster_core.specs.Cluster.{ClusterState, database_at}
+use Rattle.cluster_core.specs.Configuration.{first_cluster}
+use Rattle.cluster_core.specs.Decision.{owners}
+use Rattle.cluster_core.specs.History.{IsLegal}
+use Rattle.cluster_core.specs.Roles.{history}
+use Rattle.schedule.specs.declared.step.Step.{Step}
+use Rattle.schedule.specs.declared.step.TheConstants.{CLIENTS}
+use Rattle.schedule.specs.declared.reply.Reply.{Reply}
+use Rattle.schedule.specs.declared.transcript.CommitEntry.{CommitEntry}
+use Rattle.schedule.specs.declared.database.Database.{Database}
+use Rattle.schedule.specs.declared.database.OpenTransaction.{OpenTransaction}
+use Rattle.schedule.specs.Past.{submitted_in}
+use Rattle.schedule.specs.Contract.{AreRequestsOf, EachReply, HasRightReplies, HoldsCommitted, IsReplyTo, IsSerial, LeavesAll, past_of}
+use Rattle.schedule.specs.Standing.{cluster_after, commits_of, stepped}
+use Rattle.schedule.specs.Running.{HasRun, IsFirst, IsStandingAt, IsStepped, Stands, Steps, kept}
+use Rattle.schedule.proofs.ClientSteps.{standing_as}
+use Rattle.schedule.proofs.Composed.{are_requests, holds_all, is_serial}
+use Rattle.schedule.proofs.Growing.{each_reply_append, past_of_append}
+use Rattle.schedule.proofs.Places.{places_first}
+use Rattle.schedule.proofs.Refusing.{refusals_leave}
+
+-- ---- the start
+
+-- clocks that all stand here
+all_here : {X : Type 0} (xs : List X) (here top : ℕ) → here ≤ top → All (λ clock. clock ≤ top) (map (λ _. here) xs)
+all_here [] here top below k d within = absurd (omega (arith, within))
+all_here (x ∷ xs) here top below zero d within = below
+all_here (x ∷ xs) here top below (suc k) d within = all_here xs here top below k d (omega (arith, within))
+
+first_standing : (config : Config) (transactions : List (Option OpenTransaction)) → transactions ≡ replicate CLIENTS None → IsStandingAt (first_cluster config) (λ client. None) [] transactions [] []
+first_standing config transactions are = record {
+  begun = omega arith;
+  given = omega arith;
+  pulled = all_here (owners config.storage_splits) config.start (config.start + 0) (omega arith);
+  places = places_first (database_at (first_cluster config)) config.start transactions are;
+  unreported = sym (ap (map kept) (drop-nil (config.start - config.start)));
+  commits = refl;
+  submitted = tt;
+}
+
+pub first_run : (config : Config) (database : Database) → IsFirst config database → HasRun config [] [] database
+first_run config database first = record {
+  right = λ more. tt;
+  cluster = λ more. sym first.cluster;
+  stands = standing_as (λ client. None) [] database (first_cluster config) database.transactions.items [] [] first.cluster refl first.unreported first.commits (first_standing config database.transactions.items first.places);
+}
+
+-- ---- one step more
+
+pub next_run : (config : Config) (steps : List Step) (replies : List Reply) (step : Step) (reply : Reply) (old new : Database) → HasRun config steps replies old → Steps (past_of [] steps replies) step reply old new →
+    HasRun config (steps ++ step ∷ []) (replies ++ reply ∷ []) new
+next_run config steps replies step reply old new run next = record {
+  right = λ more.
+      subst (λ full. HasRightReplies config full (steps ++ step ∷ []) (replies ++ reply ∷ [])) (sym (longer more))
+      (each_reply_append (λ past one answer. IsReplyTo (cluster_after config (old.cluster.pipeline.requests ++ (next.added ++ more)) past) past one answer) [] steps replies step reply (run.right (next.added ++ more))
+      (subst (λ c. IsReplyTo c (past_of [] steps replies) step reply) (sym (run.cluster (next.added ++ more))) next.right));
+  cluster = λ more.
+      ap (cluster_after config (new.cluster.pipeline.requests ++ more)) one_more
+      ∙ ap (stepped (new.cluster.pipeline.requests ++ more) step reply) (ap (λ full. cluster_after config full (past_of [] steps replies)) (longer more) ∙ run.cluster (next.added ++ more))
+      ∙ next.moved more;
+  stands = subst (λ past. Stands past new) (sym one_more) next.after;
+}
+  where
+    longer : (more : List CommitRequest) → new.cluster.pipeline.requests ++ more ≡ old.cluster.pipeline.requests ++ (next.added ++ more)
+    longer more = ap (λ rs. rs ++ more) next.grown ∙ append_assoc old.cluster.pipeline.requests next.added more
+
+    one_more : past_of [] (steps ++ step ∷ []) (replies ++ reply ∷ []) ≡ (step, reply) ∷ past_of [] steps replies
+    one_more = past_of_append (λ past one answer. IsReplyTo (cluster_after config (old.cluster.pipeline.requests ++ []) past) past one answer) [] steps replies step reply (run.right [])
+
+-- a turn of the loop over steps
+pub turn : (config : Config) (steps : List Step) (i : ℕ) (step : Step) (before after : List Reply) (reply : Reply) (old new : Database) → i < length steps → step ≡ get_or steps i step → after ≡ before ++ reply ∷ [] →
+    HasRun config (take i steps) before old → IsStepped step reply old new → HasRun config (take (i + 1) steps) after new
+turn config steps i step before after reply old new within is pushed run stepped_so =
+    let longer : take (i + 1) steps ≡ take i steps ++ step ∷ [] = take_more steps i step within ∙ ap (λ s. take i steps ++ s ∷ []) (sym is) in
+    subst₂ (λ ss rs. HasRun config ss rs new) (sym longer) (sym pushed) (next_run config (take i steps) before step reply old new run (stepped_so (past_of [] (take i steps) before) run.stands))
+
+-- ---- the end
+
+-- what a whole run is
+pub record Ends (config : Config) (steps : List Step) (answers : List Reply) (c : ClusterState) (entries : List CommitEntry) : Type 0 where
+  pub replies : HasRightReplies config c.pipeline.requests steps answers
+  pub cluster : c ≡ cluster_after config c.pipeline.requests (past_of [] steps answers)
+  pub commits : entries ≡ commits_of c.pipeline (submitted_in (past_of [] steps answers))
+  pub holds : HoldsCommitted c entries
+  pub serial : IsSerial c entries (submitted_in (past_of [] steps answers))
+  pub requests : AreRequestsOf entries (submitted_in (past_of [] steps answers)) c.pipeline.requests
+  pub refusals : EachReply (LeavesAll config c.pipeline.requests) [] steps answers
+
+pub run_ends : (config : Config) (steps : List Step) (answers : List Reply) (database : Database) → HasRun config steps answers database → IsLegal (history database.cluster.pipeline) →
+    Ends config steps answers database.cluster database.commits.items
+run_ends config steps answers database run legal =
+    let c = database.cluster in
+    let subs = submitted_in (past_of [] steps answers) in
+    let s = run.stands in
+    let right : HasRightReplies config c.pipeline.requests steps answers = subst (λ full. HasRightReplies config full steps answers) (append-nil c.pipeline.requests) (run.right []) in
+    record {
+      replies = right;
+      cluster = sym (ap (λ full. cluster_after config full (past_of [] steps answers)) (sym (append-nil c.pipeline.requests)) ∙ run.cluster []);
+      commits = s.commits;
+      holds = subst (HoldsCommitted c) (sym s.commits) (holds_all c subs legal s.submitted);
+      serial = subst (λ commits. IsSerial c commits subs) (sym s.commits) (is_serial c subs legal s.submitted);
+      requests = subst (λ commits. AreRequestsOf commits subs c.pipeline.requests) (sym s.commits) (are_requests c subs legal s.submitted);
+      refusals = refusals_leave config c.pipeline.requests steps answers right;
+    }
+
+-- the same, with the replies and the commits as they are handed out
+pub ended : (config : Config) (steps : List Step) (given answers : List Reply) (handed : List CommitEntry) (database : Database) → answers ≡ given → handed ≡ database.commits.items → HasRun config steps given database →
+    IsLegal (history database.cluster.pipeline) → Ends config steps answers database.cluster handed
+ended config steps given answers handed database is_answers is_handed run legal =
+    subst₂ (λ rs es. Ends config steps rs database.cluster es) (sym is_answers) (sym is_handed) (run_ends config steps given database run legal)

@@ -1,0 +1,244 @@
+-- Attempts at commands, one after another, in one transaction.
+use Rattle.std.proofs.Common.{◌≡◌, ℕ, suc, ◌≤◌, Bool, true, false, not, cond, ◌==◌, ◌||◌, ◌⊎◌, inl, inr, List, [], ◌∷◌, ◌++◌, length, refl, sym, ap, subst, ◌∙◌, Option, Some, None, append_assoc, append-nil, arith}
+use Rattle.std.specs.Prelude.{IsTrue, filter, map, fold}
+use Rattle.std.proofs.lemmas.Bool.{eqb-true, true≢false, or_left, or_right}
+use Rattle.std.proofs.lemmas.List.Folds.{list_any-append}
+use Rattle.kv_core.specs.Range.{KeyRange, contains, covers}
+use Rattle.kv_core.specs.Map.{Map, Agree, after_all}
+use Rattle.kv_core.specs.Limits.{write_all_refusal}
+use Rattle.kv_core.specs.declared.change.CommitRequest.{CommitRequest}
+use Rattle.kv_core.specs.declared.change.Mutation.{Mutation}
+use Rattle.kv_core.specs.declared.change.WriteError.{WriteError}
+use Rattle.kv_core.specs.declared.change.WriteError.TheVariants as limits
+use Rattle.kv_core.proofs.Changes.{after_all-append}
+use Rattle.cluster_core.specs.declared.answers.ReadError.{ReadError}
+use Rattle.txn.specs.Reads.{seen}
+use Rattle.txn.proofs.Running.{ran_because}
+use Rattle.schedule.specs.declared.step.Command.{Command}
+use Rattle.schedule.specs.declared.reply.Reply.{Reply}
+use Rattle.schedule.specs.declared.reply.Reply.TheVariants.{Begun, Done, SavedNew, SavedOver, Found, Absent, Removed, Rows, Submitted, ReadOnly, Nothing, Reported, Refused, Corrupt}
+use Rattle.schedule.specs.Store.{Serial}
+use Rattle.schedule.specs.Serve.{IsReply, effect, effects}
+use Rattle.schedule.specs.Past.{Attempt, Open, accepted, is_accepted, is_reading, is_changed}
+use Rattle.schedule.specs.Holds.{Holds}
+use Rattle.schedule.specs.Reach.{reach, schema_in, writes}
+use Rattle.schedule.specs.Performed.{IsLimit, IsLimited, IsReadRefusal, IsPerformedAt, IsPerformed}
+use Rattle.schedule.specs.Contract.{attempted, written, reach_of, IsSerialAt}
+use Rattle.schedule.specs.Turns.{fresh, DidAt, Did, AreDone, IsOpenAs}
+
+-- ---- one attempt
+
+-- a limit is a refusal, and so is a refused read
+limit_refuses : (error : WriteError) (answer : Reply) → IsLimit error answer → is_accepted answer ≡ false
+limit_refuses limits.KeyOutside answer is = ap is_accepted is
+limit_refuses limits.KeyTooLarge answer is = ap is_accepted is
+limit_refuses limits.ValueTooLarge answer is = ap is_accepted is
+limit_refuses limits.TransactionTooLarge answer is = ap is_accepted is
+limit_refuses limits.Memory answer is = absurd is
+
+read_refuses : (refuses : KeyRange → Option ReadError) (within : List KeyRange) (answer : Reply) → IsReadRefusal refuses within answer → is_accepted answer ≡ false
+read_refuses refuses within (Refused refusal) is = refl
+read_refuses refuses within (Corrupt key) is = refl
+read_refuses refuses within (Begun version) is = absurd is
+read_refuses refuses within Done is = absurd is
+read_refuses refuses within SavedNew is = absurd is
+read_refuses refuses within (SavedOver cells) is = absurd is
+read_refuses refuses within (Found cells) is = absurd is
+read_refuses refuses within Absent is = absurd is
+read_refuses refuses within Removed is = absurd is
+read_refuses refuses within (Rows rows) is = absurd is
+read_refuses refuses within (Submitted version) is = absurd is
+read_refuses refuses within ReadOnly is = absurd is
+read_refuses refuses within Nothing is = absurd is
+read_refuses refuses within (Reported reports) is = absurd is
+
+-- an accepted reply is the serial store's
+replied_of : (limit : Option WriteError) (serial : Serial) (command : Command) (answer : Reply) → IsLimited limit serial command answer → is_accepted answer ≡ true → IsReply serial command answer
+replied_of None serial command answer is yes_accepted = is
+replied_of (Some error) serial command answer is yes_accepted = absurd (true≢false (sym yes_accepted ∙ limit_refuses error answer is))
+
+did_at : {refuses : KeyRange → Option ReadError} {before : List Mutation} (schema : Option Rattle.metadata.specs.Schema.Schema) (command : Command) (answer : Reply) (written : List Mutation) (m : Map) (serial : Serial) →
+    IsPerformedAt refuses schema command answer before written m serial → DidAt schema (record { command = command; reply = answer }) written m serial
+did_at {refuses = refuses} {before = before} schema command answer written m serial performed = record {
+  replied = λ yes_accepted. elim performed.right [
+    | inl served ↦ replied_of (write_all_refusal before (writes serial command)) serial command answer served yes_accepted
+    | inr refused ↦ absurd (true≢false (sym yes_accepted ∙ read_refuses refuses (reach (schema_in serial) command) answer refused))
+  ];
+  wrote = performed.wrote;
+  holds = performed.holds;
+  opened = performed.opened;
+}
+
+-- a command that was performed is an attempt that was made
+pub performed_did : (maps : ℕ → Map) (refuses : KeyRange → Option ReadError) (command : Command) (answer : Reply) (old new : CommitRequest) →
+    IsPerformed maps refuses command answer old new → Did maps (record { command = command; reply = answer }) old new
+performed_did maps refuses command answer old new performed = record {
+  schema = performed.schema;
+  written = performed.written;
+  changes = performed.changes;
+  ran = ran_because performed.ran (λ m fact serial holds. did_at performed.schema command answer performed.written m serial (fact serial holds));
+}
+
+-- ---- attempts in turn
+
+-- one more attempt
+pub done_append : (maps : ℕ → Map) (attempts : List Attempt) (attempt : Attempt) (old mid new : CommitRequest) →
+    AreDone maps attempts old mid → Did maps attempt mid new → AreDone maps (attempts ++ attempt ∷ []) old new
+done_append maps [] attempt old mid new same did = (new, subst (λ (t : CommitRequest). Did maps attempt t new) (sym same) did, refl)
+done_append maps (first ∷ attempts) attempt old mid new (next, one, rest) did = (next, one, done_append maps attempts attempt next mid new rest did)
+
+-- the read version stays
+pub done_version : (maps : ℕ → Map) (attempts : List Attempt) (old new : CommitRequest) → AreDone maps attempts old new → new.read_version ≡ old.read_version
+done_version maps [] old new same = ap (λ (t : CommitRequest). t.read_version) (sym same)
+done_version maps (attempt ∷ attempts) old new (mid, did, rest) = done_version maps attempts mid new rest ∙ did.ran.version
+
+-- the map at the read version alone matters
+did_elsewhere : (maps maps2 : ℕ → Map) (attempt : Attempt) (old new : CommitRequest) → maps old.read_version ≡ maps2 old.read_version → Did maps attempt old new → Did maps2 attempt old new
+did_elsewhere maps maps2 attempt old new same did = record {
+  schema = did.schema;
+  written = did.written;
+  changes = did.changes;
+  ran = record {
+    version = did.ran.version;
+    wrote = did.ran.wrote;
+    keeps = did.ran.keeps;
+    within = did.ran.within;
+    over = λ m agree. did.ran.over m (subst (λ (base : Map). Agree new.reads base m) (sym same) agree);
+  };
+}
+
+pub done_elsewhere : (maps maps2 : ℕ → Map) (attempts : List Attempt) (old new : CommitRequest) → maps old.read_version ≡ maps2 old.read_version → AreDone maps attempts old new → AreDone maps2 attempts old new
+done_elsewhere maps maps2 [] old new same done = done
+done_elsewhere maps maps2 (attempt ∷ attempts) old new same (mid, did, rest) =
+    (mid, did_elsewhere maps maps2 attempt old mid same did, done_elsewhere maps maps2 attempts mid new (ap maps did.ran.version ∙ same ∙ ap maps2 (sym did.ran.version)) rest)
+
+-- what was read stays among what is read later
+pub keeps_all : (maps : ℕ → Map) (attempts : List Attempt) (old new : CommitRequest) → AreDone maps attempts old new →
+    (m : Map) → Agree new.reads (maps new.read_version) m → Agree old.reads (maps old.read_version) m
+keeps_all maps [] old new same m agree = subst (λ (t : CommitRequest). Agree t.reads (maps t.read_version) m) (sym same) agree
+keeps_all maps (attempt ∷ attempts) old new (mid, did, rest) m agree =
+    let later = keeps_all maps attempts mid new rest m agree in
+    λ key h. subst (λ v. Agree mid.reads (maps v) m) did.ran.version later key (did.ran.keeps key h)
+
+-- what is there after attempts
+abbrev pub after_attempts : Serial → List Attempt → Serial
+after_attempts serial attempts = fold attempted serial attempts
+
+-- over each map that agrees with what was read, each accepted command has its reply at what the earlier ones leave, and the map seen at the end holds what is there after them
+pub done_serve : (maps : ℕ → Map) (attempts : List Attempt) (old new : CommitRequest) → AreDone maps attempts old new →
+    (m : Map) (serial : Serial) → Agree new.reads (maps new.read_version) m → Holds (seen old m) serial → IsSerialAt serial attempts × Holds (seen new m) (after_attempts serial attempts)
+done_serve maps [] old new same m serial agree holds = (tt, subst (λ (t : CommitRequest). Holds (seen t m) serial) same holds)
+done_serve maps (attempt ∷ attempts) old new (mid, did, rest) m serial agree holds =
+    let later = keeps_all maps attempts mid new rest m agree in
+    let at = did.ran.over m (subst (λ v. Agree mid.reads (maps v) m) did.ran.version later) serial holds in
+    let is_seen : after_all did.written (seen old m) ≡ seen mid m = sym (ap (λ ms. after_all ms m) did.ran.wrote ∙ after_all-append old.mutations did.written m) in
+    let after = done_serve maps attempts mid new rest m (attempted serial attempt) agree (subst (λ (n : Map). Holds n (attempted serial attempt)) is_seen at.holds) in
+    ((at.replied, after.0), after.1)
+
+-- ---- what a transaction wrote and read
+
+abbrev has_some : List Mutation → Bool
+has_some mutations = not (length mutations == 0)
+
+not_none : (n : ℕ) → (suc n == 0) ≡ false
+not_none n = by_test (suc n == 0) refl
+  where
+    by_test : (b : Bool) → (suc n == 0) ≡ b → b ≡ false
+    by_test true is = let none : suc n ≡ 0 = eqb-true (suc n) 0 is in absurd (omega (arith, none))
+    by_test false is = refl
+
+has_some-append : (a b : List Mutation) → has_some (a ++ b) ≡ (has_some a || has_some b)
+has_some-append [] b = refl
+has_some-append (x ∷ a) b = ap not (not_none (length (a ++ b))) ∙ ap (λ b0. not b0 || has_some b) (sym (not_none (length a)))
+
+or_assoc : (a b c : Bool) → ((a || b) || c) ≡ (a || (b || c))
+or_assoc true b c = refl
+or_assoc false b c = refl
+
+or_nothing : (a : Bool) → a ≡ (a || false)
+or_nothing true = refl
+or_nothing false = refl
+
+-- there are mutations where there were some, or where an attempt changed something
+done_changed : (maps : ℕ → Map) (attempts : List Attempt) (old new : CommitRequest) → AreDone maps attempts old new → has_some new.mutations ≡ (has_some old.mutations || is_changed attempts)
+done_changed maps [] old new same = ap (λ (t : CommitRequest). has_some t.mutations) (sym same) ∙ or_nothing (has_some old.mutations)
+done_changed maps (attempt ∷ attempts) old new (mid, did, rest) =
+    done_changed maps attempts mid new rest
+    ∙ ap (λ b. b || is_changed attempts) (ap has_some did.ran.wrote ∙ has_some-append old.mutations did.written ∙ ap (λ b. has_some old.mutations || not b) did.changes)
+    ∙ or_assoc (has_some old.mutations) (not (is_reading attempt.command attempt.reply)) (is_changed attempts)
+
+-- what is there after attempts is what the accepted commands make
+pub attempts_effects : (serial : Serial) (attempts : List Attempt) → after_attempts serial attempts ≡ effects serial (accepted attempts)
+attempts_effects serial [] = refl
+attempts_effects serial (attempt ∷ attempts) = by_test (is_accepted attempt.reply) (attempts_effects (effect serial attempt.command) attempts) (attempts_effects serial attempts)
+  where
+    by_test : (b : Bool) → after_attempts (effect serial attempt.command) attempts ≡ effects (effect serial attempt.command) (accepted attempts) → after_attempts serial attempts ≡ effects serial (accepted attempts) →
+        after_attempts (cond b (effect serial attempt.command) serial) attempts
+        ≡ effects serial (map (λ (a : Attempt). a.command) (cond b (attempt ∷ filter (λ (a : Attempt). is_accepted a.reply) attempts) (filter (λ (a : Attempt). is_accepted a.reply) attempts)))
+    by_test true yes_accepted otherwise = yes_accepted
+    by_test false yes_accepted otherwise = otherwise
+
+-- what was written is what the accepted commands write, over each map that agrees with what was read
+pub done_writes : (maps : ℕ → Map) (attempts : List Attempt) (old new : CommitRequest) → AreDone maps attempts old new →
+    (m : Map) (serial : Serial) → Agree new.reads (maps new.read_version) m → Holds (seen old m) serial → new.mutations ≡ old.mutations ++ written serial (accepted attempts)
+done_writes maps [] old new same m serial agree holds = ap (λ (t : CommitRequest). t.mutations) (sym same) ∙ sym (append-nil old.mutations)
+done_writes maps (attempt ∷ attempts) old new (mid, did, rest) m serial agree holds =
+    let later = keeps_all maps attempts mid new rest m agree in
+    let at = did.ran.over m (subst (λ v. Agree mid.reads (maps v) m) did.ran.version later) serial holds in
+    let is_seen : after_all did.written (seen old m) ≡ seen mid m = sym (ap (λ ms. after_all ms m) did.ran.wrote ∙ after_all-append old.mutations did.written m) in
+    done_writes maps attempts mid new rest m (attempted serial attempt) agree (subst (λ (n : Map). Holds n (attempted serial attempt)) is_seen at.holds)
+    ∙ ap (λ ms. ms ++ written (attempted serial attempt) (accepted attempts)) (did.ran.wrote ∙ ap (λ ms. old.mutations ++ ms) at.wrote)
+    ∙ append_assoc old.mutations (cond (is_accepted attempt.reply) (writes serial attempt.command) []) (written (attempted serial attempt) (accepted attempts))
+    ∙ ap (λ ms. old.mutations ++ ms) (by_test (is_accepted attempt.reply))
+  where
+    by_test : (b : Bool) → cond b (writes serial attempt.command) [] ++ written (cond b (effect serial attempt.command) serial) (accepted attempts)
+        ≡ written serial (map (λ (a : Attempt). a.command) (cond b (attempt ∷ filter (λ (a : Attempt). is_accepted a.reply) attempts) (filter (λ (a : Attempt). is_accepted a.reply) attempts)))
+    by_test true = refl
+    by_test false = refl
+
+-- what was read lies in the reach of the attempts, over each map that agrees with what was read
+pub done_reads : (maps : ℕ → Map) (attempts : List Attempt) (old new : CommitRequest) → AreDone maps attempts old new →
+    (m : Map) (serial : Serial) → Agree new.reads (maps new.read_version) m → Holds (seen old m) serial →
+    (key : List ℕ) → IsTrue (covers new.reads key) → IsTrue (covers old.reads key) ⊎ IsTrue (covers (reach_of serial attempts) key)
+done_reads maps [] old new same m serial agree holds key read = inl (subst (λ (t : CommitRequest). IsTrue (covers t.reads key)) (sym same) read)
+done_reads maps (attempt ∷ attempts) old new (mid, did, rest) m serial agree holds key read =
+    let later = keeps_all maps attempts mid new rest m agree in
+    let at = did.ran.over m (subst (λ v. Agree mid.reads (maps v) m) did.ran.version later) serial holds in
+    let is_seen : after_all did.written (seen old m) ≡ seen mid m = sym (ap (λ ms. after_all ms m) did.ran.wrote ∙ after_all-append old.mutations did.written m) in
+    let now : covers (reach_of serial (attempt ∷ attempts)) key ≡ (covers (reach (schema_in serial) attempt.command) key || covers (reach_of (attempted serial attempt) attempts) key) =
+    list_any-append (λ (range : KeyRange). contains range key) (reach (schema_in serial) attempt.command) (reach_of (attempted serial attempt) attempts) in
+    elim (done_reads maps attempts mid new rest m (attempted serial attempt) agree (subst (λ (n : Map). Holds n (attempted serial attempt)) is_seen at.holds) key read) [
+      | inl before ↦ elim (did.ran.within key before) [
+        | inl earlier ↦ inl earlier
+        | inr own ↦ inr (now ∙ or_left _ _ (at.opened key own))
+      ]
+      | inr rest_reads ↦ inr (now ∙ or_right _ _ rest_reads)
+    ]
+
+-- ---- open transactions
+
+pub open_fresh : (maps : ℕ → Map) (reported version : ℕ) → version ≤ reported → IsOpenAs maps reported (record { read_version = version; attempts = [] }) (fresh version)
+open_fresh maps reported version below = record { at = refl; seen = below; done = refl }
+
+pub open_grown : (maps : ℕ → Map) (reported : ℕ) (open_now : Open) (request new : CommitRequest) (refuses : KeyRange → Option ReadError) (command : Command) (answer : Reply) →
+    IsOpenAs maps reported open_now request → IsPerformed maps refuses command answer request new →
+    IsOpenAs maps reported (record { read_version = open_now.read_version; attempts = open_now.attempts ++ (record { command = command; reply = answer }) ∷ [] }) new
+open_grown maps reported open_now request new refuses command answer is performed = record {
+  at = performed.ran.version ∙ is.at;
+  seen = is.seen;
+  done = done_append maps open_now.attempts (record { command = command; reply = answer }) (fresh open_now.read_version) request new is.done (performed_did maps refuses command answer request new performed);
+}
+
+pub open_changed : (maps : ℕ → Map) (reported : ℕ) (open_now : Open) (request : CommitRequest) → IsOpenAs maps reported open_now request → is_changed open_now.attempts ≡ not (length request.mutations == 0)
+open_changed maps reported open_now request is = sym (done_changed maps open_now.attempts (fresh open_now.read_version) request is.done)
+
+pub open_elsewhere : (maps maps2 : ℕ → Map) (reported : ℕ) (open_now : Open) (request : CommitRequest) → ((v : ℕ) → v ≤ reported → maps v ≡ maps2 v) →
+    IsOpenAs maps reported open_now request → IsOpenAs maps2 reported open_now request
+open_elsewhere maps maps2 reported open_now request same is = record {
+  at = is.at;
+  seen = is.seen;
+  done = done_elsewhere maps maps2 open_now.attempts (fresh open_now.read_version) request (same open_now.read_version is.seen) is.done;
+}
+
+pub open_later : (maps : ℕ → Map) (reported later : ℕ) (open_now : Open) (request : CommitRequest) → reported ≤ later → IsOpenAs maps reported open_now request → IsOpenAs maps later open_now request
+open_later maps reported later open_now request below is = record { at = is.at; seen = omega (arith, is.seen, below); done = is.done }

@@ -1,0 +1,14 @@
+-- What is there at each version, by the committed transactions.
+use Rattle.std.specs.Prelude.{ℕ, List, None, nat_le, fold, filter}
+use Rattle.schedule.specs.declared.transcript.CommitEntry.{CommitEntry}
+use Rattle.schedule.specs.Store.{Serial}
+use Rattle.schedule.specs.Serve.{effects}
+use Rattle.schedule.specs.Past.{Open, accepted}
+
+-- what is committed at a version: no store, after the accepted commands of each transaction that is committed up to it
+abbrev pub committed : List CommitEntry → ℕ → Serial
+committed commits version = fold (λ serial one. effects serial one.commands) None (filter (λ one. nat_le one.version version) commits)
+
+-- what an open transaction sees: what is committed at its read version, as its own accepted commands change it
+abbrev pub view : List CommitEntry → Open → Serial
+view commits open_now = effects (committed commits open_now.read_version) (accepted open_now.attempts)

@@ -1,0 +1,56 @@
+-- Commands that were performed in turn, in open transactions and in those that were submitted.
+use Rattle.std.specs.Prelude.{◌≡◌, ℕ, ◌+◌, ◌<◌, ◌≤◌, ◌==◌, true, List, [], ◌∷◌, Option, IsTrue, if◌then◌else◌, length}
+use Rattle.kv_core.specs.Range.{covers}
+use Rattle.kv_core.specs.Map.{Map, after_all}
+use Rattle.kv_core.specs.declared.change.CommitRequest.{CommitRequest}
+use Rattle.kv_core.specs.declared.change.Mutation.{Mutation}
+use Rattle.txn.specs.Runs.{Ran}
+use Rattle.metadata.specs.Schema.{Schema}
+use Rattle.schedule.specs.Store.{Serial}
+use Rattle.schedule.specs.Serve.{IsReply}
+use Rattle.schedule.specs.Past.{Attempt, Open, Submission, is_accepted, is_reading}
+use Rattle.schedule.specs.Holds.{Holds}
+use Rattle.schedule.specs.Reach.{reach, schema_in, writes}
+use Rattle.schedule.specs.Contract.{attempted}
+
+-- a transaction that has done nothing yet
+abbrev pub fresh : ℕ → CommitRequest
+fresh read_version = record { read_version = read_version; reads = []; mutations = [] }
+
+-- what an attempt at a command came to where the map seen before it holds this: the part of `IsPerformedAt` that doesn't depend on how far the servers were
+pub record DidAt (schema : Option Schema) (attempt : Attempt) (written : List Mutation) (m : Map) (serial : Serial) : Type 0 where
+  pub replied : is_accepted attempt.reply ≡ true → IsReply serial attempt.command attempt.reply
+  pub wrote : written ≡ (if is_accepted attempt.reply then writes serial attempt.command else [])
+  pub holds : Holds (after_all written m) (attempted serial attempt)
+  pub opened : (key : List ℕ) → IsTrue (covers (reach schema attempt.command) key) → IsTrue (covers (reach (schema_in serial) attempt.command) key)
+
+-- an attempt at a command was made, which led from one state of the transaction to another
+pub record Did (maps : ℕ → Map) (attempt : Attempt) (old new : CommitRequest) : Type 0 where
+  pub schema : Option Schema
+  pub written : List Mutation
+  pub changes : (length written == 0) ≡ is_reading attempt.command attempt.reply
+  pub ran : Ran maps (λ key. IsTrue (covers (reach schema attempt.command) key)) old new written (λ m. (serial : Serial) → Holds m serial → DidAt schema attempt written m serial)
+
+-- attempts were made in turn
+abbrev pub AreDone : (ℕ → Map) → List Attempt → CommitRequest → CommitRequest → Type 0
+AreDone maps [] old new = old ≡ new
+AreDone maps (attempt ∷ attempts) old new = (mid : CommitRequest) × Did maps attempt old mid × AreDone maps attempts mid new
+
+-- the transaction is what its attempts made of a fresh one, which reads at a version that was reported
+pub record IsOpenAs (maps : ℕ → Map) (reported : ℕ) (open_now : Open) (request : CommitRequest) : Type 0 where
+  pub at : request.read_version ≡ open_now.read_version
+  pub seen : open_now.read_version ≤ reported
+  pub done : AreDone maps open_now.attempts (fresh open_now.read_version) request
+
+-- the request was submitted as this submission
+pub record IsSubmitted (maps : ℕ → Map) (reported version : ℕ) (one : Submission) (request : CommitRequest) : Type 0 where
+  pub given : one.version ≡ version
+  pub below : request.read_version < version
+  pub open_as : IsOpenAs maps reported one.transaction request
+
+-- the requests were submitted as these submissions, in version order from the version after this one on
+abbrev pub AreSubmitted : (ℕ → Map) → ℕ → ℕ → List Submission → List CommitRequest → Type 0
+AreSubmitted maps reported last [] [] = Unit {0}
+AreSubmitted maps reported last (one ∷ submissions) (request ∷ requests) =
+    IsSubmitted maps reported (last + 1) one request × AreSubmitted maps reported (last + 1) submissions requests
+AreSubmitted maps reported last submissions requests = ⊥

@@ -1,0 +1,143 @@
+ghost use Rattle.std.specs.Prelude.{◌≡◌, ◌≤◌, IfOk};
+ghost use Rattle.schedule.specs.Past.{Past, is_accepted};
+ghost use Rattle.schedule.specs.Running.{IsPerformedBy, IsStepped, IsSubmit, Stands};
+
+use crate::database::{Database, OpenTransaction, Unreported};
+use crate::performing::perform;
+use crate::reply::Reply;
+use crate::starting::laws_of;
+use crate::step::{CLIENTS, Command, Step};
+use crate::transcript::Commands;
+use cluster_core::{Cluster, SubmitError};
+use metadata::Refusal;
+use std::alloc::{AllocError, Global};
+use txn::Transaction;
+
+// Whether the reply accepts its command.
+fn is_accepted(reply: &Reply) -> bool
+    ensures { result ≡ is_accepted reply.now }
+{
+    !matches!(reply, Reply::Refused(_) | Reply::Corrupt(_))
+}
+
+impl OpenTransaction {
+    // Performs a command, and keeps it where it is accepted.
+    fn perform(
+        &mut self,
+        alloc: Global,
+        command: &Command,
+        cluster: &Cluster,
+    ) -> Result<Reply, AllocError>
+        ensures { IfOk result (λ reply. IsPerformedBy cluster.now command.now reply self.old self.new) }
+    {
+        let reply = perform(alloc, command, &mut self.transaction, cluster)?;
+        if is_accepted(&reply) {
+            let command = command.copy()?;
+            self.commands.push(command)?;
+        }
+        Ok(reply)
+    }
+}
+
+impl Database {
+    // A client begins a transaction.
+    pub(crate) fn begin(&mut self, alloc: Global, client: u64) -> Reply
+        ensures { IsStepped (Step.Begin client) result self.old self.new }
+    {
+        if client >= CLIENTS as u64 {
+            return Reply::Refused(Refusal::NoSuchClient);
+        }
+        if self.transactions[client as usize].is_some() {
+            return Reply::Refused(Refusal::Busy);
+        }
+        let version = self.cluster.read_version();
+        self.transactions[client as usize] = Some(OpenTransaction {
+            transaction: Transaction::begin(alloc, version),
+            commands: Vec::new(alloc),
+        });
+        Reply::Begun(version)
+    }
+
+    // A client performs a command.
+    pub(crate) fn perform(
+        &mut self,
+        alloc: Global,
+        client: u64,
+        command: &Command,
+    ) -> Result<Reply, AllocError>
+        ensures { IfOk result (λ reply. IsStepped (Step.Perform client command.now) reply self.old self.new) }
+    {
+        if client >= CLIENTS as u64 {
+            return Ok(Reply::Refused(Refusal::NoSuchClient));
+        }
+        match &mut self.transactions[client as usize] {
+            Some(transaction) => {
+                laws_of(&self.cluster);
+                let reply = transaction.perform(alloc, command, &self.cluster)?;
+                Ok(reply)
+            }
+            None => Ok(Reply::Refused(Refusal::NoTransaction)),
+        }
+    }
+
+    // Submits a client's transaction, which has ended.
+    fn submit(&mut self, client: u64, ended: OpenTransaction) -> Result<Reply, AllocError>
+        requires { ended.transaction.read_version ≤ self.old.cluster.pipeline.reported }
+        ensures { IfOk result (λ reply. IsSubmit client ended reply self.old self.new) }
+    {
+        let OpenTransaction {
+            transaction,
+            commands,
+        } = ended;
+        let request = transaction.into_request();
+        if request.mutations.is_empty() {
+            return Ok(Reply::ReadOnly);
+        }
+        let read_version = request.read_version;
+        match self.cluster.submit(request) {
+            Ok(ticket) => {
+                self.unreported.push_back(Unreported {
+                    client,
+                    read_version,
+                    commands: Commands::new(commands),
+                })?;
+                Ok(Reply::Submitted(ticket.version()))
+            }
+            Err(SubmitError::VersionsExhausted) => {
+                Ok(Reply::Refused(Refusal::VersionsExhausted))
+            }
+            Err(SubmitError::TooOld) => Ok(Reply::Refused(Refusal::TooOld)),
+            Err(SubmitError::Memory) => Err(AllocError),
+        }
+    }
+
+    // A client submits its transaction, which ends.
+    pub(crate) fn commit(&mut self, client: u64) -> Result<Reply, AllocError>
+        requires { (past : Past) × Stands past self.old }
+        ensures { IfOk result (λ reply. IsStepped (Step.Commit client) reply self.old self.new) }
+    {
+        if client >= CLIENTS as u64 {
+            return Ok(Reply::Refused(Refusal::NoSuchClient));
+        }
+        match self.transactions[client as usize].take() {
+            Some(ended) => {
+                let reply = self.submit(client, ended)?;
+                Ok(reply)
+            }
+            None => Ok(Reply::Refused(Refusal::NoTransaction)),
+        }
+    }
+
+    // A client ends its transaction, whose changes are dropped.
+    pub(crate) fn abandon(&mut self, client: u64) -> Reply
+        ensures { IsStepped (Step.Abandon client) result self.old self.new }
+    {
+        if client >= CLIENTS as u64 {
+            return Reply::Refused(Refusal::NoSuchClient);
+        }
+        match self.transactions[client as usize].take() {
+            Some(_) => Reply::Done,
+            None => Reply::Refused(Refusal::NoTransaction),
+        }
+    }
+}

@@ -1,0 +1,110 @@
+ghost use Rattle.std.specs.Prelude.{◌≡◌, None, Some, IfOk, IfErr, OnErr};
+ghost use Rattle.schedule.specs.Performed.{IsPerformed};
+ghost use Rattle.schedule.specs.Calls.{IsRefused, read_reply, reply_of, write_reply};
+
+use crate::create::create;
+use crate::error::StoreError;
+use crate::load::load;
+use crate::query::query;
+use crate::remove::remove;
+use crate::reply::{Reply, Rows};
+use crate::save::save;
+use crate::step::Command;
+use cluster_core::ReadError;
+use kv_core::WriteError;
+use metadata::Refusal;
+use std::alloc::{AllocError, Global};
+use txn::{Snapshot, Transaction};
+
+/// The reply that a refused read is; want of memory is none.
+fn read_reply(error: ReadError) -> Result<Reply, AllocError>
+    ensures reply { IfOk result (λ answer. read_reply error ≡ Some answer) }
+    ensures none { OnErr result (read_reply error ≡ None) }
+{
+    match error {
+        ReadError::FutureVersion => Ok(Reply::Refused(Refusal::FutureVersion)),
+        ReadError::TooOld => Ok(Reply::Refused(Refusal::TooOld)),
+        ReadError::Memory => Err(AllocError),
+    }
+}
+
+/// The reply that a refused write is; want of memory is none.
+fn write_reply(error: WriteError) -> Result<Reply, AllocError>
+    ensures reply { IfOk result (λ answer. write_reply error ≡ Some answer) }
+    ensures none { OnErr result (write_reply error ≡ None) }
+{
+    match error {
+        WriteError::KeyOutside => Ok(Reply::Refused(Refusal::KeyOutside)),
+        WriteError::KeyTooLarge => Ok(Reply::Refused(Refusal::KeyTooLarge)),
+        WriteError::ValueTooLarge => Ok(Reply::Refused(Refusal::ValueTooLarge)),
+        WriteError::TransactionTooLarge => Ok(Reply::Refused(Refusal::TransactionTooLarge)),
+        WriteError::Memory => Err(AllocError),
+    }
+}
+
+/// The reply that an error is; want of memory is none.
+fn reply_of(error: StoreError) -> Result<Reply, AllocError>
+    ensures reply { IfOk result (λ answer. reply_of error ≡ Some answer) }
+    ensures none { OnErr result (reply_of error ≡ None) }
+{
+    match error {
+        StoreError::Memory => Err(AllocError),
+        StoreError::Read(error) => read_reply(error),
+        StoreError::Write(error) => write_reply(error),
+        StoreError::Corrupt(key) => Ok(Reply::Corrupt(key)),
+        StoreError::Refused(refusal) => Ok(Reply::Refused(refusal)),
+    }
+}
+
+/// What a command that is accepted replies.
+fn answer<S: Snapshot>(
+    alloc: Global,
+    command: &Command,
+    tx: &mut Transaction,
+    db: &S,
+) -> Result<Reply, StoreError>
+    ensures performed { IfOk result (λ answer. IsPerformed (S.map_at db.now) (λ range. S.refusal db.now range tx.old.read_version) command.now answer tx.old tx.new) }
+    ensures refused { IfErr result (λ error. IsRefused (S.map_at db.now) (S.refusal db.now) command.now error tx.old tx.new) }
+{
+    match command {
+        Command::Create(request) => {
+            create(alloc, tx, db, request)?;
+            Ok(Reply::Done)
+        }
+        Command::Save(type_name, cells) => match save(alloc, tx, db, type_name, cells)? {
+            Some(old) => Ok(Reply::SavedOver(old)),
+            None => Ok(Reply::SavedNew),
+        },
+        Command::Load(type_name, cells) => match load(alloc, tx, db, type_name, cells)? {
+            Some(found) => Ok(Reply::Found(found)),
+            None => Ok(Reply::Absent),
+        },
+        Command::Remove(type_name, cells) => {
+            if remove(alloc, tx, db, type_name, cells)? {
+                Ok(Reply::Removed)
+            } else {
+                Ok(Reply::Absent)
+            }
+        }
+        Command::Query(asked) => Ok(Reply::Rows(Rows::new(query(alloc, tx, db, asked)?))),
+    }
+}
+
+/// Performs a command in a transaction, whose reads are answered by the snapshot.
+///
+/// A refusal is a reply: it keeps the ranges that were read, and writes nothing. The only error is
+/// want of memory, which writes nothing either.
+pub fn perform<S: Snapshot>(
+    alloc: Global,
+    command: &Command,
+    tx: &mut Transaction,
+    db: &S,
+) -> Result<Reply, AllocError>
+    ensures performed { IfOk result (λ answer. IsPerformed (S.map_at db.now) (λ range. S.refusal db.now range tx.old.read_version) command.now answer tx.old tx.new) }
+    ensures kept { OnErr result (tx.new.mutations ≡ tx.old.mutations) }
+{
+    match answer(alloc, command, tx, db) {
+        Ok(reply) => Ok(reply),
+        Err(error) => reply_of(error),
+    }
+}

@@ -1,0 +1,60 @@
+ghost use Rattle.std.specs.Prelude.{◌≡◌, ◌⊎◌, Some, IfOk, IfErr, OnOk, IsNone};
+ghost use Rattle.cluster_core.specs.Configuration.{config_refusal};
+ghost use Rattle.cluster_core.specs.declared.answers.Config.{Config as Configuration};
+ghost use Rattle.cluster_core.specs.declared.answers.ConfigError.{ConfigError as ConfigRefusal};
+ghost use Rattle.schedule.specs.Past.{Past};
+ghost use Rattle.schedule.specs.Running.{HasRun, IsFirst, IsStepped, Stands};
+
+use crate::database::Database;
+use crate::reply::Reply;
+use crate::step::Step;
+use crate::transcript::ScheduleError;
+use cluster_core::{Config, ConfigError};
+use std::alloc::{AllocError, Global};
+
+impl Database {
+    // Does one step.
+    fn step(&mut self, alloc: Global, step: &Step) -> Result<Reply, AllocError>
+        requires { (past : Past) × Stands past self.old }
+        ensures { IfOk result (λ reply. IsStepped step.now reply self.old self.new) }
+    {
+        match step {
+            Step::Begin(client) => Ok(self.begin(alloc, *client)),
+            Step::Perform(client, command) => self.perform(alloc, *client, command),
+            Step::Commit(client) => self.commit(*client),
+            Step::Abandon(client) => Ok(self.abandon(*client)),
+            Step::Resolve(resolver) => self.resolve(*resolver),
+            Step::Log(log) => self.append(*log),
+            Step::Pull(server) => self.pull(*server),
+            Step::Report => self.report(alloc),
+            Step::Lost => self.lose(alloc),
+            Step::Settle => self.settle(alloc),
+        }
+    }
+
+    // Does steps one after another, and answers their replies.
+    pub(crate) fn steps(&mut self, alloc: Global, steps: &[Step]) -> Result<Vec<Reply>, AllocError>
+        requires { (config : Configuration) × IsFirst config self.old }
+        ensures { IfOk result (λ replies. (config : Configuration) → IsFirst config self.old → HasRun config steps.now replies.items self.new) }
+    {
+        let mut replies = Vec::new(alloc);
+        for step in steps {
+            let reply = self.step(alloc, step)?;
+            replies.push(reply)?;
+        }
+        Ok(replies)
+    }
+}
+
+// The database at the start.
+pub(crate) fn start(alloc: Global, config: &Config) -> Result<Database, ScheduleError>
+    ensures made { IfOk result (λ database. IsFirst config.now database) }
+    ensures allowed { OnOk result (IsNone (config_refusal config.now)) }
+    ensures refused { IfErr result (λ error. (error ≡ ScheduleError.Memory) ⊎ ((why : ConfigRefusal) × (error ≡ ScheduleError.Config why) × (config_refusal config.now ≡ Some why))) }
+{
+    match Database::new(alloc, config) {
+        Ok(database) => Ok(database),
+        Err(ConfigError::Memory) => Err(ScheduleError::Memory),
+        Err(error) => Err(ScheduleError::Config(error)),
+    }
+}

@@ -1,0 +1,49 @@
+ghost use Rattle.std.specs.Prelude.{◌≡◌, ◌⊎◌, None, Some, IfOk, IfErr, OnOk, IsNone, replicate};
+ghost use Rattle.cluster_core.specs.Configuration.{config_refusal};
+ghost use Rattle.cluster_core.specs.History.{IsLegal};
+ghost use Rattle.cluster_core.specs.Roles.{AreInOrder, history};
+ghost use Rattle.schedule.specs.Running.{IsFirst};
+
+use crate::database::{Database, OpenTransaction};
+use crate::step::CLIENTS;
+use cluster_core::{Cluster, Config, ConfigError};
+use std::alloc::{AllocError, Global};
+use std::collections::VecDeque;
+
+// No open transaction, for each client.
+fn no_transactions(alloc: Global) -> Result<Vec<Option<OpenTransaction>>, AllocError>
+    ensures { IfOk result (λ places. places.items ≡ replicate CLIENTS None) }
+{
+    let mut transactions = Vec::new(alloc);
+    for _ in 0..CLIENTS {
+        transactions.push(None)?;
+    }
+    Ok(transactions)
+}
+
+// What holds of every cluster: the clocks of its roles stand in order, and its history is legal.
+pub(crate) fn laws_of(cluster: &Cluster)
+    ensures ordered { AreInOrder cluster.now.pipeline }
+    ensures legal { IsLegal (history cluster.now.pipeline) }
+{
+    cluster.read_version();
+    cluster.requests();
+}
+
+impl Database {
+    // The database at the start.
+    pub(crate) fn new(alloc: Global, config: &Config) -> Result<Database, ConfigError>
+        ensures made { IfOk result (λ database. IsFirst config.now database) }
+        ensures allowed { OnOk result (IsNone (config_refusal config.now)) }
+        ensures refused { IfErr result (λ error. (error ≡ ConfigError.Memory) ⊎ (config_refusal config.now ≡ Some error)) }
+    {
+        let cluster = Cluster::new(alloc, config)?;
+        let transactions = no_transactions(alloc)?;
+        Ok(Database {
+            cluster,
+            transactions,
+            unreported: VecDeque::new(alloc),
+            commits: Vec::new(alloc),
+        })
+    }
+}
