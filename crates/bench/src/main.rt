@@ -1,9 +1,10 @@
-//! Measures the crates: `bench tuples` packs and unpacks tuples, `bench ranges` fills lists of ranges, and
-//! `bench transactions` writes and reads in transactions. It prints what it measured.
+//! Measures the crates: `bench tuples` packs and unpacks tuples, `bench ranges` fills lists of ranges,
+//! `bench schemas` writes and reads schemas and makes records, and `bench transactions` writes and reads in transactions. It prints what it measured.
 #![tactic(auto)]
 
 mod keys;
 mod ranges;
+mod schemas;
 mod transactions;
 mod tuples;
 
@@ -20,10 +21,11 @@ fn asked(rt: &HostRuntime) -> io::Result<Option<String>> {
 fn main(rt: HostRuntime) -> io::Result<ExitCode> {
     match asked(&rt)?.as_deref() {
         Some("ranges") => ranges::measure(&rt)?,
+        Some("schemas") => schemas::measure(&rt)?,
         Some("transactions") => transactions::measure(&rt)?,
         Some("tuples") => tuples::measure(&rt)?,
         _ => {
-            rt.eprintln("usage: bench ranges|transactions|tuples")?;
+            rt.eprintln("usage: bench ranges|schemas|transactions|tuples")?;
             return Ok(ExitCode::from(2));
         }
     }

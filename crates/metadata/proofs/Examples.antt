@@ -12,7 +12,7 @@ use Rattle.metadata.specs.declared.refusal.Refusal.TheVariants.{BadName, NameTak
 use Rattle.metadata.specs.Cell.{all_fit, cells_at, cells_of, fits, items_of}
 use Rattle.metadata.specs.Schema.{Schema, find_type, key_kinds}
 use Rattle.metadata.specs.Record.{key_of, primary_key, record_of}
-use Rattle.metadata.specs.Change.{add_type, empty_schema, is_name, schema_of}
+use Rattle.metadata.specs.Change.{add_type, empty_schema, is_name, schema_of, types_alone}
 use Rattle.metadata.specs.Written.{nested_item, schema_bytes, type_item}
 use Rattle.tuple_codec.specs.Spelling.{byte_count, int_spelling}
 
@@ -62,13 +62,13 @@ abbrev t_type : TypeDefinition
 t_type = record { number = 1; name = t; fields = int k ∷ int a ∷ int b ∷ []; key = 0 ∷ [] }
 
 abbrev s : Schema
-s = record { types = t_type ∷ [] }
+s = types_alone (t_type ∷ [])
 
 s_is : schema_of (t_asked ∷ []) ≡ Ok s
 s_is = refl
 
 -- the second type has number 2, and its key fields stand in the key's order
-second : add_type s (asked z (int k ∷ int a ∷ []) (a ∷ k ∷ [])) ≡ Ok (record { types = t_type ∷ record { number = 2; name = z; fields = int k ∷ int a ∷ []; key = 1 ∷ 0 ∷ [] } ∷ [] })
+second : add_type s (asked z (int k ∷ int a ∷ []) (a ∷ k ∷ [])) ≡ Ok (types_alone (t_type ∷ (record { number = 2; name = z; fields = int k ∷ int a ∷ []; key = 1 ∷ 0 ∷ [] }) ∷ []))
 second = refl
 
 -- what is refused as a type, in the order of the tests
@@ -121,7 +121,7 @@ types_from n [] = []
 types_from n (name ∷ more) = record { number = n; name = name; fields = int k ∷ []; key = 0 ∷ [] } ∷ types_from (n + 1) more
 
 abbrev of_32 : Schema
-of_32 = record { types = types_from 1 (map (λ letter. letter ∷ []) (range_with_len 65 26 ++ range_with_len 97 6)) }
+of_32 = types_alone (types_from 1 (map (λ letter. letter ∷ []) (range_with_len 65 26 ++ range_with_len 97 6)))
 
 types_33 : add_type of_32 t_asked ≡ Err TooMany
 types_33 = refl

@@ -9,3 +9,7 @@ pub mod OneSchema
 mod ReadBack
 mod WrittenDepth
 mod WrittenItems
+pub mod IndexItems
+pub mod Dropping
+pub mod StayLawful
+pub mod IndexAdded

@@ -10,39 +10,40 @@ use Rattle.tuple_codec.proofs.Spellings.{one_tuple, spelling_spells}
 use Rattle.metadata.specs.declared.refusal.MetadataError.{MetadataError}
 use Rattle.metadata.specs.declared.refusal.MetadataError.TheVariants.{Memory, Refused}
 use Rattle.metadata.specs.Schema.{Schema}
-use Rattle.metadata.specs.Written.{IsMade, IsNoSchema, IsNoTuple, schema_bytes, written}
+use Rattle.metadata.specs.Written.{IsNoSchema, IsNoTuple, schema_bytes, written}
+use Rattle.metadata.specs.Lawful.{IsLawfulSchema}
 use Rattle.metadata.specs.Reading.{IsUnread, schema_in}
 use Rattle.metadata.proofs.MadeSchemas.{is_tuple-written, schema_in-written}
 
 -- the bytes of a schema spell its written form
-pub bytes_spell : (schema : Schema) → IsMade schema → Spells (written schema) (schema_bytes schema)
+pub bytes_spell : (schema : Schema) → IsLawfulSchema schema → Spells (written schema) (schema_bytes schema)
 bytes_spell schema made = let is = is_tuple-written schema made in spelling_spells (written schema) is.items is.depth
 
 -- a tuple that these bytes spell is the written form
-pub tuple_is : (schema : Schema) (bytes : List ℕ) (tuple : List Item) → IsMade schema → bytes ≡ schema_bytes schema → Spells tuple bytes → tuple ≡ written schema
+pub tuple_is : (schema : Schema) (bytes : List ℕ) (tuple : List Item) → IsLawfulSchema schema → bytes ≡ schema_bytes schema → Spells tuple bytes → tuple ≡ written schema
 tuple_is schema bytes tuple made same spelled = one_tuple tuple (written schema) bytes spelled (subst (Spells (written schema)) (sym same) (bytes_spell schema made))
 
 -- the schema is read from it
-pub schema_is : (schema : Schema) (bytes : List ℕ) (tuple : List Item) → IsMade schema → bytes ≡ schema_bytes schema → Spells tuple bytes → schema_in tuple ≡ Some schema
+pub schema_is : (schema : Schema) (bytes : List ℕ) (tuple : List Item) → IsLawfulSchema schema → bytes ≡ schema_bytes schema → Spells tuple bytes → schema_in tuple ≡ Some schema
 schema_is schema bytes tuple made same spelled = ap schema_in (tuple_is schema bytes tuple made same spelled) ∙ schema_in-written schema made
 
 some_same : (a b : Schema) → ◌≡◌ {A = Option Schema} (Some a) (Some b) → a ≡ b
 some_same a b is = ap (λ found. unwrap_or found a) is
 
-pub written_once : (a b : Schema) → IsMade a → IsMade b → schema_bytes a ≡ schema_bytes b → a ≡ b
+pub written_once : (a b : Schema) → IsLawfulSchema a → IsLawfulSchema b → schema_bytes a ≡ schema_bytes b → a ≡ b
 written_once a b a_made b_made same =
     some_same a b (sym (schema_in-written a a_made) ∙ schema_is b (schema_bytes a) (written a) b_made same (bytes_spell a a_made))
 
 -- no schema has bytes that spell no tuple
-pub none_spelled : (bytes : List ℕ) → ((tuple : List Item) → Spells tuple bytes → ⊥) → (schema : Schema) → IsMade schema → bytes ≡ schema_bytes schema → ⊥
+pub none_spelled : (bytes : List ℕ) → ((tuple : List Item) → Spells tuple bytes → ⊥) → (schema : Schema) → IsLawfulSchema schema → bytes ≡ schema_bytes schema → ⊥
 none_spelled bytes none schema made same = none (written schema) (subst (Spells (written schema)) (sym same) (bytes_spell schema made))
 
 -- no schema has bytes of a tuple from which none is read
-pub none_read : (bytes : List ℕ) (tuple : List Item) → Spells tuple bytes → schema_in tuple ≡ None → (schema : Schema) → IsMade schema → bytes ≡ schema_bytes schema → ⊥
+pub none_read : (bytes : List ℕ) (tuple : List Item) → Spells tuple bytes → schema_in tuple ≡ None → (schema : Schema) → IsLawfulSchema schema → bytes ≡ schema_bytes schema → ⊥
 none_read bytes tuple spelled none schema made same = true≢false (ap is_some (sym (schema_is schema bytes tuple made same spelled) ∙ none))
 
 -- no schema has bytes of a tuple from which a schema with other bytes is read
-pub none_other : (bytes : List ℕ) (tuple : List Item) (read : Schema) → Spells tuple bytes → schema_in tuple ≡ Some read → (schema_bytes read ≡ bytes → ⊥) → (schema : Schema) → IsMade schema → bytes ≡ schema_bytes schema → ⊥
+pub none_other : (bytes : List ℕ) (tuple : List Item) (read : Schema) → Spells tuple bytes → schema_in tuple ≡ Some read → (schema_bytes read ≡ bytes → ⊥) → (schema : Schema) → IsLawfulSchema schema → bytes ≡ schema_bytes schema → ⊥
 none_other bytes tuple read spelled is other schema made same =
     other (ap schema_bytes (some_same read schema (sym is ∙ schema_is schema bytes tuple made same spelled)) ∙ sym same)
 

@@ -47,7 +47,7 @@ ascii (byte ∷ bytes) is zero = name_byte_low byte (both (is_name_byte byte) (l
 ascii (byte ∷ bytes) is (suc i) = ascii bytes (both (is_name_byte byte) (list_all is_name_byte bytes) is).1 i
 
 -- a name is UTF-8
-utf8 : (name : List ℕ) → is_name name ≡ true → IsUtf8 name
+pub utf8 : (name : List ℕ) → is_name name ≡ true → IsUtf8 name
 utf8 name is = IsUtf8-from_ascii name (ascii name (both (nat_lt 0 (length name) && nat_le (length name) 32) (list_all is_name_byte name) is).1)
 
 kind_small : (k : Kind) → kind_number k < 2 ^ 64

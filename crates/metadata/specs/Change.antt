@@ -22,10 +22,14 @@ is_name_byte byte = (nat_le 97 byte && nat_le byte 122) || (nat_le 65 byte && na
 abbrev pub is_name : List ℕ → Bool
 is_name name = nat_lt 0 (length name) && nat_le (length name) 32 && list_all is_name_byte name
 
--- a name stands twice
-abbrev pub has_twice : List (List ℕ) → Bool
-has_twice [] = false
-has_twice (name ∷ names) = list_any (bytes_eq name) names || has_twice names
+-- two of a list are the same, by a test
+abbrev pub has_twice : {X : Type 0} → (X → X → Bool) → List X → Bool
+has_twice same [] = false
+has_twice same (x ∷ xs) = list_any (same x) xs || has_twice same xs
+
+-- two fields have one name
+abbrev pub same_field : Field → Field → Bool
+same_field a b = bytes_eq a.name b.name
 
 -- the names of fields
 abbrev pub field_names : List Field → List (List ℕ)
@@ -52,9 +56,9 @@ type_asked schema request = record {
 abbrev pub type_refusal : Schema → TypeRequest → Option Refusal
 type_refusal schema request = first_refusal (
     (not (list_all is_name (request.name ∷ field_names request.fields)), BadName)
-    ∷ (is_some (find_type schema request.name) || has_twice (field_names request.fields), NameTaken)
+    ∷ (is_some (find_type schema request.name) || has_twice same_field request.fields, NameTaken)
     ∷ (has_unknown request.fields request.key, UnknownField)
-    ∷ (length request.key == 0 || has_twice request.key, BadSchema)
+    ∷ (length request.key == 0 || has_twice bytes_eq request.key, BadSchema)
     ∷ (nat_lt 31 (length schema.types) || nat_lt 32 (length request.fields) || nat_lt 8 (length request.key), TooMany)
     ∷ [])
 
@@ -71,9 +75,13 @@ abbrev pub add_types : Schema → List TypeRequest → Result Schema Refusal
 add_types schema [] = Ok schema
 add_types schema (request ∷ requests) = elim (add_type schema request) [ Err refusal ↦ Err refusal | Ok next ↦ add_types next requests ]
 
+-- a schema of types alone
+abbrev pub types_alone : List TypeDefinition → Schema
+types_alone types = record { types = types; last_index = 0; indexes = [] }
+
 -- no types
 abbrev pub empty_schema : Schema
-empty_schema = record { types = [] }
+empty_schema = types_alone []
 
 -- the schema that types make from nothing, or the first refusal
 abbrev pub schema_of : List TypeRequest → Result Schema Refusal

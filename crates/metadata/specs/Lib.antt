@@ -2,6 +2,8 @@ pub mod Answers
 pub mod Cell
 pub mod Schema
 pub mod Change
+pub mod IndexChange
+pub mod Lawful
 pub mod Record
 pub mod Written
 pub mod Reading

@@ -1,16 +1,21 @@
 -- What the private readers of a schema's tuple give. They pass over what the schema's own written form tells.
-use Rattle.std.specs.Prelude.{ℕ, pos, List, [], ◌∷◌, Option, Some, None, ◌==◌, ◌≡◌, nat_lt, slice_get, if◌then◌else◌}
+use Rattle.std.specs.Prelude.{ℕ, ◌^◌, pos, List, [], ◌∷◌, Option, Some, None, ◌==◌, ◌≡◌, nat_lt, slice_get, if◌then◌else◌}
 use Rattle.std.specs.Result.{result_ok}
 use Rattle.std.specs.Option.{option_map, option_and_then}
-use Rattle.tuple_codec.specs.Item.{Item, int, text, nested, listed}
+use Rattle.tuple_codec.specs.Item.{Item, int, text, nested, null, listed}
 use Rattle.metadata.specs.declared.cells.Kind.{Kind}
 use Rattle.metadata.specs.declared.cells.Kind.TheVariants as kind
 use Rattle.metadata.specs.declared.definition.Field.{Field}
+use Rattle.metadata.specs.declared.definition.TypeDefinition.{TypeDefinition}
 use Rattle.metadata.specs.declared.definition.TypeRequest.{TypeRequest}
+use Rattle.metadata.specs.declared.index.IndexDefinition.{IndexDefinition}
+use Rattle.metadata.specs.declared.index.IndexKind.{IndexKind}
+use Rattle.metadata.specs.declared.index.IndexKind.TheVariants.{Value, Count, Sum}
 use Rattle.metadata.specs.declared.refusal.Refusal.TheVariants.{BadSchema}
 use Rattle.metadata.specs.declared.refusal.MetadataError.{MetadataError}
 use Rattle.metadata.specs.declared.refusal.MetadataError.TheVariants.{Memory, Refused}
 use Rattle.metadata.specs.Change.{schema_of}
+use Rattle.metadata.specs.Lawful.{has_good_indexes}
 use Rattle.metadata.specs.Schema.{Schema}
 
 -- what each of the items is read as, if each is
@@ -67,11 +72,52 @@ request_of one = option_and_then request_in (tuple_of one)
 abbrev pub requests_in : List Item → Option (List TypeRequest)
 requests_in items = option_and_then (all_read request_of) (read_at tuple_of items 3)
 
--- the schema that the types of a tuple make
-abbrev pub schema_in : List Item → Option Schema
-schema_in items = option_and_then (λ requests. result_ok (schema_of requests)) (requests_in items)
+-- the kind of an index of a number
+abbrev pub index_kind_of : ℕ → Option IndexKind
+index_kind_of n = if n == 1 then Some Value else if n == 2 then Some Count else if n == 3 then Some Sum else None
 
--- memory was wanting, or the tuple is refused as one of no such types
+-- the number of 64 bits that an item is
+abbrev pub number_of : Item → Option ℕ
+number_of (int (pos n)) = if nat_lt n (2 ^ 64) then Some n else None
+number_of other = None
+
+-- the place of the summed field, or that there is none, which an item is
+abbrev pub summed_of : Item → Option (Option ℕ)
+summed_of null = Some None
+summed_of other = option_map (λ place. Some place) (small_of other)
+
+-- the places that the items of a tuple are
+abbrev pub places_in : List Item → ℕ → Option (List ℕ)
+places_in parts at = option_and_then (all_read small_of) (read_at tuple_of parts at)
+
+-- the index that a tuple is
+abbrev pub index_in : List Item → Option IndexDefinition
+index_in parts =
+    option_and_then (λ number. option_and_then (λ name. option_and_then (λ kind. option_and_then (λ type_number. option_and_then (λ columns.
+    option_map (λ summed. record { number = number; name = name; kind = kind; type_number = type_number; columns = columns; summed = summed })
+    (read_at summed_of parts 5)) (places_in parts 4)) (read_at number_of parts 3)) (option_and_then index_kind_of (read_at small_of parts 2))) (read_at text_of parts 1)) (read_at number_of parts 0)
+
+abbrev pub index_of : Item → Option IndexDefinition
+index_of one = option_and_then index_in (tuple_of one)
+
+-- the indexes of a schema's tuple
+abbrev pub indexes_in : List Item → Option (List IndexDefinition)
+indexes_in items = option_and_then (all_read index_of) (read_at tuple_of items 4)
+
+-- the types of a schema's tuple
+abbrev pub types_in : List Item → Option (List TypeDefinition)
+types_in items = option_and_then (λ requests. option_map (λ schema. schema.types) (result_ok (schema_of requests))) (requests_in items)
+
+-- the schema, where its indexes are good
+abbrev pub if_good : Schema → Option Schema
+if_good schema = if has_good_indexes schema then Some schema else None
+
+-- the schema that a tuple tells
+abbrev pub schema_in : List Item → Option Schema
+schema_in items =
+    option_and_then (λ types. option_and_then (λ last. option_and_then (λ indexes. if_good (record { types = types; last_index = last; indexes = indexes })) (indexes_in items)) (read_at number_of items 2)) (types_in items)
+
+-- memory was wanting, or the tuple is refused as that of no schema
 abbrev pub IsUnread : MetadataError → List Item → Type 0
 IsUnread Memory items = Unit {0}
 IsUnread (Refused refusal) items = (refusal ≡ BadSchema) × (schema_in items ≡ None)

@@ -1,16 +1,18 @@
 -- The written form of a schema: a tuple, and the pack of it.
-use Rattle.std.specs.Prelude.{◌≡◌, ℕ, pos, List, [], ◌∷◌, map, length, Ok}
-use Rattle.tuple_codec.specs.Item.{Item, int, text, nested, items_of}
+use Rattle.std.specs.Prelude.{◌≡◌, ℕ, pos, Option, Some, None, List, [], ◌∷◌, map, length}
+use Rattle.tuple_codec.specs.Item.{Item, int, text, nested, null, items_of}
 use Rattle.tuple_codec.specs.Spelling.{Spells, spelling}
 use Rattle.metadata.specs.declared.cells.Kind.{Kind}
 use Rattle.metadata.specs.declared.cells.Kind.TheVariants as kind
 use Rattle.metadata.specs.declared.definition.Field.{Field}
 use Rattle.metadata.specs.declared.definition.TypeDefinition.{TypeDefinition}
-use Rattle.metadata.specs.declared.definition.TypeRequest.{TypeRequest}
+use Rattle.metadata.specs.declared.index.IndexDefinition.{IndexDefinition}
+use Rattle.metadata.specs.declared.index.IndexKind.{IndexKind}
+use Rattle.metadata.specs.declared.index.IndexKind.TheVariants.{Value, Count, Sum}
 use Rattle.metadata.specs.declared.refusal.MetadataError.{MetadataError}
 use Rattle.metadata.specs.declared.refusal.MetadataError.TheVariants.{Memory, Refused}
 use Rattle.metadata.specs.declared.refusal.Refusal.TheVariants.{BadSchema}
-use Rattle.metadata.specs.Change.{schema_of}
+use Rattle.metadata.specs.Lawful.{IsLawfulSchema}
 use Rattle.metadata.specs.Schema.{Schema}
 
 -- a count, a number or a place
@@ -35,22 +37,36 @@ field_item field = nested_item (text field.name ∷ number_item (kind_number fie
 abbrev pub type_item : TypeDefinition → Item
 type_item type = nested_item (number_item type.number ∷ text type.name ∷ nested_item (map field_item type.fields) ∷ nested_item (map number_item type.key) ∷ [])
 
--- (1, last type number, last index number, types, indexes), where there are no indexes
+-- index kinds are 1 VALUE, 2 COUNT, 3 SUM
+abbrev pub index_kind_number : IndexKind → ℕ
+index_kind_number Value = 1
+index_kind_number Count = 2
+index_kind_number Sum = 3
+
+-- the place of the summed field, or null
+abbrev pub summed_item : Option ℕ → Item
+summed_item (Some place) = number_item place
+summed_item None = null
+
+-- (number, name, kind, type number, places of the columns, place of the summed field or null)
+abbrev pub index_item : IndexDefinition → Item
+index_item index = nested_item (
+    number_item index.number ∷ text index.name ∷ number_item (index_kind_number index.kind) ∷ number_item index.type_number
+    ∷ nested_item (map number_item index.columns) ∷ summed_item index.summed ∷ [])
+
+-- (1, last type number, last index number, types, indexes)
 abbrev pub written : Schema → List Item
-written schema = number_item 1 ∷ number_item (length schema.types) ∷ number_item 0 ∷ nested_item (map type_item schema.types) ∷ nested_item [] ∷ []
+written schema =
+    number_item 1 ∷ number_item (length schema.types) ∷ number_item schema.last_index ∷ nested_item (map type_item schema.types) ∷ nested_item (map index_item schema.indexes) ∷ []
 
 -- the bytes of a schema
 abbrev pub schema_bytes : Schema → List ℕ
 schema_bytes schema = spelling (written schema)
 
--- types that were added to the empty schema made this one
-abbrev pub IsMade : Schema → Type 0
-IsMade schema = (requests : List TypeRequest) × (schema_of requests ≡ Ok schema)
-
--- memory was wanting, or the bytes are refused as those of no schema that types make
+-- memory was wanting, or the bytes are refused as those of no lawful schema
 abbrev pub IsNoSchema : MetadataError → List ℕ → Type 0
 IsNoSchema Memory bytes = Unit {0}
-IsNoSchema (Refused refusal) bytes = (refusal ≡ BadSchema) × ((schema : Schema) → IsMade schema → bytes ≡ schema_bytes schema → ⊥)
+IsNoSchema (Refused refusal) bytes = (refusal ≡ BadSchema) × ((schema : Schema) → IsLawfulSchema schema → bytes ≡ schema_bytes schema → ⊥)
 
 -- memory was wanting, or the bytes are refused as those of no tuple
 abbrev pub IsNoTuple : MetadataError → List ℕ → Type 0

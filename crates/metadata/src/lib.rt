@@ -5,6 +5,12 @@
 
 mod cells;
 mod definition;
+mod index;
+mod index_change;
+mod index_reading;
+#[cfg(test)]
+mod index_tests;
+mod lawful;
 mod names;
 mod reading;
 mod record;
@@ -17,8 +23,10 @@ mod written;
 
 pub use cells::{Cell, Cells, Kind};
 pub use definition::{Field, Fields, Names, Places, SchemaRequest, TypeDefinition, TypeRequest};
+pub use index::{IndexDefinition, IndexKind, IndexRequest, State, States};
+pub use index_change::{MAX_COLUMNS, MAX_INDEX_NUMBER, MAX_INDEXES};
 pub use names::MAX_NAME_BYTES;
 pub use record::{Record, key_of};
 pub use refusal::{MetadataError, Refusal};
 pub use schema::{MAX_FIELDS, MAX_KEY_FIELDS, MAX_TYPES, Schema};
-pub use written::schemas_are_written_once;
+pub use written::{schemas_are_written_once, schemas_stay_lawful};

@@ -1,10 +1,12 @@
-ghost use Rattle.std.specs.Prelude.{◌≡◌, IfOk};
+ghost use Rattle.std.specs.Prelude.{◌≡◌, Bool, IfOk, nat_eq};
 ghost use Rattle.std.specs.List.{list_any, list_all};
 ghost use Rattle.std.specs.Str.{bytes_eq};
-ghost use Rattle.metadata.specs.Change.{field_names, has_twice, has_unknown, is_name, is_name_byte, places_of};
+ghost use Rattle.metadata.specs.Change.{field_names, has_twice, has_unknown, is_name, is_name_byte, places_of, same_field};
+ghost use Rattle.metadata.specs.Lawful.{same_index};
 ghost use Rattle.metadata.specs.Schema.{place_of};
 
 use crate::definition::{Field, Places};
+use crate::index::IndexDefinition;
 use std::alloc::{AllocError, Global};
 use tuple_codec::Text;
 
@@ -47,18 +49,58 @@ pub(crate) fn are_named(fields: &[Field]) -> bool
     fields.iter().all(|field| is_name(&field.name))
 }
 
-// Whether a name stands among these.
-fn is_among(name: &Text, names: &[Text]) -> bool
-    ensures { result ≡ list_any (bytes_eq name.now) names.now }
-{
-    names.iter().any(|other| is_same(name, other))
+// What can be told to be the same as another one.
+pub(crate) trait Same {
+    ghost same: { Self → Self → Bool };
+
+    fn is_same(&self, other: &Self) -> bool
+        ensures { result ≡ same self.now other.now };
 }
 
-// Whether a name stands twice among these.
-pub(crate) fn has_twice(names: &[Text]) -> bool
-    ensures { result ≡ has_twice names.now }
+impl Same for Text {
+    ghost same = { bytes_eq };
+
+    fn is_same(&self, other: &Text) -> bool {
+        is_same(self, other)
+    }
+}
+
+impl Same for usize {
+    ghost same = { nat_eq };
+
+    fn is_same(&self, other: &usize) -> bool {
+        *self == *other
+    }
+}
+
+impl Same for Field {
+    ghost same = { same_field };
+
+    fn is_same(&self, other: &Field) -> bool {
+        is_same(&self.name, &other.name)
+    }
+}
+
+impl Same for IndexDefinition {
+    ghost same = { same_index };
+
+    fn is_same(&self, other: &IndexDefinition) -> bool {
+        is_same(&self.name, &other.name)
+    }
+}
+
+// Whether one is the same as one of these.
+fn is_among<T: Same>(one: &T, others: &[T]) -> bool
+    ensures { result ≡ list_any (T.same one.now) others.now }
 {
-    let mut rest = names;
+    others.iter().any(|other| one.is_same(other))
+}
+
+// Whether two of these are the same.
+pub(crate) fn has_twice<T: Same>(items: &[T]) -> bool
+    ensures { result ≡ has_twice T.same items.now }
+{
+    let mut rest = items;
     while let Some((first, others)) = rest.split_first() {
         if is_among(first, others) {
             return true;
@@ -68,29 +110,8 @@ pub(crate) fn has_twice(names: &[Text]) -> bool
     false
 }
 
-// Whether a field has this name.
-fn is_field_among(name: &Text, fields: &[Field]) -> bool
-    ensures { result ≡ list_any (bytes_eq name.now) (field_names fields.now) }
-{
-    fields.iter().any(|field| is_same(name, &field.name))
-}
-
-// Whether two fields have the same name.
-pub(crate) fn has_field_twice(fields: &[Field]) -> bool
-    ensures { result ≡ has_twice (field_names fields.now) }
-{
-    let mut rest = fields;
-    while let Some((first, others)) = rest.split_first() {
-        if is_field_among(&first.name, others) {
-            return true;
-        }
-        rest = others;
-    }
-    false
-}
-
 // The place of the field of this name.
-fn place_of(fields: &[Field], name: &Text) -> Option<usize>
+pub(crate) fn place_of(fields: &[Field], name: &Text) -> Option<usize>
     ensures { result ≡ place_of fields.now name.now }
 {
     fields.iter().position(|field| is_same(&field.name, name))

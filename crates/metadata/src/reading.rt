@@ -21,7 +21,7 @@ fn text_of(element: &Element) -> Option<&Text>
 }
 
 // The nested tuple that an element is.
-fn tuple_of(element: &Element) -> Option<&Tuple>
+pub(crate) fn tuple_of(element: &Element) -> Option<&Tuple>
     ensures { option_copied result ≡ tuple_of (item_in element.now) }
 {
     match element {
@@ -31,7 +31,7 @@ fn tuple_of(element: &Element) -> Option<&Tuple>
 }
 
 // The kind number or place that an element is.
-fn small_of(element: &Element) -> Option<u8>
+pub(crate) fn small_of(element: &Element) -> Option<u8>
     ensures { result ≡ small_of (item_in element.now) }
 {
     match element {
@@ -41,21 +41,21 @@ fn small_of(element: &Element) -> Option<u8>
 }
 
 // The text at a place of a tuple.
-fn text_at(tuple: &Tuple, place: usize) -> Option<&Text>
+pub(crate) fn text_at(tuple: &Tuple, place: usize) -> Option<&Text>
     ensures { option_copied result ≡ read_at text_of tuple.now place }
 {
     text_of(tuple.elements().get(place)?)
 }
 
 // The nested tuple at a place of a tuple.
-fn tuple_at(tuple: &Tuple, place: usize) -> Option<&Tuple>
+pub(crate) fn tuple_at(tuple: &Tuple, place: usize) -> Option<&Tuple>
     ensures { option_copied result ≡ read_at tuple_of tuple.now place }
 {
     tuple_of(tuple.elements().get(place)?)
 }
 
 // The small number at a place of a tuple.
-fn small_at(tuple: &Tuple, place: usize) -> Option<u8>
+pub(crate) fn small_at(tuple: &Tuple, place: usize) -> Option<u8>
     ensures { result ≡ read_at small_of tuple.now place }
 {
     small_of(tuple.elements().get(place)?)

@@ -1,14 +1,14 @@
 ghost use Rattle.std.specs.Prelude.{◌≡◌, ◌∷◌, ◌==◌, ◌||◌, not, is_some, nat_lt, length, Ok, IfOk, IfErr, OnOk, OnErr};
 ghost use Rattle.std.specs.Option.{option_copied};
 ghost use Rattle.std.specs.List.{list_all};
+ghost use Rattle.std.specs.Str.{bytes_eq};
 ghost use Rattle.metadata.specs.Schema.{find_type};
-ghost use Rattle.metadata.specs.Change.{add_type, empty_schema, field_names, has_twice, is_name, schema_of, type_refusal};
+ghost use Rattle.metadata.specs.Change.{add_type, empty_schema, field_names, has_twice, is_name, same_field, schema_of, type_refusal};
 ghost use Rattle.metadata.specs.Answers.{IsRefusedAs};
 
 use crate::definition::{SchemaRequest, TypeDefinition, TypeRequest};
-use crate::names::{
-    are_named, has_field_twice, has_twice, has_unknown, is_name, is_same, places_of,
-};
+use crate::index::IndexDefinition;
+use crate::names::{are_named, has_twice, has_unknown, is_name, is_same, places_of};
 use crate::refusal::{MetadataError, Refusal};
 use std::alloc::{AllocError, Global};
 use std::marker::Model;
@@ -32,15 +32,43 @@ fn has_bad_name(request: &TypeRequest) -> bool
 
 // Whether a key has no fields, or one twice.
 fn is_bad_key(key: &[Text]) -> bool
-    ensures { result ≡ ((length key.now == 0) || has_twice key.now) }
+    ensures { result ≡ ((length key.now == 0) || has_twice bytes_eq key.now) }
 {
     key.is_empty() || has_twice(key)
 }
 
-/// The types of a store, in the order of their numbers.
+// Equal types.
+fn copy_types(alloc: Global, types: &[TypeDefinition]) -> Result<Vec<TypeDefinition>, AllocError>
+    ensures { IfOk result (λ copy. copy.items ≡ types.now) }
+{
+    let mut copy = Vec::new(alloc);
+    for definition in types {
+        copy.push(definition.copy()?)?;
+    }
+    Ok(copy)
+}
+
+// Equal indexes.
+fn copy_indexes(
+    alloc: Global,
+    indexes: &[IndexDefinition],
+) -> Result<Vec<IndexDefinition>, AllocError>
+    ensures { IfOk result (λ copy. copy.items ≡ indexes.now) }
+{
+    let mut copy = Vec::new(alloc);
+    for index in indexes {
+        copy.push(index.copy()?)?;
+    }
+    Ok(copy)
+}
+
+/// The types of a store and its indexes, both in the order of their numbers.
 #[derive(Drop)]
 pub struct Schema {
-    types: Vec<TypeDefinition>,
+    pub(crate) types: Vec<TypeDefinition>,
+    // The number that was given to an index last. Numbers aren't given twice.
+    pub(crate) last_index: u64,
+    pub(crate) indexes: Vec<IndexDefinition>,
 }
 
 impl Model for Schema {
@@ -48,16 +76,18 @@ impl Model for Schema {
 
     ghost Value = { SchemaValue };
 
-    ghost view = { λ s. record { types = s.types.items } };
+    ghost view = { λ s. record { types = s.types.items; last_index = s.last_index; indexes = s.indexes.items } };
 }
 
 impl Schema {
-    /// The schema without types.
+    /// The schema without types and indexes.
     pub fn new(alloc: Global) -> Schema
         ensures { result ≡ empty_schema }
     {
         Schema {
             types: Vec::new(alloc),
+            last_index: 0,
+            indexes: Vec::new(alloc),
         }
     }
 
@@ -73,8 +103,19 @@ impl Schema {
         Ok(schema)
     }
 
-    // The types, in the order of their numbers.
-    pub(crate) fn types(&self) -> &[TypeDefinition]
+    // The schema of these types with other indexes.
+    pub(crate) fn with_indexes(self, last_index: u64, indexes: Vec<IndexDefinition>) -> Schema
+        ensures { result ≡ record { types = self.types; last_index = last_index; indexes = indexes.items } }
+    {
+        Schema {
+            types: self.types,
+            last_index,
+            indexes,
+        }
+    }
+
+    /// The types, in the order of their numbers.
+    pub fn types(&self) -> &[TypeDefinition]
         ensures { result.now ≡ self.now.types }
     {
         self.types.as_slice()
@@ -91,9 +132,9 @@ impl Schema {
 
     // Whether the name is that of a type, or two fields have one name.
     fn has_name_taken(&self, request: &TypeRequest) -> bool
-        ensures { result ≡ (is_some (find_type self.now request.now.name) || has_twice (field_names request.now.fields)) }
+        ensures { result ≡ (is_some (find_type self.now request.now.name) || has_twice same_field request.now.fields) }
     {
-        self.type_named(&request.name).is_some() || has_field_twice(request.fields.as_slice())
+        self.type_named(&request.name).is_some() || has_twice(request.fields.as_slice())
     }
 
     // Whether there would be more types, fields or key fields than there may be.
@@ -152,10 +193,12 @@ impl Schema {
     pub fn copy(&self) -> Result<Schema, AllocError>
         ensures { IfOk result (λ copy. copy ≡ self.now) }
     {
-        let mut types = Vec::new(*self.types.allocator());
-        for definition in &self.types {
-            types.push(definition.copy()?)?;
-        }
-        Ok(Schema { types })
+        let types = copy_types(*self.types.allocator(), &self.types)?;
+        let indexes = copy_indexes(*self.indexes.allocator(), &self.indexes)?;
+        Ok(Schema {
+            types,
+            last_index: self.last_index,
+            indexes,
+        })
     }
 }

@@ -7,12 +7,12 @@ use std::alloc::{AllocError, Global};
 use std::test::Fail;
 use tuple_codec::{ByteString, Text, Tuple, pack};
 
-fn text(alloc: Global, name: &str) -> Result<Text, AllocError> {
+pub(crate) fn text(alloc: Global, name: &str) -> Result<Text, AllocError> {
     Ok(Text::new(String::from_str(alloc, name)?))
 }
 
 // The names of one character each.
-fn names(alloc: Global, letters: &str) -> Result<Vec<Text>, AllocError> {
+pub(crate) fn names(alloc: Global, letters: &str) -> Result<Vec<Text>, AllocError> {
     let mut names = Vec::new(alloc);
     for letter in letters.chars() {
         let name = format!(in alloc; "{letter}")?;
@@ -22,7 +22,12 @@ fn names(alloc: Global, letters: &str) -> Result<Vec<Text>, AllocError> {
 }
 
 // A request for a type of whole numbers.
-fn asked(alloc: Global, name: &str, fields: &str, key: &str) -> Result<TypeRequest, AllocError> {
+pub(crate) fn asked(
+    alloc: Global,
+    name: &str,
+    fields: &str,
+    key: &str,
+) -> Result<TypeRequest, AllocError> {
     let mut ints = Vec::new(alloc);
     for name in names(alloc, fields)? {
         ints.push(Field {
@@ -49,7 +54,7 @@ fn row(alloc: Global, numbers: &[Option<i64>]) -> Result<Cells, AllocError> {
 }
 
 // The schema of the type t of k, a and b, whose key is k.
-fn schema_of_t(alloc: Global) -> Result<Schema, MetadataError> {
+pub(crate) fn schema_of_t(alloc: Global) -> Result<Schema, MetadataError> {
     let mut types = Vec::new(alloc);
     types.push(asked(alloc, "t", "kab", "k")?)?;
     let request = SchemaRequest::new(types);
@@ -72,7 +77,7 @@ fn key_of_t(alloc: Global) -> Result<Tuple, MetadataError> {
     key_of(alloc, &schema, &name, &cells)
 }
 
-fn refusal<T: Drop>(answer: Result<T, MetadataError>) -> Option<Refusal> {
+pub(crate) fn refusal<T: Drop>(answer: Result<T, MetadataError>) -> Option<Refusal> {
     match answer {
         Err(MetadataError::Refused(refusal)) => Some(refusal),
         _ => None,

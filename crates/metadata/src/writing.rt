@@ -2,10 +2,12 @@
 ghost use Rattle.std.specs.Prelude.{◌≡◌, ◌<◌, map, IfOk};
 ghost use Rattle.tuple_codec.specs.Item.{nesting};
 ghost use Rattle.tuple_codec.specs.Elements.{item_in, items_in};
-ghost use Rattle.metadata.specs.Written.{field_item, kind_number, nested_item, number_item, type_item, written};
+ghost use Rattle.metadata.specs.Written.{field_item, index_item, index_kind_number, kind_number, nested_item, number_item, summed_item, type_item, written};
 
 use crate::cells::Kind;
 use crate::definition::{Field, TypeDefinition};
+use crate::index::{IndexDefinition, IndexKind};
+use crate::schema::Schema;
 use std::alloc::{AllocError, Global};
 use tuple_codec::{Element, Tuple, TupleInt};
 
@@ -93,16 +95,62 @@ fn types_element(alloc: Global, types: &[TypeDefinition]) -> Result<Element, All
     Ok(nested(parts))
 }
 
-// The written form of the schema of these types.
-pub(crate) fn schema_tuple(alloc: Global, types: &[TypeDefinition]) -> Result<Tuple, AllocError>
-    ensures { IfOk result (λ tuple. tuple ≡ written (record { types = types.now })) }
+// The number of an index's kind.
+fn index_kind_number(kind: IndexKind) -> u64
+    ensures { result ≡ index_kind_number kind }
+{
+    match kind {
+        IndexKind::Value => 1,
+        IndexKind::Count => 2,
+        IndexKind::Sum => 3,
+    }
+}
+
+// The place of a summed field, or null.
+fn summed_element(summed: Option<usize>) -> Element
+    ensures { item_in result ≡ summed_item summed }
+{
+    match summed {
+        Some(place) => number(place as u64),
+        None => Element::Null,
+    }
+}
+
+// An index's number, name, kind, type number, places of columns and place of the summed field.
+fn index_element(alloc: Global, index: &IndexDefinition) -> Result<Element, AllocError>
+    ensures { IfOk result (λ element. item_in element ≡ index_item index.now) }
+{
+    let mut parts = Vec::new(alloc);
+    parts.push(number(index.number))?;
+    parts.push(Element::Text(index.name.copy()?))?;
+    parts.push(number(index_kind_number(index.kind)))?;
+    parts.push(number(index.type_number))?;
+    parts.push(places_element(alloc, index.columns.as_slice())?)?;
+    parts.push(summed_element(index.summed))?;
+    Ok(nested(parts))
+}
+
+// Indexes, in order.
+fn indexes_element(alloc: Global, indexes: &[IndexDefinition]) -> Result<Element, AllocError>
+    ensures { IfOk result (λ element. item_in element ≡ nested_item (map index_item indexes.now)) }
+{
+    let mut parts = Vec::new(alloc);
+    for index in indexes {
+        parts.push(index_element(alloc, index)?)?;
+    }
+    Ok(nested(parts))
+}
+
+// The written form of a schema.
+pub(crate) fn schema_tuple(alloc: Global, schema: &Schema) -> Result<Tuple, AllocError>
+    ensures { IfOk result (λ tuple. tuple ≡ written schema.now) }
 {
     let mut parts = Vec::new(alloc);
     parts.push(number(1))?;
-    parts.push(number(types.len() as u64))?;
-    parts.push(number(0))?;
-    parts.push(types_element(alloc, types)?)?;
-    parts.push(nested(Vec::new(alloc)))?;
+    parts.push(number(schema.types().len() as u64))?;
+    parts.push(number(schema.last_index))?;
+    parts.push(types_element(alloc, schema.types())?)?;
+    parts.push(indexes_element(alloc, schema.indexes())?)?;
     match Tuple::new(parts) {
         Ok(tuple) => Ok(tuple),
         Err(_) => unreachable!(),

@@ -26,7 +26,8 @@ use Rattle.kv_core.proofs.Stored.{stored, get-stored, stored-set, stored-cleared
 use Rattle.metadata.specs.Record.{Record, primary_key, key_cells}
 use Rattle.metadata.specs.Cell.{items_of}
 use Rattle.metadata.specs.Schema.{Schema}
-use Rattle.metadata.specs.Written.{IsMade, schema_bytes}
+use Rattle.metadata.specs.Lawful.{IsLawfulSchema}
+use Rattle.metadata.specs.Written.{schema_bytes}
 use Rattle.schedule.specs.Store.{Store, Serial, has_primary_key, record_at, placed, with_record, without_record, of_type, created, saved, removed}
 use Rattle.schedule.specs.Serve.{cells_in}
 use Rattle.schedule.specs.Layout.{store_prefix, schema_key, schema_pair, record_key, record_value, record_pair, pairs_of, states_range, type_range}
@@ -181,7 +182,7 @@ removed_holds m store key t holds = record {
 }
 
 -- CREATE: with a schema's pair put where nothing is, the map holds the new store
-pub created_holds : (m : Map) (schema : Schema) → IsMade schema → Holds m None → Holds (after (Set schema_key (schema_bytes schema)) m) (Some (created schema))
+pub created_holds : (m : Map) (schema : Schema) → IsLawfulSchema schema → Holds m None → Holds (after (Set schema_key (schema_bytes schema)) m) (Some (created schema))
 created_holds m schema made holds = record {
   lawful = record { schema = made; ordered = tt; storable = tt };
   pairs = held_after m None (Some (created schema)) (Set schema_key (schema_bytes schema)) holds (stored-set [] schema_key (schema_bytes schema));

@@ -19,7 +19,8 @@ use Rattle.metadata.specs.declared.cells.Cell.{Cell}
 use Rattle.metadata.specs.Cell.{IsCell}
 use Rattle.metadata.specs.Record.{Record}
 use Rattle.metadata.specs.Schema.{Schema}
-use Rattle.metadata.specs.Written.{IsMade, schema_bytes}
+use Rattle.metadata.specs.Lawful.{IsLawfulSchema}
+use Rattle.metadata.specs.Written.{schema_bytes}
 use Rattle.metadata.proofs.OneSchema.{written_once}
 use Rattle.schedule.specs.declared.error.StoreError.{StoreError}
 use Rattle.schedule.specs.declared.error.StoreError.TheVariants.{Memory, Read, Write, Corrupt, Refused}
@@ -186,7 +187,7 @@ open_outcome m refuses written states error serial found listed holds unread = b
     nothing_there : (bytes : List ℕ) → Holds m None → Some bytes ≡ get m schema_key → ⊥
     nothing_there bytes holds some = let none : ◌≡◌ {A = Option (List ℕ)} (Some bytes) None = some ∙ nothing_held m (0x14 ∷ []) holds in cc
 
-    right : (bytes : List ℕ) (s : Serial) → Holds m s → Some bytes ≡ get m schema_key → ((schema : Schema) → IsMade schema → bytes ≡ schema_bytes schema → ⊥) → ⊥
+    right : (bytes : List ℕ) (s : Serial) → Holds m s → Some bytes ≡ get m schema_key → ((schema : Schema) → IsLawfulSchema schema → bytes ≡ schema_bytes schema → ⊥) → ⊥
     right bytes None holds some none = nothing_there bytes holds some
     right bytes (Some store) holds some none =
         let both : ◌≡◌ {A = Option (List ℕ)} (Some bytes) (Some (schema_bytes store.schema)) = some ∙ schema_held m store holds in

@@ -35,6 +35,7 @@ use Rattle.schedule.specs.Layout.{schema_key, record_key, record_value, type_ran
 use Rattle.schedule.specs.Holds.{Holds, IsStorable, AreOrdered}
 use Rattle.schedule.specs.Reach.{own_reach, writes, create_writes, save_writes, remove_writes, clear_writes, record_reach, key_reach, type_reach}
 use Rattle.schedule.specs.Calls.{number_of, records_in, removal, removal_reply}
+use Rattle.metadata.proofs.StayLawful.{made_lawful}
 use Rattle.schedule.proofs.Held.{schema_held, nothing_held, created_holds, saved_holds, removed_holds}
 use Rattle.schedule.proofs.Outcomes.{Has, Serves, has_within}
 use Rattle.schedule.proofs.RecordLists.{id, id_order, all_filter, ordered-filter}
@@ -204,7 +205,7 @@ create_serves request schema before written is none wrote m None holds found = r
   wrote = wrote ∙ sym (ap create_writes is);
   holds =
       subst (λ s. Holds (after_all written m) s) (sym (ap (λ o. (served_create None o).1) is))
-      (subst (λ ms. Holds (after_all ms m) (Some (created schema))) (sym wrote) (created_holds m schema (request, is) holds));
+      (subst (λ ms. Holds (after_all ms m) (Some (created schema))) (sym wrote) (created_holds m schema (made_lawful request schema is) holds));
   opened = λ k h. h;
 }
 create_serves request schema before written is none wrote m (Some store) holds found =

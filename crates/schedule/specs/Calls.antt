@@ -21,7 +21,8 @@ use Rattle.metadata.specs.declared.refusal.Refusal.TheVariants.{FutureVersion, T
 use Rattle.metadata.specs.Cell.{IsCell}
 use Rattle.metadata.specs.Record.{Record}
 use Rattle.metadata.specs.Schema.{Schema}
-use Rattle.metadata.specs.Written.{IsMade, schema_bytes}
+use Rattle.metadata.specs.Lawful.{IsLawfulSchema}
+use Rattle.metadata.specs.Written.{schema_bytes}
 use Rattle.schedule.specs.declared.error.StoreError.{StoreError}
 use Rattle.schedule.specs.declared.error.StoreError.TheVariants.{Memory, Read, Write, Corrupt, Refused}
 use Rattle.schedule.specs.declared.step.Command.{Command}
@@ -118,7 +119,7 @@ pub record IsUnopened (maps : ℕ → Map) (refuses : KeyRange → ℕ → Optio
 
 -- what was found where a schema may stand is the schema's bytes, and there is no state of an index
 pub record IsSchema (written : Option (List ℕ)) (states : List (List ℕ × List ℕ)) (schema : Schema) : Type 0 where
-  pub made : IsMade schema
+  pub made : IsLawfulSchema schema
   pub bytes : written ≡ Some (schema_bytes schema)
   pub stateless : states ≡ []
 
@@ -129,7 +130,7 @@ HasSchema schema m = IsSchema (get m schema_key) (pairs_in m states_range) schem
 -- why bytes are no schema: memory is wanting, or they are those of none
 abbrev pub IsBadSchema : List ℕ → StoreError → Type 0
 IsBadSchema bytes Memory = Unit {0}
-IsBadSchema bytes (Corrupt key) = (key ≡ schema_key) × ((schema : Schema) → IsMade schema → bytes ≡ schema_bytes schema → ⊥)
+IsBadSchema bytes (Corrupt key) = (key ≡ schema_key) × ((schema : Schema) → IsLawfulSchema schema → bytes ≡ schema_bytes schema → ⊥)
 IsBadSchema bytes error = ⊥
 
 -- why there may be no states: memory is wanting, or there is one, at this key

@@ -8,7 +8,7 @@ use Rattle.tuple_codec.specs.Order.{tuple_cmp}
 use Rattle.kv_core.specs.Map.{Map}
 use Rattle.metadata.specs.Cell.{IsCell}
 use Rattle.metadata.specs.Record.{Record, primary_key}
-use Rattle.metadata.specs.Written.{IsMade}
+use Rattle.metadata.specs.Lawful.{IsLawfulSchema}
 use Rattle.schedule.specs.Store.{Store, Serial}
 use Rattle.schedule.specs.Layout.{pairs_of, store_prefix}
 
@@ -24,7 +24,7 @@ AreOrdered (r ∷ records) = AllByRecursion (λ later. IsTrue (is_lt (tuple_cmp 
 
 -- a lawful store: its schema is one that requests make, and its records are in order and can be stored
 pub record IsLawful (store : Store) : Type 0 where
-  pub schema : IsMade store.schema
+  pub schema : IsLawfulSchema store.schema
   pub ordered : AreOrdered store.records
   pub storable : AllByRecursion IsStorable store.records
 

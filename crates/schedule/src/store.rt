@@ -3,7 +3,8 @@ ghost use Rattle.std.specs.FinMap.{get as value_at};
 ghost use Rattle.tuple_codec.specs.Item.{IsTuple};
 ghost use Rattle.kv_core.specs.Map.{pairs_in};
 ghost use Rattle.kv_core.specs.Range.{point};
-ghost use Rattle.metadata.specs.Written.{IsMade, schema_bytes};
+ghost use Rattle.metadata.specs.Lawful.{IsLawfulSchema};
+ghost use Rattle.metadata.specs.Written.{schema_bytes};
 ghost use Rattle.schedule.specs.Store.{record_at};
 ghost use Rattle.schedule.specs.Serve.{cells_in};
 ghost use Rattle.schedule.specs.Layout.{record_key, schema_key, states_range};
@@ -48,7 +49,7 @@ pub(crate) fn read_states<S: Snapshot>(
 
 /// The schema of these bytes.
 fn decode_schema(alloc: Global, bytes: &Bytes) -> Result<Schema, StoreError>
-    ensures made { IfOk result IsMade }
+    ensures made { IfOk result IsLawfulSchema }
     ensures bytes { IfOk result (λ schema. bytes.now ≡ schema_bytes schema) }
     ensures refused { IfErr result (IsBadSchema bytes.now) }
 {

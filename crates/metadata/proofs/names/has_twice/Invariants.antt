@@ -3,7 +3,7 @@ use Rattle.metadata.specs.Change.{has_twice}
 use Rattle.metadata.proofs.names.has_twice.Given as goal
 
 abbrev pub invariant-loop-first : goal.invariant-loop-first
-invariant-loop-first l = has_twice l.rest ≡ has_twice l.names
+invariant-loop-first g l = has_twice g.T.Same.same l.rest ≡ has_twice g.T.Same.same l.items
 
 abbrev pub decreases-loop-first : goal.decreases-loop-first
-decreases-loop-first l = length l.rest
+decreases-loop-first g l = length l.rest

@@ -1,0 +1,5 @@
+use Rattle.metadata.proofs.WrittenDepth.{shallow-indexes}
+use Rattle.metadata.proofs.writing.indexes_element.Goals as goal
+
+pub nested-requires : goal.nested-requires
+nested-requires c = shallow-indexes c.loop-index.parts.items _ c.loop-index.invariant
