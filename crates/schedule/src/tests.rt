@@ -1,12 +1,10 @@
 // Schedules run: what no clause says, that memory of an ordinary size is enough.
-use crate::{Command, Query, Reply, Report, Step, Transcript, perform, run_schedule};
-use cluster_core::{Cluster, Config, Splits};
-use kv_core::Bytes;
+use crate::{Command, Query, Reply, Report, Step, Transcript, run_schedule};
+use cluster_core::{Config, Splits};
 use metadata::{Cell, Cells, Field, Fields, Kind, Names, Refusal, SchemaRequest, TypeRequest};
 use std::alloc::{AllocError, Global};
 use std::test::Fail;
 use tuple_codec::Text;
-use txn::Transaction;
 
 fn text(alloc: Global, name: &str) -> Result<Text, AllocError> {
     Ok(Text::new(String::from_str(alloc, name)?))
@@ -167,25 +165,5 @@ fn lists_what_is_committed(rt: HostRuntime) -> Result<(), Fail> {
     assert_eq!(rt; commits[1].commands.as_slice().len(), 2);
     assert_eq!(rt; transcript.cluster.requests().len(), 3);
     assert_eq!(rt; transcript.cluster.read_version(), 3);
-    Ok(())
-}
-
-#[test]
-fn damaged_schemas_are_corrupt(rt: HostRuntime) -> Result<(), Fail> {
-    let alloc = rt.alloc();
-    let cluster = Cluster::new(alloc, &config(alloc, 0)).map_err(|_| "no cluster")?;
-    let mut transaction = Transaction::begin(alloc, 0);
-    // The schema's key is the packs of (1) and (0).
-    let key = Bytes::new(Vec::from_slice(alloc, &[0x15, 0x01, 0x14])?);
-    let value = Bytes::new(Vec::from_slice(alloc, &[0x15])?);
-    transaction.set(key, value).map_err(|_| "not set")?;
-    let record_type = text(alloc, "t")?;
-    let asked = Command::Query(Query { record_type });
-    match perform(alloc, &asked, &mut transaction, &cluster)? {
-        Reply::Corrupt(key) => assert_eq!(rt; key.as_slice(), [0x15, 0x01, 0x14].as_slice()),
-        _ => assert!(rt; false, "not corrupt"),
-    }
-    let created = perform(alloc, &creation(alloc)?, &mut transaction, &cluster)?;
-    assert!(rt; matches!(created, Reply::Refused(Refusal::AlreadyThere)));
     Ok(())
 }
