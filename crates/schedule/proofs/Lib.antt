@@ -20,3 +20,4 @@ pub mod Outcomes
 pub mod Serving
 pub mod Creating
 pub mod ReadRows
+pub mod Examples
