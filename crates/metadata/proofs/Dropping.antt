@@ -1,5 +1,5 @@
 -- An index that is dropped.
-use Rattle.std.proofs.Common.{◌≡◌, ℕ, ◌==◌, not, List, Option, Some, Ok, refl, sym, ap, ◌∙◌}
+use Rattle.std.proofs.Common.{◌≡◌, ℕ, ◌==◌, not, List, Option, Some, Ok, sym, ap, ◌∙◌}
 use Rattle.std.specs.Prelude.{filter}
 use Rattle.metadata.specs.declared.definition.TypeDefinition.{TypeDefinition}
 use Rattle.metadata.specs.declared.index.IndexDefinition.{IndexDefinition}

@@ -1,31 +1,29 @@
 -- An index that is added is one over its type, and a lawful schema with it is lawful.
-use Rattle.std.proofs.Common.{◌≡◌, ◌≤◌, ◌<◌, ◌+◌, ℕ, Bool, true, false, not, cond, ◌&&◌, ◌||◌, ◌==◌, List, [], ◌∷◌, ◌++◌, Option, Some, None, Result, Ok, Err, length, map, refl, sym, ap, subst, ◌∙◌, arith, get_or}
+use Rattle.std.proofs.Common.{◌≡◌, ◌≤◌, ◌<◌, ◌+◌, ℕ, Bool, true, false, not, cond, ◌&&◌, ◌||◌, ◌==◌, List, [], ◌∷◌, ◌++◌, Option, Some, None, Result, Ok, Err, length, refl, sym, ap, subst, ◌∙◌, arith, get_or}
 use Rattle.std.specs.Prelude.{nat_eq, nat_le, nat_lt, is_none, is_some, find}
-use Rattle.std.specs.List.{cons_option, filter_map, list_all, list_any}
+use Rattle.std.specs.List.{cons_option, list_all, list_any}
 use Rattle.std.specs.Option.{option_map_or}
 use Rattle.std.specs.Result.{is_ok}
 use Rattle.std.specs.Str.{bytes_eq}
-use Rattle.std.proofs.lemmas.Bool.{leb-true, le-leb, lt-ltb, ltb-true, ltb-false, eqb-true, eqb-false, true≢false}
+use Rattle.std.proofs.lemmas.Bool.{le-leb, lt-ltb, ltb-false, eqb-true, eqb-false, true≢false}
 use Rattle.std.proofs.lemmas.List.{length-append, map-append}
 use Rattle.std.proofs.lemmas.List.Folds.{list_all-append}
 use Rattle.std.proofs.lemmas.List.Quantifiers.{position-Some}
 use Rattle.std.proofs.lemmas.Slice.Eq.{bytes_eq-Decides}
-use Rattle.metadata.specs.declared.cells.Kind.{Kind}
 use Rattle.metadata.specs.declared.cells.Kind.TheVariants as kind
 use Rattle.metadata.specs.declared.definition.Field.{Field}
 use Rattle.metadata.specs.declared.definition.TypeDefinition.{TypeDefinition}
 use Rattle.metadata.specs.declared.index.IndexDefinition.{IndexDefinition}
 use Rattle.metadata.specs.declared.index.IndexRequest.{IndexRequest}
 use Rattle.metadata.specs.declared.refusal.Refusal.{Refusal}
-use Rattle.metadata.specs.declared.refusal.Refusal.TheVariants.{BadName, NameTaken, UnknownType, UnknownField, WrongKind, BadSchema, TooMany}
+use Rattle.metadata.specs.declared.refusal.Refusal.TheVariants.{BadName, NameTaken, UnknownField, WrongKind, BadSchema, TooMany}
 use Rattle.metadata.specs.Change.{first_refusal, has_twice, has_unknown, is_name, places_of}
-use Rattle.metadata.specs.IndexChange.{add_index, has_unknown_field, index_asked, index_over, is_int, is_shaped, name_refusal, new_index, over_refusal, place_summed, sums_other, with_index}
-use Rattle.metadata.specs.Lawful.{IsLawfulSchema, has_good_indexes, is_index, is_index_over, is_rising_upto, same_index}
+use Rattle.metadata.specs.IndexChange.{add_index, has_unknown_field, index_asked, index_over, is_int, is_shaped, name_refusal, over_refusal, place_summed, sums_other, with_index}
+use Rattle.metadata.specs.Lawful.{IsLawfulSchema, is_index, is_index_over, is_rising_upto}
 use Rattle.metadata.specs.Schema.{Schema, find_index, find_type, kind_at, place_of, type_at}
 use Rattle.metadata.proofs.MadeSchemas.{AreNumbered, made_numbered}
 use Rattle.metadata.proofs.StayLawful.{Tested, good, numbers, rising_push, tested, twice_push}
 use Rattle.metadata.proofs.ReadBack.{neither}
-use Rattle.metadata.proofs.WrittenItems.{both}
 
 -- ---- the type of a number
 

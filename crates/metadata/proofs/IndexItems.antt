@@ -1,23 +1,22 @@
 -- The items of which the written form of an index consists: they may stand in a tuple, and the index is read again from them.
-use Rattle.std.proofs.Common.{◌≡◌, ◌≤◌, ◌<◌, ◌^◌, ℕ, Bool, true, false, not, cond, ◌&&◌, ◌==◌, List, [], ◌∷◌, Option, Some, None, length, map, refl, sym, ap, subst, ◌∙◌, arith}
-use Rattle.std.specs.Prelude.{nat_eq, nat_le, nat_lt, slice_get, find, is_some}
+use Rattle.std.proofs.Common.{◌≡◌, ◌≤◌, ◌<◌, ◌^◌, ℕ, Bool, true, false, cond, ◌&&◌, ◌==◌, List, [], ◌∷◌, Option, Some, None, length, map, refl, sym, ap, subst, ◌∙◌, arith}
+use Rattle.std.specs.Prelude.{nat_le, nat_lt, slice_get, is_some}
 use Rattle.std.specs.List.{AllByRecursion, list_all}
 use Rattle.std.specs.Option.{option_map, option_and_then, option_map_or}
 use Rattle.std.proofs.lemmas.Bool.{leb-true, ltb-true, lt-ltb, eqb-true, true≢false}
 use Rattle.std.proofs.lemmas.Option.{slice_get_within}
-use Rattle.tuple_codec.specs.Item.{Item, AreItems, IsItem, items_of, listed}
-use Rattle.metadata.specs.declared.cells.Kind.{Kind}
+use Rattle.tuple_codec.specs.Item.{AreItems, IsItem, items_of, listed}
 use Rattle.metadata.specs.declared.definition.Field.{Field}
 use Rattle.metadata.specs.declared.definition.TypeDefinition.{TypeDefinition}
 use Rattle.metadata.specs.declared.index.IndexDefinition.{IndexDefinition}
 use Rattle.metadata.specs.declared.index.IndexKind.{IndexKind}
 use Rattle.metadata.specs.declared.index.IndexKind.TheVariants.{Value, Count, Sum}
-use Rattle.metadata.specs.Change.{has_twice, is_name}
+use Rattle.metadata.specs.Change.{is_name}
 use Rattle.metadata.specs.IndexChange.{is_int, is_shaped}
 use Rattle.metadata.specs.Lawful.{is_index, is_index_over, is_rising_upto}
 use Rattle.metadata.specs.Schema.{kind_at, type_at}
 use Rattle.metadata.specs.Written.{index_item, index_kind_number, number_item, summed_item}
-use Rattle.metadata.specs.Reading.{all_read, index_kind_of, index_of, number_of, places_in, small_of, summed_of}
+use Rattle.metadata.specs.Reading.{all_read, index_kind_of, index_of, number_of, small_of, summed_of}
 use Rattle.metadata.proofs.ReadBack.{listed-items_of}
 use Rattle.metadata.proofs.WrittenItems.{both, utf8}
 

@@ -13,3 +13,4 @@ pub mod IndexItems
 pub mod Dropping
 pub mod StayLawful
 pub mod IndexAdded
+pub mod IndexExamples

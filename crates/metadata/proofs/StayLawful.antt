@@ -1,19 +1,18 @@
 -- What calls make of a lawful schema is lawful: types and indexes that are added, and indexes that are dropped.
-use Rattle.std.proofs.Common.{◌≡◌, ◌≤◌, ◌<◌, ◌+◌, ℕ, Bool, true, false, not, cond, ◌&&◌, ◌||◌, ◌==◌, List, [], ◌∷◌, ◌++◌, Option, Some, None, Result, Ok, Err, length, map, refl, sym, ap, subst, ◌∙◌, arith}
-use Rattle.std.specs.Prelude.{nat_eq, nat_le, nat_lt, is_some, find, filter}
+use Rattle.std.proofs.Common.{◌≡◌, ◌≤◌, ◌<◌, ℕ, Bool, true, false, not, cond, ◌&&◌, ◌||◌, ◌==◌, List, [], ◌∷◌, ◌++◌, Option, Some, None, Result, Ok, Err, length, map, refl, sym, ap, subst, ◌∙◌, arith}
+use Rattle.std.specs.Prelude.{nat_le, nat_lt, is_some, find, filter}
 use Rattle.std.specs.List.{list_all, list_any}
 use Rattle.std.specs.Option.{option_map_or, option_or}
 use Rattle.std.specs.Result.{is_ok}
 use Rattle.std.specs.Str.{bytes_eq}
-use Rattle.std.proofs.lemmas.Bool.{leb-true, le-leb, lt-ltb, ltb-true, ltb-false, true≢false}
-use Rattle.std.proofs.lemmas.List.{length-append, map-append}
-use Rattle.std.proofs.lemmas.List.Folds.{find-append, list_all-append, list_any-append}
+use Rattle.std.proofs.lemmas.Bool.{leb-true, le-leb, lt-ltb, ltb-true, true≢false}
+use Rattle.std.proofs.lemmas.List.Folds.{find-append, list_any-append}
 use Rattle.metadata.specs.declared.definition.TypeDefinition.{TypeDefinition}
 use Rattle.metadata.specs.declared.definition.TypeRequest.{TypeRequest}
 use Rattle.metadata.specs.declared.index.IndexDefinition.{IndexDefinition}
 use Rattle.metadata.specs.declared.refusal.Refusal.{Refusal}
-use Rattle.metadata.specs.Change.{add_type, add_types, first_refusal, has_twice, has_unknown, is_name, places_of, schema_of, type_asked, type_refusal, types_alone, with_type}
-use Rattle.metadata.specs.IndexChange.{add_index, drop_index, has_unknown_field, index_asked, index_over, is_int, is_shaped, name_refusal, new_index, over_refusal, place_summed, sums_other, with_index, without_index}
+use Rattle.metadata.specs.Change.{add_type, add_types, has_twice, is_name, schema_of, type_asked, type_refusal, types_alone, with_type}
+use Rattle.metadata.specs.IndexChange.{drop_index, is_shaped, without_index}
 use Rattle.metadata.specs.Lawful.{IsLawfulSchema, has_good_indexes, is_index, is_index_over, is_rising_upto, same_index}
 use Rattle.metadata.specs.Schema.{Schema, find_index, type_at}
 use Rattle.metadata.proofs.MadeSchemas.{made_alone}
