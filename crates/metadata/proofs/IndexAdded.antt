@@ -3,7 +3,6 @@ use Rattle.std.proofs.Common.{◌≡◌, ◌≤◌, ◌<◌, ◌+◌, ℕ, Bool,
 use Rattle.std.specs.Prelude.{nat_eq, nat_le, nat_lt, is_none, is_some, find}
 use Rattle.std.specs.List.{cons_option, list_all, list_any}
 use Rattle.std.specs.Option.{option_map_or}
-use Rattle.std.specs.Result.{is_ok}
 use Rattle.std.specs.Str.{bytes_eq}
 use Rattle.std.proofs.lemmas.Bool.{le-leb, lt-ltb, ltb-false, eqb-true, eqb-false, true≢false}
 use Rattle.std.proofs.lemmas.List.{length-append, map-append}
@@ -21,8 +20,9 @@ use Rattle.metadata.specs.Change.{first_refusal, has_twice, has_unknown, is_name
 use Rattle.metadata.specs.IndexChange.{add_index, has_unknown_field, index_asked, index_over, is_int, is_shaped, name_refusal, over_refusal, place_summed, sums_other, with_index}
 use Rattle.metadata.specs.Lawful.{IsLawfulSchema, is_index, is_index_over, is_rising_upto}
 use Rattle.metadata.specs.Schema.{Schema, find_index, find_type, kind_at, place_of, type_at}
-use Rattle.metadata.proofs.MadeSchemas.{AreNumbered, made_numbered}
-use Rattle.metadata.proofs.StayLawful.{Tested, good, numbers, rising_push, tested, twice_push}
+use Rattle.metadata.proofs.MadeSchemas.{AreNumbered, err_other, made_numbered, ok_same, turned}
+use Rattle.metadata.proofs.StayLawful.{rising_push, twice_push}
+use Rattle.metadata.proofs.TestedIndexes.{Tested, good, numbers, tested}
 use Rattle.metadata.proofs.ReadBack.{neither}
 
 -- ---- the type of a number
@@ -126,18 +126,10 @@ columns_once fields (name ∷ names) once = by_place (place_of fields name) refl
 summed_known : (fields : List Field) (summed : Option (List ℕ)) → option_map_or (λ name. not (is_some (place_of fields name))) summed false ≡ false → is_some (place_summed fields summed) ≡ is_some summed
 summed_known fields None known = refl
 summed_known fields (Some name) known = turned (is_some (place_of fields name)) known
-  where
-    turned : (b : Bool) → not b ≡ false → b ≡ true
-    turned true h = refl
-    turned false h = absurd (true≢false h)
 
 summed_int : (fields : List Field) (summed : Option ℕ) → sums_other fields summed ≡ false → option_map_or (λ place. is_int (kind_at fields place)) summed true ≡ true
 summed_int fields None is = refl
 summed_int fields (Some place) is = turned (is_int (kind_at fields place)) is
-  where
-    turned : (b : Bool) → not b ≡ false → b ≡ true
-    turned true h = refl
-    turned false h = absurd (true≢false h)
 
 -- ---- tests that refuse nothing
 
@@ -152,10 +144,6 @@ four_passed true b c d is = absurd (true≢false (ap is_some is))
 four_passed false true c d is = absurd (true≢false (ap is_some is))
 four_passed false false true d is = absurd (true≢false (ap is_some is))
 four_passed false false false true is = absurd (true≢false (ap is_some is))
-
-turned_back : (b : Bool) → not b ≡ false → b ≡ true
-turned_back true h = refl
-turned_back false h = absurd (true≢false h)
 
 none_found : {X : Type 0} (found : Option X) → is_some found ≡ false → found ≡ None
 none_found None is = refl
@@ -214,7 +202,7 @@ over_lawful schema request type lawful names found over =
     eight = le-leb (length index.columns) 8 (let few = ltb-false 8 (length request.columns) (neither (nat_lt 63 (length schema.indexes)) (nat_lt 8 (length request.columns)) counts.0).1 in let same : length index.columns ≡ length request.columns = columns.0 in omega (arith, few, same))
 
     shaped : is_shaped index.kind (length index.columns) (is_some index.summed) ≡ true
-    shaped = (λ i. is_shaped request.kind (columns.0 i) (summed_known type.fields request.summed known.1 i)) ∙ turned_back _ shape.0
+    shaped = (λ i. is_shaped request.kind (columns.0 i) (summed_known type.fields request.summed known.1 i)) ∙ turned _ shape.0
 
     typed : type_at schema.types type.number ≡ Some type
     typed = found_by_number 0 (λ (one : TypeDefinition). bytes_eq one.name request.type_name) schema.types type (made_numbered _ lawful.requests lawful.types) found
@@ -223,29 +211,25 @@ over_lawful schema request type lawful names found over =
     one_over = λ i. columns.1 i && not (columns_once type.fields request.columns shape.1 i) && summed_int type.fields (place_summed type.fields request.summed) passed.1 i
 
     is_one : is_index schema.types index ≡ true
-    is_one = (λ i. turned_back (is_name request.name) name.0 i && eight i && shaped i && option_map_or (is_index_over index) (typed i) false) ∙ one_over
+    is_one = (λ i. turned (is_name request.name) name.0 i && eight i && shaped i && option_map_or (is_index_over index) (typed i) false) ∙ one_over
 
 -- INDEX ADDED
 pub index_lawful : (schema next : Schema) (request : IndexRequest) → IsLawfulSchema schema → add_index schema request ≡ Ok next → IsLawfulSchema next
 index_lawful schema next request lawful added = by_name (name_refusal schema request) refl added
   where
-    or_else : Schema → Result Schema Refusal → Schema
-    or_else other (Ok found) = found
-    or_else other (Err refusal) = other
-
     joined : Result IndexDefinition Refusal → Result Schema Refusal
     joined outcome = elim outcome [ Ok index ↦ Ok (with_index schema index) | Err refusal ↦ Err refusal ]
 
     by_over : (type : TypeDefinition) (why : Option Refusal) → name_refusal schema request ≡ None → find_type schema request.type_name ≡ Some type → over_refusal schema type request ≡ why →
         joined (elim why [ None ↦ Ok (index_asked schema type request) | Some refusal ↦ Err refusal ]) ≡ Ok next → IsLawfulSchema next
-    by_over type None names found over is = subst IsLawfulSchema (ap (or_else next) is) (over_lawful schema request type lawful names found over)
-    by_over type (Some refusal) names found over is = absurd (true≢false (sym (ap is_ok is)))
+    by_over type None names found over is = subst IsLawfulSchema (ok_same (with_index schema (index_asked schema type request)) next is) (over_lawful schema request type lawful names found over)
+    by_over type (Some refusal) names found over is = absurd (err_other _ next is)
 
     by_type : (found : Option TypeDefinition) → name_refusal schema request ≡ None → find_type schema request.type_name ≡ found → joined (index_over schema request found) ≡ Ok next → IsLawfulSchema next
-    by_type None names found is = absurd (true≢false (sym (ap is_ok is)))
+    by_type None names found is = absurd (err_other _ next is)
     by_type (Some type) names found is = by_over type (over_refusal schema type request) names found refl is
 
     by_name : (why : Option Refusal) → name_refusal schema request ≡ why →
         joined (elim why [ None ↦ index_over schema request (find_type schema request.type_name) | Some refusal ↦ Err refusal ]) ≡ Ok next → IsLawfulSchema next
-    by_name (Some refusal) names is = absurd (true≢false (sym (ap is_ok is)))
+    by_name (Some refusal) names is = absurd (err_other _ next is)
     by_name None names is = by_type (find_type schema request.type_name) names refl is

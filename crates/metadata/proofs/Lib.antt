@@ -14,3 +14,4 @@ pub mod Dropping
 pub mod StayLawful
 pub mod IndexAdded
 pub mod IndexExamples
+pub mod TestedIndexes

@@ -1,6 +1,6 @@
 -- What stands of a schema that types made: its written form is a tuple, from which the types are read again.
 use Rattle.std.proofs.Common.{◌≡◌, ◌≤◌, ◌<◌, ◌+◌, ℕ, Bool, true, false, not, List, [], ◌∷◌, ◌++◌, Option, Some, None, Result, Ok, Err, length, map, refl, sym, ap, subst, ◌∙◌, arith}
-use Rattle.std.specs.Prelude.{◌==◌, ◌||◌, ◌^◌, cond, is_some, nat_le, nat_lt}
+use Rattle.std.specs.Prelude.{◌==◌, ◌||◌, ◌^◌, cond, is_some, nat_lt}
 use Rattle.std.specs.List.{AllByRecursion, list_all}
 use Rattle.std.specs.Str.{bytes_eq}
 use Rattle.std.specs.Result.{is_ok, result_ok}
@@ -16,12 +16,13 @@ use Rattle.metadata.specs.declared.refusal.Refusal.TheVariants.{BadName, NameTak
 use Rattle.metadata.specs.Change.{add_type, add_types, empty_schema, field_names, first_refusal, has_twice, has_unknown, is_name, places_of, same_field, schema_of, type_asked, type_refusal, types_alone, with_type}
 use Rattle.metadata.specs.Schema.{Schema, find_type}
 use Rattle.metadata.specs.Written.{field_item, index_item, number_item, type_item, written}
-use Rattle.metadata.specs.Lawful.{IsLawfulSchema, has_good_indexes, is_index, is_rising_upto}
+use Rattle.metadata.specs.Lawful.{IsLawfulSchema, has_good_indexes, is_index}
 use Rattle.metadata.proofs.IndexItems.{IsSmall, all_upto, indexes_are, indexes_back}
 use Rattle.metadata.specs.Reading.{all_read, asked_of, if_good, index_of, indexes_in, name_of, number_of, read_at, request_of, schema_in, types_in}
 use Rattle.metadata.proofs.AllRead.{all_read-more}
 use Rattle.metadata.proofs.ReadBack.{fields_back, listed-items_of, names_back, neither}
-use Rattle.metadata.proofs.WrittenItems.{both, is_item-type, are_items-more}
+use Rattle.metadata.proofs.TestedIndexes.{numbers, tested}
+use Rattle.metadata.proofs.WrittenItems.{is_item-type, are_items-more}
 use Rattle.metadata.proofs.WrittenDepth.{nesting-written}
 
 -- what the tests of a type leave
@@ -42,7 +43,7 @@ all_passed false false true d e is = absurd (no_refusal _ is)
 all_passed false false false true e is = absurd (no_refusal _ is)
 all_passed false false false false true is = absurd (no_refusal _ is)
 
-turned : (test : Bool) → not test ≡ false → test ≡ true
+pub turned : (test : Bool) → not test ≡ false → test ≡ true
 turned true is = refl
 turned false is = absurd (true≢false is)
 
@@ -75,11 +76,11 @@ schema_or : Schema → Result Schema Refusal → Schema
 schema_or default (Ok schema) = schema
 schema_or default (Err refusal) = default
 
-ok_same : (a b : Schema) → ◌≡◌ {A = Result Schema Refusal} (Ok a) (Ok b) → a ≡ b
+pub ok_same : (a b : Schema) → ◌≡◌ {A = Result Schema Refusal} (Ok a) (Ok b) → a ≡ b
 unfolding schema_or
 ok_same a b is = ap (schema_or a) is
 
-err_other : (refusal : Refusal) (schema : Schema) → ◌≡◌ {A = Result Schema Refusal} (Err refusal) (Ok schema) → ⊥
+pub err_other : (refusal : Refusal) (schema : Schema) → ◌≡◌ {A = Result Schema Refusal} (Err refusal) (Ok schema) → ⊥
 err_other refusal schema is = true≢false (sym (ap is_ok is))
 
 -- types are numbered on from the number after this one
@@ -146,19 +147,16 @@ made_alone schema requests made = (kept schema requests made).alone
 pub made_numbered : (schema : Schema) (requests : List TypeRequest) → schema_of requests ≡ Ok schema → AreNumbered 0 schema.types
 made_numbered schema requests made = (kept schema requests made).numbered
 
--- the tests of its indexes
+-- what the tests of its indexes tell of their numbers
 record GoodIndexes (schema : Schema) : Type 0 where
   last : schema.last_index ≤ 65535
-  numbers : AllByRecursion (λ n. n ≤ schema.last_index) (map (λ (index : IndexDefinition). index.number) schema.indexes)
+  numbers : AllByRecursion (λ n. n ≤ schema.last_index) (numbers schema.indexes)
   each : list_all (is_index schema.types) schema.indexes ≡ true
 
 good_indexes : (schema : Schema) → has_good_indexes schema ≡ true → GoodIndexes schema
 good_indexes schema is =
-    let first = both _ (list_all (is_index schema.types) schema.indexes) is in
-    let second = both _ _ first.0 in
-    let third = both _ _ second.0 in
-    let fourth = both (nat_le schema.last_index 65535) (is_rising_upto 0 schema.last_index (map (λ (index : IndexDefinition). index.number) schema.indexes)) third.0 in
-    record { last = leb-true schema.last_index 65535 fourth.0; numbers = all_upto 0 schema.last_index _ fourth.1; each = first.1 }
+    let t = tested schema is in
+    record { last = leb-true schema.last_index 65535 t.last_is; numbers = all_upto 0 schema.last_index (numbers schema.indexes) t.rising; each = t.each }
 
 -- the written form of a lawful schema is a tuple
 pub is_tuple-written : (schema : Schema) → IsLawfulSchema schema → IsTuple (written schema)

@@ -1,9 +1,8 @@
 -- What calls make of a lawful schema is lawful: types and indexes that are added, and indexes that are dropped.
-use Rattle.std.proofs.Common.{◌≡◌, ◌≤◌, ◌<◌, ℕ, Bool, true, false, not, cond, ◌&&◌, ◌||◌, ◌==◌, List, [], ◌∷◌, ◌++◌, Option, Some, None, Result, Ok, Err, length, map, refl, sym, ap, subst, ◌∙◌, arith}
+use Rattle.std.proofs.Common.{◌≡◌, ◌≤◌, ◌<◌, ℕ, Bool, true, false, not, cond, ◌&&◌, ◌||◌, ◌==◌, List, [], ◌∷◌, ◌++◌, Option, Some, None, Result, Ok, Err, length, refl, sym, ap, subst, ◌∙◌, arith}
 use Rattle.std.specs.Prelude.{nat_le, nat_lt, is_some, find, filter}
 use Rattle.std.specs.List.{list_all, list_any}
 use Rattle.std.specs.Option.{option_map_or, option_or}
-use Rattle.std.specs.Result.{is_ok}
 use Rattle.std.specs.Str.{bytes_eq}
 use Rattle.std.proofs.lemmas.Bool.{leb-true, le-leb, lt-ltb, ltb-true, true≢false}
 use Rattle.std.proofs.lemmas.List.Folds.{find-append, list_any-append}
@@ -15,34 +14,10 @@ use Rattle.metadata.specs.Change.{add_type, add_types, has_twice, is_name, schem
 use Rattle.metadata.specs.IndexChange.{drop_index, is_shaped, without_index}
 use Rattle.metadata.specs.Lawful.{IsLawfulSchema, has_good_indexes, is_index, is_index_over, is_rising_upto, same_index}
 use Rattle.metadata.specs.Schema.{Schema, find_index, type_at}
-use Rattle.metadata.proofs.MadeSchemas.{made_alone}
+use Rattle.metadata.proofs.MadeSchemas.{err_other, made_alone, ok_same}
+use Rattle.metadata.proofs.ReadBack.{neither}
+use Rattle.metadata.proofs.TestedIndexes.{good, numbers, tested}
 use Rattle.metadata.proofs.WrittenItems.{both}
-
-abbrev pub numbers : List IndexDefinition → List ℕ
-numbers indexes = map (λ (index : IndexDefinition). index.number) indexes
-
--- what the tests of indexes tell, one by one
-pub record Tested (types : List TypeDefinition) (last : ℕ) (indexes : List IndexDefinition) : Type 0 where
-  pub last_is : nat_le last 65535 ≡ true
-  pub rising : is_rising_upto 0 last (numbers indexes) ≡ true
-  pub few : nat_le (length indexes) 64 ≡ true
-  pub named : has_twice same_index indexes ≡ false
-  pub each : list_all (is_index types) indexes ≡ true
-
-turned : (b : Bool) → not b ≡ true → b ≡ false
-turned true is = sym is
-turned false is = refl
-
-pub tested : (schema : Schema) → has_good_indexes schema ≡ true → Tested schema.types schema.last_index schema.indexes
-tested schema is =
-    let first = both _ (list_all (is_index schema.types) schema.indexes) is in
-    let second = both _ (not (has_twice same_index schema.indexes)) first.0 in
-    let third = both _ (nat_le (length schema.indexes) 64) second.0 in
-    let fourth = both (nat_le schema.last_index 65535) (is_rising_upto 0 schema.last_index (numbers schema.indexes)) third.0 in
-    record { last_is = fourth.0; rising = fourth.1; few = third.1; named = turned _ second.1; each = first.1 }
-
-pub good : (types : List TypeDefinition) (last : ℕ) (indexes : List IndexDefinition) → Tested types last indexes → has_good_indexes (record { types = types; last_index = last; indexes = indexes }) ≡ true
-good types last indexes t = λ i. t.last_is i && t.rising i && t.few i && not (t.named i) && t.each i
 
 -- ---- types
 
@@ -54,20 +29,13 @@ made_lawful requests schema made =
 -- one more request
 added_behind : (schema mid next : Schema) (before : List TypeRequest) (request : TypeRequest) → add_types schema before ≡ Ok mid → add_type mid request ≡ Ok next → add_types schema (before ++ request ∷ []) ≡ Ok next
 added_behind schema mid next [] request made added =
-    ap (λ (s : Schema). elim (add_type s request) [ Err refusal ↦ Err refusal | Ok found ↦ Ok found ]) (ok_is schema mid made) ∙ ap (λ (r : Result Schema Refusal). elim r [ Err refusal ↦ Err refusal | Ok found ↦ Ok found ]) added
-  where
-    or_else : Schema → Result Schema Refusal → Schema
-    or_else other (Ok found) = found
-    or_else other (Err refusal) = other
-
-    ok_is : (a b : Schema) → ◌≡◌ {A = Result Schema Refusal} (Ok a) (Ok b) → a ≡ b
-    ok_is a b is = ap (or_else a) is
+    ap (λ (s : Schema). elim (add_type s request) [ Err refusal ↦ Err refusal | Ok found ↦ Ok found ]) (ok_same schema mid made) ∙ ap (λ (r : Result Schema Refusal). elim r [ Err refusal ↦ Err refusal | Ok found ↦ Ok found ]) added
 added_behind schema mid next (first ∷ before) request made added = by_first (add_type schema first) made (λ s is. added_behind s mid next before request is added)
   where
     by_first : (outcome : Result Schema Refusal) → ◌≡◌ {A = Result Schema Refusal} (elim outcome [ Err refusal ↦ Err refusal | Ok s ↦ add_types s before ]) (Ok mid) →
         ((s : Schema) → add_types s before ≡ Ok mid → add_types s (before ++ request ∷ []) ≡ Ok next) →
         ◌≡◌ {A = Result Schema Refusal} (elim outcome [ Err refusal ↦ Err refusal | Ok s ↦ add_types s (before ++ request ∷ []) ]) (Ok next)
-    by_first (Err refusal) is go = absurd (true≢false (sym (ap is_ok is)))
+    by_first (Err refusal) is go = absurd (err_other refusal mid is)
     by_first (Ok s) is go = go s is
 
 -- an index stays one with more types
@@ -98,15 +66,11 @@ type_lawful schema next request lawful added = by_refusal (type_refusal schema r
     later : List TypeDefinition
     later = schema.types ++ type_asked schema request ∷ []
 
-    or_else : Schema → Result Schema Refusal → Schema
-    or_else other (Ok found) = found
-    or_else other (Err refusal) = other
-
     by_refusal : (why : Option Refusal) → type_refusal schema request ≡ why → ◌≡◌ {A = Result Schema Refusal} (elim why [ None ↦ Ok (with_type schema request) | Some refusal ↦ Err refusal ]) (Ok next) → IsLawfulSchema next
-    by_refusal (Some refusal) is made = absurd (true≢false (sym (ap is_ok made)))
+    by_refusal (Some refusal) is made = absurd (err_other refusal next made)
     by_refusal None is made =
         let t = tested schema lawful.indexes in
-        let now : with_type schema request ≡ next = ap (or_else next) made in
+        let now : with_type schema request ≡ next = ok_same (with_type schema request) next made in
         subst IsLawfulSchema now (record {
           requests = lawful.requests ++ request ∷ [];
           types = added_behind (types_alone []) (types_alone schema.types) (types_alone later) lawful.requests request lawful.types
@@ -141,10 +105,6 @@ rising_filter test low high (index ∷ indexes) is =
         is_rising_upto low high (numbers (cond b (index ∷ filter test indexes) (filter test indexes))) ≡ true
     by_test true rest up without = λ i. up i && rest i
     by_test false rest up without = without
-
-neither : (a b : Bool) → (a || b) ≡ false → (a ≡ false) × (b ≡ false)
-neither true b is = absurd (true≢false is)
-neither false b is = (refl, is)
 
 any_filter : {X : Type 0} (p test : X → Bool) (xs : List X) → list_any p xs ≡ false → list_any p (filter test xs) ≡ false
 any_filter p test [] none = refl
@@ -182,18 +142,14 @@ fewer_filter test (x ∷ xs) = by_test (test x) (fewer_filter test xs)
 pub dropped_lawful : (schema next : Schema) (name : List ℕ) → IsLawfulSchema schema → drop_index schema name ≡ Ok next → IsLawfulSchema next
 dropped_lawful schema next name lawful dropped = by_found (find_index schema name) dropped
   where
-    or_else : Schema → Result Schema Refusal → Schema
-    or_else other (Ok found) = found
-    or_else other (Err refusal) = other
-
     by_found : (found : Option IndexDefinition) → ◌≡◌ {A = Result Schema Refusal} (elim found [ Some index ↦ Ok (without_index schema index.number) | None ↦ Err Rattle.metadata.specs.declared.refusal.Refusal.TheVariants.UnknownIndex ]) (Ok next) → IsLawfulSchema next
-    by_found None is = absurd (true≢false (sym (ap is_ok is)))
+    by_found None is = absurd (err_other _ next is)
     by_found (Some index) is =
         let test : IndexDefinition → Bool = λ (other : IndexDefinition). not (other.number == index.number) in
         let t = tested schema lawful.indexes in
         let fewer = fewer_filter test schema.indexes in
         let few = leb-true (length schema.indexes) 64 t.few in
-        subst IsLawfulSchema (ap (or_else next) is) (record {
+        subst IsLawfulSchema (ok_same (without_index schema index.number) next is) (record {
           requests = lawful.requests;
           types = lawful.types;
           indexes = good schema.types schema.last_index (filter test schema.indexes) (record {

@@ -25,7 +25,7 @@ use Rattle.schedule.specs.Standing.{is_reported, is_told}
 use Rattle.schedule.specs.Running.{IsIdle, IsPlace, IsReported, IsReportedAs, IsStanding, IsStandingAt, IsStepped, IsTelling, IsTold, Steps, Tells, entry_of, kept}
 use Rattle.schedule.proofs.ClientSteps.{none_added, same_requests, standing_as}
 use Rattle.schedule.proofs.RoleSteps.{OnlyCluster, log_given, standing_moved}
-use Rattle.schedule.proofs.Submitting.{client_here, commits_reported, submitted_later, submitted_length, submitted_versions, version_here}
+use Rattle.schedule.proofs.Submitting.{client_here, commits_reported, numbered_length, submitted_later, submitted_length, submitted_versions, version_here}
 use Rattle.schedule.proofs.Turning.{open_later}
 
 -- ---- the next version
@@ -50,10 +50,6 @@ slice_some (x ∷ xs) (suc i) within =
     let (y, is, rest) = slice_some xs i (omega (arith, within)) in
     let n : suc (i + 1) ≡ suc i + 1 = omega arith in
     (y, is, rest ∙ ap (λ k. y ∷ drop k (x ∷ xs)) n)
-
-numbered_length : (last : ℕ) (requests : List CommitRequest) → length (numbered last requests) ≡ length requests
-numbered_length last [] = refl
-numbered_length last (request ∷ requests) = ap suc (numbered_length (last + 1) requests)
 
 -- what is told of a submitted version is something
 outcome_something : (p : PipelineState) → p.start ≤ p.reported → p.reported + 1 ≤ submitted p → outcome p (p.reported + 1) ≡ NothingToDo → ⊥

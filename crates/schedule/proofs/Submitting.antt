@@ -108,7 +108,7 @@ get_more [] ys i within = absurd (omega (arith, within))
 get_more (x ∷ xs) ys zero within = refl
 get_more (x ∷ xs) ys (suc i) within = get_more xs ys i (omega (arith, within))
 
-numbered_length : (last : ℕ) (requests : List CommitRequest) → length (numbered last requests) ≡ length requests
+pub numbered_length : (last : ℕ) (requests : List CommitRequest) → length (numbered last requests) ≡ length requests
 numbered_length last [] = refl
 numbered_length last (request ∷ requests) = ap suc (numbered_length (last + 1) requests)
 
