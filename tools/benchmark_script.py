@@ -1,7 +1,7 @@
 #!/usr/bin/env python3
-"""Prints a script for `recordctl run` that saves many records: clients in turn, each transaction settled before the next begins.
+"""Prints a script for `recordctl run` that saves many records and loads them: clients in turn, each transaction settled before the next begins.
 
-By default 10,000 saves in transactions of 100 records by 4 clients. A script has 4,000,000 bytes at most.
+By default 10,000 saves in transactions of 100 records by 4 clients, and no loads. A script has 4,000,000 bytes at most.
 """
 
 import argparse
@@ -10,24 +10,39 @@ import json
 TYPE = {"name": "t", "fields": [["k", "int"], ["a", "int"], ["b", "text"]], "key": ["k"]}
 
 
-def steps(saves, records, clients):
-    """The steps: a store, and then the transactions, the last of which may have fewer records."""
-    yield from (["begin", 0], ["create", 0, {"types": [TYPE]}], ["commit", 0], ["settle"])
-    for turn, first in enumerate(range(0, saves, records)):
+def save(client, number):
+    return ["save", client, "t", [number, number % 7, "record %d" % number]]
+
+
+def load(client, number):
+    return ["load", client, "t", [number]]
+
+
+def transactions(step, count, records, clients):
+    """A step for each number, in transactions of clients in turn, the last of which may have fewer."""
+    for turn, first in enumerate(range(0, count, records)):
         client = turn % clients
         yield ["begin", client]
-        for number in range(first, min(first + records, saves)):
-            yield ["save", client, "t", [number, number % 7, "record %d" % number]]
+        for number in range(first, min(first + records, count)):
+            yield step(client, number)
         yield from (["commit", client], ["settle"])
+
+
+def steps(options):
+    """The steps: a store, then the saves, then the loads of what was saved."""
+    yield from (["begin", 0], ["create", 0, {"types": [TYPE]}], ["commit", 0], ["settle"])
+    yield from transactions(save, options.saves, options.records, options.clients)
+    yield from transactions(load, options.loads, options.records, options.clients)
 
 
 def main():
     parser = argparse.ArgumentParser(description=__doc__, formatter_class=argparse.RawDescriptionHelpFormatter)
     parser.add_argument("--saves", type=int, default=10_000)
+    parser.add_argument("--loads", type=int, default=0)
     parser.add_argument("--records", type=int, default=100, help="records of one transaction")
     parser.add_argument("--clients", type=int, default=4, choices=range(1, 17), metavar="1..16")
     options = parser.parse_args()
-    script = {"steps": list(steps(options.saves, options.records, options.clients))}
+    script = {"steps": list(steps(options))}
     print(json.dumps(script, separators=(",", ":")))
 
 

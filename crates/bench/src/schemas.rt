@@ -7,7 +7,7 @@ use std::alloc::{AllocError, Global};
 use std::io;
 use std::io::ErrorKind;
 use std::time::Instant;
-use tuple_codec::{Text, unpack};
+use tuple_codec::{Text, pack, unpack};
 
 const TYPES: u32 = 32;
 
@@ -127,6 +127,61 @@ fn keys_of_each(alloc: Global, records: &[Record]) -> io::Result<usize> {
     Ok(total)
 }
 
+// The bytes that a record is stored in: its key's, and its value.
+#[derive(Drop)]
+struct Stored {
+    key: Vec<u8>,
+    value: Vec<u8>,
+}
+
+fn rows_of(alloc: Global, records: &[Record]) -> io::Result<Vec<Stored>> {
+    let mut rows = Vec::new(alloc);
+    for record in records {
+        let key = pack(alloc, &record.primary_key(alloc)?)?;
+        let value = pack(alloc, &record.cells().tuple(alloc)?)?;
+        rows.push(Stored { key, value })?;
+    }
+    Ok(rows)
+}
+
+fn read_each(alloc: Global, schema: &Schema, rows: &[Stored]) -> io::Result<usize> {
+    let mut total = 0usize;
+    let Some(definition) = schema.types().last() else {
+        return Ok(0);
+    };
+    for row in rows {
+        match Record::decode(alloc, definition, row.key.as_slice(), row.value.as_slice())? {
+            Some(found) => total = total.wrapping_add(found.cells().as_slice().len()),
+            None => return Err(io::Error::from(ErrorKind::InvalidData)),
+        }
+    }
+    Ok(total)
+}
+
+fn unpack_values(alloc: Global, rows: &[Stored]) -> io::Result<usize> {
+    let mut total = 0usize;
+    for row in rows {
+        match unpack(alloc, row.value.as_slice()) {
+            Ok(tuple) => total = total.wrapping_add(tuple.elements().len()),
+            Err(_) => return Err(io::Error::from(ErrorKind::InvalidData)),
+        }
+    }
+    Ok(total)
+}
+
+// Prints how many records are read from their bytes in a second, and how many of their values are unpacked.
+fn measure_stored(rt: &HostRuntime, schema: &Schema, records: &[Record]) -> io::Result<()> {
+    let alloc = rt.alloc();
+    let rows = rows_of(alloc, records)?;
+    let start = Instant::now(rt)?;
+    unpack_values(alloc, rows.as_slice())?;
+    let unpacked = rate(RECORDS, start.elapsed(rt)?.as_millis());
+    let start = Instant::now(rt)?;
+    read_each(alloc, schema, rows.as_slice())?;
+    let read = rate(RECORDS, start.elapsed(rt)?.as_millis());
+    println!(rt; "read {read} records from their bytes, unpack {unpacked} of their values a second")
+}
+
 // So many in a second, where this many took the time.
 fn rate(count: u32, milliseconds: u128) -> u128 {
     u128::from(count) * 1000 / milliseconds.max(1)
@@ -162,5 +217,6 @@ pub fn measure(rt: &HostRuntime) -> io::Result<()> {
     let start = Instant::now(rt)?;
     keys_of_each(alloc, made.as_slice())?;
     let keyed = rate(RECORDS, start.elapsed(rt)?.as_millis());
-    println!(rt; "make {recorded} records of {FIELDS} fields and {keyed} primary keys a second")
+    println!(rt; "make {recorded} records of {FIELDS} fields and {keyed} primary keys a second")?;
+    measure_stored(rt, &schema, made.as_slice())
 }

@@ -36,7 +36,7 @@ found_above n p (first ∷ types) type are is = by_test (p first) is (λ rest. l
     by_test false found go = go found
 
 -- a type that is found is found by its number
-found_by_number : (n : ℕ) (p : TypeDefinition → Bool) (types : List TypeDefinition) (type : TypeDefinition) → AreNumbered n types → find p types ≡ Some type → type_at types type.number ≡ Some type
+pub found_by_number : (n : ℕ) (p : TypeDefinition → Bool) (types : List TypeDefinition) (type : TypeDefinition) → AreNumbered n types → find p types ≡ Some type → type_at types type.number ≡ Some type
 found_by_number n p [] type are is = absurd (true≢false (sym (ap is_some is)))
 found_by_number n p (first ∷ types) type are is = by_test (p first) is (λ rest. found_by_number (n + 1) p types type are.1 rest)
   where

@@ -1,4 +1,11 @@
 pub mod CellItems
+pub mod StoredCells
+pub mod StoredOnce
+pub mod StoredApart
+pub mod ToldForm
+pub mod PackOrder
+pub mod PackRanges
+pub mod PackBegins
 mod AllRead
 mod CellKinds
 mod CellSteps
@@ -15,3 +22,5 @@ pub mod StayLawful
 pub mod IndexAdded
 pub mod IndexExamples
 pub mod TestedIndexes
+pub mod SameTypes
+pub mod StillLawful

@@ -147,6 +147,10 @@ made_alone schema requests made = (kept schema requests made).alone
 pub made_numbered : (schema : Schema) (requests : List TypeRequest) → schema_of requests ≡ Ok schema → AreNumbered 0 schema.types
 made_numbered schema requests made = (kept schema requests made).numbered
 
+-- and their numbers are small
+pub made_small : (schema : Schema) (requests : List TypeRequest) → schema_of requests ≡ Ok schema → AllByRecursion IsSmall schema.types
+made_small schema requests made = (kept schema requests made).small
+
 -- what the tests of its indexes tell of their numbers
 record GoodIndexes (schema : Schema) : Type 0 where
   last : schema.last_index ≤ 65535

@@ -1,12 +1,11 @@
 -- Bytes are those of one schema at most, and readers refuse none of a schema that types made.
-use Rattle.std.proofs.Common.{◌≡◌, ℕ, Bool, false, List, Option, Some, None, sym, ap, subst, ◌∙◌}
+use Rattle.std.proofs.Common.{◌≡◌, ℕ, Bool, true, false, List, Option, Some, None, sym, ap, subst, ◌∙◌}
 use Rattle.std.specs.Prelude.{is_some, unwrap_or}
-use Rattle.std.specs.Str.{bytes_eq}
-use Rattle.std.proofs.lemmas.Slice.Eq.{bytes_eq-Decides}
+use Rattle.std.specs.Bool.{Decides}
 use Rattle.std.proofs.lemmas.Bool.{true≢false}
 use Rattle.tuple_codec.specs.Item.{Item}
-use Rattle.tuple_codec.specs.Spelling.{Spells}
-use Rattle.tuple_codec.proofs.Spellings.{one_tuple, spelling_spells}
+use Rattle.tuple_codec.specs.Spelling.{Spells, spelling}
+use Rattle.tuple_codec.proofs.Spellings.{one_spelling, one_tuple, spelling_spells}
 use Rattle.metadata.specs.declared.refusal.MetadataError.{MetadataError}
 use Rattle.metadata.specs.declared.refusal.MetadataError.TheVariants.{Memory, Refused}
 use Rattle.metadata.specs.Schema.{Schema}
@@ -42,10 +41,14 @@ none_spelled bytes none schema made same = none (written schema) (subst (Spells 
 pub none_read : (bytes : List ℕ) (tuple : List Item) → Spells tuple bytes → schema_in tuple ≡ None → (schema : Schema) → IsLawfulSchema schema → bytes ≡ schema_bytes schema → ⊥
 none_read bytes tuple spelled none schema made same = true≢false (ap is_some (sym (schema_is schema bytes tuple made same spelled) ∙ none))
 
--- no schema has bytes of a tuple from which a schema with other bytes is read
-pub none_other : (bytes : List ℕ) (tuple : List Item) (read : Schema) → Spells tuple bytes → schema_in tuple ≡ Some read → (schema_bytes read ≡ bytes → ⊥) → (schema : Schema) → IsLawfulSchema schema → bytes ≡ schema_bytes schema → ⊥
+-- no schema has bytes of a tuple from which a schema with another written form is read
+pub none_other : (bytes : List ℕ) (tuple : List Item) (read : Schema) → Spells tuple bytes → schema_in tuple ≡ Some read → (tuple ≡ written read → ⊥) → (schema : Schema) → IsLawfulSchema schema → bytes ≡ schema_bytes schema → ⊥
 none_other bytes tuple read spelled is other schema made same =
-    other (ap schema_bytes (some_same read schema (sym is ∙ schema_is schema bytes tuple made same spelled)) ∙ sym same)
+    other (tuple_is schema bytes tuple made same spelled ∙ ap written (sym (some_same read schema (sym is ∙ schema_is schema bytes tuple made same spelled))))
+
+-- the bytes of a tuple that is a schema's written form are the schema's
+pub told_bytes : (bytes : List ℕ) (tuple : List Item) (schema : Schema) (told : Bool) → Spells tuple bytes → Decides told (tuple ≡ written schema) → told ≡ true → bytes ≡ schema_bytes schema
+told_bytes bytes tuple schema told spelled tells is_told = one_spelling tuple bytes spelled ∙ ap spelling (tells.0 is_told)
 
 -- what is refused as the bytes of no tuple, or as a tuple from which no schema is read, is refused as those of no schema
 pub refused_bytes : (error : MetadataError) (bytes : List ℕ) → IsNoTuple error bytes → IsNoSchema error bytes
@@ -56,6 +59,6 @@ pub refused_tuple : (error : MetadataError) (bytes : List ℕ) (tuple : List Ite
 refused_tuple Memory bytes tuple spelled is = tt
 refused_tuple (Refused refusal) bytes tuple spelled is = (is.0, none_read bytes tuple spelled is.1)
 
--- the test tells that bytes are others
-pub others : (written bytes : List ℕ) (same : Bool) → same ≡ bytes_eq written bytes → same ≡ false → written ≡ bytes → ⊥
-others written bytes same is differs equal = true≢false (sym ((bytes_eq-Decides written bytes).1 equal) ∙ sym is ∙ differs)
+-- another one is told to be another
+pub told_other : (tuple form : List Item) (told : Bool) → Decides told (tuple ≡ form) → told ≡ false → tuple ≡ form → ⊥
+told_other tuple form told tells differs same = true≢false (sym (tells.1 same) ∙ differs)

@@ -7,3 +7,7 @@ pub mod Lawful
 pub mod Record
 pub mod Written
 pub mod Reading
+pub mod Records
+pub mod Same
+pub mod Stored
+pub mod Order

@@ -26,21 +26,21 @@ key_cells «record» = cells_at «record».cells «record».definition.key
 abbrev pub primary_key : Record → List Item
 primary_key «record» = key_items «record».definition.number (key_cells «record»)
 
+-- the record of this type with these cells, or the first refusal
+abbrev pub record_in : TypeDefinition → List Cell → Result Record Refusal
+record_in type cells = sized (all_fit (field_kinds type) cells)
+  where
+    keyed : Bool → Result Record Refusal
+    keyed true = Err NullKey
+    keyed false = Ok (record { definition = type; cells = cells })
+
+    sized : Bool → Result Record Refusal
+    sized false = Err WrongKind
+    sized true = keyed (list_any is_null (cells_at cells type.key))
+
 -- the record of the type of this name with these cells, or the first refusal
 abbrev pub record_of : Schema → List ℕ → List Cell → Result Record Refusal
-record_of schema name cells = typed (find_type schema name)
-  where
-    keyed : TypeDefinition → Bool → Result Record Refusal
-    keyed type true = Err NullKey
-    keyed type false = Ok (record { definition = type; cells = cells })
-
-    sized : TypeDefinition → Bool → Result Record Refusal
-    sized type false = Err WrongKind
-    sized type true = keyed type (list_any is_null (cells_at cells type.key))
-
-    typed : Option TypeDefinition → Result Record Refusal
-    typed None = Err UnknownType
-    typed (Some type) = sized type (all_fit (field_kinds type) cells)
+record_of schema name cells = elim (find_type schema name) [ None ↦ Err UnknownType | Some type ↦ record_in type cells ]
 
 -- the primary key of the type of this name with these key cells, or the first refusal
 abbrev pub key_of : Schema → List ℕ → List Cell → Result (List Item) Refusal

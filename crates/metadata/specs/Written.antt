@@ -30,12 +30,18 @@ kind_number kind.Text = 2
 kind_number kind.Bytes = 3
 
 -- (name, kind)
+abbrev pub field_parts : Field → List Item
+field_parts field = text field.name ∷ number_item (kind_number field.kind) ∷ []
+
 abbrev pub field_item : Field → Item
-field_item field = nested_item (text field.name ∷ number_item (kind_number field.kind) ∷ [])
+field_item field = nested_item (field_parts field)
 
 -- (number, name, fields, places of the key fields)
+abbrev pub type_parts : TypeDefinition → List Item
+type_parts type = number_item type.number ∷ text type.name ∷ nested_item (map field_item type.fields) ∷ nested_item (map number_item type.key) ∷ []
+
 abbrev pub type_item : TypeDefinition → Item
-type_item type = nested_item (number_item type.number ∷ text type.name ∷ nested_item (map field_item type.fields) ∷ nested_item (map number_item type.key) ∷ [])
+type_item type = nested_item (type_parts type)
 
 -- index kinds are 1 VALUE, 2 COUNT, 3 SUM
 abbrev pub index_kind_number : IndexKind → ℕ
@@ -49,10 +55,13 @@ summed_item (Some place) = number_item place
 summed_item None = null
 
 -- (number, name, kind, type number, places of the columns, place of the summed field or null)
-abbrev pub index_item : IndexDefinition → Item
-index_item index = nested_item (
+abbrev pub index_parts : IndexDefinition → List Item
+index_parts index =
     number_item index.number ∷ text index.name ∷ number_item (index_kind_number index.kind) ∷ number_item index.type_number
-    ∷ nested_item (map number_item index.columns) ∷ summed_item index.summed ∷ [])
+    ∷ nested_item (map number_item index.columns) ∷ summed_item index.summed ∷ []
+
+abbrev pub index_item : IndexDefinition → Item
+index_item index = nested_item (index_parts index)
 
 -- (1, last type number, last index number, types, indexes)
 abbrev pub written : Schema → List Item

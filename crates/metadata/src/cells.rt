@@ -192,7 +192,7 @@ impl Cells {
     pub fn at(&self, alloc: Global, places: &Places) -> Result<Cells, AllocError>
         ensures { IfOk result (λ cells. cells ≡ cells_at self.now places.now) }
     {
-        let mut cells = Vec::new(alloc);
+        let mut cells = Vec::with_capacity(alloc, places.as_slice().len())?;
         for place in places.as_slice() {
             cells.push(self.cell_at(*place)?)?;
         }
@@ -203,7 +203,7 @@ impl Cells {
     pub fn copy(&self) -> Result<Cells, AllocError>
         ensures { IfOk result (λ copy. copy ≡ self.now) }
     {
-        let mut cells = Vec::new(*self.cells.allocator());
+        let mut cells = Vec::with_capacity(*self.cells.allocator(), self.cells.len())?;
         for cell in &self.cells {
             cells.push(cell.copy()?)?;
         }
@@ -227,7 +227,7 @@ impl Cells {
         ensures is_tuple { IfOk result IsTuple }
         ensures cells { OnOk result (All IsCell self.now) }
     {
-        let mut elements = Vec::new(alloc);
+        let mut elements = Vec::with_capacity(alloc, self.cells.len())?;
         self.push_elements(&mut elements)?;
         Ok(flat_tuple(elements))
     }
@@ -236,7 +236,7 @@ impl Cells {
     pub fn from_tuple(alloc: Global, tuple: Tuple) -> Result<Option<Cells>, AllocError>
         ensures { IfOk result (λ cells. cells ≡ cells_of tuple) }
     {
-        let mut cells = Vec::new(alloc);
+        let mut cells = Vec::with_capacity(alloc, tuple.elements().len())?;
         for element in tuple.into_elements() {
             let Some(cell) = cell_in(element) else {
                 return Ok(None);

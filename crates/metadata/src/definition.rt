@@ -67,7 +67,7 @@ impl Fields {
     pub fn copy(&self) -> Result<Fields, AllocError>
         ensures { IfOk result (λ copy. copy ≡ self.now) }
     {
-        let mut fields = Vec::new(*self.fields.allocator());
+        let mut fields = Vec::with_capacity(*self.fields.allocator(), self.fields.len())?;
         for field in &self.fields {
             fields.push(field.copy()?)?;
         }
@@ -194,7 +194,7 @@ impl Names {
     pub fn copy(&self) -> Result<Names, AllocError>
         ensures { IfOk result (λ copy. copy ≡ self.now) }
     {
-        let mut names = Vec::new(*self.names.allocator());
+        let mut names = Vec::with_capacity(*self.names.allocator(), self.names.len())?;
         for name in &self.names {
             names.push(name.copy()?)?;
         }
@@ -252,11 +252,18 @@ impl SchemaRequest {
         self.types.as_slice()
     }
 
+    // The types asked for, handed over.
+    pub(crate) fn into_types(self) -> Vec<TypeRequest>
+        ensures { result.items ≡ self }
+    {
+        self.types
+    }
+
     /// An equal request.
     pub fn copy(&self) -> Result<SchemaRequest, AllocError>
         ensures { IfOk result (λ copy. copy ≡ self.now) }
     {
-        let mut types = Vec::new(*self.types.allocator());
+        let mut types = Vec::with_capacity(*self.types.allocator(), self.types.len())?;
         for one in &self.types {
             types.push(one.copy()?)?;
         }

@@ -63,7 +63,7 @@ fn summed_at(tuple: &Tuple, place: usize) -> Option<Option<usize>>
 fn places_of(alloc: Global, elements: &[Element]) -> Result<Option<Places>, AllocError>
     ensures { IfOk result (λ places. places ≡ all_read small_of (items_in elements.now)) }
 {
-    let mut places = Vec::new(alloc);
+    let mut places = Vec::with_capacity(alloc, elements.len())?;
     for element in elements {
         let Some(place) = small_of(element) else {
             return Ok(None);
@@ -133,7 +133,7 @@ fn indexes_of(
 ) -> Result<Option<Vec<IndexDefinition>>, AllocError>
     ensures { IfOk result (λ indexes. option_map (λ found. found.items) indexes ≡ all_read index_of (items_in elements.now)) }
 {
-    let mut indexes = Vec::new(alloc);
+    let mut indexes = Vec::with_capacity(alloc, elements.len())?;
     for element in elements {
         let Some(index) = index_of(alloc, element)? else {
             return Ok(None);

@@ -10,7 +10,6 @@ use crate::definition::{Field, TypeDefinition};
 use crate::index::IndexDefinition;
 use crate::index_change::{MAX_COLUMNS, MAX_INDEX_NUMBER, MAX_INDEXES, is_int, is_shaped};
 use crate::names::{has_twice, is_name};
-use crate::schema::Schema;
 
 // Whether the numbers of the indexes rise from above one up to another.
 fn is_rising_upto(low: u64, high: u64, indexes: &[IndexDefinition]) -> bool
@@ -85,14 +84,17 @@ fn are_indexes(types: &[TypeDefinition], indexes: &[IndexDefinition]) -> bool
     indexes.iter().all(|index| is_index(types, index))
 }
 
-// Whether the indexes of a schema are such as calls could have made.
-pub(crate) fn has_good_indexes(schema: &Schema) -> bool
-    ensures { result ≡ has_good_indexes schema.now }
+// Whether these are indexes of a schema of these types, up to the last number given, such as calls could have made.
+pub(crate) fn has_good_indexes(
+    types: &[TypeDefinition],
+    last_index: u64,
+    indexes: &[IndexDefinition],
+) -> bool
+    ensures { result ≡ has_good_indexes (record { types = types.now; last_index = last_index; indexes = indexes.now }) }
 {
-    let indexes = schema.indexes();
-    schema.last_index <= MAX_INDEX_NUMBER
-        && is_rising_upto(0, schema.last_index, indexes)
+    last_index <= MAX_INDEX_NUMBER
+        && is_rising_upto(0, last_index, indexes)
         && indexes.len() <= MAX_INDEXES
         && !has_twice(indexes)
-        && are_indexes(schema.types(), indexes)
+        && are_indexes(types, indexes)
 }

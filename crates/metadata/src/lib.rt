@@ -12,10 +12,14 @@ mod index_reading;
 mod index_tests;
 mod lawful;
 mod names;
+mod order;
 mod reading;
 mod record;
 mod refusal;
+mod same;
+mod same_form;
 mod schema;
+mod stored;
 #[cfg(test)]
 mod tests;
 mod writing;
@@ -26,7 +30,9 @@ pub use definition::{Field, Fields, Names, Places, SchemaRequest, TypeDefinition
 pub use index::{IndexDefinition, IndexKind, IndexRequest, State, States};
 pub use index_change::{MAX_COLUMNS, MAX_INDEX_NUMBER, MAX_INDEXES};
 pub use names::MAX_NAME_BYTES;
+pub use order::cells_are_ordered_as_their_packs;
 pub use record::{Record, key_of};
 pub use refusal::{MetadataError, Refusal};
 pub use schema::{MAX_FIELDS, MAX_KEY_FIELDS, MAX_TYPES, Schema};
+pub use stored::records_are_stored_once;
 pub use written::{schemas_are_written_once, schemas_stay_lawful};

@@ -101,7 +101,7 @@ fn field_of(element: &Element) -> Result<Option<Field>, AllocError>
 fn fields_of(alloc: Global, elements: &[Element]) -> Result<Option<Fields>, AllocError>
     ensures { IfOk result (λ fields. fields ≡ all_read field_of (items_in elements.now)) }
 {
-    let mut fields = Vec::new(alloc);
+    let mut fields = Vec::with_capacity(alloc, elements.len())?;
     for element in elements {
         let Some(field) = field_of(element)? else {
             return Ok(None);
@@ -128,7 +128,7 @@ fn names_of(
 ) -> Result<Option<Names>, AllocError>
     ensures { IfOk result (λ names. names ≡ all_read (name_of fields.now) (items_in elements.now)) }
 {
-    let mut names = Vec::new(alloc);
+    let mut names = Vec::with_capacity(alloc, elements.len())?;
     for element in elements {
         let Some(name) = name_of(fields, element) else {
             return Ok(None);
@@ -187,7 +187,7 @@ fn request_of(alloc: Global, element: &Element) -> Result<Option<TypeRequest>, A
 fn requests_of(alloc: Global, elements: &[Element]) -> Result<Option<SchemaRequest>, AllocError>
     ensures { IfOk result (λ request. request ≡ all_read request_of (items_in elements.now)) }
 {
-    let mut types = Vec::new(alloc);
+    let mut types = Vec::with_capacity(alloc, elements.len())?;
     for element in elements {
         let Some(request) = request_of(alloc, element)? else {
             return Ok(None);

@@ -1,37 +1,41 @@
-ghost use Rattle.std.specs.Prelude.{◌≡◌, Ok, IfOk, IfErr};
+ghost use Rattle.std.specs.Prelude.{◌≡◌, Ok, IfOk, IfErr, OnOk, map};
 ghost use Rattle.tuple_codec.specs.Item.{IsTuple};
 ghost use Rattle.metadata.specs.Answers.{IsRefusedAs};
-ghost use Rattle.metadata.specs.Record.{key_items, key_of, primary_key, record_of};
+ghost use Rattle.metadata.specs.Cell.{all_fit, cells_at};
+ghost use Rattle.metadata.specs.Record.{key_items, key_of, primary_key, record_in, record_of};
 
 use crate::cells::{Cells, flat_tuple};
-use crate::definition::TypeDefinition;
+use crate::definition::{Field, TypeDefinition};
 use crate::refusal::{MetadataError, Refusal};
 use crate::schema::Schema;
 use std::alloc::{AllocError, Global};
 use std::marker::Model;
 use tuple_codec::{Element, Text, Tuple, TupleInt};
 
-/// A record: its type's definition, and a cell for each field.
+/// A record: its type's definition, and a cell for each field, which the definition allows.
 #[derive(Drop)]
 pub struct Record {
-    definition: TypeDefinition,
-    cells: Cells,
+    pub(crate) definition: TypeDefinition,
+    pub(crate) cells: Cells,
 }
 
 impl Model for Record {
-    ghost use Rattle.metadata.specs.Record.{Record as RecordValue};
+    ghost use Rattle.std.specs.Prelude.{◌≡◌, Ok};
+    ghost use Rattle.metadata.specs.Record.{Record as RecordValue, record_in};
 
     ghost Value = { RecordValue };
 
     ghost view = { λ r. record { definition = r.definition; cells = r.cells } };
+
+    ghost invariant = { λ r. record_in r.definition r.cells ≡ Ok (record { definition = r.definition; cells = r.cells }) };
 }
 
 // The primary key of the record of the type with this number and these key cells.
-fn key_tuple(alloc: Global, number: u64, cells: &Cells) -> Result<Tuple, AllocError>
+pub(crate) fn key_tuple(alloc: Global, number: u64, cells: &Cells) -> Result<Tuple, AllocError>
     ensures key { IfOk result (λ tuple. tuple ≡ key_items number cells.now) }
     ensures is_tuple { IfOk result IsTuple }
 {
-    let mut elements = Vec::new(alloc);
+    let mut elements = Vec::with_capacity(alloc, cells.as_slice().len() + 1)?;
     elements.push(Element::Int(TupleInt::from(number)))?;
     cells.push_elements(&mut elements)?;
     Ok(flat_tuple(elements))
@@ -61,6 +65,43 @@ pub fn key_of(
     Ok(key_tuple(alloc, definition.number, cells)?)
 }
 
+// Whether there is a cell for each field, null or of its kind.
+fn fit_fields(fields: &[Field], cells: &Cells) -> bool
+    ensures { result ≡ all_fit (map (λ field. field.kind) fields.now) cells.now }
+{
+    let mut rest = cells.as_slice();
+    for field in fields {
+        let Some((cell, others)) = rest.split_first() else {
+            return false;
+        };
+        if !cell.fits(field.kind) {
+            return false;
+        }
+        rest = others;
+    }
+    rest.is_empty()
+}
+
+// The cells of the key of the record of this type with these cells, or why there is no such record.
+pub(crate) fn key_in(
+    alloc: Global,
+    definition: &TypeDefinition,
+    cells: &Cells,
+) -> Result<Cells, MetadataError>
+    ensures key { IfOk result (λ key. key ≡ cells_at cells.now definition.now.key) }
+    ensures made { OnOk result (record_in definition.now cells.now ≡ Ok (record { definition = definition.now; cells = cells.now })) }
+    ensures refused { IfErr result (λ error. IsRefusedAs error (record_in definition.now cells.now)) }
+{
+    if !fit_fields(definition.fields.as_slice(), cells) {
+        return Err(MetadataError::Refused(Refusal::WrongKind));
+    }
+    let key = cells.at(alloc, &definition.key)?;
+    if key.has_null() {
+        return Err(MetadataError::Refused(Refusal::NullKey));
+    }
+    Ok(key)
+}
+
 impl Record {
     /// The record of the type of this name with these cells, one for each field. Refused, in this order: `UnknownType` (no type has the name), `WrongKind` (a cell of another kind than its field, or another number of cells than of fields), `NullKey` (a key field is null).
     pub fn new(
@@ -75,21 +116,15 @@ impl Record {
         let Some(definition) = schema.type_named(type_name) else {
             return Err(MetadataError::Refused(Refusal::UnknownType));
         };
-        let kinds = definition.field_kinds(alloc)?;
-        if !cells.fit(kinds.as_slice()) {
-            return Err(MetadataError::Refused(Refusal::WrongKind));
-        }
-        let key = cells.at(alloc, &definition.key)?;
-        if key.has_null() {
-            return Err(MetadataError::Refused(Refusal::NullKey));
-        }
+        let _ = key_in(alloc, definition, &cells)?;
         let definition = definition.copy()?;
         Ok(Record { definition, cells })
     }
 
     /// The definition of the record's type.
     pub fn definition(&self) -> &TypeDefinition
-        ensures { result.now ≡ self.now.definition }
+        ensures definition { result.now ≡ self.now.definition }
+        ensures made { record_in self.now.definition self.now.cells ≡ Ok self.now }
     {
         &self.definition
     }
@@ -108,5 +143,12 @@ impl Record {
     {
         let cells = self.cells.at(alloc, &self.definition.key)?;
         key_tuple(alloc, self.definition.number, &cells)
+    }
+
+    /// The cells, handed back.
+    pub fn into_cells(self) -> Cells
+        ensures { result ≡ self.cells }
+    {
+        self.cells
     }
 }

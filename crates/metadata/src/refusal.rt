@@ -36,6 +36,8 @@ pub enum Refusal {
     AlreadyThere,
     /// There is no store.
     NoStore,
+    /// The record's type isn't that of the store's schema.
+    OtherSchema,
     /// A server doesn't have the version yet.
     FutureVersion,
     /// The version lies longer ago than the window allows.

@@ -1,12 +1,13 @@
-ghost use Rattle.std.specs.Prelude.{◌≡◌, ◌∷◌, ◌==◌, ◌||◌, not, is_some, nat_lt, length, Ok, IfOk, IfErr, OnOk, OnErr};
+ghost use Rattle.std.specs.Prelude.{◌≡◌, ◌∷◌, ◌==◌, ◌||◌, not, is_some, nat_lt, length, None, Ok, true, IfOk, IfErr, OnOk, OnErr};
 ghost use Rattle.std.specs.Option.{option_copied};
 ghost use Rattle.std.specs.List.{list_all};
 ghost use Rattle.std.specs.Str.{bytes_eq};
 ghost use Rattle.metadata.specs.Schema.{find_type};
-ghost use Rattle.metadata.specs.Change.{add_type, empty_schema, field_names, has_twice, is_name, same_field, schema_of, type_refusal};
+ghost use Rattle.metadata.specs.Change.{add_type, empty_schema, field_names, has_twice, is_name, same_field, schema_of, type_refusal, with_type};
 ghost use Rattle.metadata.specs.Answers.{IsRefusedAs};
+ghost use Rattle.metadata.specs.Lawful.{IsLawfulSchema, has_good_indexes};
 
-use crate::definition::{SchemaRequest, TypeDefinition, TypeRequest};
+use crate::definition::{Fields, SchemaRequest, TypeDefinition, TypeRequest};
 use crate::index::IndexDefinition;
 use crate::names::{are_named, has_twice, has_unknown, is_name, is_same, places_of};
 use crate::refusal::{MetadataError, Refusal};
@@ -41,7 +42,7 @@ fn is_bad_key(key: &[Text]) -> bool
 fn copy_types(alloc: Global, types: &[TypeDefinition]) -> Result<Vec<TypeDefinition>, AllocError>
     ensures { IfOk result (λ copy. copy.items ≡ types.now) }
 {
-    let mut copy = Vec::new(alloc);
+    let mut copy = Vec::with_capacity(alloc, types.len())?;
     for definition in types {
         copy.push(definition.copy()?)?;
     }
@@ -55,7 +56,7 @@ fn copy_indexes(
 ) -> Result<Vec<IndexDefinition>, AllocError>
     ensures { IfOk result (λ copy. copy.items ≡ indexes.now) }
 {
-    let mut copy = Vec::new(alloc);
+    let mut copy = Vec::with_capacity(alloc, indexes.len())?;
     for index in indexes {
         copy.push(index.copy()?)?;
     }
@@ -73,10 +74,13 @@ pub struct Schema {
 
 impl Model for Schema {
     ghost use Rattle.metadata.specs.Schema.{Schema as SchemaValue};
+    ghost use Rattle.metadata.specs.Lawful.{IsLawfulSchema};
 
     ghost Value = { SchemaValue };
 
     ghost view = { λ s. record { types = s.types.items; last_index = s.last_index; indexes = s.indexes.items } };
+
+    ghost invariant = { λ s. IsLawfulSchema (record { types = s.types.items; last_index = s.last_index; indexes = s.indexes.items }) };
 }
 
 impl Schema {
@@ -103,8 +107,21 @@ impl Schema {
         Ok(schema)
     }
 
+    // The same of a request that is handed over.
+    pub(crate) fn of_types(alloc: Global, request: SchemaRequest) -> Result<Schema, MetadataError>
+        ensures made { IfOk result (λ schema. schema_of request ≡ Ok schema) }
+        ensures refused { IfErr result (λ error. IsRefusedAs error (schema_of request)) }
+    {
+        let mut schema = Schema::new(alloc);
+        for one in request.into_types() {
+            schema.take_type(one)?;
+        }
+        Ok(schema)
+    }
+
     // The schema of these types with other indexes.
     pub(crate) fn with_indexes(self, last_index: u64, indexes: Vec<IndexDefinition>) -> Schema
+        requires { has_good_indexes (record { types = self.types; last_index = last_index; indexes = indexes.items }) ≡ true }
         ensures { result ≡ record { types = self.types; last_index = last_index; indexes = indexes.items } }
     {
         Schema {
@@ -114,9 +131,10 @@ impl Schema {
         }
     }
 
-    /// The types, in the order of their numbers.
+    /// The types, in the order of their numbers. The schema is lawful, as each one is that calls make.
     pub fn types(&self) -> &[TypeDefinition]
-        ensures { result.now ≡ self.now.types }
+        ensures types { result.now ≡ self.now.types }
+        ensures lawful { IsLawfulSchema self.now }
     {
         self.types.as_slice()
     }
@@ -168,6 +186,36 @@ impl Schema {
         None
     }
 
+    // Adds a type of this name and these fields, whose key fields have these names, with the next number.
+    fn push_type(&mut self, name: Text, fields: Fields, key: &[Text]) -> Result<(), AllocError>
+        requires { type_refusal self.now (record { name = name; fields = fields; key = key.now }) ≡ None }
+        ensures ok { OnOk result (self.new ≡ with_type self.old (record { name = name; fields = fields; key = key.now })) }
+        ensures err { OnErr result (self.new ≡ self.old) }
+    {
+        let alloc = *self.types.allocator();
+        let key = places_of(alloc, fields.as_slice(), key)?;
+        self.types.push(TypeDefinition {
+            number: self.types.len() as u64 + 1,
+            name,
+            fields,
+            key,
+        })?;
+        Ok(())
+    }
+
+    // Adds a type as `add_type` does, by a request that is handed over.
+    fn take_type(&mut self, request: TypeRequest) -> Result<(), MetadataError>
+        ensures ok { OnOk result (add_type self.old request ≡ Ok self.new) }
+        ensures refused { IfErr result (λ error. IsRefusedAs error (add_type self.old request)) }
+        ensures err { OnErr result (self.new ≡ self.old) }
+    {
+        if let Some(refusal) = self.refusal(&request) {
+            return Err(MetadataError::Refused(refusal));
+        }
+        self.push_type(request.name, request.fields, request.key.as_slice())?;
+        Ok(())
+    }
+
     /// Adds a type, with the next number. Refused, in this order: `BadName` (a name of the type or of a field isn't 1 to 32 of `a-z A-Z 0-9 _`), `NameTaken` (the type's name stands already, or two fields have one name), `UnknownField` (a key field isn't a field), `BadSchema` (no key field, or one twice), `TooMany` (33 types or fields, or 9 key fields). After a refusal the schema is as before.
     pub fn add_type(&mut self, request: &TypeRequest) -> Result<(), MetadataError>
         ensures ok { OnOk result (add_type self.old request.now ≡ Ok self.new) }
@@ -177,15 +225,9 @@ impl Schema {
         if let Some(refusal) = self.refusal(request) {
             return Err(MetadataError::Refused(refusal));
         }
-        let alloc = *self.types.allocator();
+        let name = request.name.copy()?;
         let fields = request.fields.copy()?;
-        let key = places_of(alloc, fields.as_slice(), request.key.as_slice())?;
-        self.types.push(TypeDefinition {
-            number: self.types.len() as u64 + 1,
-            name: request.name.copy()?,
-            fields,
-            key,
-        })?;
+        self.push_type(name, fields, request.key.as_slice())?;
         Ok(())
     }
 

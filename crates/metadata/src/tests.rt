@@ -4,6 +4,7 @@ use crate::{
     SchemaRequest, TypeRequest, key_of,
 };
 use std::alloc::{AllocError, Global};
+use std::cmp::Ordering;
 use std::test::Fail;
 use tuple_codec::{ByteString, Text, Tuple, pack};
 
@@ -133,6 +134,41 @@ fn copies_cells(rt: HostRuntime) -> Result<(), Fail> {
     Ok(())
 }
 
+// Cells in their order.
+fn rising_cells(alloc: Global) -> Result<Cells, AllocError> {
+    let mut cells = Vec::new(alloc);
+    cells.push(Cell::Null)?;
+    for bytes in [&[][..], &[0], &[0, 1], &[1]] {
+        let bytes = Vec::from_slice(alloc, bytes)?;
+        cells.push(Cell::Bytes(ByteString::new(bytes)))?;
+    }
+    for name in ["", "aa", "b"] {
+        cells.push(Cell::Text(text(alloc, name)?))?;
+    }
+    for number in [-256, -255, -1, 0, 255, 256] {
+        cells.push(Cell::Int(number))?;
+    }
+    Ok(Cells::new(cells))
+}
+
+#[test]
+fn compares_cells(rt: HostRuntime) -> Result<(), Fail> {
+    let alloc = rt.alloc();
+    let cells = rising_cells(alloc)?;
+    for (i, one) in cells.as_slice().iter().enumerate() {
+        for (k, other) in cells.as_slice().iter().enumerate() {
+            assert_eq!(rt; one.compare(other), i.cmp(&k), "{i} {k}");
+        }
+    }
+    let first = row(alloc, &[Some(1)])?;
+    let longer = row(alloc, &[Some(1), None])?;
+    let second = row(alloc, &[Some(2)])?;
+    assert_eq!(rt; first.compare(&longer), Ordering::Less);
+    assert_eq!(rt; second.compare(&longer), Ordering::Greater);
+    assert_eq!(rt; first.compare(&first), Ordering::Equal);
+    Ok(())
+}
+
 #[test]
 fn refuses_types(rt: HostRuntime) -> Result<(), Fail> {
     let mut schema = schema_of_t(rt.alloc())?;
@@ -183,6 +219,30 @@ fn refuses_records(rt: HostRuntime) -> Result<(), Fail> {
         assert_eq!(rt; refusal(made), Some(as_record));
         let key = key_of(alloc, &schema, &name, &row(alloc, numbers)?);
         assert_eq!(rt; refusal(key), Some(as_key));
+    }
+    Ok(())
+}
+
+#[test]
+fn reads_records(rt: HostRuntime) -> Result<(), Fail> {
+    let alloc = rt.alloc();
+    let schema = schema_of_t(alloc)?;
+    // The record of k = 1, a = 5; then another key, another type's key, a text, no k, bytes cut off.
+    let rows: [(&[u8], &[u8], bool); 6] = [
+        (&[0x15, 1, 0x15, 1], &[0x15, 1, 0x15, 5, 0], true),
+        (&[0x15, 1, 0x15, 2], &[0x15, 1, 0x15, 5, 0], false),
+        (&[0x15, 2, 0x15, 1], &[0x15, 1, 0x15, 5, 0], false),
+        (&[0x15, 1, 0x15, 1], &[0x15, 1, 2, 0x78, 0, 0], false),
+        (&[0x15, 1, 0], &[0, 0x15, 5, 0], false),
+        (&[0x15, 1, 0x15, 1], &[0x15, 1, 0x15], false),
+    ];
+    for (key, value, is_one) in rows {
+        for definition in schema.types() {
+            let found = Record::decode(alloc, definition, key, value)?;
+            assert_eq!(rt; found.is_some(), is_one);
+            let cells = definition.cells_in(alloc, key, value)?;
+            assert_eq!(rt; cells.is_some(), is_one);
+        }
     }
     Ok(())
 }

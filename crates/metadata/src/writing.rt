@@ -30,7 +30,7 @@ fn number(value: u64) -> Element
 }
 
 // The number of a kind.
-fn kind_number(kind: Kind) -> u64
+pub(crate) fn kind_number(kind: Kind) -> u64
     ensures { result ≡ kind_number kind }
 {
     match kind {
@@ -44,7 +44,7 @@ fn kind_number(kind: Kind) -> u64
 fn field_element(alloc: Global, field: &Field) -> Result<Element, AllocError>
     ensures { IfOk result (λ element. item_in element ≡ field_item field.now) }
 {
-    let mut parts = Vec::new(alloc);
+    let mut parts = Vec::with_capacity(alloc, 2)?;
     parts.push(Element::Text(field.name.copy()?))?;
     parts.push(number(kind_number(field.kind)))?;
     Ok(nested(parts))
@@ -54,7 +54,7 @@ fn field_element(alloc: Global, field: &Field) -> Result<Element, AllocError>
 fn fields_element(alloc: Global, fields: &[Field]) -> Result<Element, AllocError>
     ensures { IfOk result (λ element. item_in element ≡ nested_item (map field_item fields.now)) }
 {
-    let mut parts = Vec::new(alloc);
+    let mut parts = Vec::with_capacity(alloc, fields.len())?;
     for field in fields {
         parts.push(field_element(alloc, field)?)?;
     }
@@ -65,7 +65,7 @@ fn fields_element(alloc: Global, fields: &[Field]) -> Result<Element, AllocError
 fn places_element(alloc: Global, places: &[usize]) -> Result<Element, AllocError>
     ensures { IfOk result (λ element. item_in element ≡ nested_item (map number_item places.now)) }
 {
-    let mut parts = Vec::new(alloc);
+    let mut parts = Vec::with_capacity(alloc, places.len())?;
     for place in places {
         parts.push(number(*place as u64))?;
     }
@@ -76,7 +76,7 @@ fn places_element(alloc: Global, places: &[usize]) -> Result<Element, AllocError
 fn type_element(alloc: Global, definition: &TypeDefinition) -> Result<Element, AllocError>
     ensures { IfOk result (λ element. item_in element ≡ type_item definition.now) }
 {
-    let mut parts = Vec::new(alloc);
+    let mut parts = Vec::with_capacity(alloc, 4)?;
     parts.push(number(definition.number))?;
     parts.push(Element::Text(definition.name.copy()?))?;
     parts.push(fields_element(alloc, definition.fields.as_slice())?)?;
@@ -88,7 +88,7 @@ fn type_element(alloc: Global, definition: &TypeDefinition) -> Result<Element, A
 fn types_element(alloc: Global, types: &[TypeDefinition]) -> Result<Element, AllocError>
     ensures { IfOk result (λ element. item_in element ≡ nested_item (map type_item types.now)) }
 {
-    let mut parts = Vec::new(alloc);
+    let mut parts = Vec::with_capacity(alloc, types.len())?;
     for definition in types {
         parts.push(type_element(alloc, definition)?)?;
     }
@@ -96,7 +96,7 @@ fn types_element(alloc: Global, types: &[TypeDefinition]) -> Result<Element, All
 }
 
 // The number of an index's kind.
-fn index_kind_number(kind: IndexKind) -> u64
+pub(crate) fn index_kind_number(kind: IndexKind) -> u64
     ensures { result ≡ index_kind_number kind }
 {
     match kind {
@@ -120,7 +120,7 @@ fn summed_element(summed: Option<usize>) -> Element
 fn index_element(alloc: Global, index: &IndexDefinition) -> Result<Element, AllocError>
     ensures { IfOk result (λ element. item_in element ≡ index_item index.now) }
 {
-    let mut parts = Vec::new(alloc);
+    let mut parts = Vec::with_capacity(alloc, 6)?;
     parts.push(number(index.number))?;
     parts.push(Element::Text(index.name.copy()?))?;
     parts.push(number(index_kind_number(index.kind)))?;
@@ -134,7 +134,7 @@ fn index_element(alloc: Global, index: &IndexDefinition) -> Result<Element, Allo
 fn indexes_element(alloc: Global, indexes: &[IndexDefinition]) -> Result<Element, AllocError>
     ensures { IfOk result (λ element. item_in element ≡ nested_item (map index_item indexes.now)) }
 {
-    let mut parts = Vec::new(alloc);
+    let mut parts = Vec::with_capacity(alloc, indexes.len())?;
     for index in indexes {
         parts.push(index_element(alloc, index)?)?;
     }
@@ -145,7 +145,7 @@ fn indexes_element(alloc: Global, indexes: &[IndexDefinition]) -> Result<Element
 pub(crate) fn schema_tuple(alloc: Global, schema: &Schema) -> Result<Tuple, AllocError>
     ensures { IfOk result (λ tuple. tuple ≡ written schema.now) }
 {
-    let mut parts = Vec::new(alloc);
+    let mut parts = Vec::with_capacity(alloc, 5)?;
     parts.push(number(1))?;
     parts.push(number(schema.types().len() as u64))?;
     parts.push(number(schema.last_index))?;

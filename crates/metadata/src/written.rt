@@ -15,6 +15,7 @@ use crate::index_reading::{indexes_in, number_at};
 use crate::lawful::has_good_indexes;
 use crate::reading::requests_in;
 use crate::refusal::{MetadataError, Refusal};
+use crate::same_form::is_written;
 use crate::schema::Schema;
 use crate::writing::schema_tuple;
 use std::alloc::{AllocError, Global};
@@ -40,7 +41,7 @@ fn types_in(alloc: Global, tuple: &Tuple) -> Result<Option<Schema>, AllocError>
     let Some(request) = requests_in(alloc, tuple)? else {
         return Ok(None);
     };
-    match Schema::of_request(alloc, &request) {
+    match Schema::of_types(alloc, request) {
         Ok(schema) => Ok(Some(schema)),
         Err(MetadataError::Memory) => Err(AllocError),
         Err(MetadataError::Refused(_)) => Ok(None),
@@ -61,11 +62,10 @@ fn schema_in(alloc: Global, tuple: &Tuple) -> Result<Schema, MetadataError>
     let Some(indexes) = indexes_in(alloc, tuple)? else {
         return Err(MetadataError::Refused(Refusal::BadSchema));
     };
-    let schema = types_alone.with_indexes(last_index, indexes);
-    if !has_good_indexes(&schema) {
+    if !has_good_indexes(types_alone.types(), last_index, indexes.as_slice()) {
         return Err(MetadataError::Refused(Refusal::BadSchema));
     }
-    Ok(schema)
+    Ok(types_alone.with_indexes(last_index, indexes))
 }
 
 impl Schema {
@@ -93,8 +93,7 @@ impl Schema {
     {
         let tuple = tuple_in(alloc, bytes)?;
         let schema = schema_in(alloc, &tuple)?;
-        let encoded = schema.encode(alloc)?;
-        if encoded.as_slice() == bytes {
+        if is_written(&schema, &tuple) {
             Ok(schema)
         } else {
             Err(MetadataError::Refused(Refusal::BadSchema))

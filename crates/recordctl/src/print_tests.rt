@@ -61,8 +61,9 @@ fn prints_corrupt_keys(rt: HostRuntime) -> Result<(), Fail> {
     Ok(())
 }
 
-static REFUSALS: [(Refusal, &str); 8] = [
+static REFUSALS: [(Refusal, &str); 9] = [
     (Refusal::NoSuchRole, "1 refused NoSuchRole\n"),
+    (Refusal::OtherSchema, "1 refused OtherSchema\n"),
     (Refusal::FutureVersion, "1 refused FutureVersion\n"),
     (Refusal::TooOld, "1 refused TooOld\n"),
     (Refusal::VersionsExhausted, "1 refused VersionsExhausted\n"),

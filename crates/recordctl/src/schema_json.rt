@@ -62,7 +62,7 @@ fn names_of(alloc: Global, value: &Value) -> Result<Names, PartError>
 const TYPE_KEYS: [&str; 3] = ["name", "fields", "key"];
 
 // A type: its name, its fields and the names of its key fields.
-fn type_of(alloc: Global, value: &Value) -> Result<TypeRequest, PartError>
+pub(crate) fn type_of(alloc: Global, value: &Value) -> Result<TypeRequest, PartError>
     ensures ok { IfOk result (λ read. type_in (view value.now) ≡ Some read) }
     ensures err { IfErr result (λ error. error ≡ PartError.BadForm → type_in (view value.now) ≡ None) }
 {

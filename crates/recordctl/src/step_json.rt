@@ -5,7 +5,7 @@ ghost use Rattle.recordctl.specs.Steps.{command_on, command_with, common_step, n
 use crate::cell_json::cells_of;
 use crate::fault::PartError;
 use crate::form::{list_of, number_of, only_member, str_of, text_of};
-use crate::schema_json::schema_of;
+use crate::schema_json::{schema_of, type_of};
 use schedule::{Command, Query, Step};
 use serde_json::Value;
 use std::alloc::Global;
@@ -26,6 +26,7 @@ fn command_of_one(alloc: Global, name: &str, part: &Value) -> Result<Command, Pa
 {
     match name {
         "create" => Ok(Command::Create(schema_of(alloc, part)?)),
+        "type" => Ok(Command::Type(type_of(alloc, part)?)),
         "query" => Ok(Command::Query(query_of(alloc, part)?)),
         _ => Err(PartError::BadForm),
     }

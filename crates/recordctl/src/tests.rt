@@ -98,7 +98,7 @@ fn refuses_long_scripts(rt: HostRuntime) -> Result<(), Fail> {
     Ok(())
 }
 
-static STEPS: [&str; 77] = [
+static STEPS: [&str; 82] = [
     "{}",
     "null",
     "\"settle\"",
@@ -119,6 +119,11 @@ static STEPS: [&str; 77] = [
     "[\"abandon\",0,0]",
     "[\"settle\",0]",
     "[\"type\",0,{}]",
+    "[\"type\",{\"name\":\"t\",\"fields\":[],\"key\":[]}]",
+    "[\"type\",0,\"t\"]",
+    "[\"type\",0,{\"name\":\"t\",\"fields\":[[\"k\",\"int\"]]}]",
+    "[\"type\",0,{\"types\":[{\"name\":\"t\",\"fields\":[[\"k\",\"int\"]],\"key\":[\"k\"]}]}]",
+    "[\"type\",0,{\"name\":\"t\",\"fields\":[[\"k\",\"int\"]],\"key\":[\"k\"]},[]]",
     "[\"index\",0,\"i\"]",
     "[\"report\",0]",
     "[\"lost\",0]",

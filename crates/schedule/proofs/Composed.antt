@@ -1,9 +1,11 @@
 -- What the submitted transactions come to: the database holds what is committed at each version, and version order is a serial order.
-use Rattle.std.proofs.Common.{◌≡◌, ℕ, suc, ◌+◌, ◌-◌, ◌≤◌, Bool, true, false, cond, ◌&&◌, ◌⊎◌, inl, inr, List, [], ◌∷◌, map, slice_get, refl, sym, ap, subst, ◌∙◌, Option, Some, None, arith, nat_le, is_none, fold}
+use Rattle.std.proofs.Common.{◌≡◌, ℕ, suc, ◌+◌, ◌-◌, ◌≤◌, Bool, true, false, cond, ◌&&◌, ◌⊎◌, inl, inr, List, [], ◌∷◌, ◌++◌, map, slice_get, refl, sym, ap, subst, ◌∙◌, Option, Some, None, arith, nat_le, is_none, fold}
 use Rattle.std.specs.Prelude.{IsTrue}
 use Rattle.std.specs.List.{All, AllByRecursion, filter}
 use Rattle.std.specs.Option.{option_map_or}
-use Rattle.std.specs.FinMap.{empty}
+use Rattle.std.specs.FinMap.{empty, get-empty}
+use Rattle.kv_core.specs.Bytes.{key_cmp}
+use Rattle.schedule.specs.Layout.{store_prefix}
 use Rattle.std.proofs.lemmas.Bool.{le-leb, leb-true, true≢false}
 use Rattle.std.proofs.lemmas.List.Elements.{recursion_from_All, All-from_recursion}
 use Rattle.kv_core.specs.Range.{KeyRange, covers}
@@ -22,11 +24,11 @@ use Rattle.txn.specs.Reads.{seen}
 use Rattle.schedule.specs.declared.step.Command.{Command}
 use Rattle.schedule.specs.declared.reply.Reply.{Reply}
 use Rattle.schedule.specs.declared.transcript.CommitEntry.{CommitEntry}
-use Rattle.schedule.specs.Store.{Serial}
+use Rattle.record_store.specs.Store.{Serial, schema_in}
 use Rattle.schedule.specs.Serve.{IsReply, effects}
 use Rattle.schedule.specs.Past.{Attempt, Open, Submission, accepted, is_accepted}
-use Rattle.schedule.specs.Holds.{Holds}
-use Rattle.schedule.specs.Reach.{reach, schema_in}
+use Rattle.schedule.specs.Holds.{Stands}
+use Rattle.schedule.specs.Reach.{reach}
 use Rattle.schedule.specs.Performed.{IsServed, IsReadRefusal, IsPerformed}
 use Rattle.schedule.specs.Commits.{committed, view}
 use Rattle.schedule.specs.Standing.{is_told, is_listed, listed, commit_entry, commits_of}
@@ -39,14 +41,14 @@ abbrev Replied : Serial → Attempt → Type 0
 Replied serial attempt = is_accepted attempt.reply ≡ true → IsReply serial attempt.command attempt.reply
 
 -- an empty map holds no store
-holds_nothing : Holds empty None
-holds_nothing = record { lawful = tt; pairs = λ bytes. refl }
+holds_nothing : Stands empty None
+holds_nothing = record { held = λ bytes. get-empty key_cmp (store_prefix ++ bytes); plain = tt }
 
-serial_replied : (serial : Serial) (attempts : List Attempt) → IsSerialAt serial attempts → AllReplied Holds Replied attempted serial attempts
+serial_replied : (serial : Serial) (attempts : List Attempt) → IsSerialAt serial attempts → AllReplied Stands Replied attempted serial attempts
 serial_replied serial [] is = tt
 serial_replied serial (attempt ∷ attempts) is = (is.0, serial_replied (attempted serial attempt) attempts is.1)
 
-replied_serial : (serial : Serial) (attempts : List Attempt) → AllReplied Holds Replied attempted serial attempts → IsSerialAt serial attempts
+replied_serial : (serial : Serial) (attempts : List Attempt) → AllReplied Stands Replied attempted serial attempts → IsSerialAt serial attempts
 replied_serial serial [] is = tt
 replied_serial serial (attempt ∷ attempts) is = (is.0, replied_serial (attempted serial attempt) attempts is.1)
 
@@ -114,7 +116,7 @@ module _ (p : PipelineState) (subs : List Submission) where
   -- ---- what is there at a version, by the history and by the committed transactions
 
   abbrev after_entry : Serial → Entry → Serial
-  after_entry serial entry = after_commands Holds Replied attempted serial (commands_of entry)
+  after_entry serial entry = after_commands Stands Replied attempted serial (commands_of entry)
 
   abbrev after_commit : Serial → CommitEntry → Serial
   after_commit serial one = effects serial one.commands
@@ -177,40 +179,40 @@ module _ (p : PipelineState) (subs : List Submission) where
         here : p.start ≡ p.start + 0
         here = omega arith
 
-    one_replays : (entry : Entry) (one : Submission) → IsPair entry one → Replays Holds Replied attempted commands_of (history p) entry
+    one_replays : (entry : Entry) (one : Submission) → IsPair entry one → Replays Stands Replied attempted commands_of (history p) entry
     one_replays entry one pair m serial holds agree =
         let served = done_serve maps one.transaction.attempts (fresh one.transaction.read_version) entry.request pair.open_as.done m serial agree holds in (
-          subst (AllReplied Holds Replied attempted serial) (sym pair.commands) (serial_replied serial one.transaction.attempts served.0),
-          subst (λ attempts. Holds (after_all entry.request.mutations m) (after_attempts serial attempts)) (sym pair.commands) served.1,
+          subst (AllReplied Stands Replied attempted serial) (sym pair.commands) (serial_replied serial one.transaction.attempts served.0),
+          subst (λ attempts. Stands (after_all entry.request.mutations m) (after_attempts serial attempts)) (sym pair.commands) served.1,
         )
 
-    each_replays : (es : List Entry) (ss : List Submission) → ArePairs es ss → AllByRecursion (Replays Holds Replied attempted commands_of (history p)) (passing es)
+    each_replays : (es : List Entry) (ss : List Submission) → ArePairs es ss → AllByRecursion (Replays Stands Replied attempted commands_of (history p)) (passing es)
     each_replays [] [] pairs = tt
     each_replays [] (one ∷ ss) pairs = absurd pairs
     each_replays (entry ∷ es) [] pairs = absurd pairs
     each_replays (entry ∷ es) (one ∷ ss) (pair, pairs) = by_test (is_committed p.splits (entries p) entry) (one_replays entry one pair) (each_replays es ss pairs)
       where
-        by_test : (b : Bool) → Replays Holds Replied attempted commands_of (history p) entry → AllByRecursion (Replays Holds Replied attempted commands_of (history p)) (passing es) →
-            AllByRecursion (Replays Holds Replied attempted commands_of (history p)) (cond b (entry ∷ passing es) (passing es))
+        by_test : (b : Bool) → Replays Stands Replied attempted commands_of (history p) entry → AllByRecursion (Replays Stands Replied attempted commands_of (history p)) (passing es) →
+            AllByRecursion (Replays Stands Replied attempted commands_of (history p)) (cond b (entry ∷ passing es) (passing es))
         by_test true now rest = (now, rest)
         by_test false now rest = rest
 
-    replays : All (Replays Holds Replied attempted commands_of (history p)) (history p)
-    replays = All-from_recursion (Replays Holds Replied attempted commands_of (history p)) (history p) (each_replays (entries p) subs pairs_now)
+    replays : All (Replays Stands Replied attempted commands_of (history p)) (history p)
+    replays = All-from_recursion (Replays Stands Replied attempted commands_of (history p)) (history p) (each_replays (entries p) subs pairs_now)
 
     rising : IsRising (history p)
     rising = rising-filter (is_committed p.splits (entries p)) (entries p) (rising-numbered p.start p.requests)
 
-    state_is : (v : ℕ) → v ≤ p.reported → state_at Holds Replied attempted commands_of None (history p) v ≡ committed (commits_of p subs) v
+    state_is : (v : ℕ) → v ≤ p.reported → state_at Stands Replied attempted commands_of None (history p) v ≡ committed (commits_of p subs) v
     state_is v below = states_same v below (entries p) subs pairs_now None
 
     -- HOLDS: the map at each version up to the last reported one holds what is committed there
-    pub holds_committed : (v : ℕ) → v ≤ p.reported → Holds (maps v) (committed (commits_of p subs) v)
-    holds_committed v below = subst (Holds (maps v)) (state_is v below) (holds_at Holds Replied attempted commands_of None holds_nothing (history p) rising legal replays v)
+    pub holds_committed : (v : ℕ) → v ≤ p.reported → Stands (maps v) (committed (commits_of p subs) v)
+    holds_committed v below = subst (Stands (maps v)) (state_is v below) (holds_at Stands Replied attempted commands_of None holds_nothing (history p) rising legal replays v)
 
     -- SERIAL: each listed transaction has its replies just before its version
     serial_each : (es : List Entry) (ss : List Submission) → ArePairs es ss →
-        AllByRecursion (λ (e : Entry). AllReplied Holds Replied attempted (state_at Holds Replied attempted commands_of None (history p) (e.version - 1)) (commands_of e)) (passing es) →
+        AllByRecursion (λ (e : Entry). AllReplied Stands Replied attempted (state_at Stands Replied attempted commands_of None (history p) (e.version - 1)) (commands_of e)) (passing es) →
         AllByRecursion (λ (one : Submission). IsSerialAt (committed (commits_of p subs) (one.version - 1)) one.transaction.attempts) (filter (is_listed p) ss)
     serial_each [] [] pairs all = tt
     serial_each [] (one ∷ ss) pairs all = absurd pairs
@@ -220,7 +222,7 @@ module _ (p : PipelineState) (subs : List Submission) where
         (by_test (is_committed p.splits (entries p) entry) (nat_le one.version p.reported) refl all (serial_each es ss pairs))
       where
         X : Entry → Type 0
-        X e = AllReplied Holds Replied attempted (state_at Holds Replied attempted commands_of None (history p) (e.version - 1)) (commands_of e)
+        X e = AllReplied Stands Replied attempted (state_at Stands Replied attempted commands_of None (history p) (e.version - 1)) (commands_of e)
 
         Y : Submission → Type 0
         Y s = IsSerialAt (committed (commits_of p subs) (s.version - 1)) s.transaction.attempts
@@ -230,8 +232,8 @@ module _ (p : PipelineState) (subs : List Submission) where
             let below : one.version ≤ p.reported = leb-true one.version p.reported h in
             let at : entry.version ≡ one.version = pair.same_version in
             replied_serial (committed (commits_of p subs) (one.version - 1)) one.transaction.attempts
-            (subst (AllReplied Holds Replied attempted (committed (commits_of p subs) (one.version - 1))) pair.commands
-            (subst (λ s. AllReplied Holds Replied attempted s (commands_of entry)) (ap (λ v. state_at Holds Replied attempted commands_of None (history p) (v - 1)) at ∙ state_is (one.version - 1) (omega (arith, below))) x))
+            (subst (AllReplied Stands Replied attempted (committed (commits_of p subs) (one.version - 1))) pair.commands
+            (subst (λ s. AllReplied Stands Replied attempted s (commands_of entry)) (ap (λ v. state_at Stands Replied attempted commands_of None (history p) (v - 1)) at ∙ state_is (one.version - 1) (omega (arith, below))) x))
 
         by_test : (b r : Bool) → nat_le one.version p.reported ≡ r → AllByRecursion X (cond b (entry ∷ passing es) (passing es)) → (AllByRecursion X (passing es) → AllByRecursion Y (filter (is_listed p) ss)) →
             AllByRecursion Y (cond (r && b) (one ∷ filter (is_listed p) ss) (filter (is_listed p) ss))
@@ -243,8 +245,8 @@ module _ (p : PipelineState) (subs : List Submission) where
     pub serial_all : All (λ (one : Submission). IsSerialAt (committed (commits_of p subs) (one.version - 1)) one.transaction.attempts) (listed p subs)
     serial_all = All-from_recursion (λ (one : Submission). IsSerialAt (committed (commits_of p subs) (one.version - 1)) one.transaction.attempts) (listed p subs)
         (serial_each (entries p) subs pairs_now
-        (recursion_from_All (λ (e : Entry). AllReplied Holds Replied attempted (state_at Holds Replied attempted commands_of None (history p) (e.version - 1)) (commands_of e)) (history p)
-        (replied_at Holds Replied attempted commands_of None holds_nothing (history p) rising legal replays)))
+        (recursion_from_All (λ (e : Entry). AllReplied Stands Replied attempted (state_at Stands Replied attempted commands_of None (history p) (e.version - 1)) (commands_of e)) (history p)
+        (replied_at Stands Replied attempted commands_of None holds_nothing (history p) rising legal replays)))
 
     -- OPEN: what an open transaction wrote and read, and what it sees
     open_writes : (open_now : Open) (request : CommitRequest) → IsOpenAs maps p.reported open_now request → request.mutations ≡ written (committed (commits_of p subs) open_now.read_version) (accepted open_now.attempts)
@@ -261,9 +263,9 @@ module _ (p : PipelineState) (subs : List Submission) where
           | inr within ↦ within
         ]
 
-    open_sees : (open_now : Open) (request : CommitRequest) → IsOpenAs maps p.reported open_now request → Holds (seen request (maps open_now.read_version)) (view (commits_of p subs) open_now)
+    open_sees : (open_now : Open) (request : CommitRequest) → IsOpenAs maps p.reported open_now request → Stands (seen request (maps open_now.read_version)) (view (commits_of p subs) open_now)
     open_sees open_now request is =
-        subst (Holds (seen request (maps open_now.read_version))) (attempts_effects (committed (commits_of p subs) open_now.read_version) open_now.attempts)
+        subst (Stands (seen request (maps open_now.read_version))) (attempts_effects (committed (commits_of p subs) open_now.read_version) open_now.attempts)
         (done_serve maps open_now.attempts (fresh open_now.read_version) request is.done (maps open_now.read_version) (committed (commits_of p subs) open_now.read_version)
         (λ key h. ap (λ v. Rattle.std.specs.FinMap.get (maps v) key) is.at) (holds_committed open_now.read_version is.seen)).1
 

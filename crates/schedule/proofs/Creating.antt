@@ -1,94 +1,103 @@
 -- What making a store comes to.
-use Rattle.std.proofs.Common.{◌≡◌, ℕ, ◌==◌, length, List, [], ◌∷◌, ◌⊎◌, refl, sym, ap, subst, Option, Some, None, Ok}
-use Rattle.std.specs.Prelude.{IsNone}
-use Rattle.std.specs.FinMap.{get}
-use Rattle.kv_core.specs.Range.{KeyRange, point}
-use Rattle.kv_core.specs.Map.{Map}
+use Rattle.std.proofs.Common.{◌≡◌, ℕ, true, List, [], refl, sym, ap, subst, ◌∙◌, inl, inr, Option, Some, None, Ok, Err}
+use Rattle.kv_core.specs.Range.{KeyRange, covers}
+use Rattle.kv_core.specs.Map.{Map, after_all}
 use Rattle.kv_core.specs.Limits.{write_all_refusal}
 use Rattle.kv_core.specs.declared.change.CommitRequest.{CommitRequest}
-use Rattle.kv_core.specs.declared.change.Mutation.{Mutation}
-use Rattle.kv_core.specs.declared.change.Mutation.TheVariants.{Set}
-use Rattle.kv_core.specs.declared.change.WriteError.{WriteError}
-use Rattle.kv_core.specs.declared.change.WriteError.TheVariants as write
 use Rattle.cluster_core.specs.declared.answers.ReadError.{ReadError}
-use Rattle.txn.specs.Reads.{with_mutations}
 use Rattle.txn.proofs.Running.{ran_still, ran_because, ran_wider}
 use Rattle.metadata.specs.declared.definition.TypeRequest.{TypeRequest}
 use Rattle.metadata.specs.declared.refusal.MetadataError.{MetadataError}
 use Rattle.metadata.specs.declared.refusal.MetadataError.TheVariants as meta
+use Rattle.metadata.specs.declared.refusal.Refusal.{Refusal}
 use Rattle.metadata.specs.declared.refusal.Refusal.TheVariants.{AlreadyThere}
 use Rattle.metadata.specs.Answers.{IsRefusedAs}
 use Rattle.metadata.specs.Change.{schema_of}
 use Rattle.metadata.specs.Schema.{Schema}
-use Rattle.metadata.specs.Written.{schema_bytes}
-use Rattle.schedule.specs.declared.error.StoreError.{StoreError}
-use Rattle.schedule.specs.declared.error.StoreError.TheVariants.{Refused}
+use Rattle.record_store.specs.declared.error.StoreError.{StoreError}
+use Rattle.record_store.specs.declared.error.StoreError.TheVariants.{Memory, Read, Write, Corrupt, Refused}
+use Rattle.record_store.specs.Store.{Store, Serial, created, schema_in}
+use Rattle.record_store.specs.Holds.{Holds}
+use Rattle.record_store.specs.Call.{Opened}
+use Rattle.record_store.specs.Calls.{schema_writes}
+use Rattle.record_store.specs.Opening.{IsCreateFailure, IsCreated, IsUncreated, opening_reach}
+use Rattle.record_store.specs.Steps.{of_metadata}
 use Rattle.schedule.specs.declared.step.Command.TheVariants.{Create}
 use Rattle.schedule.specs.declared.reply.Reply.TheVariants as reply
-use Rattle.schedule.specs.Store.{Serial}
-use Rattle.schedule.specs.Holds.{Holds}
-use Rattle.schedule.specs.Layout.{schema_key, states_range}
-use Rattle.schedule.specs.Reach.{opening_reach, reach, schema_in}
-use Rattle.schedule.specs.Performed.{IsPerformed}
-use Rattle.schedule.specs.Calls.{DidRead, IsReadError, IsRefused, IsUnread, of_metadata, of_write}
-use Rattle.schedule.proofs.Reading.{both_read, error_wider, schema_first, states_then}
-use Rattle.schedule.proofs.Outcomes.{none_within, own_right, performed, refused_by, refused_memory, refused_opening, refused_write}
-use Rattle.schedule.proofs.Serving.{create_over, create_refusal, create_serves, create_wrote}
+use Rattle.schedule.specs.Layout.{store_prefix}
+use Rattle.schedule.specs.Serve.{IsReply, served_create}
+use Rattle.schedule.specs.Holds.{Stands}
+use Rattle.schedule.specs.Reach.{reach, schema_written, writes}
+use Rattle.schedule.specs.Performed.{IsLimited, IsPerformed, IsPerformedAt}
+use Rattle.schedule.specs.Calls.{IsRefused}
+use Rattle.schedule.proofs.Outcomes.{IsRight, at, limit_right, located, none_within, opening_within, own_right, read_right, refused_by, refused_memory}
+use Rattle.schedule.proofs.Serving.{made_plain}
 
--- both reads, with what was found at the schema's key
-create_read : {maps : ℕ → Map} {old mid new : CommitRequest} {G : Map → Type 0} (request : List TypeRequest) (before : Option (List ℕ)) → DidRead maps (point schema_key ∷ []) old mid (λ m. before ≡ get m schema_key) → DidRead maps (states_range ∷ []) mid new G →
-    DidRead maps (reach None (Create request)) old new (λ m. (serial : Serial) → Holds m serial → before ≡ get m schema_key)
-create_read request before one two = ran_because (both_read one two) (λ m found serial holds. found.0)
+-- REQUEST: no schema is made, and nothing was read
+refusal_replies : (request : List TypeRequest) (serial : Serial) (refusal : Refusal) → schema_of request ≡ Err refusal → IsReply serial (Create request) (reply.Refused refusal) × (writes serial (Create request) ≡ [])
+refusal_replies request None refusal is = (sym (ap (λ o. (served_create None o).0) is), ap schema_written is)
+refusal_replies request (Some store) refusal is = (sym (ap (λ o. (served_create (Some store) o).0) is), refl)
 
-module _ {maps : ℕ → Map} {refuses : KeyRange → ℕ → Option ReadError} (request : List TypeRequest) where
-  -- REQUEST: no schema is made, and nothing was read
-  pub refused_request : {old : CommitRequest} (error : MetadataError) → IsRefusedAs error (schema_of request) → IsRefused maps refuses (Create request) (of_metadata error) old old
-  refused_request meta.Memory is = refused_memory (Create request) (ran_still {May = λ k. Unit {0}} {Fact = λ m. Unit {0}} refl (λ m. tt {0}))
-  refused_request {old = old} (meta.Refused refusal) is =
-      refused_by (Create request) None (Refused refusal) (ran_still refl (λ m serial holds.
-      let says = create_refusal request serial refusal is in
-      own_right (λ range. refuses range old.read_version) None (Create request) old.mutations refusal serial (none_within (schema_in serial) (Create request)) says.0 says.1))
+pub refused_request : {maps : ℕ → Map} {refuses : KeyRange → ℕ → Option ReadError} {old : CommitRequest} (request : List TypeRequest) (error : MetadataError) → IsRefusedAs error (schema_of request) → IsRefused maps refuses (Create request) (of_metadata error) old old
+refused_request request meta.Memory is = refused_memory (Create request) refl
+refused_request {refuses = refuses} {old = old} request (meta.Refused refusal) is =
+    refused_by (Create request) None (Refused refusal) (ran_still refl (λ m serial stands.
+    let says = refusal_replies request serial refusal is in
+    own_right (λ range. refuses range old.read_version) None (Create request) old.mutations refusal serial (none_within (schema_in serial) (Create request)) says.0 says.1))
 
-  -- FIRST READ: it came to an error
-  pub refused_first : {old new : CommitRequest} (error : StoreError) → IsUnread maps refuses (point schema_key ∷ []) error old new → IsRefused maps refuses (Create request) error old new
-  refused_first {old = old} error is =
-      refused_opening (Create request) error (record {
-        ran = ran_wider (ran_because is.ran (λ m says serial holds. error_wider (λ range. refuses range old.read_version) (point schema_key ∷ []) opening_reach schema_first error (says serial holds))) schema_first;
-      })
+-- what is written where there is no store
+writes_none : (request : List TypeRequest) (schema : Schema) → schema_of request ≡ Ok schema → writes None (Create request) ≡ schema_writes store_prefix schema
+writes_none request schema is = ap schema_written is
 
-  -- SECOND READ: it came to an error
-  pub refused_second : {old mid new : CommitRequest} {F : Map → Type 0} (error : StoreError) → DidRead maps (point schema_key ∷ []) old mid F → IsUnread maps refuses (states_range ∷ []) error mid new → IsRefused maps refuses (Create request) error old new
-  refused_second {old = old} error one is =
-      refused_opening (Create request) error (record {
-        ran = ran_because (both_read one is.ran) (λ m says serial holds.
-            error_wider (λ range. refuses range old.read_version) (states_range ∷ []) opening_reach states_then error
-            (subst (λ v. IsReadError (λ range. refuses range v) (states_range ∷ []) error) one.version (says.1 serial holds)));
-      })
+-- NOT MADE
+uncreated_at : {maps : ℕ → Map} {refuses : KeyRange → ℕ → Option ReadError} {old new : CommitRequest} (request : List TypeRequest) (schema : Schema) (error : StoreError) → schema_of request ≡ Ok schema →
+    IsUncreated maps refuses (at schema) error old new → IsRefused maps refuses (Create request) error old new
+uncreated_at {refuses = refuses} {old = old} request schema error made is =
+    refused_by (Create request) None error (ran_wider (ran_because is.ran (λ m says serial stands. right error m says serial stands)) (opening_within None (Create request)))
+  where
+    wider : (serial : Serial) (k : List ℕ) → covers (reach None (Create request)) k ≡ true → covers (reach (schema_in serial) (Create request)) k ≡ true
+    wider serial = none_within (schema_in serial) (Create request)
 
-  -- THERE: a pair stands where a schema does
-  pub refused_there : {old mid new : CommitRequest} {G : Map → Type 0} (schema : Schema) (before : Option (List ℕ)) (error : StoreError) → schema_of request ≡ Ok schema →
-      DidRead maps (point schema_key ∷ []) old mid (λ m. before ≡ get m schema_key) → DidRead maps (states_range ∷ []) mid new G → (error ≡ Refused AlreadyThere) × (before ≡ None → ⊥) → IsRefused maps refuses (Create request) error old new
-  refused_there {old = old} {new = new} schema before error is one two says =
-      subst (λ e. IsRefused maps refuses (Create request) e old new) (sym says.0)
-      (refused_by (Create request) None (Refused AlreadyThere) (ran_because (create_read request before one two) (λ m found serial holds.
-      let right = create_over request schema before is says.1 m serial holds (found serial holds) in
-      own_right (λ range. refuses range old.read_version) None (Create request) old.mutations AlreadyThere serial (none_within (schema_in serial) (Create request)) right.0 right.1)))
+    right : (error : StoreError) (m : Map) → IsCreateFailure (λ range. refuses range old.read_version) (at schema) error old.mutations m → (serial : Serial) → Stands m serial →
+        IsRight (λ range. refuses range old.read_version) None (Create request) old.mutations error serial
+    right Memory m says serial stands = (λ answer same. absurd (cc), wider serial)
+    right (Read reason) m says serial stands = (
+      λ answer same. inr (read_right (λ range. refuses range old.read_version) (opening_reach store_prefix) (reach (schema_in serial) (Create request)) (opening_within (schema_in serial) (Create request)) reason answer same says),
+      wider serial,
+    )
+    right (Corrupt key) m says serial stands = absurd says
+    right (Refused refusal) m says None stands = absurd (says.2 None stands.held refl)
+    right (Refused refusal) m says (Some store) stands =
+        subst (λ r. IsRight (λ range. refuses range old.read_version) None (Create request) old.mutations (Refused r) (Some store)) (sym says.0)
+        (own_right (λ range. refuses range old.read_version) None (Create request) old.mutations AlreadyThere (Some store) (wider (Some store)) (sym (ap (λ o. (served_create (Some store) o).0) made)) refl)
+    right (Write reason) m says None stands =
+        limit_right (λ range. refuses range old.read_version) None (Create request) old.mutations reason None (wider None) (ap (write_all_refusal old.mutations) (writes_none request schema made) ∙ says.1)
+    right (Write reason) m says (Some store) stands = let none : ◌≡◌ {A = Option Store} (Some store) None = says.2 (Some store) stands.held in absurd (cc)
 
-  -- LIMIT: the write of the schema was refused
-  pub refused_creation : {old mid last new : CommitRequest} {G : Map → Type 0} (schema : Schema) (before : Option (List ℕ)) (written : List Mutation) (error : WriteError) → schema_of request ≡ Ok schema → before ≡ None → written ≡ Set schema_key (schema_bytes schema) ∷ [] →
-      DidRead maps (point schema_key ∷ []) old mid (λ m. before ≡ get m schema_key) → DidRead maps (states_range ∷ []) mid last G →
-      new ≡ last → (error ≡ write.Memory) ⊎ (write_all_refusal last.mutations written ≡ Some error) → IsRefused maps refuses (Create request) (of_write error) old new
-  refused_creation schema before written error is none wrote one two same says =
-      refused_write (Create request) None written error (create_read request before one two) same says (λ m serial holds found. (
-        create_wrote request schema before written is none wrote m serial holds found,
-        none_within (schema_in serial) (Create request),
-      ))
+pub uncreated : {maps : ℕ → Map} {refuses : KeyRange → ℕ → Option ReadError} {old new : CommitRequest} (request : List TypeRequest) (prefix : List ℕ) (schema : Schema) (error : StoreError) → prefix ≡ store_prefix → schema_of request ≡ Ok schema →
+    IsUncreated maps refuses (record { prefix = prefix; schema = schema }) error old new → IsRefused maps refuses (Create request) error old new
+uncreated {maps = maps} {refuses = refuses} {old = old} {new = new} request prefix schema error here made is =
+    uncreated_at request schema error made (subst (λ p. IsUncreated maps refuses (record { prefix = p; schema = schema }) error old new) here is)
 
--- CREATED
-pub created_now : {maps : ℕ → Map} {refuses : KeyRange → Option ReadError} {old mid last new : CommitRequest} {G : Map → Type 0} (request : List TypeRequest) (schema : Schema) (before : Option (List ℕ)) (written : List Mutation) →
-    schema_of request ≡ Ok schema → before ≡ None → written ≡ Set schema_key (schema_bytes schema) ∷ [] →
-    DidRead maps (point schema_key ∷ []) old mid (λ m. before ≡ get m schema_key) → DidRead maps (states_range ∷ []) mid last G →
-    new ≡ with_mutations written last → IsNone (write_all_refusal last.mutations written) → IsPerformed maps refuses (Create request) reply.Done old new
-created_now request schema before written is none wrote one two is_new allowed =
-    performed (Create request) None reply.Done written refl (ap (λ ms. length ms == 0) wrote)
-    (create_read request before one two) is_new allowed (create_serves request schema before written is none wrote)
+-- MADE
+created_at : {maps : ℕ → Map} {refuses : KeyRange → Option ReadError} {old new : CommitRequest} (request : List TypeRequest) (schema : Schema) → schema_of request ≡ Ok schema → IsCreated maps (at schema) old new → IsPerformed maps refuses (Create request) reply.Done old new
+created_at {refuses = refuses} {old = old} request schema made is = record {
+  schema = None;
+  written = schema_writes store_prefix schema;
+  changes = refl;
+  ran = ran_wider (ran_because is.ran (λ m fact serial stands. right m serial stands (fact.1 serial stands.held))) (opening_within None (Create request));
+}
+  where
+    right : (m : Map) (serial : Serial) → Stands m serial → (serial ≡ None) × Holds store_prefix (after_all (schema_writes store_prefix schema) m) (Some (created schema)) →
+        IsPerformedAt refuses None (Create request) reply.Done old.mutations (schema_writes store_prefix schema) m serial
+    right m (Some store) stands known = let none : ◌≡◌ {A = Option Store} (Some store) None = known.0 in absurd (cc)
+    right m None stands known = record {
+      right = inl (subst (λ o. IsLimited o None (Create request) reply.Done) (sym is.allowed ∙ ap (write_all_refusal old.mutations) (sym (writes_none request schema made))) (sym (ap (λ o. (served_create None o).0) made)));
+      wrote = sym (writes_none request schema made);
+      holds = subst (Stands (after_all (schema_writes store_prefix schema) m)) (sym (ap (λ o. (served_create None o).1) made)) (record { held = known.1; plain = made_plain request schema made });
+      opened = λ k h. h;
+    }
+
+pub created_now : {maps : ℕ → Map} {refuses : KeyRange → Option ReadError} {old new : CommitRequest} (request : List TypeRequest) (opened : Opened) (schema : Schema) → opened.prefix ≡ store_prefix → opened.schema ≡ schema → schema_of request ≡ Ok schema →
+    IsCreated maps opened old new → IsPerformed maps refuses (Create request) reply.Done old new
+created_now {maps = maps} {old = old} {new = new} request opened schema here same made is = created_at request schema made (subst (λ o. IsCreated maps o old new) (located opened here ∙ ap at same) is)

@@ -1,25 +1,28 @@
 -- Worked examples: the serial store computed, a schedule of two clients, and the layout.
-use Rattle.std.proofs.Common.{◌≡◌, ℕ, length, List, [], ◌∷◌, None, refl, pos, map}
+use Rattle.std.proofs.Common.{◌≡◌, ℕ, ◌++◌, length, List, [], ◌∷◌, None, refl, pos, map, replicate}
+use Rattle.std.specs.List.{range_with_len}
 use Rattle.metadata.specs.declared.cells.Cell.{Cell}
 use Rattle.metadata.specs.declared.cells.Cell.TheVariants.{Null, Int, Text}
 use Rattle.metadata.specs.declared.cells.Kind.TheVariants as kind
 use Rattle.metadata.specs.declared.definition.Field.{Field}
-use Rattle.metadata.specs.declared.refusal.Refusal.TheVariants.{AlreadyThere, NoStore, UnknownType, WrongKind, NullKey, BadSchema, NoSuchRole, TooOld}
+use Rattle.metadata.specs.declared.definition.TypeRequest.{TypeRequest}
+use Rattle.metadata.specs.declared.refusal.Refusal.TheVariants.{AlreadyThere, NoStore, UnknownType, WrongKind, NullKey, BadName, NameTaken, UnknownField, BadSchema, TooMany, NoSuchRole, TooOld}
 use Rattle.schedule.specs.declared.step.Command.{Command}
-use Rattle.schedule.specs.declared.step.Command.TheVariants.{Create, Save, Load, Remove}
+use Rattle.schedule.specs.declared.step.Command.TheVariants.{Create, «Type», Save, Load, Remove}
 use Rattle.schedule.specs.declared.step.Step.{Step}
 use Rattle.schedule.specs.declared.step.Step.TheVariants.{Begin, Perform, Commit, Settle}
 use Rattle.schedule.specs.declared.reply.Reply.{Reply}
 use Rattle.schedule.specs.declared.reply.Reply.TheVariants.{Begun, Done, SavedNew, SavedOver, Found, Absent, Removed, Submitted, ReadOnly, Nothing, Reported, Refused}
 use Rattle.schedule.specs.declared.reply.Report.TheVariants as reports
-use Rattle.schedule.specs.Store.{Serial}
+use Rattle.record_store.specs.Store.{Serial, schema_in}
+use Rattle.record_store.specs.Layout.{place, record_key, record_value, schema_key, states_range}
 use Rattle.schedule.specs.Serve.{served, effects}
 use Rattle.schedule.specs.Past.{Past, open_of, submitted_in}
 use Rattle.schedule.specs.Commits.{committed}
 use Rattle.schedule.specs.Standing.{cluster_after, commits_of}
 use Rattle.schedule.specs.Contract.{begin_reply, commit_reply, past_of, role_reply, settle_reply}
-use Rattle.schedule.specs.Reach.{own_reach, schema_in, writes}
-use Rattle.schedule.specs.Layout.{records_prefix, record_key, record_value, schema_key, states_range, store_prefix}
+use Rattle.schedule.specs.Reach.{own_reach, writes}
+use Rattle.schedule.specs.Layout.{store_prefix}
 use Rattle.schedule.specs.declared.transcript.CommitEntry.{CommitEntry}
 use Rattle.cluster_core.specs.declared.answers.Config.{Config}
 use Rattle.cluster_core.specs.Roles.{may_append, may_resolve}
@@ -74,6 +77,32 @@ in_order = refl
 refusals : replies None (save 1 1 ∷ Create (record { name = t; fields = field k ∷ []; key = [] } ∷ []) ∷ create ∷ create ∷ Save z [] ∷ Save t (i 1 ∷ Text z ∷ i 1 ∷ []) ∷ Save t (i 1 ∷ []) ∷ Save t (Null ∷ i 1 ∷ i 1 ∷ []) ∷ Load t (i 1 ∷ i 1 ∷ []) ∷ Load t (Null ∷ []) ∷ Remove z (i 1 ∷ []) ∷ [])
     ≡ Refused NoStore ∷ Refused BadSchema ∷ Done ∷ Refused AlreadyThere ∷ Refused UnknownType ∷ Refused WrongKind ∷ Refused WrongKind ∷ Refused NullKey ∷ Refused WrongKind ∷ Refused NullKey ∷ Refused UnknownType ∷ []
 refusals = refl
+
+-- a type of whole numbers of this name, with these fields and this key
+abbrev asked : List ℕ → List (List ℕ) → List (List ℕ) → TypeRequest
+asked name fields key = record { name = name; fields = map field fields; key = key }
+
+-- names that differ: a, aa, aaa ..
+abbrev names : ℕ → List (List ℕ)
+names count = map (λ letters. replicate letters 97) (range_with_len 1 count)
+
+abbrev many_names : List (List ℕ)
+many_names = names 32 ++ z ∷ []
+
+-- a type that is added keeps the records of the others, and has records of its own
+types_added : replies None («Type» (asked z (k ∷ []) (k ∷ [])) ∷ create ∷ save 1 5 ∷ «Type» (asked z (k ∷ []) (k ∷ [])) ∷ Save z (i 1 ∷ []) ∷ Load z (i 1 ∷ []) ∷ Load t (i 1 ∷ []) ∷ «Type» (asked z (k ∷ []) (k ∷ [])) ∷ Remove t (i 1 ∷ []) ∷ Load z (i 1 ∷ []) ∷ [])
+    ≡ Refused NoStore ∷ Done ∷ SavedNew ∷ Done ∷ SavedNew ∷ Found (i 1 ∷ []) ∷ Found (row 1 5) ∷ Refused NameTaken ∷ Removed ∷ Found (i 1 ∷ []) ∷ []
+types_added = refl
+
+-- what is refused as a type
+types_refused : replies None (create ∷ «Type» (asked [] (k ∷ []) (k ∷ [])) ∷ «Type» (asked t (k ∷ []) (k ∷ [])) ∷ «Type» (asked z (k ∷ k ∷ []) (k ∷ [])) ∷ «Type» (asked z (k ∷ []) (z ∷ [])) ∷ «Type» (asked z (k ∷ []) []) ∷ «Type» (asked z (k ∷ []) (k ∷ k ∷ []))
+    ∷ «Type» (asked z (many_names) (names 1)) ∷ «Type» (asked z (names 9) (names 9)) ∷ «Type» (asked z (names 26) (names 8)) ∷ [])
+    ≡ Done ∷ Refused BadName ∷ Refused NameTaken ∷ Refused NameTaken ∷ Refused UnknownField ∷ Refused BadSchema ∷ Refused BadSchema ∷ Refused TooMany ∷ Refused TooMany ∷ Done ∷ []
+types_refused = refl
+
+-- a refused type leaves what is there
+type_without_effect : effects None (create ∷ save 1 5 ∷ «Type» (asked t (k ∷ []) (k ∷ [])) ∷ []) ≡ effects None (create ∷ save 1 5 ∷ [])
+type_without_effect = refl
 
 -- ---- a schedule: the cluster after its steps, and what is told
 
@@ -166,6 +195,10 @@ removal_clears : (writes there (Remove t (i 1 ∷ [])) ≡ ClearRange (point one
 unfolding int_spelling byte_count
 removal_clears = (refl, refl, refl)
 
+-- a type that is added is a write of the schema, and reads no more than opening does
+type_writes_schema : (length (writes there («Type» (asked z (k ∷ []) (k ∷ [])))) ≡ 1) × (writes there («Type» (asked t (k ∷ []) (k ∷ []))) ≡ []) × (own_reach (schema_in there) («Type» (asked z (k ∷ []) (k ∷ []))) ≡ [])
+type_writes_schema = (refl, refl, refl)
+
 -- a load may read its record's key behind what opening reads, a refused one no more than that
 reaches : (own_reach (schema_in there) (Load t (i 2 ∷ [])) ≡ point two ∷ []) × (own_reach (schema_in there) (Load t (Null ∷ [])) ≡ []) × (own_reach (schema_in there) (save 2 1) ≡ point two ∷ [])
 unfolding int_spelling byte_count
@@ -174,7 +207,7 @@ reaches = (refl, refl, refl)
 -- ---- the layout
 
 -- the key and the value of the record 1, 5, null of the type 1
-one_key : record_key (int (pos 1) ∷ int (pos 1) ∷ []) ≡ 0x15 ∷ 0x01 ∷ 0x15 ∷ 0x01 ∷ 0x15 ∷ 0x01 ∷ 0x15 ∷ 0x01 ∷ []
+one_key : record_key store_prefix (int (pos 1) ∷ int (pos 1) ∷ []) ≡ 0x15 ∷ 0x01 ∷ 0x15 ∷ 0x01 ∷ 0x15 ∷ 0x01 ∷ 0x15 ∷ 0x01 ∷ []
 unfolding int_spelling byte_count
 one_key = refl
 
@@ -183,6 +216,6 @@ unfolding int_spelling byte_count
 one_value = refl
 
 -- the keys of records begin with the store's prefix (1) and their subspace (1), the states of indexes stand under (5), and the schema at (0)
-prefixes : (store_prefix ≡ spelling (int (pos 1) ∷ [])) × (records_prefix ≡ spelling (int (pos 1) ∷ int (pos 1) ∷ [])) × (schema_key ≡ 0x15 ∷ 0x01 ∷ 0x14 ∷ []) × (states_range.begin ≡ spelling (int (pos 1) ∷ int (pos 5) ∷ null ∷ []))
+prefixes : (store_prefix ≡ spelling (int (pos 1) ∷ [])) × (place store_prefix 1 ≡ spelling (int (pos 1) ∷ int (pos 1) ∷ [])) × (schema_key store_prefix ≡ 0x15 ∷ 0x01 ∷ 0x14 ∷ []) × ((states_range store_prefix).begin ≡ spelling (int (pos 1) ∷ int (pos 5) ∷ null ∷ []))
 unfolding int_spelling byte_count
 prefixes = (refl, refl, refl, refl)

@@ -11,13 +11,7 @@ pub mod ReportSteps
 pub mod RunSteps
 pub mod WorkSteps
 pub mod SettleSteps
-pub mod Keys
-pub mod RecordLists
-pub mod Held
-pub mod Decoding
-pub mod Reading
 pub mod Outcomes
 pub mod Serving
 pub mod Creating
-pub mod ReadRows
 pub mod Examples

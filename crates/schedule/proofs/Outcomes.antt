@@ -1,7 +1,9 @@
--- What commands come to, from what their reads and their writes establish.
-use Rattle.std.proofs.Common.{◌≡◌, ℕ, true, false, cond, ◌==◌, List, [], ◌⊎◌, inl, inr, refl, sym, ap, subst, subst₂, ◌∙◌, append-nil, Option, Some, None, Err, Result, length}
-use Rattle.std.specs.Prelude.{IsTrue, IsNone}
-use Rattle.std.proofs.lemmas.Bool.{or_left}
+-- What commands come to, from what the calls that they make on the store establish.
+use Rattle.std.proofs.Common.{◌≡◌, ℕ, true, false, not, cond, ◌==◌, List, [], ◌∷◌, ◌++◌, ◌⊎◌, inl, inr, refl, sym, ap, subst, ◌∙◌, append-nil, Option, Some, None, Ok, Err, Result, length, arith}
+use Rattle.std.specs.Prelude.{IfErr, IsTrue}
+use Rattle.std.specs.Result.{IsErr, IsErrAnd}
+use Rattle.std.proofs.lemmas.Result.{err_from_is_err_and}
+use Rattle.std.proofs.lemmas.Bool.{eqb-true, or_left, or_right}
 use Rattle.std.proofs.lemmas.List.Folds.{list_any-append}
 use Rattle.kv_core.specs.Range.{KeyRange, contains, covers}
 use Rattle.kv_core.specs.Map.{Map, after_all}
@@ -12,58 +14,78 @@ use Rattle.kv_core.specs.declared.change.WriteError.{WriteError}
 use Rattle.kv_core.specs.declared.change.WriteError.TheVariants as write
 use Rattle.cluster_core.specs.declared.answers.ReadError.{ReadError}
 use Rattle.cluster_core.specs.declared.answers.ReadError.TheVariants as read
-use Rattle.txn.specs.Reads.{with_mutations}
 use Rattle.txn.specs.Runs.{Ran}
-use Rattle.txn.proofs.Running.{ran_still, ran_because, ran_wider, ran_then, ran_write}
+use Rattle.txn.proofs.Running.{ran_because, ran_wider, ran_then}
 use Rattle.metadata.specs.declared.refusal.MetadataError.{MetadataError}
 use Rattle.metadata.specs.declared.refusal.MetadataError.TheVariants as meta
 use Rattle.metadata.specs.declared.refusal.Refusal.{Refusal}
 use Rattle.metadata.specs.declared.refusal.Refusal.TheVariants.{FutureVersion, TooOld, NoStore}
 use Rattle.metadata.specs.Answers.{IsRefusedAs}
 use Rattle.metadata.specs.Schema.{Schema}
-use Rattle.schedule.specs.declared.error.StoreError.{StoreError}
-use Rattle.schedule.specs.declared.error.StoreError.TheVariants.{Memory, Read, Write, Corrupt, Refused}
+use Rattle.record_store.specs.declared.error.StoreError.{StoreError}
+use Rattle.record_store.specs.declared.error.StoreError.TheVariants.{Memory, Read, Write, Corrupt, Refused}
+use Rattle.record_store.specs.Store.{Store, Serial, schema_in}
+use Rattle.record_store.specs.Holds.{Holds, IsLawful}
+use Rattle.record_store.specs.Call.{AtStore, Call, IsAnswered, IsDone, IsFailure, IsReadRefusedAs, Opened, Service}
+use Rattle.record_store.specs.Call as call
+use Rattle.record_store.specs.Opening.{IsOpenFailure, IsOpened, IsUnopened, opening_reach}
+use Rattle.record_store.specs.Steps.{of_metadata}
 use Rattle.schedule.specs.declared.step.Command.{Command}
-use Rattle.schedule.specs.declared.step.Command.TheVariants.{Create, Save, Load, Remove, Query}
+use Rattle.schedule.specs.declared.step.Command.TheVariants.{Create, «Type», Save, Load, Remove, Query}
 use Rattle.schedule.specs.declared.reply.Reply.{Reply}
 use Rattle.schedule.specs.declared.reply.Reply.TheVariants as reply
-use Rattle.schedule.specs.Store.{Store, Serial}
+use Rattle.schedule.specs.Layout.{store_prefix}
 use Rattle.schedule.specs.Serve.{IsReply, effect}
 use Rattle.schedule.specs.Past.{is_accepted, is_reading}
-use Rattle.schedule.specs.Holds.{Holds}
-use Rattle.schedule.specs.Reach.{opening_reach, own_reach, reach, schema_in, writes}
-use Rattle.schedule.specs.Performed.{IsLimit, IsLimited, IsPerformed, IsReadRefusal, IsServed}
-use Rattle.schedule.specs.Calls.{AtSerials, DidRead, HasSchema, IsOpenError, IsReadError, IsRefused, IsUnopened, IsUnread, of_metadata, of_write, reply_of}
-use Rattle.schedule.proofs.Reading.{schema_there}
+use Rattle.schedule.specs.Holds.{Stands}
+use Rattle.schedule.specs.Reach.{own_reach, reach, writes}
+use Rattle.schedule.specs.Performed.{IsLimit, IsLimited, IsPerformed, IsPerformedAt, IsReadRefusal, IsServed}
+use Rattle.schedule.specs.Calls.{IsRefused, reply_of}
+
+-- EXIT: the clause on refusals at the exit of a `?`, from the one for the error that it makes
+pub exit_with : {T : Type 0} (r : Result T StoreError) (error : StoreError) (P : StoreError → Type 0) → IsErr r × IsErrAnd r (λ made. made ≡ error) → P error → IfErr r P
+exit_with r error P says p =
+    let (made, is, same) = err_from_is_err_and r says.1 in
+    subst (λ x. IfErr x P) (sym is) (subst P (sym same) p)
 
 -- ---- reaches
 
 -- the opening's reach is within that of every command
-pub opening_within : (schema : Option Schema) (command : Command) (k : List ℕ) → covers opening_reach k ≡ true → covers (reach schema command) k ≡ true
-opening_within schema command k h = list_any-append (λ range. contains range k) opening_reach (own_reach schema command) ∙ or_left (covers opening_reach k) (covers (own_reach schema command) k) h
+pub opening_within : (schema : Option Schema) (command : Command) (k : List ℕ) → covers (opening_reach store_prefix) k ≡ true → covers (reach schema command) k ≡ true
+opening_within schema command k h =
+    list_any-append (λ range. contains range k) (opening_reach store_prefix) (own_reach schema command) ∙ or_left (covers (opening_reach store_prefix) k) (covers (own_reach schema command) k) h
 
 -- so is the command's own reach
 own_within : (schema : Option Schema) (command : Command) (own : List KeyRange) → own_reach schema command ≡ own → (k : List ℕ) → covers own k ≡ true → covers (reach schema command) k ≡ true
 own_within schema command own is k h =
-    list_any-append (λ range. contains range k) opening_reach (own_reach schema command)
-    ∙ Rattle.std.proofs.lemmas.Bool.or_right (covers opening_reach k) (covers (own_reach schema command) k) (ap (λ ranges. covers ranges k) is ∙ h)
+    list_any-append (λ range. contains range k) (opening_reach store_prefix) (own_reach schema command)
+    ∙ or_right (covers (opening_reach store_prefix) k) (covers (own_reach schema command) k) (ap (λ ranges. covers ranges k) is ∙ h)
 
 -- where no schema was read a command reads the opening's reach alone
 pub none_within : (schema : Option Schema) (command : Command) (k : List ℕ) → covers (reach None command) k ≡ true → covers (reach schema command) k ≡ true
 none_within schema command k h = opening_within schema command k (subst (λ ranges. covers ranges k ≡ true) (alone command) h)
   where
-    alone : (command : Command) → reach None command ≡ opening_reach
+    alone : (command : Command) → reach None command ≡ opening_reach store_prefix
     alone (Create request) = refl
+    alone («Type» request) = refl
     alone (Save name cells) = refl
     alone (Load name cells) = refl
     alone (Remove name cells) = refl
     alone (Query query) = refl
+
+-- what is known once a schema was read
+abbrev pub Has : Schema → Serial → Type 0
+Has schema serial = schema_in serial ≡ Some schema
+
+has_within : (schema : Schema) (command : Command) (serial : Serial) → Has schema serial → (k : List ℕ) → covers (reach (Some schema) command) k ≡ true → covers (reach (schema_in serial) command) k ≡ true
+has_within schema command serial has k h = subst (λ s. covers (reach s command) k ≡ true) (sym has) h
 
 -- ---- refusals
 
 -- the reply that an error is accepts nothing, and changes nothing
 refuses_all : (command : Command) (refusal : Refusal) → is_reading command (reply.Refused refusal) ≡ true
 refuses_all (Create request) refusal = refl
+refuses_all («Type» request) refusal = refl
 refuses_all (Save name cells) refusal = refl
 refuses_all (Load name cells) refusal = refl
 refuses_all (Remove name cells) refusal = refl
@@ -71,6 +93,7 @@ refuses_all (Query query) refusal = refl
 
 corrupts_all : (command : Command) (key : List ℕ) → is_reading command (reply.Corrupt key) ≡ true
 corrupts_all (Create request) key = refl
+corrupts_all («Type» request) key = refl
 corrupts_all (Save name cells) key = refl
 corrupts_all (Load name cells) key = refl
 corrupts_all (Remove name cells) key = refl
@@ -104,7 +127,8 @@ IsRight refuses schema command before error serial =
 
 -- REFUSED: reads, and then an error that is right at all that may be there
 pub refused_by : {maps : ℕ → Map} {refuses : KeyRange → ℕ → Option ReadError} {old new : CommitRequest} (command : Command) (schema : Option Schema) (error : StoreError) →
-    Ran maps (λ k. IsTrue (covers (reach schema command) k)) old new [] (AtSerials (IsRight (λ range. refuses range old.read_version) schema command old.mutations error)) → IsRefused maps refuses command error old new
+    Ran maps (λ k. IsTrue (covers (reach schema command) k)) old new [] (λ m. (serial : Serial) → Stands m serial → IsRight (λ range. refuses range old.read_version) schema command old.mutations error serial) →
+    IsRefused maps refuses command error old new
 refused_by {refuses = refuses} {old = old} {new = new} command schema error ran = record {
   kept = ran.wrote ∙ append-nil old.mutations;
   replied = λ answer is.
@@ -113,41 +137,29 @@ refused_by {refuses = refuses} {old = old} {new = new} command schema error ran 
         written = [];
         changes = sym no_effect.1;
         ran =
-            ran_because ran (λ m right serial holds. record {
-              right = (right serial holds).0 answer is;
+            ran_because ran (λ m right serial stands. record {
+              right = (right serial stands).0 answer is;
               wrote = ap (λ b. cond b (writes serial command) []) (sym no_effect.0);
-              holds = subst (λ b. Holds m (cond b (effect serial command) serial)) (sym no_effect.0) holds;
-              opened = (right serial holds).1;
+              holds = subst (λ b. Stands m (cond b (effect serial command) serial)) (sym no_effect.0) stands;
+              opened = (right serial stands).1;
             });
       };
 }
 
 -- MEMORY: want of memory is no reply
-pub refused_memory : {maps : ℕ → Map} {refuses : KeyRange → ℕ → Option ReadError} {May : List ℕ → Type 0} {old new : CommitRequest} {F : Map → Type 0} (command : Command) → Ran maps May old new [] F → IsRefused maps refuses command Memory old new
-refused_memory {old = old} command ran = record { kept = ran.wrote ∙ append-nil old.mutations; replied = λ answer is. absurd (cc) }
+pub refused_memory : {maps : ℕ → Map} {refuses : KeyRange → ℕ → Option ReadError} {old new : CommitRequest} (command : Command) → new.mutations ≡ old.mutations → IsRefused maps refuses command Memory old new
+refused_memory command kept = record { kept = kept; replied = λ answer is. absurd (cc) }
 
 -- a refused read within the reach
-read_right : (refuses : KeyRange → Option ReadError) (near far : List KeyRange) → ((k : List ℕ) → covers near k ≡ true → covers far k ≡ true) →
-    (error : StoreError) (answer : Reply) → reply_of error ≡ Some answer → IsReadError refuses near error → IsReadRefusal refuses far answer
-read_right refuses near far wider Memory answer is says = absurd (cc)
-read_right refuses near far wider (Read read.FutureVersion) answer is says =
+pub read_right : (refuses : KeyRange → Option ReadError) (near far : List KeyRange) → ((k : List ℕ) → covers near k ≡ true → covers far k ≡ true) →
+    (error : ReadError) (answer : Reply) → reply_of (Read error) ≡ Some answer → IsReadRefusedAs refuses near error → IsReadRefusal refuses far answer
+read_right refuses near far wider read.FutureVersion answer is says =
     let same : reply.Refused FutureVersion ≡ answer = cc in
     subst (IsReadRefusal refuses far) same (record { range = says.range; inside = λ k h. wider k (says.inside k h); refused = says.refused })
-read_right refuses near far wider (Read read.TooOld) answer is says =
+read_right refuses near far wider read.TooOld answer is says =
     let same : reply.Refused TooOld ≡ answer = cc in
     subst (IsReadRefusal refuses far) same (record { range = says.range; inside = λ k h. wider k (says.inside k h); refused = says.refused })
-read_right refuses near far wider (Read read.Memory) answer is says = absurd (cc)
-read_right refuses near far wider (Write error) answer is says = absurd says
-read_right refuses near far wider (Corrupt key) answer is says = absurd says
-read_right refuses near far wider (Refused refusal) answer is says = absurd says
-
--- OPENING: its reads came to an error
-pub refused_opening : {maps : ℕ → Map} {refuses : KeyRange → ℕ → Option ReadError} {old new : CommitRequest} (command : Command) (error : StoreError) → IsUnread maps refuses opening_reach error old new → IsRefused maps refuses command error old new
-refused_opening {refuses = refuses} {old = old} command error unread =
-    refused_by command None error (ran_wider (ran_because unread.ran (λ m says serial holds. (
-      λ answer same. inr (read_right (λ range. refuses range old.read_version) opening_reach (reach (schema_in serial) command) (opening_within (schema_in serial) command) error answer same (says serial holds)),
-      none_within (schema_in serial) command,
-    ))) (opening_within None command))
+read_right refuses near far wider read.Memory answer is says = absurd (cc)
 
 -- a reply by which the command writes nothing
 served_idle : (before : List Mutation) (serial : Serial) (command : Command) (answer : Reply) → writes serial command ≡ [] → IsReply serial command answer → IsServed before serial command answer
@@ -162,149 +174,184 @@ own_right refuses schema command before refusal serial wider is none = (
   wider,
 )
 
+-- a limit is the reply that it is
+limit_is : (error : WriteError) (answer : Reply) → reply_of (Write error) ≡ Some answer → IsLimit error answer
+limit_is write.KeyOutside answer is = let same : reply.Refused _ ≡ answer = cc in sym same
+limit_is write.KeyTooLarge answer is = let same : reply.Refused _ ≡ answer = cc in sym same
+limit_is write.ValueTooLarge answer is = let same : reply.Refused _ ≡ answer = cc in sym same
+limit_is write.TransactionTooLarge answer is = let same : reply.Refused _ ≡ answer = cc in sym same
+limit_is write.Memory answer is = absurd (cc)
+
+-- a limit that what the command writes meets
+pub limit_right : (refuses : KeyRange → Option ReadError) (schema : Option Schema) (command : Command) (before : List Mutation) (error : WriteError) (serial : Serial) →
+    ((k : List ℕ) → covers (reach schema command) k ≡ true → covers (reach (schema_in serial) command) k ≡ true) → write_all_refusal before (writes serial command) ≡ Some error →
+    IsRight refuses schema command before (Write error) serial
+limit_right refuses schema command before error serial wider meets = (λ answer is. inl (subst (λ o. IsLimited o serial command answer) (sym meets) (limit_is error answer is)), wider)
+
 -- UNOPENED: no store was opened
 pub refused_unopened : {maps : ℕ → Map} {refuses : KeyRange → ℕ → Option ReadError} {old new : CommitRequest} (command : Command) (error : StoreError) → IsReply None command (reply.Refused NoStore) → writes None command ≡ [] →
-    IsUnopened maps refuses error old new → IsRefused maps refuses command error old new
+    IsUnopened maps refuses store_prefix error old new → IsRefused maps refuses command error old new
 refused_unopened {refuses = refuses} {old = old} command error is none unopened =
-    refused_by command None error (ran_wider (ran_because unopened.ran (λ m says serial holds. right error serial (says serial holds))) (opening_within None command))
+    refused_by command None error (ran_wider (ran_because unopened.ran (λ m says serial stands. right error m says serial stands)) (opening_within None command))
   where
-    right : (error : StoreError) (serial : Serial) → IsOpenError (λ range. refuses range old.read_version) error serial → IsRight (λ range. refuses range old.read_version) None command old.mutations error serial
-    right Memory serial says = (λ answer same. absurd (cc), none_within (schema_in serial) command)
-    right (Read reason) serial says = (
-      λ answer same. inr (read_right (λ range. refuses range old.read_version) opening_reach (reach (schema_in serial) command) (opening_within (schema_in serial) command) (Read reason) answer same says),
+    right : (error : StoreError) (m : Map) → IsOpenFailure (λ range. refuses range old.read_version) store_prefix error m → (serial : Serial) → Stands m serial → IsRight (λ range. refuses range old.read_version) None command old.mutations error serial
+    right Memory m says serial stands = (λ answer same. absurd (cc), none_within (schema_in serial) command)
+    right (Read reason) m says serial stands = (
+      λ answer same. inr (read_right (λ range. refuses range old.read_version) (opening_reach store_prefix) (reach (schema_in serial) command) (opening_within (schema_in serial) command) reason answer same says),
       none_within (schema_in serial) command,
     )
-    right (Write reason) serial says = absurd says
-    right (Corrupt key) serial says = absurd says
-    right (Refused refusal) None says =
+    right (Write reason) m says serial stands = absurd says
+    right (Corrupt key) m says serial stands = absurd (says.1 serial stands.held stands.plain)
+    right (Refused refusal) m says None stands =
         subst (λ r. IsRight (λ range. refuses range old.read_version) None command old.mutations (Refused r) None) (sym says.0)
         (own_right (λ range. refuses range old.read_version) None command old.mutations NoStore None (λ k h. h) is none)
-    right (Refused refusal) (Some store) says = let none : ◌≡◌ {A = Option Store} (Some store) None = says.1 in absurd (cc)
+    right (Refused refusal) m says (Some store) stands = let none : ◌≡◌ {A = Option Store} (Some store) None = says.2 (Some store) stands.held in absurd (cc)
 
--- what is known once a schema was read
-abbrev pub Has : Schema → Serial → Type 0
-Has schema serial = schema_in serial ≡ Some schema
+-- ---- calls on an open store
 
-pub has_within : (schema : Schema) (command : Command) (serial : Serial) → Has schema serial → (k : List ℕ) → covers (reach (Some schema) command) k ≡ true → covers (reach (schema_in serial) command) k ≡ true
-has_within schema command serial has k h = subst (λ s. covers (reach s command) k ≡ true) (sym has) h
+-- the place of a store of this schema
+abbrev pub at : Schema → Opened
+at schema = record { prefix = store_prefix; schema = schema }
+
+-- what a command is by the service that it asks of the store: it may read the same, and at each store of the schema it replies as the service answers, leaves what that leaves, and writes the same
+pub record Serves {A : Type 0} (schema : Schema) (command : Command) (service : Service A) (told : A → Reply) : Type 0 where
+  pub reaches : own_reach (Some schema) command ≡ service.reach
+  pub accepted : (answer : A) → is_accepted (told answer) ≡ true
+  pub reading : (answer : A) → not (service.changes answer) ≡ is_reading command (told answer)
+  pub replies : (store : Store) → IsLawful store → store.schema ≡ schema → IsReply (Some store) command (told (service.answer store))
+  pub leaves : (store : Store) → store.schema ≡ schema → effect (Some store) command ≡ Some (service.after store)
+  pub wrote : (store : Store) → store.schema ≡ schema → writes (Some store) command ≡ service.writes store
+  pub plain : (store : Store) → store.schema ≡ schema → store.schema.indexes ≡ [] → (service.after store).schema.indexes ≡ []
+
+-- what a command is that is refused by the schema: at each store of the schema this is its reply, and it writes nothing
+pub record Refuses (schema : Schema) (command : Command) (refusal : Refusal) : Type 0 where
+  pub replies : (store : Store) → store.schema ≡ schema → IsReply (Some store) command (reply.Refused refusal)
+  pub idle : (store : Store) → store.schema ≡ schema → writes (Some store) command ≡ []
+
+-- what a command is by its call
+abbrev pub Meets : {A : Type 0} → Schema → Command → Call A → (A → Reply) → Type 0
+Meets schema command (Ok service) told = Serves schema command service told
+Meets schema command (Err refusal) told = Refuses schema command refusal
+
+-- what an opened store comes to where a schema was found
+there : {maps : ℕ → Map} {old new : CommitRequest} {F : Map → Type 0} (command : Command) (schema : Schema) (own : List KeyRange) {mid : CommitRequest} {written : List Mutation} → own_reach (Some schema) command ≡ own →
+    IsOpened maps (at schema) old mid → Ran maps (λ k. IsTrue (covers own k)) mid new written F →
+    Ran maps (λ k. IsTrue (covers (reach (Some schema) command) k)) old new written (λ m. ((serial : Serial) → Holds store_prefix m serial → Has schema serial) × F m)
+there command schema own reaches opened ran =
+    ran_then (ran_wider opened.ran (opening_within (Some schema) command)) (ran_wider ran (own_within (Some schema) command own reaches)) (λ m has fact. (has.1, fact))
+
+-- nothing is written when a store is opened
+unwritten : {maps : ℕ → Map} {old new : CommitRequest} {schema : Schema} → IsOpened maps (at schema) old new → new.mutations ≡ old.mutations
+unwritten {old = old} opened = opened.ran.wrote ∙ append-nil old.mutations
 
 -- OWN: a store was opened, and the command is refused by its schema
-pub refused_own : {maps : ℕ → Map} {refuses : KeyRange → ℕ → Option ReadError} {old new : CommitRequest} {A : Type 0} (command : Command) (schema : Schema) (outcome : Schema → Result A Refusal) (error : MetadataError) →
-    DidRead maps opening_reach old new (HasSchema schema) → IsRefusedAs error (outcome schema) →
-    ((store : Store) (refusal : Refusal) → outcome store.schema ≡ Err refusal → IsReply (Some store) command (reply.Refused refusal) × (writes (Some store) command ≡ [])) →
-    IsRefused maps refuses command (of_metadata error) old new
-refused_own command schema outcome meta.Memory ran is so = refused_memory command ran
-refused_own {refuses = refuses} {old = old} command schema outcome (meta.Refused refusal) ran is so =
-    refused_by command (Some schema) (Refused refusal) (ran_wider (ran_because ran (λ m has serial holds. right serial (schema_there m schema serial has holds))) (opening_within (Some schema) command))
+pub refused_own : {maps : ℕ → Map} {refuses : KeyRange → ℕ → Option ReadError} {old mid : CommitRequest} (schema : Schema) (command : Command) (refusal : Refusal) →
+    Refuses schema command refusal → IsOpened maps (at schema) old mid → IsRefused maps refuses command (Refused refusal) old mid
+refused_own {refuses = refuses} {old = old} schema command refusal so opened =
+    refused_by command (Some schema) (Refused refusal) (ran_wider (ran_because opened.ran (λ m has serial stands. right serial (has.1 serial stands.held))) (opening_within (Some schema) command))
   where
     right : (serial : Serial) → Has schema serial → IsRight (λ range. refuses range old.read_version) (Some schema) command old.mutations (Refused refusal) serial
     right None has = absurd (cc)
     right (Some store) has =
         let same : store.schema ≡ schema = cc in
-        let says = so store refusal (ap outcome same ∙ is) in
-        own_right (λ range. refuses range old.read_version) (Some schema) command old.mutations refusal (Some store) (has_within schema command (Some store) has) says.0 says.1
+        own_right (λ range. refuses range old.read_version) (Some schema) command old.mutations refusal (Some store) (has_within schema command (Some store) has) (so.replies store same) (so.idle store same)
 
--- UNREAD: a store was opened, and the command's own read came to an error
-pub refused_unread : {maps : ℕ → Map} {refuses : KeyRange → ℕ → Option ReadError} {old mid new : CommitRequest} (command : Command) (schema : Schema) (own : List KeyRange) (error : StoreError) → own_reach (Some schema) command ≡ own →
-    DidRead maps opening_reach old mid (HasSchema schema) → IsUnread maps refuses own error mid new → IsRefused maps refuses command error old new
-refused_unread {refuses = refuses} {old = old} command schema own error reaches one two =
-    refused_by command (Some schema) error
-    (ran_then (ran_wider one (opening_within (Some schema) command)) (ran_wider two.ran (own_within (Some schema) command own reaches)) (λ m has says serial holds. (
-      λ answer same. inr (read_right (λ range. refuses range old.read_version) own (reach (schema_in serial) command)
-          (λ k h. has_within schema command serial (schema_there m schema serial has holds) k (own_within (Some schema) command own reaches k h)) error answer same
-          (subst (λ v. IsReadError (λ range. refuses range v) own error) one.version (says serial holds))),
-      has_within schema command serial (schema_there m schema serial has holds),
-    )))
-
--- both reads of a command on a store
-pub own_read : {maps : ℕ → Map} {old mid new : CommitRequest} {F : Serial → Type 0} (command : Command) (schema : Schema) (own : List KeyRange) → own_reach (Some schema) command ≡ own →
-    DidRead maps opening_reach old mid (HasSchema schema) → DidRead maps own mid new (AtSerials F) →
-    Ran maps (λ k. IsTrue (covers (reach (Some schema) command) k)) old new [] (AtSerials (λ serial. Has schema serial × F serial))
-own_read command schema own reaches one two =
-    ran_then (ran_wider one (opening_within (Some schema) command)) (ran_wider two (own_within (Some schema) command own reaches)) (λ m has f serial holds. (schema_there m schema serial has holds, f serial holds))
-
--- a limit is the reply that it is
-limit_right : (error : WriteError) (answer : Reply) → reply_of (of_write error) ≡ Some answer → IsLimit error answer
-limit_right write.KeyOutside answer is = let same : reply.Refused _ ≡ answer = cc in sym same
-limit_right write.KeyTooLarge answer is = let same : reply.Refused _ ≡ answer = cc in sym same
-limit_right write.ValueTooLarge answer is = let same : reply.Refused _ ≡ answer = cc in sym same
-limit_right write.TransactionTooLarge answer is = let same : reply.Refused _ ≡ answer = cc in sym same
-limit_right write.Memory answer is = absurd (cc)
-
-memory_is : (error : WriteError) (answer : Reply) → reply_of (of_write error) ≡ Some answer → error ≡ write.Memory → ⊥
-memory_is error answer is same = let none : ◌≡◌ {A = Option Reply} None (Some answer) = ap (λ e. reply_of (of_write e)) (sym same) ∙ is in cc
-
--- LIMIT: reads, and then a refused write of what the command writes there
-pub refused_write : {maps : ℕ → Map} {refuses : KeyRange → ℕ → Option ReadError} {old mid new : CommitRequest} {F : Map → Serial → Type 0} (command : Command) (schema : Option Schema) (written : List Mutation) (error : WriteError) →
-    Ran maps (λ k. IsTrue (covers (reach schema command) k)) old mid [] (λ m. (serial : Serial) → Holds m serial → F m serial) → new ≡ mid → (error ≡ write.Memory) ⊎ (write_all_refusal mid.mutations written ≡ Some error) →
-    ((m : Map) (serial : Serial) → Holds m serial → F m serial → (written ≡ writes serial command) × ((k : List ℕ) → covers (reach schema command) k ≡ true → covers (reach (schema_in serial) command) k ≡ true)) →
-    IsRefused maps refuses command (of_write error) old new
-refused_write {refuses = refuses} {old = old} {mid = mid} command schema written error ran same says so =
-    refused_by command schema (of_write error)
-    (ran_then ran (ran_still {Fact = λ m. Unit {0}} same (λ m. tt {0})) (λ m f unit serial holds.
-    let known = so m serial holds (f serial holds) in (
-      λ answer is. inl (elim says [
-        | inl memory ↦ absurd (memory_is error answer is memory)
-        | inr refusal ↦
-            subst (λ o. IsLimited o serial command answer)
-            (sym refusal ∙ ap (λ ms. write_all_refusal ms written) (ran.wrote ∙ append-nil old.mutations) ∙ ap (write_all_refusal old.mutations) known.0)
-            (limit_right error answer is)
-      ]),
-      known.1,
-    )))
-
--- ---- accepted commands
-
--- what an accepted command comes to at what the map seen before it holds
-pub record Serves (schema : Option Schema) (command : Command) (answer : Reply) (written : List Mutation) (m : Map) (serial : Serial) : Type 0 where
-  pub is : IsReply serial command answer
-  pub wrote : written ≡ writes serial command
-  pub holds : Holds (after_all written m) (effect serial command)
-  pub opened : (k : List ℕ) → covers (reach schema command) k ≡ true → covers (reach (schema_in serial) command) k ≡ true
-
--- ACCEPTED: reads, and then all writes
-pub performed : {maps : ℕ → Map} {refuses : KeyRange → Option ReadError} {old mid new : CommitRequest} {F : Map → Serial → Type 0} (command : Command) (schema : Option Schema) (answer : Reply) (written : List Mutation) →
-    is_accepted answer ≡ true → (length written == 0) ≡ is_reading command answer →
-    Ran maps (λ k. IsTrue (covers (reach schema command) k)) old mid [] (λ m. (serial : Serial) → Holds m serial → F m serial) → new ≡ with_mutations written mid → IsNone (write_all_refusal mid.mutations written) →
-    ((m : Map) (serial : Serial) → Holds m serial → F m serial → Serves schema command answer written m serial) → IsPerformed maps refuses command answer old new
-performed {refuses = refuses} {old = old} {mid = mid} command schema answer written accepted changes ran is_new allowed so = record {
-  schema = schema;
-  written = written;
-  changes = changes;
-  ran =
-      ran_then ran (ran_write {Fact = λ m. Unit {0}} written is_new (λ m. tt {0})) (λ m f unit serial holds.
-      let serves = so m serial holds (f serial holds) in record {
-        right = inl (subst (λ o. IsLimited o serial command answer) (sym (none (write_all_refusal mid.mutations written) allowed)
-            ∙ ap (λ ms. write_all_refusal ms written) (ran.wrote ∙ append-nil old.mutations) ∙ ap (write_all_refusal old.mutations) serves.wrote) serves.is);
-        wrote = serves.wrote ∙ ap (λ b. cond b (writes serial command) []) (sym accepted);
-        holds = subst (λ b. Holds (after_all written m) (cond b (effect serial command) serial)) (sym accepted) serves.holds;
-        opened = serves.opened;
-      });
+-- ANSWERED: a store was opened, and a call on it was answered
+performed_at : {maps : ℕ → Map} {refuses : KeyRange → Option ReadError} {old mid new : CommitRequest} {A : Type 0} (schema : Schema) (command : Command) (asked : Call A) (told : A → Reply) (answer : A) →
+    Meets schema command asked told → IsOpened maps (at schema) old mid → IsAnswered maps (at schema) asked answer mid new → IsPerformed maps refuses command (told answer) old new
+performed_at {refuses = refuses} {old = old} {mid = mid} {A = A} schema command asked told answer meets opened is = record {
+  schema = Some schema;
+  written = is.written;
+  changes = is.changes ∙ serves.reading answer;
+  ran = ran_because (there command schema is.service.reach serves.reaches opened is.ran) (λ m fact serial stands. here m fact.1.1 serial stands (fact.0 serial stands.held));
 }
   where
-    none : (o : Option WriteError) → IsNone o → o ≡ None
-    none None h = refl
-    none (Some error) h = cc
+    serves : Serves schema command is.service told
+    serves = subst (λ (c : Call A). Meets schema command c told) is.accepted meets
 
--- ACCEPTED: reads alone
-pub performed_reading : {maps : ℕ → Map} {refuses : KeyRange → Option ReadError} {old new : CommitRequest} {F : Map → Serial → Type 0} (command : Command) (schema : Option Schema) (answer : Reply) →
-    is_accepted answer ≡ true → is_reading command answer ≡ true →
-    Ran maps (λ k. IsTrue (covers (reach schema command) k)) old new [] (λ m. (serial : Serial) → Holds m serial → F m serial) →
-    ((m : Map) (serial : Serial) → Holds m serial → F m serial → Serves schema command answer [] m serial) → IsPerformed maps refuses command answer old new
-performed_reading {old = old} command schema answer accepted reads ran so = record {
-  schema = schema;
-  written = [];
-  changes = sym reads;
-  ran =
-      ran_because ran (λ m f serial holds.
-      let serves = so m serial holds (f serial holds) in record {
-        right = inl (subst (λ ms. IsLimited (write_all_refusal old.mutations ms) serial command answer) serves.wrote serves.is);
-        wrote = serves.wrote ∙ ap (λ b. cond b (writes serial command) []) (sym accepted);
-        holds = subst (λ b. Holds m (cond b (effect serial command) serial)) (sym accepted) serves.holds;
-        opened = serves.opened;
-      });
-}
+    here : (m : Map) → AtStore (at schema) m (IsDone (at schema) is.service answer mid.mutations is.written m) → (serial : Serial) → Stands m serial → Has schema serial →
+        IsPerformedAt refuses (Some schema) command (told answer) old.mutations is.written m serial
+    here m done None stands has = absurd (cc)
+    here m done (Some store) stands has =
+        let same : store.schema ≡ schema = cc in
+        let now = done store stands.held same in
+        let wrote : is.written ≡ writes (Some store) command = now.wrote ∙ sym (serves.wrote store same) in record {
+          right = inl (subst (λ o. IsLimited o (Some store) command (told answer))
+              (sym now.allowed ∙ ap (λ ms. write_all_refusal ms is.written) (unwritten opened) ∙ ap (write_all_refusal old.mutations) wrote)
+              (subst (λ a. IsReply (Some store) command (told a)) (sym now.answers) (serves.replies store stands.held.lawful same)));
+          wrote = wrote ∙ ap (λ b. cond b (writes (Some store) command) []) (sym (serves.accepted answer));
+          holds = subst (λ b. Stands (after_all is.written m) (cond b (effect (Some store) command) (Some store))) (sym (serves.accepted answer))
+              (subst (Stands (after_all is.written m)) (sym (serves.leaves store same)) (record { held = now.holds; plain = serves.plain store same stands.plain }));
+          opened = has_within schema command (Some store) has;
+        }
 
--- AS: an equal command was performed, with an equal reply
-pub performed_as : {maps : ℕ → Map} {refuses : KeyRange → Option ReadError} {command other : Command} {answer made : Reply} {old new : CommitRequest} → command ≡ other → answer ≡ made → IsPerformed maps refuses other made old new → IsPerformed maps refuses command answer old new
-performed_as {maps = maps} {refuses = refuses} {old = old} {new = new} is same performed = subst₂ (λ c a. IsPerformed maps refuses c a old new) (sym is) (sym same) performed
+-- NOT ANSWERED: a store was opened, and a call on it was refused
+refused_at : {maps : ℕ → Map} {refuses : KeyRange → ℕ → Option ReadError} {old mid new : CommitRequest} {A : Type 0} (schema : Schema) (command : Command) (asked : Call A) (told : A → Reply) (error : StoreError) →
+    Meets schema command asked told → IsOpened maps (at schema) old mid → call.IsRefused maps refuses (at schema) asked error mid new → IsRefused maps refuses command error old new
+refused_at {maps = maps} {refuses = refuses} {old = old} {mid = mid} {new = new} schema command (Err refusal) told error meets opened is =
+    subst (λ (t : CommitRequest). IsRefused maps refuses command error old t) (sym is.1) (elim is.0 [
+      | inl memory ↦ subst (λ e. IsRefused maps refuses command e old mid) (sym memory) (refused_memory command (unwritten opened))
+      | inr own ↦ subst (λ e. IsRefused maps refuses command e old mid) (sym own) (refused_own schema command refusal meets opened)
+    ])
+refused_at {refuses = refuses} {old = old} {mid = mid} schema command (Ok service) told error serves opened is =
+    refused_by command (Some schema) error (ran_because (there command schema service.reach serves.reaches opened is) (λ m fact serial stands.
+    right error m (fact.1) serial stands (fact.0 serial stands.held)))
+  where
+    right : (error : StoreError) (m : Map) → IsFailure (λ range. refuses range mid.read_version) (at schema) service error mid.mutations m → (serial : Serial) → Stands m serial → Has schema serial →
+        IsRight (λ range. refuses range old.read_version) (Some schema) command old.mutations error serial
+    right error m says None stands has = absurd (cc)
+    right Memory m says (Some store) stands has = (λ answer same. absurd (cc), has_within schema command (Some store) has)
+    right (Read reason) m says (Some store) stands has = (
+      λ answer same. inr (read_right (λ range. refuses range old.read_version) service.reach (reach (schema_in (Some store)) command)
+          (λ k h. has_within schema command (Some store) has k (own_within (Some schema) command service.reach serves.reaches k h)) reason answer same
+          (subst (λ v. IsReadRefusedAs (λ range. refuses range v) service.reach reason) opened.ran.version says)),
+      has_within schema command (Some store) has,
+    )
+    right (Corrupt key) m says (Some store) stands has = absurd (let same : store.schema ≡ schema = cc in says.1 store stands.held same)
+    right (Write reason) m says (Some store) stands has =
+        let same : store.schema ≡ schema = cc in
+        limit_right (λ range. refuses range old.read_version) (Some schema) command old.mutations reason (Some store) (has_within schema command (Some store) has)
+        (ap (λ ms. write_all_refusal ms (writes (Some store) command)) (sym (unwritten opened)) ∙ ap (write_all_refusal mid.mutations) (serves.wrote store same) ∙ says store stands.held same)
+    right (Refused refusal) m says (Some store) stands has = absurd says
+
+-- ---- the same where the opened store stands at the store's prefix
+
+pub located : (opened : Opened) → opened.prefix ≡ store_prefix → opened ≡ at opened.schema
+located opened is = λ i. record { prefix = is i; schema = opened.schema }
+
+-- ANSWERED
+pub performed : {maps : ℕ → Map} {refuses : KeyRange → Option ReadError} {old mid new : CommitRequest} {A : Type 0} (opened : Opened) (command : Command) (asked : Opened → Call A) (told : A → Reply) (answer : A) → opened.prefix ≡ store_prefix →
+    Meets opened.schema command (asked (at opened.schema)) told → IsOpened maps opened old mid → IsAnswered maps opened (asked opened) answer mid new → IsPerformed maps refuses command (told answer) old new
+performed {maps = maps} {old = old} {mid = mid} {new = new} opened command asked told answer here meets is_opened is =
+    performed_at opened.schema command (asked (at opened.schema)) told answer meets (subst (λ o. IsOpened maps o old mid) (located opened here) is_opened)
+    (subst (λ o. IsAnswered maps o (asked o) answer mid new) (located opened here) is)
+
+-- NOT ANSWERED
+pub refused : {maps : ℕ → Map} {refuses : KeyRange → ℕ → Option ReadError} {old mid new : CommitRequest} {A : Type 0} (opened : Opened) (command : Command) (asked : Opened → Call A) (told : A → Reply) (error : StoreError) → opened.prefix ≡ store_prefix →
+    Meets opened.schema command (asked (at opened.schema)) told → IsOpened maps opened old mid → call.IsRefused maps refuses opened (asked opened) error mid new → IsRefused maps refuses command error old new
+refused {maps = maps} {refuses = refuses} {old = old} {mid = mid} {new = new} opened command asked told error here meets is_opened is =
+    refused_at opened.schema command (asked (at opened.schema)) told error meets (subst (λ o. IsOpened maps o old mid) (located opened here) is_opened)
+    (subst (λ o. call.IsRefused maps refuses o (asked o) error mid new) (located opened here) is)
+
+-- OWN REFUSAL: what the command asks for is refused by the schema, before a call is made
+pub refused_asked : {maps : ℕ → Map} {refuses : KeyRange → ℕ → Option ReadError} {old mid : CommitRequest} {A : Type 0} (opened : Opened) (command : Command) (outcome : Result A Refusal) (error : MetadataError) → opened.prefix ≡ store_prefix →
+    ((refusal : Refusal) → outcome ≡ Err refusal → Refuses opened.schema command refusal) → IsOpened maps opened old mid → IsRefusedAs error outcome → IsRefused maps refuses command (of_metadata error) old mid
+refused_asked {old = old} {mid = mid} opened command outcome meta.Memory here so is_opened is = refused_memory command (is_opened.ran.wrote ∙ append-nil old.mutations)
+refused_asked {maps = maps} {old = old} {mid = mid} opened command outcome (meta.Refused refusal) here so is_opened is =
+    refused_own opened.schema command refusal (so refusal is) (subst (λ o. IsOpened maps o old mid) (located opened here) is_opened)
+
+-- MEMORY: it is wanting after a call that changed nothing
+pub refused_behind : {maps : ℕ → Map} {refuses : KeyRange → ℕ → Option ReadError} {old mid new : CommitRequest} {A : Type 0} (opened : Opened) (command : Command) (asked : Opened → Call A) (told : A → Reply) (answer : A) → opened.prefix ≡ store_prefix →
+    Meets opened.schema command (asked (at opened.schema)) told → is_reading command (told answer) ≡ true → IsOpened maps opened old mid → IsAnswered maps opened (asked opened) answer mid new →
+    IsRefused maps refuses command Memory old new
+refused_behind {maps = maps} {old = old} opened command asked told answer here meets reads is_opened is =
+    let so : IsPerformed maps (λ range. None) command (told answer) old _ = performed opened command asked told answer here meets is_opened is in
+    refused_memory command (so.ran.wrote ∙ ap (λ ms. old.mutations ++ ms) (nothing so.written (so.changes ∙ reads)) ∙ append-nil old.mutations)
+  where
+    nothing : (ms : List Mutation) → (length ms == 0) ≡ true → ms ≡ []
+    nothing [] is = refl
+    nothing (one ∷ ms) is = absurd (omega (arith, eqb-true (length (one ∷ ms)) 0 is))
+
+-- AS: the reply is an equal one
+pub answered_as : {maps : ℕ → Map} {refuses : KeyRange → Option ReadError} {command : Command} {answer made : Reply} {old new : CommitRequest} → answer ≡ made → IsPerformed maps refuses command made old new → IsPerformed maps refuses command answer old new
+answered_as {maps = maps} {refuses = refuses} {command = command} {old = old} {new = new} same so = subst (λ a. IsPerformed maps refuses command a old new) (sym same) so

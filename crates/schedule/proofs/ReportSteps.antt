@@ -3,11 +3,10 @@ use Rattle.std.proofs.Common.{◌≡◌, ℕ, zero, suc, ◌+◌, ◌-◌, ◌<�
 use Rattle.std.proofs.lemmas.Bool.{true≢false}
 use Rattle.std.proofs.lemmas.List.Elements.{All-get_or}
 use Rattle.kv_core.specs.Map.{Map}
-use Rattle.kv_core.specs.declared.change.CommitRequest.{CommitRequest}
 use Rattle.cluster_core.specs.declared.answers.Reported.{Reported}
 use Rattle.cluster_core.specs.declared.answers.Reported.TheVariants.{Committed, Conflict, NothingToDo}
 use Rattle.cluster_core.specs.Cluster.{ClusterState, database_at, with_pipeline}
-use Rattle.cluster_core.specs.Decision.{Cause, numbered}
+use Rattle.cluster_core.specs.Decision.{Cause}
 use Rattle.cluster_core.specs.Roles.{AreInOrder, PipelineState, entries, may_report, outcome, report, submitted, told, told_of}
 use Rattle.schedule.specs.declared.step.Step.TheVariants.{Report, Lost}
 use Rattle.schedule.specs.declared.reply.Reply.{Reply}

@@ -17,11 +17,11 @@ use Rattle.txn.proofs.Running.{ran_because}
 use Rattle.schedule.specs.declared.step.Command.{Command}
 use Rattle.schedule.specs.declared.reply.Reply.{Reply}
 use Rattle.schedule.specs.declared.reply.Reply.TheVariants.{Begun, Done, SavedNew, SavedOver, Found, Absent, Removed, Rows, Submitted, ReadOnly, Nothing, Reported, Refused, Corrupt}
-use Rattle.schedule.specs.Store.{Serial}
+use Rattle.record_store.specs.Store.{Serial, schema_in}
 use Rattle.schedule.specs.Serve.{IsReply, effect, effects}
 use Rattle.schedule.specs.Past.{Attempt, Open, accepted, is_accepted, is_reading, is_changed}
-use Rattle.schedule.specs.Holds.{Holds}
-use Rattle.schedule.specs.Reach.{reach, schema_in, writes}
+use Rattle.schedule.specs.Holds.{Stands}
+use Rattle.schedule.specs.Reach.{reach, writes}
 use Rattle.schedule.specs.Performed.{IsLimit, IsLimited, IsReadRefusal, IsPerformedAt, IsPerformed}
 use Rattle.schedule.specs.Contract.{attempted, written, reach_of, IsSerialAt}
 use Rattle.schedule.specs.Turns.{fresh, DidAt, Did, AreDone, IsOpenAs}
@@ -126,13 +126,13 @@ after_attempts serial attempts = fold attempted serial attempts
 
 -- over each map that agrees with what was read, each accepted command has its reply at what the earlier ones leave, and the map seen at the end holds what is there after them
 pub done_serve : (maps : ℕ → Map) (attempts : List Attempt) (old new : CommitRequest) → AreDone maps attempts old new →
-    (m : Map) (serial : Serial) → Agree new.reads (maps new.read_version) m → Holds (seen old m) serial → IsSerialAt serial attempts × Holds (seen new m) (after_attempts serial attempts)
-done_serve maps [] old new same m serial agree holds = (tt, subst (λ (t : CommitRequest). Holds (seen t m) serial) same holds)
+    (m : Map) (serial : Serial) → Agree new.reads (maps new.read_version) m → Stands (seen old m) serial → IsSerialAt serial attempts × Stands (seen new m) (after_attempts serial attempts)
+done_serve maps [] old new same m serial agree holds = (tt, subst (λ (t : CommitRequest). Stands (seen t m) serial) same holds)
 done_serve maps (attempt ∷ attempts) old new (mid, did, rest) m serial agree holds =
     let later = keeps_all maps attempts mid new rest m agree in
     let at = did.ran.over m (subst (λ v. Agree mid.reads (maps v) m) did.ran.version later) serial holds in
     let is_seen : after_all did.written (seen old m) ≡ seen mid m = sym (ap (λ ms. after_all ms m) did.ran.wrote ∙ after_all-append old.mutations did.written m) in
-    let after = done_serve maps attempts mid new rest m (attempted serial attempt) agree (subst (λ (n : Map). Holds n (attempted serial attempt)) is_seen at.holds) in
+    let after = done_serve maps attempts mid new rest m (attempted serial attempt) agree (subst (λ (n : Map). Stands n (attempted serial attempt)) is_seen at.holds) in
     ((at.replied, after.0), after.1)
 
 -- ---- what a transaction wrote and read
@@ -180,13 +180,13 @@ attempts_effects serial (attempt ∷ attempts) = by_test (is_accepted attempt.re
 
 -- what was written is what the accepted commands write, over each map that agrees with what was read
 pub done_writes : (maps : ℕ → Map) (attempts : List Attempt) (old new : CommitRequest) → AreDone maps attempts old new →
-    (m : Map) (serial : Serial) → Agree new.reads (maps new.read_version) m → Holds (seen old m) serial → new.mutations ≡ old.mutations ++ written serial (accepted attempts)
+    (m : Map) (serial : Serial) → Agree new.reads (maps new.read_version) m → Stands (seen old m) serial → new.mutations ≡ old.mutations ++ written serial (accepted attempts)
 done_writes maps [] old new same m serial agree holds = ap (λ (t : CommitRequest). t.mutations) (sym same) ∙ sym (append-nil old.mutations)
 done_writes maps (attempt ∷ attempts) old new (mid, did, rest) m serial agree holds =
     let later = keeps_all maps attempts mid new rest m agree in
     let at = did.ran.over m (subst (λ v. Agree mid.reads (maps v) m) did.ran.version later) serial holds in
     let is_seen : after_all did.written (seen old m) ≡ seen mid m = sym (ap (λ ms. after_all ms m) did.ran.wrote ∙ after_all-append old.mutations did.written m) in
-    done_writes maps attempts mid new rest m (attempted serial attempt) agree (subst (λ (n : Map). Holds n (attempted serial attempt)) is_seen at.holds)
+    done_writes maps attempts mid new rest m (attempted serial attempt) agree (subst (λ (n : Map). Stands n (attempted serial attempt)) is_seen at.holds)
     ∙ ap (λ ms. ms ++ written (attempted serial attempt) (accepted attempts)) (did.ran.wrote ∙ ap (λ ms. old.mutations ++ ms) at.wrote)
     ∙ append_assoc old.mutations (cond (is_accepted attempt.reply) (writes serial attempt.command) []) (written (attempted serial attempt) (accepted attempts))
     ∙ ap (λ ms. old.mutations ++ ms) (by_test (is_accepted attempt.reply))
@@ -198,7 +198,7 @@ done_writes maps (attempt ∷ attempts) old new (mid, did, rest) m serial agree 
 
 -- what was read lies in the reach of the attempts, over each map that agrees with what was read
 pub done_reads : (maps : ℕ → Map) (attempts : List Attempt) (old new : CommitRequest) → AreDone maps attempts old new →
-    (m : Map) (serial : Serial) → Agree new.reads (maps new.read_version) m → Holds (seen old m) serial →
+    (m : Map) (serial : Serial) → Agree new.reads (maps new.read_version) m → Stands (seen old m) serial →
     (key : List ℕ) → IsTrue (covers new.reads key) → IsTrue (covers old.reads key) ⊎ IsTrue (covers (reach_of serial attempts) key)
 done_reads maps [] old new same m serial agree holds key read = inl (subst (λ (t : CommitRequest). IsTrue (covers t.reads key)) (sym same) read)
 done_reads maps (attempt ∷ attempts) old new (mid, did, rest) m serial agree holds key read =
@@ -207,7 +207,7 @@ done_reads maps (attempt ∷ attempts) old new (mid, did, rest) m serial agree h
     let is_seen : after_all did.written (seen old m) ≡ seen mid m = sym (ap (λ ms. after_all ms m) did.ran.wrote ∙ after_all-append old.mutations did.written m) in
     let now : covers (reach_of serial (attempt ∷ attempts)) key ≡ (covers (reach (schema_in serial) attempt.command) key || covers (reach_of (attempted serial attempt) attempts) key) =
     list_any-append (λ (range : KeyRange). contains range key) (reach (schema_in serial) attempt.command) (reach_of (attempted serial attempt) attempts) in
-    elim (done_reads maps attempts mid new rest m (attempted serial attempt) agree (subst (λ (n : Map). Holds n (attempted serial attempt)) is_seen at.holds) key read) [
+    elim (done_reads maps attempts mid new rest m (attempted serial attempt) agree (subst (λ (n : Map). Stands n (attempted serial attempt)) is_seen at.holds) key read) [
       | inl before ↦ elim (did.ran.within key before) [
         | inl earlier ↦ inl earlier
         | inr own ↦ inr (now ∙ or_left _ _ (at.opened key own))

@@ -1,7 +1,7 @@
 -- What is there at each version, by the committed transactions.
 use Rattle.std.specs.Prelude.{ℕ, List, None, nat_le, fold, filter}
 use Rattle.schedule.specs.declared.transcript.CommitEntry.{CommitEntry}
-use Rattle.schedule.specs.Store.{Serial}
+use Rattle.record_store.specs.Store.{Serial}
 use Rattle.schedule.specs.Serve.{effects}
 use Rattle.schedule.specs.Past.{Open, accepted}
 

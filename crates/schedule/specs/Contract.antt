@@ -24,11 +24,11 @@ use Rattle.schedule.specs.declared.reply.Reply.TheVariants as answers
 use Rattle.schedule.specs.declared.reply.Report as telling
 use Rattle.schedule.specs.declared.reply.Report.TheVariants as tells
 use Rattle.schedule.specs.declared.transcript.CommitEntry.{CommitEntry}
-use Rattle.schedule.specs.Store.{Serial}
+use Rattle.record_store.specs.Store.{Serial, schema_in}
 use Rattle.schedule.specs.Serve.{IsReply, effect}
 use Rattle.schedule.specs.Past.{Past, Attempt, Open, Submission, accepted, is_accepted, is_changed, open_of, submitted_in}
-use Rattle.schedule.specs.Holds.{Holds}
-use Rattle.schedule.specs.Reach.{reach, schema_in, writes}
+use Rattle.schedule.specs.Holds.{Stands}
+use Rattle.schedule.specs.Reach.{reach, writes}
 use Rattle.schedule.specs.Performed.{IsServed, IsReadRefusal}
 use Rattle.schedule.specs.Commits.{committed, view}
 use Rattle.schedule.specs.Standing.{cluster_after, commits_of, listed}
@@ -157,7 +157,7 @@ LeavesAll config requests past step reply = Unit {0}
 
 -- HOLDS: at each version from the start to the last reported one the database holds what is committed there
 abbrev pub HoldsCommitted : ClusterState → List CommitEntry → Type 0
-HoldsCommitted c commits = (version : ℕ) → c.pipeline.start ≤ version → version ≤ c.pipeline.reported → Holds (database_at c version) (committed commits version)
+HoldsCommitted c commits = (version : ℕ) → c.pipeline.start ≤ version → version ≤ c.pipeline.reported → Stands (database_at c version) (committed commits version)
 
 -- what is there after an attempt at a command
 abbrev pub attempted : Serial → Attempt → Serial

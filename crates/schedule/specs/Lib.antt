@@ -1,4 +1,3 @@
-pub mod Store
 pub mod Query
 pub mod Serve
 pub mod Past

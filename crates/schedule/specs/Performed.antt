@@ -1,6 +1,6 @@
 -- What a command establishes that was performed on a transaction, whatever map the snapshot turns out to have.
 use Rattle.std.specs.Prelude.{◌≡◌, ◌⊎◌, ℕ, List, [], Option, Some, None, IsTrue, length, ◌==◌, if◌then◌else◌}
-use Rattle.kv_core.specs.Range.{KeyRange, contains, covers}
+use Rattle.kv_core.specs.Range.{KeyRange, covers}
 use Rattle.kv_core.specs.Map.{Map, after_all}
 use Rattle.kv_core.specs.Limits.{write_all_refusal}
 use Rattle.kv_core.specs.declared.change.CommitRequest.{CommitRequest}
@@ -15,11 +15,12 @@ use Rattle.metadata.specs.Schema.{Schema}
 use Rattle.schedule.specs.declared.step.Command.{Command}
 use Rattle.schedule.specs.declared.reply.Reply.{Reply}
 use Rattle.schedule.specs.declared.reply.Reply.TheVariants.{Refused}
-use Rattle.schedule.specs.Store.{Serial}
+use Rattle.record_store.specs.Store.{Serial, schema_in}
+use Rattle.record_store.specs.Call.{IsReadRefusedAs}
 use Rattle.schedule.specs.Serve.{IsReply, effect}
 use Rattle.schedule.specs.Past.{is_accepted, is_reading}
-use Rattle.schedule.specs.Holds.{Holds}
-use Rattle.schedule.specs.Reach.{reach, schema_in, writes}
+use Rattle.schedule.specs.Holds.{Stands}
+use Rattle.schedule.specs.Reach.{reach, writes}
 
 -- the reply that a write limit is
 abbrev pub IsLimit : WriteError → Reply → Type 0
@@ -38,12 +39,6 @@ IsLimited (Some error) serial command answer = IsLimit error answer
 abbrev pub IsServed : List Mutation → Serial → Command → Reply → Type 0
 IsServed before serial command answer = IsLimited (write_all_refusal before (writes serial command)) serial command answer
 
--- a read of a range within the reach is refused so
-pub record IsReadRefusedAs (refuses : KeyRange → Option ReadError) (within : List KeyRange) (error : ReadError) : Type 0 where
-  pub range : KeyRange
-  pub inside : (key : List ℕ) → IsTrue (contains range key) → IsTrue (covers within key)
-  pub refused : refuses range ≡ Some error
-
 -- the reply is that of a refused read within the reach
 abbrev pub IsReadRefusal : (KeyRange → Option ReadError) → List KeyRange → Reply → Type 0
 IsReadRefusal refuses within (Refused FutureVersion) = IsReadRefusedAs refuses within reads.FutureVersion
@@ -54,7 +49,7 @@ IsReadRefusal refuses within answer = ⊥
 pub record IsPerformedAt (refuses : KeyRange → Option ReadError) (schema : Option Schema) (command : Command) (answer : Reply) (before written : List Mutation) (m : Map) (serial : Serial) : Type 0 where
   pub right : IsServed before serial command answer ⊎ IsReadRefusal refuses (reach (schema_in serial) command) answer
   pub wrote : written ≡ (if is_accepted answer then writes serial command else [])
-  pub holds : Holds (after_all written m) (if is_accepted answer then effect serial command else serial)
+  pub holds : Stands (after_all written m) (if is_accepted answer then effect serial command else serial)
   pub opened : (key : List ℕ) → IsTrue (covers (reach schema command) key) → IsTrue (covers (reach (schema_in serial) command) key)
 
 -- a command was performed: over every map that agrees with what was read, it was so for all that this map holds; what it read lies in its reach, and it wrote something exactly where the command with this reply changes something
@@ -63,4 +58,4 @@ pub record IsPerformed (maps : ℕ → Map) (refuses : KeyRange → Option ReadE
   pub written : List Mutation
   pub changes : (length written == 0) ≡ is_reading command answer
   pub ran : Ran maps (λ key. IsTrue (covers (reach schema command) key)) old new written
-      (λ m. (serial : Serial) → Holds m serial → IsPerformedAt refuses schema command answer old.mutations written m serial)
+      (λ m. (serial : Serial) → Stands m serial → IsPerformedAt refuses schema command answer old.mutations written m serial)

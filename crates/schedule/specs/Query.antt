@@ -3,7 +3,8 @@ use Rattle.std.specs.Prelude.{◌≡◌, ◌≢◌, ◌↔◌, List, map, Contai
 use Rattle.metadata.specs.declared.cells.Cell.{Cell}
 use Rattle.metadata.specs.declared.definition.TypeDefinition.{TypeDefinition}
 use Rattle.metadata.specs.Record.{Record, primary_key}
-use Rattle.schedule.specs.Store.{Store, of_type}
+use Rattle.metadata.specs.Records.{of_type}
+use Rattle.record_store.specs.Store.{Store}
 
 -- the rows are an answer over these records: they are those records, each primary key once, in any order
 pub record Allows (records rows : List Record) : Type 0 where

@@ -7,14 +7,15 @@ use Rattle.metadata.specs.declared.definition.TypeDefinition.{TypeDefinition}
 use Rattle.metadata.specs.declared.refusal.Refusal.{Refusal}
 use Rattle.metadata.specs.declared.refusal.Refusal.TheVariants.{AlreadyThere, NoStore, UnknownType}
 use Rattle.metadata.specs.Schema.{Schema, find_type}
-use Rattle.metadata.specs.Change.{schema_of}
+use Rattle.metadata.specs.Change.{add_type, schema_of}
 use Rattle.metadata.specs.Record.{Record, primary_key, record_of, key_of}
 use Rattle.schedule.specs.declared.step.Command.{Command}
-use Rattle.schedule.specs.declared.step.Command.TheVariants.{Create, Save, Load, Remove, Query}
+use Rattle.schedule.specs.declared.step.Command.TheVariants.{Create, «Type», Save, Load, Remove, Query}
 use Rattle.schedule.specs.declared.reply.Reply.{Reply}
 use Rattle.schedule.specs.declared.reply.Reply.TheVariants as reply
 use Rattle.schedule.specs.declared.reply.Reply.TheVariants.{Refused}
-use Rattle.schedule.specs.Store.{Store, Serial, record_at, created, saved, removed}
+use Rattle.metadata.specs.Records.{record_at}
+use Rattle.record_store.specs.Store.{Store, Serial, created, extended, saved, removed}
 use Rattle.schedule.specs.Query.{AreRows}
 
 -- a reply, and what is there after it
@@ -57,9 +58,14 @@ served_load store key = (reply_to_load (cells_in (record_at key store.records)),
 abbrev pub served_remove : Store → List Item → Served
 served_remove store key = (reply_to_remove (cells_in (record_at key store.records)), Some (removed store key))
 
+-- a type is added
+abbrev pub served_type : Store → Schema → Served
+served_type store schema = (reply.Done, Some (extended store schema))
+
 -- a command on a store. A query isn't served here, since its reply is free
 abbrev pub served_in : Store → Command → Served
 served_in store (Create request) = refused (Some store) AlreadyThere
+served_in store («Type» request) = served_by store (served_type store) (add_type store.schema request)
 served_in store (Save type cells) = served_by store (served_save store) (record_of store.schema type cells)
 served_in store (Load type cells) = served_by store (served_load store) (key_of store.schema type cells)
 served_in store (Remove type cells) = served_by store (served_remove store) (key_of store.schema type cells)

@@ -6,11 +6,11 @@ use Rattle.kv_core.specs.declared.change.CommitRequest.{CommitRequest}
 use Rattle.kv_core.specs.declared.change.Mutation.{Mutation}
 use Rattle.txn.specs.Runs.{Ran}
 use Rattle.metadata.specs.Schema.{Schema}
-use Rattle.schedule.specs.Store.{Serial}
+use Rattle.record_store.specs.Store.{Serial, schema_in}
 use Rattle.schedule.specs.Serve.{IsReply}
 use Rattle.schedule.specs.Past.{Attempt, Open, Submission, is_accepted, is_reading}
-use Rattle.schedule.specs.Holds.{Holds}
-use Rattle.schedule.specs.Reach.{reach, schema_in, writes}
+use Rattle.schedule.specs.Holds.{Stands}
+use Rattle.schedule.specs.Reach.{reach, writes}
 use Rattle.schedule.specs.Contract.{attempted}
 
 -- a transaction that has done nothing yet
@@ -21,7 +21,7 @@ fresh read_version = record { read_version = read_version; reads = []; mutations
 pub record DidAt (schema : Option Schema) (attempt : Attempt) (written : List Mutation) (m : Map) (serial : Serial) : Type 0 where
   pub replied : is_accepted attempt.reply ≡ true → IsReply serial attempt.command attempt.reply
   pub wrote : written ≡ (if is_accepted attempt.reply then writes serial attempt.command else [])
-  pub holds : Holds (after_all written m) (attempted serial attempt)
+  pub holds : Stands (after_all written m) (attempted serial attempt)
   pub opened : (key : List ℕ) → IsTrue (covers (reach schema attempt.command) key) → IsTrue (covers (reach (schema_in serial) attempt.command) key)
 
 -- an attempt at a command was made, which led from one state of the transaction to another
@@ -29,7 +29,7 @@ pub record Did (maps : ℕ → Map) (attempt : Attempt) (old new : CommitRequest
   pub schema : Option Schema
   pub written : List Mutation
   pub changes : (length written == 0) ≡ is_reading attempt.command attempt.reply
-  pub ran : Ran maps (λ key. IsTrue (covers (reach schema attempt.command) key)) old new written (λ m. (serial : Serial) → Holds m serial → DidAt schema attempt written m serial)
+  pub ran : Ran maps (λ key. IsTrue (covers (reach schema attempt.command) key)) old new written (λ m. (serial : Serial) → Stands m serial → DidAt schema attempt written m serial)
 
 -- attempts were made in turn
 abbrev pub AreDone : (ℕ → Map) → List Attempt → CommitRequest → CommitRequest → Type 0

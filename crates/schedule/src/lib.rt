@@ -11,27 +11,20 @@ ghost use Rattle.schedule.specs.Past.{submitted_in};
 ghost use Rattle.schedule.specs.Standing.{cluster_after, commits_of};
 
 mod clients;
-mod create;
+mod commands;
 mod database;
-mod error;
-mod layout;
-mod load;
 mod performing;
 #[cfg(test)]
 mod performing_tests;
-mod query;
-mod remove;
 mod reply;
 mod reporting;
 mod roles;
 mod running;
 #[cfg(test)]
 mod running_tests;
-mod save;
 mod settle;
 mod starting;
 mod step;
-mod store;
 #[cfg(test)]
 mod tests;
 mod transcript;

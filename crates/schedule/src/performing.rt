@@ -2,17 +2,13 @@ ghost use Rattle.std.specs.Prelude.{◌≡◌, None, Some, IfOk, IfErr, OnErr};
 ghost use Rattle.schedule.specs.Performed.{IsPerformed};
 ghost use Rattle.schedule.specs.Calls.{IsRefused, read_reply, reply_of, write_reply};
 
-use crate::create::create;
-use crate::error::StoreError;
-use crate::load::load;
-use crate::query::query;
-use crate::remove::remove;
-use crate::reply::{Reply, Rows};
-use crate::save::save;
+use crate::commands::{add_type, create, load, query, remove, save};
+use crate::reply::Reply;
 use crate::step::Command;
 use cluster_core::ReadError;
 use kv_core::WriteError;
 use metadata::Refusal;
+use record_store::StoreError;
 use std::alloc::{AllocError, Global};
 use txn::{Snapshot, Transaction};
 
@@ -56,7 +52,7 @@ fn reply_of(error: StoreError) -> Result<Reply, AllocError>
     }
 }
 
-/// What a command that is accepted replies.
+/// What a command replies, or why it is refused.
 fn answer<S: Snapshot>(
     alloc: Global,
     command: &Command,
@@ -67,26 +63,12 @@ fn answer<S: Snapshot>(
     ensures refused { IfErr result (λ error. IsRefused (S.map_at db.now) (S.refusal db.now) command.now error tx.old tx.new) }
 {
     match command {
-        Command::Create(request) => {
-            create(alloc, tx, db, request)?;
-            Ok(Reply::Done)
-        }
-        Command::Save(type_name, cells) => match save(alloc, tx, db, type_name, cells)? {
-            Some(old) => Ok(Reply::SavedOver(old)),
-            None => Ok(Reply::SavedNew),
-        },
-        Command::Load(type_name, cells) => match load(alloc, tx, db, type_name, cells)? {
-            Some(found) => Ok(Reply::Found(found)),
-            None => Ok(Reply::Absent),
-        },
-        Command::Remove(type_name, cells) => {
-            if remove(alloc, tx, db, type_name, cells)? {
-                Ok(Reply::Removed)
-            } else {
-                Ok(Reply::Absent)
-            }
-        }
-        Command::Query(asked) => Ok(Reply::Rows(Rows::new(query(alloc, tx, db, asked)?))),
+        Command::Create(request) => create(alloc, tx, db, request),
+        Command::Type(request) => add_type(alloc, tx, db, request),
+        Command::Save(type_name, cells) => save(alloc, tx, db, type_name, cells),
+        Command::Load(type_name, cells) => load(alloc, tx, db, type_name, cells),
+        Command::Remove(type_name, cells) => remove(alloc, tx, db, type_name, cells),
+        Command::Query(asked) => query(alloc, tx, db, asked),
     }
 }
 

@@ -16,21 +16,49 @@ fn bytes(alloc: Global, bytes: &[u8]) -> Result<Bytes, AllocError> {
     Ok(Bytes::new(Vec::from_slice(alloc, bytes)?))
 }
 
-/// The type of this name, of whole numbers k and v, with the key k.
-fn create(alloc: Global, name: &str) -> Result<Command, AllocError> {
-    let mut fields = Vec::new(alloc);
-    for name in ["k", "v"] {
-        fields.push(Field {
+/// The type of this name, with whole numbers in these fields, and with this key.
+fn asked(
+    alloc: Global,
+    name: &str,
+    fields: &[&str],
+    key: &[&str],
+) -> Result<TypeRequest, AllocError> {
+    let mut kinds = Vec::new(alloc);
+    for name in fields {
+        kinds.push(Field {
             name: text(alloc, name)?,
             kind: Kind::Int,
         })?;
     }
-    let request = TypeRequest {
+    let mut names = Vec::new(alloc);
+    for name in key {
+        names.push(text(alloc, name)?)?;
+    }
+    Ok(TypeRequest {
         name: text(alloc, name)?,
-        fields: Fields::new(fields),
-        key: Names::new(vec![in alloc; text(alloc, "k")?]?),
-    };
+        fields: Fields::new(kinds),
+        key: Names::new(names),
+    })
+}
+
+/// Makes a store of this type.
+fn create_of(alloc: Global, request: TypeRequest) -> Result<Command, AllocError> {
     Ok(Command::Create(SchemaRequest::new(vec![in alloc; request]?)))
+}
+
+/// Makes a store of the type of this name, of whole numbers k and v, with the key k.
+fn create(alloc: Global, name: &str) -> Result<Command, AllocError> {
+    create_of(alloc, asked(alloc, name, &["k", "v"], &["k"])?)
+}
+
+/// Adds the type of this name, with whole numbers in these fields, and with this key.
+fn add_type(
+    alloc: Global,
+    name: &str,
+    fields: &[&str],
+    key: &[&str],
+) -> Result<Command, AllocError> {
+    Ok(Command::Type(asked(alloc, name, fields, key)?))
 }
 
 fn cells(alloc: Global, values: &[i64]) -> Result<Cells, AllocError> {
@@ -41,8 +69,12 @@ fn cells(alloc: Global, values: &[i64]) -> Result<Cells, AllocError> {
     Ok(Cells::new(cells))
 }
 
+fn save_in(alloc: Global, name: &str, values: &[i64]) -> Result<Command, AllocError> {
+    Ok(Command::Save(text(alloc, name)?, cells(alloc, values)?))
+}
+
 fn save(alloc: Global, values: &[i64]) -> Result<Command, AllocError> {
-    Ok(Command::Save(text(alloc, "t")?, cells(alloc, values)?))
+    save_in(alloc, "t", values)
 }
 
 fn load(alloc: Global, key: i64) -> Result<Command, AllocError> {
@@ -113,6 +145,90 @@ fn replies(alloc: Global, tx: &mut Transaction, commands: &[Command]) -> Result<
         replies.push(told(alloc, &reply)?)?;
     }
     Ok(replies)
+}
+
+/// Whether commands have these replies in one transaction.
+fn has_replies(alloc: Global, commands: &[Command], wanted: &[&str]) -> Result<bool, Fail> {
+    let mut tx = Transaction::begin(alloc, 0);
+    let replies = replies(alloc, &mut tx, commands)?;
+    let mut pairs = replies.iter().zip(wanted);
+    let all = pairs.all(|(reply, wanted)| reply.as_str() == *wanted);
+    Ok(all && replies.len() == wanted.len())
+}
+
+#[test]
+fn types_are_refused(rt: HostRuntime) -> Result<(), Fail> {
+    let alloc = rt.alloc();
+    // 33 names.
+    let names = [
+        "a", "b", "c", "d", "e", "f", "g", "h", "i", "j", "k", "l", "m", "n", "o", "p", "q", "r",
+        "s", "t", "u", "v", "w", "x", "y", "z", "A", "B", "C", "D", "E", "F", "G",
+    ];
+    let commands = vec![in alloc;
+        add_type(alloc, "u", &["k"], &["k"])?,
+        create_of(alloc, asked(alloc, "t", &["k", "a", "b"], &["k"])?)?,
+        add_type(alloc, "", &["k"], &["k"])?,
+        add_type(alloc, "t", &["k"], &["k"])?,
+        add_type(alloc, "u", &["k", "k"], &["k"])?,
+        add_type(alloc, "u", &["k"], &["z"])?,
+        add_type(alloc, "u", &["k"], &[])?,
+        add_type(alloc, "u", &["k"], &["k", "k"])?,
+        add_type(alloc, "u", &names, &["a"])?,
+        add_type(alloc, "u", &names[..9], &names[..9])?,
+        query(alloc, "u")?,
+        add_type(alloc, "u", &names[..32], &names[..8])?,
+        query(alloc, "u")?,
+    ]?;
+    let wanted = [
+        "refused NoStore",
+        "done",
+        "refused BadName",
+        "refused NameTaken",
+        "refused NameTaken",
+        "refused UnknownField",
+        "refused BadSchema",
+        "refused BadSchema",
+        "refused TooMany",
+        "refused TooMany",
+        "refused UnknownType",
+        "done",
+        "rows",
+    ];
+    assert!(rt; has_replies(alloc, commands.as_slice(), &wanted)?);
+    Ok(())
+}
+
+#[test]
+fn types_have_records_of_their_own(rt: HostRuntime) -> Result<(), Fail> {
+    let alloc = rt.alloc();
+    let commands = vec![in alloc;
+        create_of(alloc, asked(alloc, "t", &["k", "a", "b"], &["k"])?)?,
+        save(alloc, &[1, 5, 0])?,
+        add_type(alloc, "u", &["k", "v"], &["k"])?,
+        save_in(alloc, "u", &[1, 7])?,
+        save_in(alloc, "u", &[0, 8])?,
+        query(alloc, "t")?,
+        query(alloc, "u")?,
+        remove(alloc, 1)?,
+        query(alloc, "t")?,
+        query(alloc, "u")?,
+        add_type(alloc, "u", &["k"], &["k"])?,
+    ]?;
+    let wanted = [
+        "done",
+        "new",
+        "done",
+        "new",
+        "new",
+        "rows 1 5 0",
+        "rows 0 8 1 7",
+        "removed",
+        "rows",
+        "rows 0 8 1 7",
+        "refused NameTaken",
+    ];
+    assert!(rt; has_replies(alloc, commands.as_slice(), &wanted)?);
+    Ok(())
 }
 
 #[test]

@@ -1,6 +1,6 @@
 ghost use Rattle.std.specs.Prelude.{◌≡◌, IfOk};
 
-use metadata::{Cells, SchemaRequest};
+use metadata::{Cells, SchemaRequest, TypeRequest};
 use std::alloc::AllocError;
 use tuple_codec::Text;
 
@@ -29,6 +29,8 @@ impl Query {
 pub enum Command {
     /// Makes the store, with these types.
     Create(SchemaRequest),
+    /// Adds this type to the store.
+    Type(TypeRequest),
     /// Puts the record of this type with these cells in the place of the one with its primary key.
     Save(Text, Cells),
     /// Asks for the record of this type with these key cells.
@@ -46,6 +48,7 @@ impl Command {
     {
         match self {
             Command::Create(request) => Ok(Command::Create(request.copy()?)),
+            Command::Type(request) => Ok(Command::Type(request.copy()?)),
             Command::Save(name, cells) => Ok(Command::Save(name.copy()?, cells.copy()?)),
             Command::Load(name, cells) => Ok(Command::Load(name.copy()?, cells.copy()?)),
             Command::Remove(name, cells) => Ok(Command::Remove(name.copy()?, cells.copy()?)),

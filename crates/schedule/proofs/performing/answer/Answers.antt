@@ -1,30 +1,33 @@
-use Rattle.std.proofs.Common.{refl, sym, ap}
-use Rattle.schedule.specs.declared.reply.Reply.TheVariants.{Rows}
-use Rattle.schedule.specs.Serve.{reply_to_load, reply_to_save}
-use Rattle.schedule.specs.Calls.{removal_reply}
-use Rattle.schedule.proofs.Outcomes.{performed_as}
+use Rattle.std.proofs.Common.{IfOk, subst, sym}
+use Rattle.schedule.specs.Performed.{IsPerformed}
 use Rattle.schedule.proofs.performing.answer.Goals as goal
 
-pub returns-in_ok-create-in-Create-clause-performed : goal.returns-in_ok-create-in-Create-clause-performed
-returns-in_ok-create-in-Create-clause-performed g c = performed_as c.in-Create.is refl c.in_ok-create-in-Create.ensures.performed
+pub returns-in-Create-clause-performed : goal.returns-in-Create-clause-performed
+returns-in-Create-clause-performed g c =
+    subst (λ command. IfOk c.create.result (λ answer. IsPerformed (g.S.Snapshot.map_at c.args.db.now) (λ range. g.S.Snapshot.refusal c.args.db.now range c.args.tx.now.read_version) command answer c.args.tx.now c.create.new.tx))
+    (sym c.in-Create.is) c.create.ensures.performed
 
-pub returns-in-Some-clause-performed : goal.returns-in-Some-clause-performed
-returns-in-Some-clause-performed g c = performed_as c.in-Save.is (sym (ap reply_to_save c.in-Some.is)) c.in_ok-old-in-Save.ensures.performed
+pub returns-in-Type-clause-performed : goal.returns-in-Type-clause-performed
+returns-in-Type-clause-performed g c =
+    subst (λ command. IfOk c.add_type.result (λ answer. IsPerformed (g.S.Snapshot.map_at c.args.db.now) (λ range. g.S.Snapshot.refusal c.args.db.now range c.args.tx.now.read_version) command answer c.args.tx.now c.add_type.new.tx))
+    (sym c.in-Type.is) c.add_type.ensures.performed
 
-pub returns-in-None-clause-performed : goal.returns-in-None-clause-performed
-returns-in-None-clause-performed g c = performed_as c.in-Save.is (sym (ap reply_to_save c.in-None.is)) c.in_ok-old-in-Save.ensures.performed
+pub returns-in-Save-clause-performed : goal.returns-in-Save-clause-performed
+returns-in-Save-clause-performed g c =
+    subst (λ command. IfOk c.save.result (λ answer. IsPerformed (g.S.Snapshot.map_at c.args.db.now) (λ range. g.S.Snapshot.refusal c.args.db.now range c.args.tx.now.read_version) command answer c.args.tx.now c.save.new.tx))
+    (sym c.in-Save.is) c.save.ensures.performed
 
-pub returns-in-Some-2-clause-performed : goal.returns-in-Some-2-clause-performed
-returns-in-Some-2-clause-performed g c = performed_as c.in-Load.is (sym (ap reply_to_load c.in-Some-2.is)) c.in_ok-found-in-Load.ensures.performed
+pub returns-in-Load-clause-performed : goal.returns-in-Load-clause-performed
+returns-in-Load-clause-performed g c =
+    subst (λ command. IfOk c.load.result (λ answer. IsPerformed (g.S.Snapshot.map_at c.args.db.now) (λ range. g.S.Snapshot.refusal c.args.db.now range c.args.tx.now.read_version) command answer c.args.tx.now c.load.new.tx))
+    (sym c.in-Load.is) c.load.ensures.performed
 
-pub returns-in-None-2-clause-performed : goal.returns-in-None-2-clause-performed
-returns-in-None-2-clause-performed g c = performed_as c.in-Load.is (sym (ap reply_to_load c.in-None-2.is)) c.in_ok-found-in-Load.ensures.performed
+pub returns-in-Remove-clause-performed : goal.returns-in-Remove-clause-performed
+returns-in-Remove-clause-performed g c =
+    subst (λ command. IfOk c.remove.result (λ answer. IsPerformed (g.S.Snapshot.map_at c.args.db.now) (λ range. g.S.Snapshot.refusal c.args.db.now range c.args.tx.now.read_version) command answer c.args.tx.now c.remove.new.tx))
+    (sym c.in-Remove.is) c.remove.ensures.performed
 
-pub returns-then-branch-clause-performed : goal.returns-then-branch-clause-performed
-returns-then-branch-clause-performed g c = performed_as c.in-Remove.is (sym (ap removal_reply c.if-branch.true)) c.in_ok-remove-in-Remove.ensures.performed
-
-pub returns-else-branch-clause-performed : goal.returns-else-branch-clause-performed
-returns-else-branch-clause-performed g c = performed_as c.in-Remove.is (sym (ap removal_reply c.if-branch.false)) c.in_ok-remove-in-Remove.ensures.performed
-
-pub returns-in_ok-query-in-Query-clause-performed : goal.returns-in_ok-query-in-Query-clause-performed
-returns-in_ok-query-in-Query-clause-performed g c = performed_as c.in-Query.is (ap Rows c.new.ensures) c.in_ok-query-in-Query.ensures.performed
+pub returns-in-Query-clause-performed : goal.returns-in-Query-clause-performed
+returns-in-Query-clause-performed g c =
+    subst (λ command. IfOk c.query.result (λ answer. IsPerformed (g.S.Snapshot.map_at c.args.db.now) (λ range. g.S.Snapshot.refusal c.args.db.now range c.args.tx.now.read_version) command answer c.args.tx.now c.query.new.tx))
+    (sym c.in-Query.is) c.query.ensures.performed

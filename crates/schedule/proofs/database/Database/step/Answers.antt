@@ -25,3 +25,6 @@ returns-in-Lost c = subst (λ step. IfOk c.lose.result (λ reply. IsStepped step
 
 pub returns-in-Settle : goal.returns-in-Settle
 returns-in-Settle c = subst (λ step. IfOk c.settle.result (λ reply. IsStepped step reply c.args.self.now c.settle.new.self)) (sym c.in-Settle.is) c.settle.ensures
+
+pub returns-in-Perform : goal.returns-in-Perform
+returns-in-Perform c = subst (λ step. IfOk c.perform.result (λ reply. IsStepped step reply c.args.self.now c.perform.new.self)) (sym c.in-Perform.is) c.perform.ensures

@@ -1,0 +1,63 @@
+-- The keys of entries: those of records with different primary keys differ.
+use Rattle.std.proofs.Common.{◌≡◌, ℕ, true, List, [], ◌∷◌, ◌++◌, length, refl, sym, ap, ◌∙◌}
+use Rattle.std.specs.Prelude.{drop, suc}
+use Rattle.std.proofs.Math.Seq.{drop-append_seam}
+use Rattle.std.proofs.lemmas.Bool.{and_parts}
+use Rattle.std.proofs.lemmas.Cmp.{tied_itself, nat_list_cmp_total}
+use Rattle.std.specs.Ordering.{is_eq}
+use Rattle.tuple_codec.specs.Item.{Item, AreItems}
+use Rattle.tuple_codec.specs.Item as item
+use Rattle.tuple_codec.specs.Order.{tuple_cmp}
+use Rattle.tuple_codec.specs.Spelling.{spelling}
+use Rattle.tuple_codec.proofs.Prefixes.{cancel}
+use Rattle.tuple_codec.proofs.TupleOrder.{tuple_order}
+use Rattle.kv_core.specs.Bytes.{key_cmp}
+use Rattle.metadata.specs.declared.cells.Cell.{Cell}
+use Rattle.metadata.specs.declared.index.IndexDefinition.{IndexDefinition}
+use Rattle.metadata.specs.Cell.{cells_at, items_of}
+use Rattle.metadata.specs.Record.{Record, primary_key}
+use Rattle.metadata.specs.Records.{IsStorable}
+use Rattle.metadata.proofs.CellItems.{all-cells_at, are_items-items_of, items_of-injective}
+use Rattle.index_maint.specs.Entries.{Entry, entry_items, entry_of, same_entry}
+use Rattle.index_maint.specs.Layout.{entries_prefix, entry_key}
+use Rattle.index_maint.proofs.Replaced.{tied_tuples}
+
+are_items-append : (t u : List Item) → AreItems (item.items_of t) → AreItems (item.items_of u) → AreItems (item.items_of (t ++ u))
+are_items-append [] u h g = g
+are_items-append (x ∷ t) u h g = (h.0, are_items-append t u h.1 g)
+
+-- the tuple of a storable record's entry is one of items
+entry_are_items : (index : IndexDefinition) (r : Record) → IsStorable r → AreItems (item.items_of (entry_items (entry_of index r)))
+entry_are_items index r h =
+    are_items-append (items_of (cells_at r.cells index.columns)) (primary_key r)
+    (are_items-items_of (cells_at r.cells index.columns) (all-cells_at r.cells index.columns h.cells)) h.key.items
+
+-- packs of items are those of one list
+same_items : (t u : List Item) → AreItems (item.items_of t) → AreItems (item.items_of u) → spelling t ≡ spelling u → t ≡ u
+same_items t u h g same =
+    tied_tuples t u (ap is_eq (sym (tuple_order t u h g) ∙ ap (key_cmp (spelling t)) (sym same) ∙ tied_itself nat_list_cmp_total (spelling t)))
+
+-- lists that begin with as many elements end alike
+same_ends : (front other xs ys : List Item) → length front ≡ length other → front ++ xs ≡ other ++ ys → xs ≡ ys
+same_ends front other xs ys long same = sym (drop-append_seam front xs) ∙ (λ i. drop (long i) (same i)) ∙ drop-append_seam other ys
+
+-- an entry has as many items in front of the primary key as the index has columns
+count : (cells : List Cell) (places : List ℕ) → length (items_of (cells_at cells places)) ≡ length places
+count cells [] = refl
+count cells (place ∷ places) = ap suc (count cells places)
+
+-- APART: records whose entries have one key have one primary key
+pub entries_apart : (prefix : List ℕ) (number : ℕ) (index : IndexDefinition) (r s : Record) → IsStorable r → IsStorable s →
+    entry_key prefix number (entry_of index r) ≡ entry_key prefix number (entry_of index s) → primary_key r ≡ primary_key s
+entries_apart prefix number index r s h k same =
+    same_ends (items_of (cells_at r.cells index.columns)) (items_of (cells_at s.cells index.columns)) (primary_key r) (primary_key s)
+    (count r.cells index.columns ∙ sym (count s.cells index.columns))
+    (same_items (entry_items (entry_of index r)) (entry_items (entry_of index s)) (entry_are_items index r h) (entry_are_items index s k)
+    (cancel (entries_prefix prefix number) (spelling (entry_items (entry_of index r))) (spelling (entry_items (entry_of index s))) same))
+
+-- entries that are the same by the test are equal
+pub same_entry-equal : (a b : Entry) → same_entry a b ≡ true → a ≡ b
+same_entry-equal a b same =
+    let parts = and_parts (is_eq (tuple_cmp (items_of a.columns) (items_of b.columns))) (is_eq (tuple_cmp a.key b.key)) same in
+    let columns = items_of-injective a.columns b.columns (tied_tuples (items_of a.columns) (items_of b.columns) parts.0) in
+    (λ i. record { columns = columns i; key = tied_tuples a.key b.key parts.1 i })

@@ -1,0 +1,10 @@
+mod Examples
+pub mod RecordLists
+pub mod Replaced
+pub mod EntryKeys
+pub mod KeyBounds
+pub mod Places
+pub mod Lookups
+pub mod ValueLaw
+pub mod Several
+pub mod RecordIndexes

@@ -1,0 +1,96 @@
+//! Records in the bytes that they are stored in.
+ghost use Rattle.std.specs.Prelude.{◌≡◌, ℕ, List, IfOk, IfSome, MatchBool, Some};
+ghost use Rattle.std.specs.Option.{IfNone};
+ghost use Rattle.tuple_codec.specs.Spelling.{spelling};
+ghost use Rattle.metadata.specs.Record.{Record as RecordValue, key_items, primary_key};
+ghost use Rattle.metadata.specs.Stored.{AreStoredAs, IsOfNoCells, IsOfNoRecord, IsStoredAs, IsTypeOf};
+ghost use Rattle.metadata.specs.Lawful.{IsLawfulSchema};
+ghost use Rattle.metadata.specs.Records.{IsStorable};
+ghost use Rattle.metadata.specs.Schema.{Schema as SchemaValue, find_type};
+ghost use Rattle.metadata.specs.declared.definition.TypeDefinition.{TypeDefinition as TypeValue};
+
+use crate::cells::Cells;
+use crate::definition::TypeDefinition;
+use crate::record::{Record, key_in, key_tuple};
+use crate::refusal::MetadataError;
+use std::alloc::{AllocError, Global};
+use tuple_codec::{UnpackFailure, pack, unpack};
+
+// The cells whose pack these bytes are.
+fn cells_in(alloc: Global, value: &[u8]) -> Result<Option<Cells>, AllocError>
+    ensures found { IfOk result (λ found. IfSome found (AreStoredAs value.now)) }
+    ensures none { IfOk result (λ found. IfNone found (IsOfNoCells value.now)) }
+{
+    match unpack(alloc, value) {
+        Ok(tuple) => Cells::from_tuple(alloc, tuple),
+        Err(UnpackFailure::Memory) => Err(AllocError),
+        Err(UnpackFailure::Refused(_)) => Ok(None),
+    }
+}
+
+// Whether these bytes are the pack of the primary key of the type's number and these cells.
+fn is_key(alloc: Global, number: u64, cells: &Cells, key: &[u8]) -> Result<bool, AllocError>
+    ensures { IfOk result (λ is. MatchBool is (key.now ≡ spelling (key_items number cells.now)) (key.now ≡ spelling (key_items number cells.now) → ⊥)) }
+{
+    let tuple = key_tuple(alloc, number, cells)?;
+    let packed = pack(alloc, &tuple)?;
+    Ok(packed.as_slice() == key)
+}
+
+impl TypeDefinition {
+    /// The cells of the record of this type of which these are the pack of its primary key and the
+    /// pack of its cells. None where they are those of no record of the type.
+    pub fn cells_in(
+        &self,
+        alloc: Global,
+        primary_key: &[u8],
+        value: &[u8],
+    ) -> Result<Option<Cells>, AllocError>
+        ensures found { IfOk result (λ found. IfSome found (λ cells. IsStoredAs self.now primary_key.now value.now (record { definition = self.now; cells = cells }))) }
+        ensures none { IfOk result (λ found. IfNone found (IsOfNoRecord self.now primary_key.now value.now)) }
+    {
+        let Some(cells) = cells_in(alloc, value)? else {
+            return Ok(None);
+        };
+        let key = match key_in(alloc, self, &cells) {
+            Ok(key) => key,
+            Err(MetadataError::Memory) => return Err(AllocError),
+            Err(MetadataError::Refused(_)) => return Ok(None),
+        };
+        if !is_key(alloc, self.number, &key, primary_key)? {
+            return Ok(None);
+        }
+        Ok(Some(cells))
+    }
+}
+
+impl Record {
+    /// The record of this type of which these are the pack of its primary key and the pack of its
+    /// cells. None where they are those of no record of the type.
+    pub fn decode(
+        alloc: Global,
+        definition: &TypeDefinition,
+        primary_key: &[u8],
+        value: &[u8],
+    ) -> Result<Option<Record>, AllocError>
+        ensures found { IfOk result (λ found. IfSome found (IsStoredAs definition.now primary_key.now value.now)) }
+        ensures none { IfOk result (λ found. IfNone found (IsOfNoRecord definition.now primary_key.now value.now)) }
+    {
+        let Some(cells) = definition.cells_in(alloc, primary_key, value)? else {
+            return Ok(None);
+        };
+        let definition = definition.copy()?;
+        Ok(Some(Record { definition, cells }))
+    }
+}
+
+/// A key and a value are those of one record of a type at most. Records of a schema's types with one
+/// key are of one type and have one primary key. What is stored has a primary key and cells that are
+/// values of their types.
+pub fn records_are_stored_once()
+    ensures once { (type : TypeValue) (key value : List ℕ) (a b : RecordValue) → IsStoredAs type key value a → IsStoredAs type key value b → a ≡ b }
+    ensures apart { (schema : SchemaValue) (type other : TypeValue) (key value another : List ℕ) (a b : RecordValue) → IsLawfulSchema schema → IsTypeOf schema type → IsTypeOf schema other
+        → IsStoredAs type key value a → IsStoredAs other key another b → (type ≡ other) × (primary_key a ≡ primary_key b) }
+    ensures storable { (schema : SchemaValue) (type : TypeValue) (key value : List ℕ) (r : RecordValue) → IsLawfulSchema schema → IsTypeOf schema type → IsStoredAs type key value r → IsStorable r }
+    ensures typed { (schema : SchemaValue) (name : List ℕ) (type : TypeValue) → IsLawfulSchema schema → find_type schema name ≡ Some type → IsTypeOf schema type }
+{}

@@ -1,0 +1,193 @@
+-- What calls on an open store come to, from what their reads and their writes establish.
+use Rattle.std.proofs.Common.{◌≡◌, ◌⊎◌, inl, inr, ℕ, Bool, true, false, not, cond, ◌==◌, List, [], ◌∷◌, refl, sym, ap, subst, ◌∙◌, Option, Some, None, Ok, Err, Result, append-nil, length}
+use Rattle.std.specs.Prelude.{IsNone}
+use Rattle.std.specs.List.{AllByRecursion}
+use Rattle.std.specs.Str.{bytes_eq}
+use Rattle.std.proofs.lemmas.Slice.Eq.{bytes_eq-Decides}
+use Rattle.tuple_codec.specs.Item.{Item, IsTuple}
+use Rattle.kv_core.specs.Range.{KeyRange}
+use Rattle.kv_core.specs.Map.{Map, after_all}
+use Rattle.kv_core.specs.Limits.{write_all_refusal}
+use Rattle.kv_core.specs.declared.change.CommitRequest.{CommitRequest}
+use Rattle.kv_core.specs.declared.change.Mutation.{Mutation}
+use Rattle.kv_core.specs.declared.change.WriteError.{WriteError}
+use Rattle.kv_core.specs.declared.change.WriteError.TheVariants as write
+use Rattle.cluster_core.specs.declared.answers.ReadError.{ReadError}
+use Rattle.txn.specs.Reads.{with_mutations}
+use Rattle.txn.proofs.Running.{ran_because, ran_still, ran_then, ran_write}
+use Rattle.metadata.specs.declared.cells.Cell.{Cell}
+use Rattle.metadata.specs.declared.definition.TypeDefinition.{TypeDefinition}
+use Rattle.metadata.specs.declared.refusal.MetadataError.{MetadataError}
+use Rattle.metadata.specs.declared.refusal.MetadataError.TheVariants as meta
+use Rattle.metadata.specs.declared.refusal.Refusal.{Refusal}
+use Rattle.metadata.specs.declared.refusal.Refusal.TheVariants.{OtherSchema, UnknownType}
+use Rattle.metadata.specs.Answers.{IsRefusedAs}
+use Rattle.metadata.specs.Cell.{all_fit, is_null}
+use Rattle.metadata.specs.Record.{Record, key_items, key_of, record_in}
+use Rattle.metadata.specs.Same.{same_type}
+use Rattle.metadata.specs.Schema.{Schema, find_type, key_kinds}
+use Rattle.metadata.proofs.SameTypes.{same_type-Decides}
+use Rattle.record_store.specs.declared.error.StoreError.{StoreError}
+use Rattle.record_store.specs.declared.error.StoreError.TheVariants.{Memory, Read, Write, Corrupt, Refused}
+use Rattle.record_store.specs.Store.{Store}
+use Rattle.record_store.specs.Holds.{Holds, IsOfSchema}
+use Rattle.record_store.specs.Form.{IsRecordPair, read_in}
+use Rattle.record_store.specs.Call.{AtStore, Call, IsAnswered, IsFailure, IsRefused, IsUnread, Opened, Service}
+use Rattle.record_store.specs.Calls.{done_with, own_record}
+use Rattle.record_store.specs.Reading.{HasNotFound, IsKeyOf}
+use Rattle.record_store.specs.Steps.{DidRead, of_metadata, of_write}
+use Rattle.record_store.proofs.Creating.{is_none}
+
+-- ---- names and keys
+
+-- a type that is found by a name is found by its own
+pub found_own : (schema : Schema) (name : List ℕ) (type : TypeDefinition) → find_type schema name ≡ Some type → find_type schema type.name ≡ Some type
+found_own schema name type found = subst (λ n. find_type schema n ≡ Some type) (sym (named schema.types found)) found
+  where
+    named : (types : List TypeDefinition) → Rattle.std.specs.List.find (λ (one : TypeDefinition). bytes_eq one.name name) types ≡ Some type → type.name ≡ name
+    named [] is = cc
+    named (one ∷ types) is = by_test (bytes_eq one.name name) refl is (named types)
+      where
+        by_test : (b : Bool) → bytes_eq one.name name ≡ b → cond b (Some one) (Rattle.std.specs.List.find (λ (t : TypeDefinition). bytes_eq t.name name) types) ≡ Some type →
+            (Rattle.std.specs.List.find (λ (t : TypeDefinition). bytes_eq t.name name) types ≡ Some type → type.name ≡ name) → type.name ≡ name
+        by_test true has some go = let same : one ≡ type = cc in ap (λ (t : TypeDefinition). t.name) (sym same) ∙ (bytes_eq-Decides one.name name).0 has
+        by_test false has some go = go some
+
+-- the primary key that key cells give is one of the type
+pub key_given : (schema : Schema) (name : List ℕ) (cells : List Cell) (type : TypeDefinition) (key : List Item) → find_type schema name ≡ Some type → key_of schema name cells ≡ Ok key → IsTuple key → IsKeyOf type key
+key_given schema name cells type key found given tuple = record { cells = cells; is = by_type (find_type schema name) refl given; tuple = tuple }
+  where
+    made : (t : TypeDefinition) → t ≡ type → ◌≡◌ {A = Result (List Item) Refusal} (Ok (key_items t.number cells)) (Ok key) → key ≡ key_items type.number cells
+    made t same is = let one : key_items t.number cells ≡ key = cc in sym one ∙ ap (λ (d : TypeDefinition). key_items d.number cells) same
+
+    by_type : (o : Option TypeDefinition) → find_type schema name ≡ o → key_of schema name cells ≡ Ok key → key ≡ key_items type.number cells
+    by_type None none is = let no : ◌≡◌ {A = Option TypeDefinition} None (Some type) = sym none ∙ found in absurd (cc)
+    by_type (Some t) some is = by_fit (all_fit (key_kinds t) cells) refl is
+      where
+        same_type_is : t ≡ type
+        same_type_is = let both : ◌≡◌ {A = Option TypeDefinition} (Some t) (Some type) = sym some ∙ found in cc
+
+        by_null : (b : Bool) → Rattle.std.specs.List.list_any is_null cells ≡ b → all_fit (key_kinds t) cells ≡ true → key_of schema name cells ≡ Ok key → key ≡ key_items type.number cells
+        by_null true null fit is = cc
+        by_null false null fit is = let inner : ◌≡◌ {A = Result (List Item) Refusal} (Ok (key_items t.number cells)) (Ok key) = cc in made t same_type_is inner
+
+        by_fit : (b : Bool) → all_fit (key_kinds t) cells ≡ b → key_of schema name cells ≡ Ok key → key ≡ key_items type.number cells
+        by_fit false fit is = cc
+        by_fit true fit is = by_null (Rattle.std.specs.List.list_any is_null cells) refl fit is
+
+-- a record of the schema's own type: its type is found by its name
+pub own_found : (schema : Schema) (r : Record) → own_record (find_type schema r.definition.name) r ≡ Ok r → find_type schema r.definition.name ≡ Some r.definition
+own_found schema r is = by_type (find_type schema r.definition.name) refl is
+  where
+    by_test : (type : TypeDefinition) (b : Bool) → same_type type r.definition ≡ b → ◌≡◌ {A = Result Record Refusal} (elim b [ true ↦ Ok r | false ↦ Err OtherSchema ]) (Ok r) → type ≡ r.definition
+    by_test type true same made = (same_type-Decides type r.definition).0 same
+    by_test type false same made = absurd (cc)
+
+    by_type : (o : Option TypeDefinition) → find_type schema r.definition.name ≡ o → own_record o r ≡ Ok r → o ≡ Some r.definition
+    by_type None none made = absurd (cc)
+    by_type (Some type) some made = ap Some (by_test type (same_type type r.definition) refl made)
+
+-- it is a record of the schema
+pub own_typed : (schema : Schema) (r : Record) → own_record (find_type schema r.definition.name) r ≡ Ok r → record_in r.definition r.cells ≡ Ok r → IsOfSchema schema r
+own_typed schema r is made = ap (λ t. elim t [ None ↦ Err UnknownType | Some one ↦ record_in one r.cells ]) (own_found schema r is) ∙ made
+
+-- ---- calls
+
+-- what is so at a store once the call is done, but for the limits
+pub record IsServed {A : Type 0} (opened : Opened) (service : Service A) (answer : A) (list : List Mutation) (m : Map) (store : Store) : Type 0 where
+  pub answers : answer ≡ service.answer store
+  pub wrote : list ≡ service.writes store
+  pub holds : Holds opened.prefix (after_all list m) (Some (service.after store))
+
+module _ {A : Type 0} (maps : ℕ → Map) (refuses : KeyRange → ℕ → Option ReadError) (opened : Opened) where
+  -- OWN REFUSAL: the call's own, before it read anything
+  pub refused_own : {K : Type 0} {old new : CommitRequest} (service : K → Service A) (outcome : Result K Refusal) (error : MetadataError) → IsRefusedAs error outcome → new ≡ old →
+      IsRefused maps refuses opened (done_with service outcome) (of_metadata error) old new
+  refused_own service (Ok value) meta.Memory is same = ran_still same (λ m. tt)
+  refused_own service (Ok value) (meta.Refused refusal) is same = absurd (cc)
+  refused_own service (Err refusal) meta.Memory is same = (inl refl, same)
+  refused_own service (Err refusal) (meta.Refused other) is same = (inr (let one : refusal ≡ other = cc in ap Refused (sym one)), same)
+
+  -- UNREAD: its reads weren't answered
+  failure_of : (refused : KeyRange → Option ReadError) (service : Service A) (error : StoreError) (before : List Mutation) (m : Map) → IsUnread refused opened service.reach error m → IsFailure refused opened service error before m
+  failure_of refused service Memory before m says = says
+  failure_of refused service (Read error) before m says = says
+  failure_of refused service (Corrupt key) before m says = says
+  failure_of refused service (Write error) before m says = absurd says
+  failure_of refused service (Refused refusal) before m says = absurd says
+
+  pub refused_unread : {old new : CommitRequest} (call : Call A) (service : Service A) (error : StoreError) → call ≡ Ok service → HasNotFound maps refuses opened service.reach error old new →
+      IsRefused maps refuses opened call error old new
+  refused_unread {old = old} {new = new} call service error accepted unread =
+      subst (λ c. IsRefused maps refuses opened c error old new) (sym accepted)
+      (ran_because unread.ran (λ m says. failure_of (λ range. refuses range old.read_version) service error old.mutations m says))
+
+  -- MEMORY: it was wanting after the reads
+  pub refused_memory : {old new : CommitRequest} {F : Map → Type 0} (call : Call A) (service : Service A) → call ≡ Ok service → DidRead maps service.reach old new F → IsRefused maps refuses opened call Memory old new
+  refused_memory {old = old} {new = new} call service accepted ran =
+      subst (λ c. IsRefused maps refuses opened c Memory old new) (sym accepted) (ran_because ran (λ m says. tt))
+
+  -- LIMIT: what the call writes was refused
+  pub refused_limit : {old mid new : CommitRequest} {F : Store → Type 0} {Form : Map → Type 0} (call : Call A) (service : Service A) (list : List Mutation) (error : WriteError) → call ≡ Ok service →
+      DidRead maps service.reach old mid (λ m. Form m × AtStore opened m F) → ((m : Map) (store : Store) → Holds opened.prefix m (Some store) → store.schema ≡ opened.schema → F store → list ≡ service.writes store) → new ≡ mid →
+      (error ≡ write.Memory) ⊎ (write_all_refusal mid.mutations list ≡ Some error) → IsRefused maps refuses opened call (of_write error) old new
+  refused_limit {old = old} {mid = mid} {new = new} {F = F} call service list error accepted ran wrote same says =
+      subst (λ c. IsRefused maps refuses opened c (of_write error) old new) (sym accepted)
+      (subst (λ n. DidRead maps service.reach old n (IsFailure (λ range. refuses range old.read_version) opened service (of_write error) old.mutations)) (sym same)
+      (ran_because ran (λ m found. right error m found.1 says)))
+    where
+      limit : (e : WriteError) (m : Map) → AtStore opened m F → write_all_refusal mid.mutations list ≡ Some e → AtStore opened m (λ store. write_all_refusal old.mutations (service.writes store) ≡ Some e)
+      limit e m found is store holds schema =
+          ap (λ ms. write_all_refusal ms (service.writes store)) (sym (ran.wrote ∙ append-nil old.mutations))
+          ∙ ap (write_all_refusal mid.mutations) (sym (wrote m store holds schema (found store holds schema))) ∙ is
+
+      right : (e : WriteError) (m : Map) → AtStore opened m F → (e ≡ write.Memory) ⊎ (write_all_refusal mid.mutations list ≡ Some e) → IsFailure (λ range. refuses range old.read_version) opened service (of_write e) old.mutations m
+      right write.Memory m found is = tt
+      right write.KeyOutside m found (inl memory) = absurd (cc)
+      right write.KeyOutside m found (inr is) = limit write.KeyOutside m found is
+      right write.KeyTooLarge m found (inl memory) = absurd (cc)
+      right write.KeyTooLarge m found (inr is) = limit write.KeyTooLarge m found is
+      right write.ValueTooLarge m found (inl memory) = absurd (cc)
+      right write.ValueTooLarge m found (inr is) = limit write.ValueTooLarge m found is
+      right write.TransactionTooLarge m found (inl memory) = absurd (cc)
+      right write.TransactionTooLarge m found (inr is) = limit write.TransactionTooLarge m found is
+
+  -- ANSWERED: reads, and then writes that no limit refuses
+  pub answered : {old mid new : CommitRequest} {F : Store → Type 0} (call : Call A) (service : Service A) (answer : A) (list : List Mutation) → call ≡ Ok service → (length list == 0) ≡ not (service.changes answer) →
+      DidRead maps service.reach old mid (λ m. AllByRecursion (IsRecordPair opened.prefix opened.schema) (read_in m service.reach) × AtStore opened m F) →
+      new ≡ with_mutations list mid → IsNone (write_all_refusal mid.mutations list) →
+      ((m : Map) (store : Store) → Holds opened.prefix m (Some store) → store.schema ≡ opened.schema → F store → IsServed opened service answer list m store) → IsAnswered maps opened call answer old new
+  answered {old = old} {mid = mid} call service answer list accepted changes ran is allowed serves = record {
+    service = service;
+    accepted = accepted;
+    written = list;
+    changes = changes;
+    ran =
+        ran_then ran (ran_write {Fact = λ m. Unit {0}} list is (λ m. tt {0}))
+        (λ m found empty. (
+          found.0,
+          λ store holds schema.
+              let served = serves m store holds schema (found.1 store holds schema) in record {
+                answers = served.answers;
+                wrote = served.wrote;
+                allowed = ap (λ ms. write_all_refusal ms list) (sym (ran.wrote ∙ append-nil old.mutations)) ∙ is_none (write_all_refusal mid.mutations list) allowed;
+                holds = served.holds;
+              },
+        ));
+  }
+
+  -- ANSWERED: reads alone
+  pub answered_reading : {old new : CommitRequest} {F : Store → Type 0} (call : Call A) (service : Service A) (answer : A) → call ≡ Ok service → true ≡ not (service.changes answer) →
+      DidRead maps service.reach old new (λ m. AllByRecursion (IsRecordPair opened.prefix opened.schema) (read_in m service.reach) × AtStore opened m F) →
+      ((m : Map) (store : Store) → Holds opened.prefix m (Some store) → store.schema ≡ opened.schema → F store → IsServed opened service answer [] m store) → IsAnswered maps opened call answer old new
+  answered_reading {old = old} call service answer accepted changes ran serves = record {
+    service = service;
+    accepted = accepted;
+    written = [];
+    changes = changes;
+    ran = ran_because ran (λ m found. (
+      found.0,
+      λ store holds schema.
+          let served = serves m store holds schema (found.1 store holds schema) in record { answers = served.answers; wrote = served.wrote; allowed = refl; holds = served.holds },
+    ));
+  }

@@ -1,0 +1,119 @@
+-- What making a store comes to.
+use Rattle.std.proofs.Common.{◌≡◌, ◌⊎◌, inl, inr, ℕ, List, [], ◌∷◌, refl, sym, ap, subst, ◌∙◌, Option, Some, None}
+use Rattle.std.specs.Prelude.{IsNone}
+use Rattle.std.specs.FinMap.{get}
+use Rattle.kv_core.specs.Range.{KeyRange, point}
+use Rattle.kv_core.specs.Map.{Map, after_all}
+use Rattle.kv_core.specs.Limits.{write_all_refusal}
+use Rattle.kv_core.specs.declared.change.CommitRequest.{CommitRequest}
+use Rattle.kv_core.specs.declared.change.Mutation.{Mutation}
+use Rattle.kv_core.specs.declared.change.WriteError.{WriteError}
+use Rattle.kv_core.specs.declared.change.WriteError.TheVariants as write
+use Rattle.cluster_core.specs.declared.answers.ReadError.{ReadError}
+use Rattle.txn.specs.Reads.{with_mutations}
+use Rattle.txn.proofs.Running.{ran_because, ran_then, ran_wider, ran_write}
+use Rattle.metadata.specs.Lawful.{IsLawfulSchema}
+use Rattle.metadata.specs.Schema.{Schema}
+use Rattle.record_store.specs.declared.error.StoreError.{StoreError}
+use Rattle.record_store.specs.declared.error.StoreError.TheVariants.{Memory, Read, Write, Corrupt, Refused}
+use Rattle.record_store.specs.Store.{Serial, created}
+use Rattle.record_store.specs.Layout.{schema_key, states_range}
+use Rattle.record_store.specs.Holds.{Holds}
+use Rattle.record_store.specs.Call.{Opened}
+use Rattle.record_store.specs.Calls.{schema_writes}
+use Rattle.record_store.specs.Opening.{AtSerials, IsCreateFailure, IsCreated, IsUncreated, opening_reach}
+use Rattle.record_store.specs.Reading.{HasNotRead, IsReadError, IsThere}
+use Rattle.record_store.specs.Steps.{DidRead, of_write}
+use Rattle.record_store.proofs.Changed.{created_holds}
+use Rattle.record_store.proofs.Held.{no_schema_held}
+use Rattle.record_store.proofs.Openings.{both_read, first_within, nothing_there, then_within}
+
+-- nothing refuses
+pub is_none : {X : Type 0} (o : Option X) → IsNone o → o ≡ None
+is_none None none = refl
+is_none (Some x) none = absurd (cc)
+
+module _ (prefix : List ℕ) (schema : Schema) where
+  abbrev made : Opened
+  made = record { prefix = prefix; schema = schema }
+
+  create_error : (refuses : KeyRange → Option ReadError) (near : List KeyRange) → ((k : List ℕ) → Rattle.kv_core.specs.Range.covers near k ≡ Rattle.std.proofs.Common.true → Rattle.kv_core.specs.Range.covers (opening_reach prefix) k ≡ Rattle.std.proofs.Common.true) →
+      (error : StoreError) (before : List Mutation) (m : Map) → IsReadError refuses near error → IsCreateFailure refuses made error before m
+  create_error refuses near wider Memory before m says = tt
+  create_error refuses near wider (Read error) before m says = record { range = says.range; inside = λ k h. wider k (says.inside k h); refused = says.refused }
+  create_error refuses near wider (Write error) before m says = absurd says
+  create_error refuses near wider (Corrupt key) before m says = absurd says
+  create_error refuses near wider (Refused refusal) before m says = absurd says
+
+  -- FIRST READ, SECOND READ: it came to an error
+  pub uncreated_first : {maps : ℕ → Map} {refuses : KeyRange → ℕ → Option ReadError} {old new : CommitRequest} (error : StoreError) → HasNotRead maps refuses (point (schema_key prefix) ∷ []) error old new → IsUncreated maps refuses made error old new
+  uncreated_first {refuses = refuses} {old = old} error is = record {
+    ran = ran_wider (ran_because is.ran (λ m says. create_error (λ range. refuses range old.read_version) (point (schema_key prefix) ∷ []) (first_within prefix) error old.mutations m says)) (first_within prefix);
+  }
+
+  pub uncreated_then : {maps : ℕ → Map} {refuses : KeyRange → ℕ → Option ReadError} {old mid new : CommitRequest} {F : Map → Type 0} (error : StoreError) →
+      DidRead maps (point (schema_key prefix) ∷ []) old mid F → HasNotRead maps refuses (states_range prefix ∷ []) error mid new → IsUncreated maps refuses made error old new
+  uncreated_then {refuses = refuses} {old = old} error one is = record {
+    ran = ran_because (both_read prefix one is.ran) (λ m says.
+        create_error (λ range. refuses range old.read_version) (states_range prefix ∷ []) (then_within prefix) error old.mutations m
+        (subst (λ v. IsReadError (λ range. refuses range v) (states_range prefix ∷ []) error) one.version says.1));
+  }
+
+  module _ {maps : ℕ → Map} {old mid new : CommitRequest} {G : Map → Type 0} (written : Option (List ℕ)) (one : DidRead maps (point (schema_key prefix) ∷ []) old mid (λ m. written ≡ get m (schema_key prefix))) (two : DidRead maps (states_range prefix ∷ []) mid new G) where
+    -- MEMORY: it is wanting after both reads
+    pub uncreated_memory : {refuses : KeyRange → ℕ → Option ReadError} → IsUncreated maps refuses made Memory old new
+    uncreated_memory = record { ran = ran_because (both_read prefix one two) (λ m found. tt) }
+
+    -- THERE: a pair stands where a schema does
+    pub uncreated_there : {refuses : KeyRange → ℕ → Option ReadError} (error : StoreError) → IsThere written error → IsUncreated maps refuses made error old new
+    uncreated_there {refuses = refuses} error says =
+        subst (λ e. IsUncreated maps refuses made e old new) (sym says.0) (record {
+          ran = ran_because (both_read prefix one two) (λ m found. (
+            refl,
+            λ none. says.1 (found.0 ∙ none),
+            λ serial holds none. says.1 (found.0 ∙ no_schema_held prefix m (subst (Holds prefix m) none holds)),
+          ));
+        })
+
+    -- LIMIT: the write of the schema was refused
+    pub uncreated_limit : {last : CommitRequest} {refuses : KeyRange → ℕ → Option ReadError} (list : List Mutation) (error : WriteError) → written ≡ None → list ≡ schema_writes prefix schema → last ≡ new →
+        (error ≡ write.Memory) ⊎ (write_all_refusal new.mutations list ≡ Some error) → IsUncreated maps refuses made (of_write error) old last
+    uncreated_limit {last = last} {refuses = refuses} list error none wrote same says =
+        subst (λ n. IsUncreated maps refuses made (of_write error) old n) (sym same) (record {
+          ran = ran_because (both_read prefix one two) (λ m found. right error m (sym found.0 ∙ none) says);
+        })
+      where
+        limit : (e : WriteError) (m : Map) → get m (schema_key prefix) ≡ None → write_all_refusal new.mutations list ≡ Some e →
+            (get m (schema_key prefix) ≡ None) × (write_all_refusal old.mutations (schema_writes prefix schema) ≡ Some e) × AtSerials prefix m (λ serial. serial ≡ None)
+        limit e m nothing is = (
+          nothing,
+          ap (λ ms. write_all_refusal ms (schema_writes prefix schema)) (sym ((both_read prefix one two).wrote ∙ Rattle.std.proofs.Common.append-nil old.mutations)) ∙ ap (write_all_refusal new.mutations) (sym wrote) ∙ is,
+          λ serial holds. nothing_there prefix m serial (sym nothing) holds,
+        )
+
+        right : (e : WriteError) (m : Map) → get m (schema_key prefix) ≡ None → (e ≡ write.Memory) ⊎ (write_all_refusal new.mutations list ≡ Some e) → IsCreateFailure (λ range. refuses range old.read_version) made (of_write e) old.mutations m
+        right write.Memory m nothing is = tt
+        right write.KeyOutside m nothing (inl memory) = absurd (cc)
+        right write.KeyOutside m nothing (inr is) = limit write.KeyOutside m nothing is
+        right write.KeyTooLarge m nothing (inl memory) = absurd (cc)
+        right write.KeyTooLarge m nothing (inr is) = limit write.KeyTooLarge m nothing is
+        right write.ValueTooLarge m nothing (inl memory) = absurd (cc)
+        right write.ValueTooLarge m nothing (inr is) = limit write.ValueTooLarge m nothing is
+        right write.TransactionTooLarge m nothing (inl memory) = absurd (cc)
+        right write.TransactionTooLarge m nothing (inr is) = limit write.TransactionTooLarge m nothing is
+
+    -- CREATED: the schema was written where nothing was
+    pub created_now : {last : CommitRequest} (list : List Mutation) → IsLawfulSchema schema → written ≡ None → list ≡ schema_writes prefix schema → last ≡ with_mutations list new →
+        IsNone (write_all_refusal new.mutations list) → IsCreated maps made old last
+    created_now {last = last} list lawful none wrote is allowed =
+        let kept = (both_read prefix one two).wrote ∙ Rattle.std.proofs.Common.append-nil old.mutations in record {
+          allowed = ap (λ ms. write_all_refusal ms (schema_writes prefix schema)) (sym kept) ∙ ap (write_all_refusal new.mutations) (sym wrote) ∙ is_none (write_all_refusal new.mutations list) allowed;
+          ran =
+              ran_then (both_read prefix one two) (ran_write {Fact = λ m. Unit {0}} (schema_writes prefix schema) (is ∙ ap (λ ms. with_mutations ms new) wrote) (λ m. tt {0}))
+              (λ m found empty. (sym found.0 ∙ none, λ serial holds. make m serial (sym found.0 ∙ none) holds));
+        }
+      where
+        make : (m : Map) (serial : Serial) → get m (schema_key prefix) ≡ None → Holds prefix m serial → (serial ≡ None) × Holds prefix (after_all (schema_writes prefix schema) m) (Some (created schema))
+        make m serial nothing holds =
+            let there = nothing_there prefix m serial (sym nothing) holds in
+            (there, created_holds prefix m schema lawful (subst (Holds prefix m) there holds))

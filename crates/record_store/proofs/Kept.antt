@@ -1,0 +1,93 @@
+-- What a change of a store leaves: keys of other places, and what is had there.
+use Rattle.std.proofs.Common.{◌≡◌, ℕ, true, not, ◌&&◌, ◌==◌, cond, arith, List, [], ◌∷◌, ◌++◌, refl, sym, ap, ◌∙◌, Some, None, append-nil, pos}
+use Rattle.std.proofs.lemmas.Bool.{and_parts, eqb-false, false_from_ne_true, ltb-true, not-true}
+use Rattle.std.proofs.lemmas.Cmp.{nat_list_cmp_total, tied_itself}
+use Rattle.std.specs.Prelude.{nat_lt}
+use Rattle.std.specs.List.{AllByRecursion}
+use Rattle.std.specs.FinMap.{get}
+use Rattle.std.specs.Ordering.{is_eq}
+use Rattle.tuple_codec.specs.Item.{Item, int}
+use Rattle.tuple_codec.specs.Spelling.{spelling}
+use Rattle.tuple_codec.specs.Subspace.{BeginsWith, key_of}
+use Rattle.kv_core.specs.Bytes.{key_cmp}
+use Rattle.kv_core.specs.Map.{Map, after}
+use Rattle.kv_core.specs.Range.{point}
+use Rattle.kv_core.specs.declared.change.Mutation.TheVariants.{Set, ClearRange}
+use Rattle.kv_core.proofs.Changes.{get-after, get-set}
+use Rattle.kv_core.proofs.Order.{tied_keys}
+use Rattle.kv_core.proofs.Pairs.{contains-point-is}
+use Rattle.metadata.specs.declared.index.IndexDefinition.{IndexDefinition}
+use Rattle.metadata.specs.declared.index.State.{State}
+use Rattle.metadata.specs.declared.index.State.TheVariants.{Readable, WriteOnly, Disabled}
+use Rattle.metadata.specs.Record.{Record}
+use Rattle.index_maint.specs.Layout.{entries_prefix}
+use Rattle.index_maint.proofs.Places.{begins_before, entries_elsewhere, places_differ}
+use Rattle.record_store.specs.Layout.{place, record_key, schema_key}
+use Rattle.record_store.specs.Holds.{HasIndex, Holds, IsNoEntry}
+use Rattle.record_store.proofs.Keys.{record_key_is}
+
+-- ---- one key
+
+-- a put leaves each other key, and so does a clearance of one key
+pub set_leaves : (m : Map) (key value at : List ℕ) → (at ≡ key → ⊥) → get (after (Set key value) m) at ≡ get m at
+set_leaves m key value at other =
+    get-set m key value at ∙ ap (λ b. cond b (Some value) (get m at)) (false_from_ne_true (is_eq (key_cmp at key)) (λ same. other (tied_keys at key same)))
+
+pub set_there : (m : Map) (key value : List ℕ) → get (after (Set key value) m) key ≡ Some value
+set_there m key value = get-set m key value key ∙ ap (λ o. cond (is_eq o) (Some value) (get m key)) (tied_itself nat_list_cmp_total key)
+
+pub clear_leaves : (m : Map) (key at : List ℕ) → (at ≡ key → ⊥) → get (after (ClearRange (point key)) m) at ≡ get m at
+clear_leaves m key at other =
+    get-after (ClearRange (point key)) m at (contains-point-is key at ∙ false_from_ne_true (is_eq (key_cmp key at)) (λ same. other (sym (tied_keys key at same))))
+
+pub itself : (key : List ℕ) → BeginsWith key key
+itself key = ([], sym (append-nil key))
+
+-- ---- places
+
+module _ (prefix : List ℕ) where
+  -- a key under one number isn't one under another
+  pub other_place : (p : ℕ) (ps : List Item) (n : ℕ) (ns : List Item) (at : List ℕ) → (nat_lt p 6 && (nat_lt n 6 && not (n == p))) ≡ true → BeginsWith (key_of prefix (int (pos n) ∷ ns)) at →
+      at ≡ key_of prefix (int (pos p) ∷ ps) → ⊥
+  other_place p ps n ns at differ there same =
+      let one = and_parts (nat_lt p 6) (nat_lt n 6 && not (n == p)) differ in
+      let two = and_parts (nat_lt n 6) (not (n == p)) one.1 in
+      let low = ltb-true p 6 one.0 in
+      let high = ltb-true n 6 two.0 in
+      places_differ prefix at (key_of prefix (int (pos p) ∷ ps)) n p ns ps (omega (arith, high)) (omega (arith, low)) (eqb-false n p (not-true (n == p) two.1)) there (itself (key_of prefix (int (pos p) ∷ ps))) same
+
+  -- a key under another number than 2 is that of no entry
+  pub no_entry_at : (n : ℕ) (ns : List Item) (indexes : List IndexDefinition) (key : List ℕ) → (nat_lt n 6 && not (n == 2)) ≡ true → BeginsWith (key_of prefix (int (pos n) ∷ ns)) key → IsNoEntry prefix indexes key
+  no_entry_at n ns [] key other there = tt
+  no_entry_at n ns (index ∷ indexes) key other there =
+      let parts = and_parts (nat_lt n 6) (not (n == 2)) other in
+      let low = ltb-true n 6 parts.0 in
+      (λ entry. entries_elsewhere prefix key index.number n ns (omega (arith, low)) (eqb-false n 2 (not-true (n == 2) parts.1)) entry there, no_entry_at n ns indexes key other there)
+
+  pub no_entry_schema : (indexes : List IndexDefinition) → IsNoEntry prefix indexes (schema_key prefix)
+  no_entry_schema indexes = no_entry_at 0 [] indexes (schema_key prefix) refl (itself (schema_key prefix))
+
+  pub no_entry_in : (n : ℕ) (indexes : List IndexDefinition) (bytes : List ℕ) → (nat_lt n 6 && not (n == 2)) ≡ true → IsNoEntry prefix indexes (place prefix n ++ bytes)
+  no_entry_in n indexes bytes other = no_entry_at n [] indexes (place prefix n ++ bytes) other (bytes, refl)
+
+  -- a record's key is in the place of records
+  pub record_in_place : (key : List Item) (at : List ℕ) → at ≡ record_key prefix key → BeginsWith (place prefix 1) at
+  record_in_place key at same = (spelling key, same ∙ sym (record_key_is prefix key))
+
+  pub nothing_at : (m : Map) (begin bytes : List ℕ) → Holds prefix m None → get m ((prefix ++ begin) ++ bytes) ≡ None
+  nothing_at m begin bytes holds = let at = begins_before prefix begin ((prefix ++ begin) ++ bytes) (bytes, refl) in ap (get m) at.1 ∙ holds at.0
+
+  -- ---- indexes
+
+  -- what a map has of an index it has where it is the same at the index's keys
+  pub kept_index : (records : List Record) (m n : Map) (index : IndexDefinition) (state : State) →
+      ((bytes : List ℕ) → get n (entries_prefix prefix index.number ++ bytes) ≡ get m (entries_prefix prefix index.number ++ bytes)) → HasIndex prefix records m index state → HasIndex prefix records n index state
+  kept_index records m n index Readable same has = λ bytes. same bytes ∙ has bytes
+  kept_index records m n index WriteOnly same has = λ bytes. same bytes ∙ has bytes
+  kept_index records m n index Disabled same has = λ bytes. same bytes ∙ has bytes
+
+  pub kept_indexes : (records : List Record) (states : ℕ → State) (m n : Map) (indexes : List IndexDefinition) →
+      ((number : ℕ) (bytes : List ℕ) → get n (entries_prefix prefix number ++ bytes) ≡ get m (entries_prefix prefix number ++ bytes)) →
+      AllByRecursion (λ index. HasIndex prefix records m index (states index.number)) indexes → AllByRecursion (λ index. HasIndex prefix records n index (states index.number)) indexes
+  kept_indexes records states m n [] same all = tt
+  kept_indexes records states m n (index ∷ indexes) same all = (kept_index records m n index (states index.number) (same index.number) all.0, kept_indexes records states m n indexes same all.1)

@@ -1,0 +1,10 @@
+pub mod Keys
+pub mod Held
+pub mod Kept
+pub mod Changed
+pub mod RecordPairs
+pub mod Openings
+pub mod Creating
+pub mod Answered
+pub mod RecordCalls
+pub mod Scanning

@@ -1,0 +1,309 @@
+-- What reading a record and opening a store establish.
+use Rattle.std.proofs.Common.{◌≡◌, inl, inr, ℕ, Bool, true, false, ◌||◌, cond, List, [], ◌∷◌, ◌++◌, refl, sym, ap, subst, ◌∙◌, Option, Some, None, Result, append-nil, pos, length, ◌==◌}
+use Rattle.std.specs.Prelude.{IfErr}
+use Rattle.std.specs.Result.{IsErr, IsErrAnd}
+use Rattle.std.proofs.lemmas.Result.{err_from_is_err_and}
+use Rattle.std.proofs.lemmas.Bool.{or_left, or_right}
+use Rattle.std.specs.List.{AllByRecursion, filter}
+use Rattle.std.specs.FinMap.{entries, get}
+use Rattle.tuple_codec.specs.Item.{Item, IsTuple}
+use Rattle.tuple_codec.specs.Spelling.{int_spelling, spelling}
+use Rattle.kv_core.specs.Range.{KeyRange, contains, covers, point}
+use Rattle.kv_core.specs.Map.{Map, Agree, pairs_in}
+use Rattle.kv_core.specs.declared.change.CommitRequest.{CommitRequest}
+use Rattle.kv_core.proofs.Pairs.{entries-kept}
+use Rattle.cluster_core.specs.declared.answers.ReadError.{ReadError}
+use Rattle.txn.specs.Reads.{seen, has_read}
+use Rattle.txn.proofs.Running.{ran_because, ran_wider, ran_then, ran_read}
+use Rattle.metadata.specs.declared.definition.TypeDefinition.{TypeDefinition}
+use Rattle.metadata.specs.Lawful.{IsLawfulSchema}
+use Rattle.metadata.specs.Record.{Record}
+use Rattle.metadata.specs.Records.{record_at}
+use Rattle.metadata.specs.Schema.{Schema, find_type}
+use Rattle.metadata.specs.Stored.{IsOfNoRecord, IsStoredAs, IsTypeOf}
+use Rattle.metadata.specs.Written.{schema_bytes}
+use Rattle.metadata.proofs.OneSchema.{written_once}
+use Rattle.metadata.proofs.StoredApart.{named_typed}
+use Rattle.record_store.specs.declared.error.StoreError.{StoreError}
+use Rattle.record_store.specs.declared.error.StoreError.TheVariants.{Memory, Read, Write, Corrupt, Refused}
+use Rattle.record_store.specs.Store.{Serial, schema_in}
+use Rattle.record_store.specs.Layout.{record_key, schema_key, states_range}
+use Rattle.record_store.specs.Holds.{HasNoIndex, Holds}
+use Rattle.record_store.specs.Form.{IsFirstBad, IsRecordPair, IsSchemaPair, read_in}
+use Rattle.record_store.specs.Call.{IsUnread, Opened}
+use Rattle.record_store.specs.Opening.{HasSchema, IsOpenFailure, IsOpened, IsUnopened, opening_reach}
+use Rattle.record_store.specs.Reading.{AreOfNoSchema, HasNotFound, HasNotRead, IsBadSchema, IsBadState, IsFound, IsKeyOf, IsNoSchema, IsNotFound, IsRead, IsReadError, IsSchema}
+use Rattle.record_store.specs.Steps.{DidRead}
+use Rattle.record_store.proofs.Held.{no_schema_held, no_schema_state, no_states, schema_held}
+use Rattle.record_store.proofs.RecordPairs.{at_key, key_form, no_record_pair, none_bad, none_there, of_stored, pairs_at, record_there}
+
+abbrev Pair : Type 0
+Pair = List ℕ × List ℕ
+
+-- EXIT: the clause on refusals at the exit of a `?`, from the one for the error that it makes
+pub exit_with : {T : Type 0} (r : Result T StoreError) (error : StoreError) (P : StoreError → Type 0) → IsErr r × IsErrAnd r (λ made. made ≡ error) → P error → IfErr r P
+exit_with r error P says p =
+    let (made, is, same) = err_from_is_err_and r says.1 in
+    subst (λ x. IfErr x P) (sym is) (subst P (sym same) p)
+
+-- a key of a range is one of the list of that range alone
+pub one_covers : (range other : KeyRange) → range ≡ other → (k : List ℕ) → contains range k ≡ true → covers (other ∷ []) k ≡ true
+one_covers range other is k h = or_left (contains other k) false (ap (λ r. contains r k) (sym is) ∙ h)
+
+-- ---- one record
+
+-- the pairs read at one key
+read_at : (m : Map) (key : List ℕ) (value : Option (List ℕ)) → get m key ≡ value → read_in m (point key ∷ []) ≡ at_key key value
+read_at m key value is = append-nil (pairs_in m (point key)) ∙ pairs_at m key value is
+
+module _ (opened : Opened) (type : TypeDefinition) (key : List Item) (lawful : IsLawfulSchema opened.schema) (found_type : find_type opened.schema type.name ≡ Some type) (key_of : IsKeyOf type key) where
+  own : IsTypeOf opened.schema type
+  own = named_typed opened.schema type.name type lawful found_type
+
+  -- what is stored at the key is of the written form
+  stored_form : (value : List ℕ) (r : Record) → IsStoredAs type (spelling key) value r → IsRecordPair opened.prefix opened.schema (record_key opened.prefix key, value)
+  stored_form value r put =
+      let good = of_stored opened.schema type (spelling key) value r lawful found_type put in record {
+        stored = r;
+        typed = good.0;
+        storable = good.1;
+        is = λ i. (opened.prefix ++ (int_spelling (pos 1) ++ put.has_key i), put.has_value i);
+      }
+
+  -- READ: the record, or none, that was found
+  read_there : (m : Map) (value : Option (List ℕ)) (found : Option Record) → get m (record_key opened.prefix key) ≡ value → IsFound type (spelling key) value found → IsRead opened key found m
+  read_there m None found is says = (
+    subst (AllByRecursion (IsRecordPair opened.prefix opened.schema)) (sym (read_at m (record_key opened.prefix key) None is)) tt,
+    λ store holds same. says ∙ none_there opened.prefix m store holds key key_of.tuple is,
+  )
+  read_there m (Some value) None is says = absurd says
+  read_there m (Some value) (Some r) is says = (
+    subst (AllByRecursion (IsRecordPair opened.prefix opened.schema)) (sym (read_at m (record_key opened.prefix key) (Some value) is)) (stored_form value r says, tt),
+    λ store holds same.
+        subst (λ k. Some r ≡ record_at k store.records) (sym key_of.is)
+        (record_there opened.prefix m store holds type key_of.cells value r (subst (λ s. IsTypeOf s type) (sym same) own) (subst IsTuple key_of.is key_of.tuple)
+        (ap (λ k. get m (record_key opened.prefix k)) (sym key_of.is) ∙ is) (subst (λ k. IsStoredAs type (spelling k) value r) key_of.is says)),
+  )
+
+  -- UNREAD: what was found is none of the type's
+  unread_there : (refuses : KeyRange → Option ReadError) (m : Map) (value : Option (List ℕ)) (error : StoreError) → get m (record_key opened.prefix key) ≡ value →
+      IsNotFound type (spelling key) (record_key opened.prefix key) value error → IsUnread refuses opened (point (record_key opened.prefix key) ∷ []) error m
+  unread_there refuses m value Memory is says = tt
+  unread_there refuses m None (Read error) is says = absurd says
+  unread_there refuses m None (Write error) is says = absurd says
+  unread_there refuses m None (Refused refusal) is says = absurd says
+  unread_there refuses m None (Corrupt at) is says = absurd says
+  unread_there refuses m (Some value) (Read error) is says = absurd says
+  unread_there refuses m (Some value) (Write error) is says = absurd says
+  unread_there refuses m (Some value) (Refused refusal) is says = absurd says
+  unread_there refuses m (Some value) (Corrupt at) is says = (
+    bad,
+    λ store holds same.
+        none_bad (read_in m (point (record_key opened.prefix key) ∷ [])) at
+        (subst (AllByRecursion (IsRecordPair opened.prefix opened.schema)) (sym (append-nil (pairs_in m (point (record_key opened.prefix key)))))
+        (subst (λ s. AllByRecursion (IsRecordPair opened.prefix s) (pairs_in m (point (record_key opened.prefix key)))) same (key_form opened.prefix m store holds key key_of.tuple))) bad,
+  )
+    where
+      none : IsRecordPair opened.prefix opened.schema (record_key opened.prefix key, value) → ⊥
+      none pair =
+          no_record_pair opened.prefix opened.schema type key_of.cells value lawful own (subst IsTuple key_of.is key_of.tuple)
+          (subst (λ k. IsOfNoRecord type (spelling k) value) key_of.is says.1) (subst (λ k. IsRecordPair opened.prefix opened.schema (record_key opened.prefix k, value)) key_of.is pair)
+
+      bad : IsFirstBad (IsRecordPair opened.prefix opened.schema) (read_in m (point (record_key opened.prefix key) ∷ [])) at
+      bad = record {
+        before = [];
+        bad = (record_key opened.prefix key, value);
+        behind = [];
+        split = read_at m (record_key opened.prefix key) (Some value) is;
+        good = tt;
+        malformed = none;
+        at = says.0;
+      }
+
+  -- RECORD: a record was read, or wasn't
+  pub record_read : {maps : ℕ → Map} {old new : CommitRequest} (k packed : List ℕ) (value : Option (List ℕ)) (found : Option Record) → k ≡ record_key opened.prefix key → packed ≡ spelling key →
+      new ≡ has_read (point k) old → ((m : Map) → Agree new.reads (maps old.read_version) m → value ≡ get (seen old m) k) → IsFound type packed value found →
+      DidRead maps (point (record_key opened.prefix key) ∷ []) old new (IsRead opened key found)
+  record_read {old = old} k packed value found is pack read answer says =
+      ran_read (point k) read (one_covers (point k) (point (record_key opened.prefix key)) (ap point is))
+      (λ m agree. read_there (seen old m) value found (sym (answer m agree ∙ ap (get (seen old m)) is)) (subst (λ p. IsFound type p value found) pack says))
+
+  pub record_unread : {maps : ℕ → Map} {refuses : KeyRange → ℕ → Option ReadError} {old new : CommitRequest} (k packed : List ℕ) (value : Option (List ℕ)) (error : StoreError) → k ≡ record_key opened.prefix key → packed ≡ spelling key →
+      new ≡ has_read (point k) old → ((m : Map) → Agree new.reads (maps old.read_version) m → value ≡ get (seen old m) k) → IsNotFound type packed k value error →
+      HasNotFound maps refuses opened (point (record_key opened.prefix key) ∷ []) error old new
+  record_unread {refuses = refuses} {old = old} k packed value error is pack read answer says = record {
+    ran =
+        ran_read (point k) read (one_covers (point k) (point (record_key opened.prefix key)) (ap point is))
+        (λ m agree. unread_there (λ range. refuses range old.read_version) (seen old m) value error (sym (answer m agree ∙ ap (get (seen old m)) is))
+        (subst (λ p. IsNotFound type p (record_key opened.prefix key) value error) pack (subst (λ j. IsNotFound type packed j value error) is says)));
+  }
+
+-- ---- the schema
+
+-- a list that is told not to be empty isn't
+pub not_empty : {X : Type 0} (test : Bool) (xs ys : List X) → test ≡ (length xs == 0) → test ≡ false → xs ≡ ys → ys ≡ [] → ⊥
+not_empty test xs ys is filled same none = let both : false ≡ true = sym filled ∙ is ∙ ap (λ l. length l == 0) (same ∙ none) in cc
+
+-- the bytes of a schema with indexes are those of none without
+pub of_no_schema : (bytes : List ℕ) (schema : Schema) → IsLawfulSchema schema → bytes ≡ schema_bytes schema → (schema.indexes ≡ [] → ⊥) → AreOfNoSchema bytes
+of_no_schema bytes schema made is some other made_other plain same =
+    some (ap (λ (s : Schema). s.indexes) (written_once schema other made made_other (sym is ∙ same)) ∙ plain)
+
+module _ (prefix : List ℕ) where
+  -- the two reads of an opening lie in its reach
+  pub first_within : (k : List ℕ) → covers (point (schema_key prefix) ∷ []) k ≡ true → covers (opening_reach prefix) k ≡ true
+  first_within k h = by (contains (point (schema_key prefix)) k) (contains (states_range prefix) k) h
+    where
+      by : (a b : Bool) → (a || false) ≡ true → (a || (b || false)) ≡ true
+      by true b h = refl
+      by false b h = absurd (cc)
+
+  pub then_within : (k : List ℕ) → covers (states_range prefix ∷ []) k ≡ true → covers (opening_reach prefix) k ≡ true
+  then_within k h = or_right (contains (point (schema_key prefix)) k) (covers (states_range prefix ∷ []) k) h
+
+  pub both_read : {maps : ℕ → Map} {old mid new : CommitRequest} {F G : Map → Type 0} → DidRead maps (point (schema_key prefix) ∷ []) old mid F → DidRead maps (states_range prefix ∷ []) mid new G →
+      DidRead maps (opening_reach prefix) old new (λ m. F m × G m)
+  both_read one two = ran_then (ran_wider one first_within) (ran_wider two then_within) (λ m f g. (f, g))
+
+  -- an error of a read within the opening's is one of the opening
+  open_error : (refuses : KeyRange → Option ReadError) (near : List KeyRange) → ((k : List ℕ) → covers near k ≡ true → covers (opening_reach prefix) k ≡ true) →
+      (error : StoreError) (m : Map) → IsReadError refuses near error → IsOpenFailure refuses prefix error m
+  open_error refuses near wider Memory m says = tt
+  open_error refuses near wider (Read error) m says = record { range = says.range; inside = λ k h. wider k (says.inside k h); refused = says.refused }
+  open_error refuses near wider (Write error) m says = absurd says
+  open_error refuses near wider (Corrupt key) m says = absurd says
+  open_error refuses near wider (Refused refusal) m says = absurd says
+
+  -- UNOPENED: the first read came to an error, or the second did
+  pub unopened_first : {maps : ℕ → Map} {refuses : KeyRange → ℕ → Option ReadError} {old new : CommitRequest} (error : StoreError) → HasNotRead maps refuses (point (schema_key prefix) ∷ []) error old new → IsUnopened maps refuses prefix error old new
+  unopened_first {refuses = refuses} {old = old} error is = record {
+    ran = ran_wider (ran_because is.ran (λ m says. open_error (λ range. refuses range old.read_version) (point (schema_key prefix) ∷ []) first_within error m says)) first_within;
+  }
+
+  pub unopened_then : {maps : ℕ → Map} {refuses : KeyRange → ℕ → Option ReadError} {old mid new : CommitRequest} {F : Map → Type 0} (error : StoreError) →
+      DidRead maps (point (schema_key prefix) ∷ []) old mid F → HasNotRead maps refuses (states_range prefix ∷ []) error mid new → IsUnopened maps refuses prefix error old new
+  unopened_then {refuses = refuses} {old = old} error one is = record {
+    ran = ran_because (both_read one is.ran) (λ m says.
+        open_error (λ range. refuses range old.read_version) (states_range prefix ∷ []) then_within error m
+        (subst (λ v. IsReadError (λ range. refuses range v) (states_range prefix ∷ []) error) one.version says.1));
+  }
+
+  -- OPENED: the map has the schema that was read, and all that it holds is a store of it
+  has_schema : (m : Map) (schema : Schema) (written : Option (List ℕ)) (states : List Pair) → IsSchema written states schema → written ≡ get m (schema_key prefix) → states ≡ pairs_in m (states_range prefix) →
+      HasSchema (record { prefix = prefix; schema = schema }) m
+  has_schema m schema written states is found listed = record { made = is.made; plain = is.plain; bytes = sym found ∙ is.bytes; stateless = sym listed ∙ is.stateless }
+
+  schema_there : (m : Map) (schema : Schema) (serial : Serial) → IsLawfulSchema schema → get m (schema_key prefix) ≡ Some (schema_bytes schema) → Holds prefix m serial → schema_in serial ≡ Some schema
+  schema_there m schema None made found holds =
+      let some : ◌≡◌ {A = Option (List ℕ)} (Some (schema_bytes schema)) None = sym found ∙ no_schema_held prefix m holds in absurd (cc)
+  schema_there m schema (Some store) made found holds =
+      let both : ◌≡◌ {A = Option (List ℕ)} (Some (schema_bytes store.schema)) (Some (schema_bytes schema)) = sym (schema_held prefix m store holds) ∙ found in
+      let bytes : schema_bytes store.schema ≡ schema_bytes schema = cc in
+      ap Some (written_once store.schema schema holds.lawful.schema made bytes)
+
+  pub opened_now : {maps : ℕ → Map} {old mid new : CommitRequest} (written : Option (List ℕ)) (states : List Pair) (schema : Schema) →
+      DidRead maps (point (schema_key prefix) ∷ []) old mid (λ m. written ≡ get m (schema_key prefix)) → DidRead maps (states_range prefix ∷ []) mid new (λ m. states ≡ pairs_in m (states_range prefix)) →
+      IsSchema written states schema → IsOpened maps (record { prefix = prefix; schema = schema }) old new
+  opened_now written states schema one two is = record {
+    ran = ran_because (both_read one two) (λ m found. (
+      has_schema m schema written states is found.0 found.1,
+      λ serial holds. schema_there m schema serial is.made (sym found.0 ∙ is.bytes) holds,
+    ));
+  }
+
+  -- ---- damage
+
+  -- the pairs of a range lie in it
+  kept_lie : (range : KeyRange) (es : List Pair) → AllByRecursion (λ (e : Pair). contains range e.0 ≡ true) (filter (λ (e : Pair). contains range e.0) es)
+  kept_lie range [] = tt
+  kept_lie range (e ∷ es) = by_test (contains range e.0) refl (kept_lie range es)
+    where
+      by_test : (b : Bool) → contains range e.0 ≡ b → AllByRecursion (λ (e : Pair). contains range e.0 ≡ true) (filter (λ (e : Pair). contains range e.0) es) → AllByRecursion (λ (e : Pair). contains range e.0 ≡ true) (cond b (e ∷ filter (λ (e : Pair). contains range e.0) es) (filter (λ (e : Pair). contains range e.0) es))
+      by_test true is rest = (is, rest)
+      by_test false is rest = rest
+
+  pub pairs_lie : (m : Map) (range : KeyRange) → AllByRecursion (λ (e : Pair). contains range e.0 ≡ true) (pairs_in m range)
+  pairs_lie m range = subst (AllByRecursion (λ (e : Pair). contains range e.0 ≡ true)) (sym (entries-kept m (contains range))) (kept_lie range (entries m))
+
+  -- no state is the pair of a schema
+  no_state : (pair : Pair) → contains (states_range prefix) pair.0 ≡ true → IsSchemaPair prefix pair → ⊥
+  no_state pair inside is =
+      let at : contains (states_range prefix) (schema_key prefix) ≡ true = ap (contains (states_range prefix)) (sym (ap (λ (p : Pair). p.0) is.is)) ∙ inside in
+      let out : contains (states_range prefix) (schema_key prefix) ≡ false = no_schema_state prefix in cc
+
+  -- the pairs read at an opening
+  opening_pairs : (m : Map) (written : Option (List ℕ)) (states : List Pair) → written ≡ get m (schema_key prefix) → states ≡ pairs_in m (states_range prefix) →
+      read_in m (opening_reach prefix) ≡ at_key (schema_key prefix) written ++ states
+  opening_pairs m written states found listed =
+      (λ i. pairs_at m (schema_key prefix) written (sym found) i ++ append-nil (pairs_in m (states_range prefix)) i) ∙ ap (λ ps. at_key (schema_key prefix) written ++ ps) (sym listed)
+
+  -- all pairs read of what holds a store without indexes are of the form
+  opening_form : (m : Map) (serial : Serial) → HasNoIndex serial → Holds prefix m serial → AllByRecursion (IsSchemaPair prefix) (read_in m (opening_reach prefix))
+  opening_form m None plain holds =
+      subst (AllByRecursion (IsSchemaPair prefix)) (sym (opening_pairs m None [] (sym (no_schema_held prefix m holds)) (sym (no_states prefix m None plain holds)))) tt
+  opening_form m (Some store) plain holds =
+      subst (AllByRecursion (IsSchemaPair prefix)) (sym (opening_pairs m (Some (schema_bytes store.schema)) [] (sym (schema_held prefix m store holds)) (sym (no_states prefix m (Some store) plain holds))))
+      (record { schema = store.schema; made = holds.lawful.schema; plain = plain; is = refl }, tt)
+
+  -- a damaged opening
+  damaged : (refuses : KeyRange → Option ReadError) (m : Map) (key : List ℕ) → IsFirstBad (IsSchemaPair prefix) (read_in m (opening_reach prefix)) key → IsOpenFailure refuses prefix (Corrupt key) m
+  damaged refuses m key bad = (bad, λ serial holds plain. none_bad (read_in m (opening_reach prefix)) key (opening_form m serial plain holds) bad)
+
+  bad_schema : (refuses : KeyRange → Option ReadError) (m : Map) (bytes : List ℕ) (states : List Pair) (error : StoreError) → Some bytes ≡ get m (schema_key prefix) → states ≡ pairs_in m (states_range prefix) →
+      IsBadSchema prefix bytes error → IsOpenFailure refuses prefix error m
+  bad_schema refuses m bytes states Memory found listed says = tt
+  bad_schema refuses m bytes states (Read error) found listed says = absurd says
+  bad_schema refuses m bytes states (Write error) found listed says = absurd says
+  bad_schema refuses m bytes states (Refused refusal) found listed says = absurd says
+  bad_schema refuses m bytes states (Corrupt key) found listed says =
+      damaged refuses m key (record {
+        before = [];
+        bad = (schema_key prefix, bytes);
+        behind = states;
+        split = opening_pairs m (Some bytes) states found listed;
+        good = tt;
+        malformed = λ pair. says.1 pair.schema pair.made pair.plain (ap (λ (p : Pair). p.1) pair.is);
+        at = says.0;
+      })
+
+  bad_state : (refuses : KeyRange → Option ReadError) (m : Map) (bytes : List ℕ) (states : List Pair) (schema : Schema) → IsLawfulSchema schema → schema.indexes ≡ [] → bytes ≡ schema_bytes schema → (error : StoreError) →
+      Some bytes ≡ get m (schema_key prefix) → states ≡ pairs_in m (states_range prefix) → IsBadState states error → IsOpenFailure refuses prefix error m
+  bad_state refuses m bytes states schema made plain is Memory found listed says = tt
+  bad_state refuses m bytes [] schema made plain is (Read error) found listed says = absurd says
+  bad_state refuses m bytes [] schema made plain is (Write error) found listed says = absurd says
+  bad_state refuses m bytes [] schema made plain is (Refused refusal) found listed says = absurd says
+  bad_state refuses m bytes [] schema made plain is (Corrupt key) found listed says = absurd says
+  bad_state refuses m bytes (pair ∷ states) schema made plain is (Read error) found listed says = absurd says
+  bad_state refuses m bytes (pair ∷ states) schema made plain is (Write error) found listed says = absurd says
+  bad_state refuses m bytes (pair ∷ states) schema made plain is (Refused refusal) found listed says = absurd says
+  bad_state refuses m bytes (pair ∷ states) schema made plain is (Corrupt key) found listed says =
+      let lie = subst (AllByRecursion (λ (e : Pair). contains (states_range prefix) e.0 ≡ true)) (sym listed) (pairs_lie m (states_range prefix)) in
+      damaged refuses m key (record {
+        before = (schema_key prefix, bytes) ∷ [];
+        bad = pair;
+        behind = states;
+        split = opening_pairs m (Some bytes) (pair ∷ states) found listed;
+        good = (record { schema = schema; made = made; plain = plain; is = λ i. (schema_key prefix, is i) }, tt);
+        malformed = no_state pair lie.0;
+        at = says;
+      })
+
+  -- nothing is there
+  pub nothing_there : (m : Map) (serial : Serial) → None ≡ get m (schema_key prefix) → Holds prefix m serial → serial ≡ None
+  nothing_there m None found holds = refl
+  nothing_there m (Some store) found holds =
+      let some : ◌≡◌ {A = Option (List ℕ)} None (Some (schema_bytes store.schema)) = found ∙ schema_held prefix m store holds in absurd (cc)
+
+  open_failure : (refuses : KeyRange → Option ReadError) (m : Map) (written : Option (List ℕ)) (states : List Pair) (error : StoreError) → written ≡ get m (schema_key prefix) → states ≡ pairs_in m (states_range prefix) →
+      IsNoSchema prefix written states error → IsOpenFailure refuses prefix error m
+  open_failure refuses m None states error found listed says =
+      subst (λ e. IsOpenFailure refuses prefix e m) (sym says) (refl, sym found, λ serial holds. nothing_there m serial found holds)
+  open_failure refuses m (Some bytes) states error found listed (inl bad) = bad_schema refuses m bytes states error found listed bad
+  open_failure refuses m (Some bytes) states error found listed (inr bad) = bad_state refuses m bytes states bad.schema bad.made bad.plain bad.is error found listed bad.bad
+
+  pub unopened_by : {maps : ℕ → Map} {refuses : KeyRange → ℕ → Option ReadError} {old mid new : CommitRequest} (written : Option (List ℕ)) (states : List Pair) (error : StoreError) →
+      DidRead maps (point (schema_key prefix) ∷ []) old mid (λ m. written ≡ get m (schema_key prefix)) → DidRead maps (states_range prefix ∷ []) mid new (λ m. states ≡ pairs_in m (states_range prefix)) →
+      IsNoSchema prefix written states error → IsUnopened maps refuses prefix error old new
+  unopened_by {refuses = refuses} {old = old} written states error one two says = record {
+    ran = ran_because (both_read one two) (λ m found. open_failure (λ range. refuses range old.read_version) m written states error found.0 found.1 says);
+  }

@@ -1,0 +1,207 @@
+-- What reading the records of a type comes to.
+use Rattle.std.proofs.Common.{◌≡◌, inl, inr, ℕ, Bool, true, false, cond, ◌==◌, ◌<◌, ◌^◌, List, [], ◌∷◌, ◌++◌, refl, sym, ap, subst, ◌∙◌, Option, Some, None, map, append-nil, length, take, drop, arith}
+use Rattle.std.specs.Prelude.{get_or, zero, suc}
+use Rattle.std.specs.List.{AllByRecursion}
+use Rattle.tuple_codec.specs.Spelling.{spelling}
+use Rattle.kv_core.specs.Range.{KeyRange, contains}
+use Rattle.kv_core.specs.Map.{Map, Agree, pairs_in}
+use Rattle.kv_core.specs.declared.change.CommitRequest.{CommitRequest}
+use Rattle.cluster_core.specs.declared.answers.ReadError.{ReadError}
+use Rattle.txn.specs.Reads.{has_read, seen}
+use Rattle.txn.proofs.Running.{ran_read}
+use Rattle.metadata.specs.declared.definition.TypeDefinition.{TypeDefinition}
+use Rattle.metadata.specs.Cell.{items_of}
+use Rattle.metadata.specs.Lawful.{IsLawfulSchema}
+use Rattle.metadata.specs.Record.{Record, key_cells, primary_key}
+use Rattle.metadata.specs.Records.{IsStorable, of_type}
+use Rattle.metadata.specs.Schema.{find_type}
+use Rattle.metadata.specs.Stored.{IsStoredAs, IsTypeOf}
+use Rattle.metadata.proofs.StoredApart.{named_typed}
+use Rattle.metadata.proofs.StoredOnce.{made_is, stored_once}
+use Rattle.record_store.specs.declared.error.StoreError.{StoreError}
+use Rattle.record_store.specs.declared.error.StoreError.TheVariants.{Memory, Read, Write, Corrupt, Refused}
+use Rattle.record_store.specs.Layout.{place, record_key, record_pair, record_value, type_range}
+use Rattle.record_store.specs.Holds.{IsOfSchema}
+use Rattle.record_store.specs.Form.{IsFirstBad, IsRecordPair, read_in}
+use Rattle.record_store.specs.Call.{AtStore, IsUnread, Opened}
+use Rattle.record_store.specs.Reading.{ArePairsOf, HasNotFound, HaveNoRecords, IsPairOf, IsPairOfNone}
+use Rattle.record_store.specs.Steps.{DidRead}
+use Rattle.record_store.proofs.Held.{type_held}
+use Rattle.record_store.proofs.Keys.{in_type_range, record_key_is}
+use Rattle.record_store.proofs.Openings.{one_covers, pairs_lie}
+use Rattle.record_store.proofs.RecordPairs.{none_bad, of_stored, stored_as, type_form}
+
+abbrev Pair : Type 0
+Pair = List ℕ × List ℕ
+
+-- ---- lists
+
+-- a list up to a place, what stands there, and the rest
+pub split_at : {X : Type 0} (i : ℕ) (xs : List X) (x : X) → i < length xs → x ≡ get_or xs i x → xs ≡ take i xs ++ x ∷ drop (suc i) xs
+split_at zero [] x within is = absurd (omega (arith, within))
+split_at zero (y ∷ ys) x within is = ap (λ z. z ∷ ys) (sym is)
+split_at (suc i) [] x within is = absurd (omega (arith, within))
+split_at (suc i) (y ∷ ys) x within is = ap (λ zs. y ∷ zs) (split_at i ys x (omega (arith, within)) is)
+
+-- one more
+pub pairs_more : (records_place : List ℕ) (type : TypeDefinition) (i : ℕ) (pairs : List Pair) (pair : Pair) (records : List Record) (one : Record) → i < length pairs → pair ≡ get_or pairs i pair →
+    ArePairsOf records_place type (take i pairs) records → IsPairOf records_place type pair one → ArePairsOf records_place type (take (suc i) pairs) (records ++ one ∷ [])
+pairs_more records_place type zero [] pair records one within is good more = absurd (omega (arith, within))
+pairs_more records_place type zero (p ∷ pairs) pair [] one within is good more = (subst (λ q. IsPairOf records_place type q one) is more, tt)
+pairs_more records_place type zero (p ∷ pairs) pair (r ∷ records) one within is good more = absurd good
+pairs_more records_place type (suc i) [] pair records one within is good more = absurd (omega (arith, within))
+pairs_more records_place type (suc i) (p ∷ pairs) pair [] one within is good more = absurd good
+pairs_more records_place type (suc i) (p ∷ pairs) pair (r ∷ records) one within is good more = (good.0, pairs_more records_place type i pairs pair records one (omega (arith, within)) is good.1 more)
+
+-- ---- pairs of the form
+
+module _ (opened : Opened) (type : TypeDefinition) (lawful : IsLawfulSchema opened.schema) (found_type : find_type opened.schema type.name ≡ Some type) where
+  own : IsTypeOf opened.schema type
+  own = named_typed opened.schema type.name type lawful found_type
+
+  -- the type of what is stored as one of a type
+  type_is : (key value : List ℕ) (r : Record) → IsStoredAs type key value r → r.definition ≡ type
+  type_is key value r is = sym (ap (λ (one : Record). one.definition) (made_is type r.cells r is.made))
+
+  -- a pair of a record is the one that stands for it
+  pair_is : (pair : Pair) (r : Record) → IsPairOf (place opened.prefix 1) type pair r → pair ≡ record_pair opened.prefix r
+  pair_is pair r is i = ((is.behind ∙ ap (λ rest. place opened.prefix 1 ++ rest) is.is.has_key ∙ record_key_is opened.prefix (primary_key r)) i, is.is.has_value i)
+
+  good_form : (pairs : List Pair) (records : List Record) → ArePairsOf (place opened.prefix 1) type pairs records → AllByRecursion (IsRecordPair opened.prefix opened.schema) pairs
+  good_form [] [] good = tt
+  good_form [] (r ∷ records) good = absurd good
+  good_form (pair ∷ pairs) [] good = absurd good
+  good_form (pair ∷ pairs) (r ∷ records) good =
+      let stored = of_stored opened.schema type good.0.rest pair.1 r lawful found_type good.0.is in
+      (record { stored = r; typed = stored.0; storable = stored.1; is = pair_is pair r good.0 }, good_form pairs records good.1)
+
+  -- a pair in the type's range that is that of no record of the type is of no form
+  bad_form : (pair : Pair) → contains (type_range opened.prefix type.number) pair.0 ≡ true → type.number < 2 ^ 64 → ((r : Record) → IsPairOf (place opened.prefix 1) type pair r → ⊥) → IsRecordPair opened.prefix opened.schema pair → ⊥
+  bad_form pair inside small none is =
+      let key_is : pair.0 ≡ record_key opened.prefix (primary_key is.stored) = ap (λ (p : Pair). p.0) is.is in
+      let here : contains (type_range opened.prefix type.number) (record_key opened.prefix (primary_key is.stored)) ≡ true = ap (contains (type_range opened.prefix type.number)) (sym key_is) ∙ inside in
+      let number : (is.stored.definition.number == type.number) ≡ true = sym (in_type_range opened.prefix is.stored.definition.number type.number (items_of (key_cells is.stored)) is.storable.key small) ∙ here in
+      let put = stored_as opened.schema type is.stored lawful own is.typed is.storable (Rattle.std.proofs.lemmas.Bool.eqb-true is.stored.definition.number type.number number) in
+      none is.stored (record {
+        rest = spelling (primary_key is.stored);
+        behind = key_is ∙ sym (record_key_is opened.prefix (primary_key is.stored));
+        is = record { made = put.made; cells = put.cells; has_key = refl; has_value = ap (λ (p : Pair). p.1) is.is };
+      })
+
+  -- records that stand for the same pairs are the same
+  same_records : (records others : List Record) (pairs : List Pair) → ArePairsOf (place opened.prefix 1) type pairs records → pairs ≡ map (record_pair opened.prefix) others →
+      AllByRecursion (λ (r : Record). IsOfSchema opened.schema r × IsStorable r × (r.definition.number ≡ type.number)) others → records ≡ others
+  same_records [] [] pairs good is all = refl
+  same_records [] (s ∷ others) [] good is all = absurd (cc)
+  same_records [] (s ∷ others) (pair ∷ pairs) good is all = absurd good
+  same_records (r ∷ records) others [] good is all = absurd good
+  same_records (r ∷ records) [] (pair ∷ pairs) good is all = absurd (cc)
+  same_records (r ∷ records) (s ∷ others) (pair ∷ pairs) good is all =
+      let first : pair ≡ record_pair opened.prefix s = cc in
+      let rest : pairs ≡ map (record_pair opened.prefix) others = cc in
+      let put = stored_as opened.schema type s lawful own all.0.0 all.0.1 all.0.2 in
+      let both : record_pair opened.prefix r ≡ record_pair opened.prefix s = sym (pair_is pair r good.0) ∙ first in
+      let keys : spelling (primary_key r) ≡ spelling (primary_key s) = Rattle.record_store.proofs.RecordPairs.key_bytes opened.prefix (primary_key r) (primary_key s) (ap (λ (p : Pair). p.0) both) in
+      let mine = good.0.is in
+      let one = stored_once type (spelling (primary_key r)) (record_value r.cells) r s
+      (record { made = mine.made; cells = mine.cells; has_key = refl; has_value = refl })
+      (record { made = put.made; cells = put.cells; has_key = keys; has_value = ap (λ (p : Pair). p.1) both }) in
+      λ i. one i ∷ same_records records others pairs good.1 rest all.1 i
+
+  -- the records of the type are of the schema
+  of_type_good : (records : List Record) → AllByRecursion (IsOfSchema opened.schema) records → AllByRecursion IsStorable records →
+      AllByRecursion (λ (r : Record). IsOfSchema opened.schema r × IsStorable r × (r.definition.number ≡ type.number)) (of_type type.number records)
+  of_type_good [] typed can = tt
+  of_type_good (r ∷ records) typed can = by_test (r.definition.number == type.number) refl (of_type_good records typed.1 can.1)
+    where
+      by_test : (b : Bool) → (r.definition.number == type.number) ≡ b → AllByRecursion (λ (s : Record). IsOfSchema opened.schema s × IsStorable s × (s.definition.number ≡ type.number)) (of_type type.number records) →
+          AllByRecursion (λ (s : Record). IsOfSchema opened.schema s × IsStorable s × (s.definition.number ≡ type.number)) (cond b (r ∷ of_type type.number records) (of_type type.number records))
+      by_test true is rest = ((typed.0, can.0, Rattle.std.proofs.lemmas.Bool.eqb-true r.definition.number type.number is), rest)
+      by_test false is rest = rest
+
+  -- ---- what was read
+
+  module _ (small : type.number < 2 ^ 64) where
+    read_pairs : (m : Map) → read_in m (type_range opened.prefix type.number ∷ []) ≡ pairs_in m (type_range opened.prefix type.number)
+    read_pairs m = append-nil (pairs_in m (type_range opened.prefix type.number))
+
+    -- FOUND: the rows are the records of the type
+    rows_there : (m : Map) (pairs : List Pair) (rows : List Record) → pairs ≡ pairs_in m (type_range opened.prefix type.number) → ArePairsOf (place opened.prefix 1) type pairs rows →
+        AllByRecursion (IsRecordPair opened.prefix opened.schema) (read_in m (type_range opened.prefix type.number ∷ [])) × AtStore opened m (λ store. rows ≡ of_type type.number store.records)
+    rows_there m pairs rows is good = (
+      subst (AllByRecursion (IsRecordPair opened.prefix opened.schema)) (is ∙ sym (read_pairs m)) (good_form pairs rows good),
+      λ store holds same.
+          same_records rows (of_type type.number store.records) pairs good (is ∙ type_held opened.prefix m store type.number small holds)
+          (of_type_good store.records (subst (λ s. AllByRecursion (IsOfSchema s) store.records) same holds.lawful.typed) holds.lawful.storable),
+    )
+
+    -- NOT FOUND: one of the pairs is that of no record
+    bad_inside : (m : Map) (before behind : List Pair) (bad : Pair) → pairs_in m (type_range opened.prefix type.number) ≡ before ++ bad ∷ behind → contains (type_range opened.prefix type.number) bad.0 ≡ true
+    bad_inside m before behind bad split =
+        in_middle before (subst (AllByRecursion (λ (e : Pair). contains (type_range opened.prefix type.number) e.0 ≡ true)) split (pairs_lie opened.prefix m (type_range opened.prefix type.number)))
+      where
+        in_middle : (before : List Pair) → AllByRecursion (λ (e : Pair). contains (type_range opened.prefix type.number) e.0 ≡ true) (before ++ bad ∷ behind) → contains (type_range opened.prefix type.number) bad.0 ≡ true
+        in_middle [] all = all.0
+        in_middle (pair ∷ before) all = in_middle before all.1
+
+    unread_there : (refuses : KeyRange → Option ReadError) (m : Map) (pairs : List Pair) (error : StoreError) → pairs ≡ pairs_in m (type_range opened.prefix type.number) → HaveNoRecords (place opened.prefix 1) type pairs error →
+        IsUnread refuses opened (type_range opened.prefix type.number ∷ []) error m
+    unread_there refuses m pairs error is (inl memory) = subst (λ e. IsUnread refuses opened (type_range opened.prefix type.number ∷ []) e m) (sym memory) tt
+    unread_there refuses m pairs error is (inr among) = by_error error among.none
+      where
+        first : (key : List ℕ) → IsPairOfNone (place opened.prefix 1) type among.bad (Corrupt key) → IsFirstBad (IsRecordPair opened.prefix opened.schema) (read_in m (type_range opened.prefix type.number ∷ [])) key
+        first key says = record {
+          before = among.before;
+          bad = among.bad;
+          behind = among.behind;
+          split = read_pairs m ∙ sym is ∙ among.split;
+          good = good_form among.before among.records among.good;
+          malformed = bad_form among.bad (bad_inside m among.before among.behind among.bad (sym is ∙ among.split)) small says.1;
+          at = says.0;
+        }
+
+        by_error : (e : StoreError) → IsPairOfNone (place opened.prefix 1) type among.bad e → IsUnread refuses opened (type_range opened.prefix type.number ∷ []) e m
+        by_error Memory says = tt
+        by_error (Read reason) says = absurd says
+        by_error (Write reason) says = absurd says
+        by_error (Refused refusal) says = absurd says
+        by_error (Corrupt key) says = (
+          first key says,
+          λ store holds same.
+              none_bad (read_in m (type_range opened.prefix type.number ∷ [])) key
+              (subst (AllByRecursion (IsRecordPair opened.prefix opened.schema)) (sym (read_pairs m)) (subst (λ s. AllByRecursion (IsRecordPair opened.prefix s) (pairs_in m (type_range opened.prefix type.number))) same (type_form opened.prefix m store holds type.number small)))
+              (first key says),
+        )
+
+    pub rows_read : {maps : ℕ → Map} {old new : CommitRequest} (range : KeyRange) (pairs : List Pair) (records_place : List ℕ) (rows : List Record) → range ≡ type_range opened.prefix type.number → records_place ≡ place opened.prefix 1 →
+        new ≡ has_read range old → ((m : Map) → Agree new.reads (maps old.read_version) m → pairs ≡ pairs_in (seen old m) range) → ArePairsOf records_place type pairs rows →
+        DidRead maps (type_range opened.prefix type.number ∷ []) old new (λ m.
+        AllByRecursion (IsRecordPair opened.prefix opened.schema) (read_in m (type_range opened.prefix type.number ∷ [])) × AtStore opened m (λ store. rows ≡ of_type type.number store.records))
+    rows_read {old = old} range pairs records_place rows is at read answer good =
+        ran_read range read (one_covers range (type_range opened.prefix type.number) is)
+        (λ m agree. rows_there (seen old m) pairs rows (answer m agree ∙ ap (pairs_in (seen old m)) is) (subst (λ p. ArePairsOf p type pairs rows) at good))
+
+    pub rows_unread : {maps : ℕ → Map} {refuses : KeyRange → ℕ → Option ReadError} {old new : CommitRequest} (range : KeyRange) (pairs : List Pair) (records_place : List ℕ) (error : StoreError) → range ≡ type_range opened.prefix type.number → records_place ≡ place opened.prefix 1 →
+        new ≡ has_read range old → ((m : Map) → Agree new.reads (maps old.read_version) m → pairs ≡ pairs_in (seen old m) range) → HaveNoRecords records_place type pairs error →
+        HasNotFound maps refuses opened (type_range opened.prefix type.number ∷ []) error old new
+    rows_unread {refuses = refuses} {old = old} range pairs records_place error is at read answer none = record {
+      ran =
+          ran_read range read (one_covers range (type_range opened.prefix type.number) is)
+          (λ m agree. unread_there (λ r. refuses r old.read_version) (seen old m) pairs error (answer m agree ∙ ap (pairs_in (seen old m)) is) (subst (λ p. HaveNoRecords p type pairs error) at none));
+    }
+
+-- ---- one pair
+
+-- where behind the place stand a key and a value of no record, the pair is that of none
+pub no_pair : (records_place : List ℕ) (type : TypeDefinition) (pair : Pair) (slice rest value : List ℕ) (found : Option Record) → slice ≡ pair.0 → slice ≡ records_place ++ rest → value ≡ pair.1 →
+    Rattle.std.specs.Option.IfNone found (Rattle.metadata.specs.Stored.IsOfNoRecord type rest value) → found ≡ None → (stored : Record) → IsPairOf records_place type pair stored → ⊥
+no_pair records_place type pair slice rest value None at behind same none is stored pair_of =
+    let rests : rest ≡ pair_of.rest = Rattle.std.proofs.lemmas.List.append_cancel_left records_place rest pair_of.rest (sym behind ∙ at ∙ pair_of.behind) in
+    none stored (record { made = pair_of.is.made; cells = pair_of.is.cells; has_key = rests ∙ pair_of.is.has_key; has_value = same ∙ pair_of.is.has_value })
+no_pair records_place type pair slice rest value (Some r) at behind same none is stored pair_of = absurd (cc)
+
+-- among pairs one that is that of none
+pub bad_among : (records_place : List ℕ) (type : TypeDefinition) (pairs : List Pair) (i : ℕ) (pair : Pair) (records : List Record) (error : StoreError) → i < length pairs → pair ≡ get_or pairs i pair →
+    ArePairsOf records_place type (take i pairs) records → IsPairOfNone records_place type pair error → HaveNoRecords records_place type pairs error
+bad_among records_place type pairs i pair records error within is good none =
+    inr (record { before = take i pairs; bad = pair; behind = drop (suc i) pairs; records = records; split = split_at i pairs pair within is; good = good; none = none })

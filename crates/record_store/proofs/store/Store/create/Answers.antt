@@ -1,0 +1,32 @@
+use Rattle.std.proofs.Common.{subst₂, sym}
+use Rattle.record_store.specs.Opening.{IsCreated}
+use Rattle.record_store.specs.Steps.{of_write}
+use Rattle.record_store.proofs.Creating.{created_now, uncreated_first, uncreated_limit, uncreated_then, uncreated_there}
+use Rattle.record_store.proofs.Openings.{exit_with}
+use Rattle.record_store.proofs.store.Store.create.Goals as goal
+
+pub returns-in_err-written-clause-refused : goal.returns-in_err-written-clause-refused
+returns-in_err-written-clause-refused g c =
+    exit_with c.from_residual.result c.in_err-written.field-0.0 _ c.from_residual.ensures (uncreated_first c.args.prefix.now c.args.schema.now c.in_err-written.field-0.0 c.in_err-written.ensures.refused)
+
+pub returns-in_err-_states-clause-refused : goal.returns-in_err-_states-clause-refused
+returns-in_err-_states-clause-refused g c =
+    exit_with c.from_residual-in_err-_states.result c.in_err-_states.field-0.0 _ c.from_residual-in_err-_states.ensures
+    (uncreated_then c.args.prefix.now c.args.schema.now c.in_err-_states.field-0.0 c.in_ok-written.ensures.read c.in_err-_states.ensures.refused)
+
+pub returns-in_err-refuse_store-clause-refused : goal.returns-in_err-refuse_store-clause-refused
+returns-in_err-refuse_store-clause-refused g c =
+    exit_with c.from_residual-in_err-refuse_store.result c.in_err-refuse_store.field-0.0 _ c.from_residual-in_err-refuse_store.ensures
+    (uncreated_there c.args.prefix.now c.args.schema.now c.in_ok-written.written c.in_ok-written.ensures.read c.in_ok-_states.ensures.read c.in_err-refuse_store.field-0.0 c.in_err-refuse_store.ensures.refused)
+
+pub returns-in_err-write_all-clause-refused : goal.returns-in_err-write_all-clause-refused
+returns-in_err-write_all-clause-refused g c =
+    exit_with c.from_residual-in_err-write_all.result (of_write c.in_err-write_all.field-0.0) _ c.from_residual-in_err-write_all.ensures
+    (uncreated_limit c.args.prefix.now c.args.schema.now c.in_ok-written.written c.in_ok-written.ensures.read c.in_ok-_states.ensures.read c.in_ok-mutations.mutations.items c.in_err-write_all.field-0.0
+    c.in_ok-refuse_store.ensures.none c.in_ok-mutations.ensures c.in_err-write_all.ensures.kept c.in_err-write_all.ensures.refused)
+
+pub returns-clause-created : goal.returns-clause-created
+returns-clause-created g c =
+    subst₂ (λ p s. IsCreated (g.S.Snapshot.map_at c.args.db.now) (record { prefix = p; schema = s }) c.args.tx.now c.write_all.new.self) (sym c.in_ok-own_prefix.ensures.items) (sym c.in_ok-own_schema.ensures)
+    (created_now c.args.prefix.now c.args.schema.now c.in_ok-written.written c.in_ok-written.ensures.read c.in_ok-_states.ensures.read c.in_ok-mutations.mutations.items c.types-lawful.ensures.lawful
+    c.in_ok-refuse_store.ensures.none c.in_ok-mutations.ensures c.in_ok-write_all.ensures.ok c.in_ok-write_all.ensures.allowed)

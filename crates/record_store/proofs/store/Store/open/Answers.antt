@@ -1,0 +1,23 @@
+use Rattle.std.proofs.Common.{subst, sym}
+use Rattle.record_store.specs.Opening.{IsOpened}
+use Rattle.record_store.proofs.Openings.{exit_with, opened_now, unopened_by, unopened_first, unopened_then}
+use Rattle.record_store.proofs.store.Store.open.Goals as goal
+
+pub returns-in_err-written-clause-refused : goal.returns-in_err-written-clause-refused
+returns-in_err-written-clause-refused g c =
+    exit_with c.from_residual.result c.in_err-written.field-0.0 _ c.from_residual.ensures (unopened_first c.args.prefix.now c.in_err-written.field-0.0 c.in_err-written.ensures.refused)
+
+pub returns-in_err-states-clause-refused : goal.returns-in_err-states-clause-refused
+returns-in_err-states-clause-refused g c =
+    exit_with c.from_residual-in_err-states.result c.in_err-states.field-0.0 _ c.from_residual-in_err-states.ensures
+    (unopened_then c.args.prefix.now c.in_err-states.field-0.0 c.in_ok-written.ensures.read c.in_err-states.ensures.refused)
+
+pub returns-in_err-schema-clause-refused : goal.returns-in_err-schema-clause-refused
+returns-in_err-schema-clause-refused g c =
+    exit_with c.from_residual-in_err-schema.result c.in_err-schema.field-0.0 _ c.from_residual-in_err-schema.ensures
+    (unopened_by c.args.prefix.now c.in_ok-written.written c.in_ok-states.states.items c.in_err-schema.field-0.0 c.in_ok-written.ensures.read c.in_ok-states.ensures.read c.in_err-schema.ensures.refused)
+
+pub returns-clause-opened : goal.returns-clause-opened
+returns-clause-opened g c =
+    subst (λ p. IsOpened (g.S.Snapshot.map_at c.args.db.now) (record { prefix = p; schema = c.in_ok-schema.schema }) c.args.tx.now c.read_states.new.tx) (sym c.in_ok-prefix.ensures.items)
+    (opened_now c.args.prefix.now c.in_ok-written.written c.in_ok-states.states.items c.in_ok-schema.schema c.in_ok-written.ensures.read c.in_ok-states.ensures.read c.in_ok-schema.ensures.found)

@@ -1,0 +1,39 @@
+use Rattle.std.proofs.Common.{◌∙◌, ap, subst, sym, refl}
+use Rattle.metadata.specs.Record.{Record}
+use Rattle.std.specs.Prelude.{List}
+use Rattle.metadata.proofs.StoredApart.{named_typed, number_small}
+use Rattle.record_store.specs.Call.{IsAnswered}
+use Rattle.record_store.specs.Calls.{done_with, number_of, records_call, records_service}
+use Rattle.record_store.specs.Layout.{place, type_range}
+use Rattle.record_store.proofs.Answered.{answered_reading, refused_unread}
+use Rattle.record_store.proofs.Openings.{exit_with}
+use Rattle.record_store.proofs.RecordCalls.{records_served}
+use Rattle.record_store.proofs.Scanning.{rows_read, rows_unread}
+use Rattle.record_store.proofs.store.Store.records.Goals as goal
+
+pub returns-in_err-records-clause-refused : goal.returns-in_err-records-clause-refused
+returns-in_err-records-clause-refused g c =
+    exit_with c.from_residual-in_err-records.result c.in_err-records.field-0.0 _ c.from_residual-in_err-records.ensures
+    (refused_unread (g.S.Snapshot.map_at c.args.db.now) (g.S.Snapshot.refusal c.args.db.now) c.args.self.now (records_call c.args.self.now c.args.type_name.now)
+    (records_service c.args.self.now c.in_ok-definition.definition.now.number) c.in_err-records.field-0.0
+    (ap (λ t. done_with (records_service c.args.self.now) (number_of t)) c.in_ok-definition.ensures.found)
+    (rows_unread c.args.self.now c.in_ok-definition.definition.now c.prefix.ensures.lawful c.in_ok-definition.ensures.own
+    (number_small c.args.self.now.schema c.in_ok-definition.definition.now c.prefix.ensures.lawful (named_typed c.args.self.now.schema c.in_ok-definition.definition.now.name c.in_ok-definition.definition.now c.prefix.ensures.lawful c.in_ok-definition.ensures.own))
+    c.in_ok-range.range c.as_slice-2.result.now c.as_slice.result.now c.in_err-records.field-0.0
+    (c.in_ok-range.ensures ∙ ap (λ p. type_range p c.in_ok-definition.definition.now.number) c.prefix.ensures.prefix)
+    (c.as_slice.ensures.value ∙ c.in_ok-place.ensures ∙ ap (λ p. place p 1) c.prefix-2.ensures.prefix)
+    c.in_ok-pairs.ensures.reads (λ m agree. c.as_slice-2.ensures.value ∙ c.in_ok-pairs.ensures.answer m agree) c.in_err-records.ensures.refused))
+
+pub returns-clause-found : goal.returns-clause-found
+returns-clause-found g c =
+    subst (λ (rows : List Record). IsAnswered (g.S.Snapshot.map_at c.args.db.now) c.args.self.now (records_call c.args.self.now c.args.type_name.now) rows c.args.tx.now c.get_all.new.self) (sym c.new.ensures)
+    (answered_reading (g.S.Snapshot.map_at c.args.db.now) (g.S.Snapshot.refusal c.args.db.now) c.args.self.now (records_call c.args.self.now c.args.type_name.now)
+    (records_service c.args.self.now c.in_ok-definition.definition.now.number) c.in_ok-records.records.items
+    (ap (λ t. done_with (records_service c.args.self.now) (number_of t)) c.in_ok-definition.ensures.found) refl
+    (rows_read c.args.self.now c.in_ok-definition.definition.now c.prefix.ensures.lawful c.in_ok-definition.ensures.own
+    (number_small c.args.self.now.schema c.in_ok-definition.definition.now c.prefix.ensures.lawful (named_typed c.args.self.now.schema c.in_ok-definition.definition.now.name c.in_ok-definition.definition.now c.prefix.ensures.lawful c.in_ok-definition.ensures.own))
+    c.in_ok-range.range c.as_slice-2.result.now c.as_slice.result.now c.in_ok-records.records.items
+    (c.in_ok-range.ensures ∙ ap (λ p. type_range p c.in_ok-definition.definition.now.number) c.prefix.ensures.prefix)
+    (c.as_slice.ensures.value ∙ c.in_ok-place.ensures ∙ ap (λ p. place p 1) c.prefix-2.ensures.prefix)
+    c.in_ok-pairs.ensures.reads (λ m agree. c.as_slice-2.ensures.value ∙ c.in_ok-pairs.ensures.answer m agree) c.in_ok-records.ensures.found)
+    (λ m store holds same is. records_served c.args.self.now c.in_ok-definition.definition.now.number c.in_ok-records.records.items m store holds is))

@@ -1,0 +1,9 @@
+pub mod Store
+pub mod Layout
+pub mod Holds
+pub mod Form
+pub mod Call
+pub mod Calls
+pub mod Opening
+pub mod Steps
+pub mod Reading

@@ -1,0 +1,75 @@
+-- What opening a store and making one establish.
+use Rattle.std.specs.Prelude.{◌≡◌, ℕ, List, [], ◌∷◌, Option, Some, None, IsTrue}
+use Rattle.std.specs.FinMap.{get}
+use Rattle.kv_core.specs.Range.{KeyRange, covers, point}
+use Rattle.kv_core.specs.Map.{Map, after_all, pairs_in}
+use Rattle.kv_core.specs.Limits.{write_all_refusal}
+use Rattle.kv_core.specs.declared.change.CommitRequest.{CommitRequest}
+use Rattle.kv_core.specs.declared.change.Mutation.{Mutation}
+use Rattle.cluster_core.specs.declared.answers.ReadError.{ReadError}
+use Rattle.txn.specs.Runs.{Ran}
+use Rattle.metadata.specs.Lawful.{IsLawfulSchema}
+use Rattle.metadata.specs.Written.{schema_bytes}
+use Rattle.metadata.specs.declared.refusal.Refusal.TheVariants.{AlreadyThere, NoStore}
+use Rattle.record_store.specs.declared.error.StoreError.{StoreError}
+use Rattle.record_store.specs.declared.error.StoreError.TheVariants.{Memory, Read, Write, Corrupt, Refused}
+use Rattle.record_store.specs.Store.{Serial, created, schema_in}
+use Rattle.record_store.specs.Layout.{schema_key, states_range}
+use Rattle.record_store.specs.Holds.{HasNoIndex, Holds}
+use Rattle.record_store.specs.Form.{IsFirstBad, IsSchemaPair, read_in}
+use Rattle.record_store.specs.Call.{IsReadRefusedAs, Opened}
+use Rattle.record_store.specs.Calls.{schema_writes}
+use Rattle.record_store.specs.Steps.{DidRead}
+
+-- what opening a store reads: its schema, and the states of its indexes
+abbrev pub opening_reach : List ℕ → List KeyRange
+opening_reach prefix = point (schema_key prefix) ∷ states_range prefix ∷ []
+
+-- the fact stands of all that the map holds
+abbrev pub AtSerials : List ℕ → Map → (Serial → Type 0) → Type 0
+AtSerials prefix m Fact = (serial : Serial) → Holds prefix m serial → Fact serial
+
+-- the map has the bytes of this schema, which has no index, and no state of an index
+pub record HasSchema (opened : Opened) (m : Map) : Type 0 where
+  pub made : IsLawfulSchema opened.schema
+  pub plain : opened.schema.indexes ≡ []
+  pub bytes : get m (schema_key opened.prefix) ≡ Some (schema_bytes opened.schema)
+  pub stateless : pairs_in m (states_range opened.prefix) ≡ []
+
+-- a store was opened: every map that agrees with what was read has its schema, and what it holds is a store of this schema
+pub record IsOpened (maps : ℕ → Map) (opened : Opened) (old new : CommitRequest) : Type 0 where
+  pub ran : DidRead maps (opening_reach opened.prefix) old new (λ m. HasSchema opened m × AtSerials opened.prefix m (λ serial. schema_in serial ≡ Some opened.schema))
+
+-- why no store is opened: memory is wanting, a read is refused, no schema stands there, or the first pair read that isn't of the written form has this key, which nothing without indexes has
+abbrev pub IsOpenFailure : (KeyRange → Option ReadError) → List ℕ → StoreError → Map → Type 0
+IsOpenFailure refuses prefix Memory m = Unit {0}
+IsOpenFailure refuses prefix (Read error) m = IsReadRefusedAs refuses (opening_reach prefix) error
+IsOpenFailure refuses prefix (Refused refusal) m = (refusal ≡ NoStore) × (get m (schema_key prefix) ≡ None) × AtSerials prefix m (λ serial. serial ≡ None)
+IsOpenFailure refuses prefix (Corrupt key) m =
+    IsFirstBad (IsSchemaPair prefix) (read_in m (opening_reach prefix)) key × AtSerials prefix m (λ serial. HasNoIndex serial → ⊥)
+IsOpenFailure refuses prefix (Write error) m = ⊥
+
+-- a store wasn't opened: nothing was written
+pub record IsUnopened (maps : ℕ → Map) (refuses : KeyRange → ℕ → Option ReadError) (prefix : List ℕ) (error : StoreError) (old new : CommitRequest) : Type 0 where
+  pub ran : DidRead maps (opening_reach prefix) old new (IsOpenFailure (λ range. refuses range old.read_version) prefix error)
+
+-- a store was made: no schema stood there and nothing was there, its schema is all that was written, within the limits, and a map that holds a new store of it is what comes of that
+pub record IsCreated (maps : ℕ → Map) (opened : Opened) (old new : CommitRequest) : Type 0 where
+  pub allowed : write_all_refusal old.mutations (schema_writes opened.prefix opened.schema) ≡ None
+  pub ran : Ran maps (λ key. IsTrue (covers (opening_reach opened.prefix) key)) old new (schema_writes opened.prefix opened.schema)
+      (λ m. (get m (schema_key opened.prefix) ≡ None)
+      × AtSerials opened.prefix m (λ serial. (serial ≡ None) × Holds opened.prefix (after_all (schema_writes opened.prefix opened.schema) m) (Some (created opened.schema))))
+
+-- why no store is made: memory is wanting, a read is refused, a pair stands where a schema does, or a limit refuses the schema
+abbrev pub IsCreateFailure : (KeyRange → Option ReadError) → Opened → StoreError → List Mutation → Map → Type 0
+IsCreateFailure refuses opened Memory before m = Unit {0}
+IsCreateFailure refuses opened (Read error) before m = IsReadRefusedAs refuses (opening_reach opened.prefix) error
+IsCreateFailure refuses opened (Refused refusal) before m =
+    (refusal ≡ AlreadyThere) × (get m (schema_key opened.prefix) ≡ None → ⊥) × AtSerials opened.prefix m (λ serial. serial ≡ None → ⊥)
+IsCreateFailure refuses opened (Write error) before m =
+    (get m (schema_key opened.prefix) ≡ None) × (write_all_refusal before (schema_writes opened.prefix opened.schema) ≡ Some error) × AtSerials opened.prefix m (λ serial. serial ≡ None)
+IsCreateFailure refuses opened (Corrupt key) before m = ⊥
+
+-- a store wasn't made: nothing was written
+pub record IsUncreated (maps : ℕ → Map) (refuses : KeyRange → ℕ → Option ReadError) (opened : Opened) (error : StoreError) (old new : CommitRequest) : Type 0 where
+  pub ran : DidRead maps (opening_reach opened.prefix) old new (IsCreateFailure (λ range. refuses range old.read_version) opened error old.mutations)

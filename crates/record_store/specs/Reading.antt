@@ -1,0 +1,132 @@
+-- What the reads of a store and the decoding of what they find establish, beneath whole calls.
+use Rattle.std.specs.Prelude.{◌≡◌, ◌⊎◌, ℕ, List, [], ◌∷◌, ◌++◌, Option, Some, None}
+use Rattle.std.specs.List.{AllByRecursion}
+use Rattle.tuple_codec.specs.Item.{Item, IsTuple}
+use Rattle.kv_core.specs.Range.{KeyRange, point}
+use Rattle.kv_core.specs.Map.{Map}
+use Rattle.kv_core.specs.declared.change.CommitRequest.{CommitRequest}
+use Rattle.cluster_core.specs.declared.answers.ReadError.{ReadError}
+use Rattle.metadata.specs.declared.cells.Cell.{Cell}
+use Rattle.metadata.specs.declared.definition.TypeDefinition.{TypeDefinition}
+use Rattle.metadata.specs.declared.refusal.Refusal.TheVariants.{AlreadyThere, NoStore}
+use Rattle.metadata.specs.Lawful.{IsLawfulSchema}
+use Rattle.metadata.specs.Record.{Record, key_items}
+use Rattle.metadata.specs.Records.{record_at}
+use Rattle.metadata.specs.Schema.{Schema}
+use Rattle.metadata.specs.Stored.{IsOfNoRecord, IsStoredAs}
+use Rattle.metadata.specs.Written.{schema_bytes}
+use Rattle.record_store.specs.declared.error.StoreError.{StoreError}
+use Rattle.record_store.specs.declared.error.StoreError.TheVariants.{Memory, Read, Corrupt, Refused}
+use Rattle.record_store.specs.Layout.{record_key, schema_key}
+use Rattle.record_store.specs.Form.{IsRecordPair, read_in}
+use Rattle.record_store.specs.Call.{AtStore, IsReadRefusedAs, IsUnread, Opened}
+use Rattle.record_store.specs.Steps.{DidRead}
+
+-- the error of reads within these ranges: memory is wanting, or a read of a range in them is refused so
+abbrev pub IsReadError : (KeyRange → Option ReadError) → List KeyRange → StoreError → Type 0
+IsReadError refuses within Memory = Unit {0}
+IsReadError refuses within (Read error) = IsReadRefusedAs refuses within error
+IsReadError refuses within error = ⊥
+
+-- a read within these ranges came to an error
+pub record HasNotRead (maps : ℕ → Map) (refuses : KeyRange → ℕ → Option ReadError) (within : List KeyRange) (error : StoreError) (old new : CommitRequest) : Type 0 where
+  pub ran : DidRead maps within old new (λ m. IsReadError (λ range. refuses range old.read_version) within error)
+
+-- what was found where a schema may stand is the bytes of this schema, which has no index, and there is no state of an index
+pub record IsSchema (written : Option (List ℕ)) (states : List (List ℕ × List ℕ)) (schema : Schema) : Type 0 where
+  pub made : IsLawfulSchema schema
+  pub plain : schema.indexes ≡ []
+  pub bytes : written ≡ Some (schema_bytes schema)
+  pub stateless : states ≡ []
+
+-- the bytes are those of no schema without indexes
+abbrev pub AreOfNoSchema : List ℕ → Type 0
+AreOfNoSchema bytes = (schema : Schema) → IsLawfulSchema schema → schema.indexes ≡ [] → bytes ≡ schema_bytes schema → ⊥
+
+-- why bytes are no schema: memory is wanting, or they are those of none
+abbrev pub IsBadSchema : List ℕ → List ℕ → StoreError → Type 0
+IsBadSchema prefix bytes Memory = Unit {0}
+IsBadSchema prefix bytes (Corrupt key) = (key ≡ schema_key prefix) × AreOfNoSchema bytes
+IsBadSchema prefix bytes error = ⊥
+
+-- why there may be no states: memory is wanting, or there is one, at this key
+abbrev pub IsBadState : List (List ℕ × List ℕ) → StoreError → Type 0
+IsBadState states Memory = Unit {0}
+IsBadState (pair ∷ others) (Corrupt key) = key ≡ pair.0
+IsBadState states error = ⊥
+
+-- behind the bytes of a schema there may be no states
+pub record IsBadStateBehind (bytes : List ℕ) (states : List (List ℕ × List ℕ)) (error : StoreError) : Type 0 where
+  pub schema : Schema
+  pub made : IsLawfulSchema schema
+  pub plain : schema.indexes ≡ []
+  pub is : bytes ≡ schema_bytes schema
+  pub bad : IsBadState states error
+
+-- why what was found is no schema: nothing was found, or bytes of no schema, or a state of an index
+abbrev pub IsNoSchema : List ℕ → Option (List ℕ) → List (List ℕ × List ℕ) → StoreError → Type 0
+IsNoSchema prefix None states error = error ≡ Refused NoStore
+IsNoSchema prefix (Some bytes) states error = IsBadSchema prefix bytes error ⊎ IsBadStateBehind bytes states error
+
+-- the key is the primary key of a record of the type
+pub record IsKeyOf (type : TypeDefinition) (key : List Item) : Type 0 where
+  pub cells : List Cell
+  pub is : key ≡ key_items type.number cells
+  pub tuple : IsTuple key
+
+-- what was found at the key of a record of the type is this record's value, or nothing
+abbrev pub IsFound : TypeDefinition → List ℕ → Option (List ℕ) → Option Record → Type 0
+IsFound type key None found = found ≡ None
+IsFound type key (Some value) None = ⊥
+IsFound type key (Some value) (Some found) = IsStoredAs type key value found
+
+-- why what was found is no record of the type: memory is wanting, or it is the value of none
+abbrev pub IsNotFound : TypeDefinition → List ℕ → List ℕ → Option (List ℕ) → StoreError → Type 0
+IsNotFound type key at value Memory = Unit {0}
+IsNotFound type key at (Some value) (Corrupt damaged) = (damaged ≡ at) × IsOfNoRecord type key value
+IsNotFound type key at value error = ⊥
+
+-- the record of a primary key was read: what was read is of the written form, and this record, or none, is the one that is there
+abbrev pub IsRead : Opened → List Item → Option Record → Map → Type 0
+IsRead opened key found m =
+    AllByRecursion (IsRecordPair opened.prefix opened.schema) (read_in m (point (record_key opened.prefix key) ∷ []))
+    × AtStore opened m (λ store. found ≡ record_at key store.records)
+
+-- reads within these ranges of an open store weren't answered
+pub record HasNotFound (maps : ℕ → Map) (refuses : KeyRange → ℕ → Option ReadError) (opened : Opened) (within : List KeyRange) (error : StoreError) (old new : CommitRequest) : Type 0 where
+  pub ran : DidRead maps within old new (IsUnread (λ range. refuses range old.read_version) opened within error)
+
+-- a pair has the key of a record of the type behind the place of records, and its value
+pub record IsPairOf (records_place : List ℕ) (type : TypeDefinition) (pair : List ℕ × List ℕ) (stored : Record) : Type 0 where
+  pub rest : List ℕ
+  pub behind : pair.0 ≡ records_place ++ rest
+  pub is : IsStoredAs type rest pair.1 stored
+
+-- why a pair is that of no record of the type: memory is wanting, or its key or its value is that of none
+abbrev pub IsPairOfNone : List ℕ → TypeDefinition → List ℕ × List ℕ → StoreError → Type 0
+IsPairOfNone records_place type pair Memory = Unit {0}
+IsPairOfNone records_place type pair (Corrupt key) = (key ≡ pair.0) × ((stored : Record) → IsPairOf records_place type pair stored → ⊥)
+IsPairOfNone records_place type pair error = ⊥
+
+-- records are those of pairs, one for each
+abbrev pub ArePairsOf : List ℕ → TypeDefinition → List (List ℕ × List ℕ) → List Record → Type 0
+ArePairsOf records_place type [] [] = Unit {0}
+ArePairsOf records_place type (pair ∷ pairs) (stored ∷ records) = IsPairOf records_place type pair stored × ArePairsOf records_place type pairs records
+ArePairsOf records_place type pairs records = ⊥
+
+-- why pairs have no records: memory is wanting, or behind pairs that are those of records one isn't
+pub record IsBadAmong (records_place : List ℕ) (type : TypeDefinition) (pairs : List (List ℕ × List ℕ)) (error : StoreError) : Type 0 where
+  pub before : List (List ℕ × List ℕ)
+  pub bad : List ℕ × List ℕ
+  pub behind : List (List ℕ × List ℕ)
+  pub records : List Record
+  pub split : pairs ≡ before ++ bad ∷ behind
+  pub good : ArePairsOf records_place type before records
+  pub none : IsPairOfNone records_place type bad error
+
+abbrev pub HaveNoRecords : List ℕ → TypeDefinition → List (List ℕ × List ℕ) → StoreError → Type 0
+HaveNoRecords records_place type pairs error = (error ≡ Memory) ⊎ IsBadAmong records_place type pairs error
+
+-- why a store isn't made where a pair was found at the schema's key
+abbrev pub IsThere : Option (List ℕ) → StoreError → Type 0
+IsThere written error = (error ≡ Refused AlreadyThere) × (written ≡ None → ⊥)

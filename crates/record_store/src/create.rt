@@ -1,0 +1,74 @@
+ghost use Rattle.std.specs.Prelude.{◌≡◌, [], None, IfOk, IfErr, IsTrue, OnOk};
+ghost use Rattle.kv_core.specs.Bytes.{end_of_keys, key_lt};
+ghost use Rattle.record_store.specs.Calls.{schema_writes};
+ghost use Rattle.record_store.specs.Opening.{IsCreated, IsUncreated};
+ghost use Rattle.record_store.specs.Reading.{IsThere};
+
+use crate::error::StoreError;
+use crate::layout::schema_key;
+use crate::opening::{read_schema, read_states};
+use crate::store::Store;
+use kv_core::{Bytes, Mutation};
+use metadata::{Refusal, Schema};
+use std::alloc::{AllocError, Global};
+use txn::{Snapshot, Transaction};
+
+// Refuses to make a store where a pair stands at the schema's key.
+fn refuse_store(written: &Option<Bytes>) -> Result<(), StoreError>
+    ensures none { OnOk result (written.now ≡ None) }
+    ensures refused { IfErr result (IsThere written.now) }
+{
+    match written {
+        None => Ok(()),
+        Some(_) => Err(StoreError::Refused(Refusal::AlreadyThere)),
+    }
+}
+
+// What writing a schema is.
+pub(crate) fn schema_mutations(
+    alloc: Global,
+    prefix: &[u8],
+    schema: &Schema,
+) -> Result<Vec<Mutation>, AllocError>
+    requires { IsTrue (key_lt prefix.now end_of_keys) }
+    ensures { IfOk result (λ mutations. mutations.items ≡ schema_writes prefix.now schema.now) }
+{
+    let key = schema_key(alloc, prefix)?;
+    let value = Bytes::new(schema.encode(alloc)?);
+    let mut mutations = Vec::new(alloc);
+    mutations.push(Mutation::Set { key, value })?;
+    Ok(mutations)
+}
+
+impl Store {
+    /// Makes a store of this schema, without records, under this prefix, which doesn't begin with the byte FF.
+    ///
+    /// It reads what opening a store reads. Refused with `AlreadyThere` where a pair stands at the schema's key, with the snapshot's refusal of a read, and with the write limit that the schema meets.
+    pub fn create<S: Snapshot>(
+        alloc: Global,
+        prefix: &[u8],
+        tx: &mut Transaction,
+        db: &S,
+        schema: &Schema,
+    ) -> Result<Store, StoreError>
+        requires below { IsTrue (key_lt prefix.now end_of_keys) }
+        requires plain { schema.now.indexes ≡ [] }
+        ensures created { IfOk result (λ store. IsCreated (S.map_at db.now) store tx.old tx.new) }
+        ensures prefix { IfOk result (λ store. store.prefix ≡ prefix.now) }
+        ensures schema { IfOk result (λ store. store.schema ≡ schema.now) }
+        ensures refused { IfErr result (λ error. IsUncreated (S.map_at db.now) (S.refusal db.now) (record { prefix = prefix.now; schema = schema.now }) error tx.old tx.new) }
+    {
+        let _lawful = schema.types();
+        let written = read_schema(alloc, prefix, tx, db)?;
+        let _states = read_states(alloc, prefix, tx, db)?;
+        refuse_store(&written)?;
+        let own_prefix = Vec::from_slice(alloc, prefix)?;
+        let own_schema = schema.copy()?;
+        let mutations = schema_mutations(alloc, prefix, schema)?;
+        tx.write_all(mutations)?;
+        Ok(Store {
+            prefix: own_prefix,
+            schema: own_schema,
+        })
+    }
+}

@@ -1,0 +1,72 @@
+ghost use Rattle.std.specs.Prelude.{◌≡◌};
+ghost use Rattle.record_store.specs.Steps.{no_memory, of_metadata, of_read, of_write};
+
+use cluster_core::ReadError;
+use kv_core::{Bytes, WriteError};
+use metadata::{MetadataError, Refusal};
+use std::alloc::{AllocError, AllocFailed};
+use thiserror::Error;
+
+/// Why a call on the store isn't answered.
+#[derive(Drop)]
+pub enum StoreError {
+    /// Memory is wanting.
+    Memory,
+    /// A read is refused.
+    Read(ReadError),
+    /// A write is refused.
+    Write(WriteError),
+    /// The pair of this key isn't one that a store has there.
+    Corrupt(Bytes),
+    /// The call's own refusal.
+    Refused(Refusal),
+}
+
+impl From<AllocError> for StoreError {
+    ghost from_gives = { λ _ made. made ≡ no_memory };
+
+    fn from(_error: AllocError) -> StoreError {
+        StoreError::Memory
+    }
+}
+
+impl<T: Drop> From<AllocFailed<T>> for StoreError {
+    ghost from_gives = { λ _ made. made ≡ no_memory };
+
+    fn from(_error: AllocFailed<T>) -> StoreError {
+        StoreError::Memory
+    }
+}
+
+impl From<ReadError> for StoreError {
+    ghost from_gives = { λ error made. made ≡ of_read error };
+
+    fn from(error: ReadError) -> StoreError {
+        match error {
+            ReadError::Memory => StoreError::Memory,
+            error => StoreError::Read(error),
+        }
+    }
+}
+
+impl From<WriteError> for StoreError {
+    ghost from_gives = { λ error made. made ≡ of_write error };
+
+    fn from(error: WriteError) -> StoreError {
+        match error {
+            WriteError::Memory => StoreError::Memory,
+            error => StoreError::Write(error),
+        }
+    }
+}
+
+impl From<MetadataError> for StoreError {
+    ghost from_gives = { λ error made. made ≡ of_metadata error };
+
+    fn from(error: MetadataError) -> StoreError {
+        match error {
+            MetadataError::Memory => StoreError::Memory,
+            MetadataError::Refused(refusal) => StoreError::Refused(refusal),
+        }
+    }
+}

@@ -1,0 +1,93 @@
+// The keys and values of a store.
+ghost use Rattle.std.specs.Prelude.{◌≡◌, ◌∷◌, [], All, IfOk, IsTrue, OnOk, pos};
+ghost use Rattle.tuple_codec.specs.Item.{int};
+ghost use Rattle.kv_core.specs.Bytes.{end_of_keys, key_lt};
+ghost use Rattle.metadata.specs.Cell.{IsCell};
+ghost use Rattle.record_store.specs.Layout.{place, record_key, record_value, schema_key, states_range, type_range};
+
+use kv_core::{Bytes, KeyRange};
+use metadata::Cells;
+use std::alloc::{AllocError, Global};
+use tuple_codec::{Element, Subspace, Tuple, TupleInt, pack, pack_into};
+
+// The tuple of a number alone.
+fn number_tuple(alloc: Global, number: u64) -> Result<Tuple, AllocError>
+    ensures { IfOk result (λ tuple. tuple ≡ int (pos number) ∷ []) }
+{
+    let mut elements = Vec::new(alloc);
+    elements.push(Element::Int(TupleInt::from(number)))?;
+    match Tuple::new(elements) {
+        Ok(tuple) => Ok(tuple),
+        Err(_) => unreachable!(),
+    }
+}
+
+// What the keys of a place begin with.
+pub(crate) fn place(alloc: Global, prefix: &[u8], number: u64) -> Result<Vec<u8>, AllocError>
+    ensures { IfOk result (λ key. key.items ≡ place prefix.now number) }
+{
+    let tuple = number_tuple(alloc, number)?;
+    Subspace::new(Vec::from_slice(alloc, prefix)?).key(alloc, &tuple)
+}
+
+/// The key of the schema.
+pub(crate) fn schema_key(alloc: Global, prefix: &[u8]) -> Result<Bytes, AllocError>
+    requires { IsTrue (key_lt prefix.now end_of_keys) }
+    ensures key { IfOk result (λ key. key ≡ schema_key prefix.now) }
+    ensures below { IfOk result (λ key. IsTrue (key_lt key end_of_keys)) }
+{
+    let key = place(alloc, prefix, 0)?;
+    Ok(Bytes::new(key))
+}
+
+/// The range of the states of indexes.
+pub(crate) fn states_range(alloc: Global, prefix: &[u8]) -> Result<KeyRange, AllocError>
+    requires { IsTrue (key_lt prefix.now end_of_keys) }
+    ensures { IfOk result (λ range. range ≡ states_range prefix.now) }
+{
+    let ends = Subspace::new(place(alloc, prefix, 5)?).range(alloc)?;
+    match KeyRange::new(Bytes::new(ends.begin), Bytes::new(ends.end)) {
+        Some(range) => Ok(range),
+        None => unreachable!(),
+    }
+}
+
+/// The key of the record with this primary key.
+pub(crate) fn record_key(
+    alloc: Global,
+    prefix: &[u8],
+    primary_key: &Tuple,
+) -> Result<Bytes, AllocError>
+    requires { IsTrue (key_lt prefix.now end_of_keys) }
+    ensures key { IfOk result (λ key. key ≡ record_key prefix.now primary_key.now) }
+    ensures below { IfOk result (λ key. IsTrue (key_lt key end_of_keys)) }
+{
+    let mut key = place(alloc, prefix, 1)?;
+    pack_into(primary_key, &mut key)?;
+    Ok(Bytes::new(key))
+}
+
+/// The value of a record with these cells.
+pub(crate) fn record_value(alloc: Global, cells: &Cells) -> Result<Bytes, AllocError>
+    ensures value { IfOk result (λ value. value ≡ record_value cells.now) }
+    ensures cells { OnOk result (All IsCell cells.now) }
+{
+    let tuple = cells.tuple(alloc)?;
+    let value = pack(alloc, &tuple)?;
+    Ok(Bytes::new(value))
+}
+
+/// The range of the records of the type with this number: from the key of the number up to that key followed by FF.
+pub(crate) fn type_range(alloc: Global, prefix: &[u8], number: u64) -> Result<KeyRange, AllocError>
+    requires { IsTrue (key_lt prefix.now end_of_keys) }
+    ensures { IfOk result (λ range. range ≡ type_range prefix.now number) }
+{
+    let tuple = number_tuple(alloc, number)?;
+    let begin = record_key(alloc, prefix, &tuple)?;
+    let mut end = Vec::from_slice(alloc, begin.as_slice())?;
+    end.push(0xff)?;
+    match KeyRange::new(begin, Bytes::new(end)) {
+        Some(range) => Ok(range),
+        None => unreachable!(),
+    }
+}

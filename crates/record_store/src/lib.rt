@@ -1,0 +1,21 @@
+//! A store of typed records under a prefix of the keys, used in transactions.
+//!
+//! A call answers `StoreError::Memory` only where memory is wanting. A call that fails writes nothing; the ranges that it
+//! read stay in the transaction.
+#![tactic(auto)]
+
+mod create;
+mod error;
+mod layout;
+mod load;
+mod opening;
+mod reading;
+mod remove;
+mod save;
+mod scan;
+mod store;
+mod types;
+
+pub use error::StoreError;
+pub use scan::Records;
+pub use store::Store;

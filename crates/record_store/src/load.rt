@@ -1,0 +1,30 @@
+ghost use Rattle.std.specs.Prelude.{IfOk, IfErr};
+ghost use Rattle.record_store.specs.Call.{IsAnswered, IsRefused};
+ghost use Rattle.record_store.specs.Calls.{load_call};
+
+use crate::error::StoreError;
+use crate::store::Store;
+use metadata::{Cells, Record, key_of};
+use tuple_codec::Text;
+use txn::{Snapshot, Transaction};
+
+impl Store {
+    /// The record of the type of this name with these key cells, if it is there.
+    ///
+    /// Refused, in this order, before anything is read: `UnknownType`, `WrongKind` (a cell of another kind than its key field, or another number of cells), `NullKey`; then with the snapshot's refusal of the read, and with `Corrupt` and the record's key where its value isn't that of such a record.
+    pub fn load<S: Snapshot>(
+        &self,
+        tx: &mut Transaction,
+        db: &S,
+        type_name: &Text,
+        key: &Cells,
+    ) -> Result<Option<Record>, StoreError>
+        ensures found { IfOk result (λ found. IsAnswered (S.map_at db.now) self.now (load_call self.now type_name.now key.now) found tx.old tx.new) }
+        ensures refused { IfErr result (λ error. IsRefused (S.map_at db.now) (S.refusal db.now) self.now (load_call self.now type_name.now key.now) error tx.old tx.new) }
+    {
+        let definition = self.definition(type_name)?;
+        let primary_key = key_of(self.alloc(), self.schema(), type_name, key)?;
+        let found = self.read_record(tx, db, definition, &primary_key)?;
+        Ok(found)
+    }
+}

@@ -1,0 +1,72 @@
+ghost use Rattle.std.specs.Prelude.{◌≡◌, [], All, Err, Ok, IfOk, IfErr, OnOk};
+ghost use Rattle.metadata.specs.Cell.{IsCell};
+ghost use Rattle.metadata.specs.declared.refusal.Refusal.TheVariants.{OtherSchema};
+ghost use Rattle.metadata.specs.Record.{primary_key as primary_key_of};
+ghost use Rattle.metadata.specs.Schema.{find_type};
+ghost use Rattle.record_store.specs.Call.{IsAnswered, IsRefused};
+ghost use Rattle.record_store.specs.Calls.{own_record, record_writes, save_call};
+ghost use Rattle.record_store.specs.Steps.{other_schema};
+
+use crate::error::StoreError;
+use crate::layout::{record_key, record_value};
+use crate::store::Store;
+use kv_core::Mutation;
+use metadata::{Record, Refusal};
+use std::alloc::AllocError;
+use tuple_codec::Tuple;
+use txn::{Snapshot, Transaction};
+
+impl Store {
+    // Refuses a record whose type isn't that of the store's schema.
+    fn check_type(&self, new: &Record) -> Result<(), StoreError>
+        ensures own { OnOk result (own_record (find_type self.now.schema new.now.definition.name) new.now ≡ Ok new.now) }
+        ensures refused { IfErr result (λ error. (error ≡ other_schema) × (own_record (find_type self.now.schema new.now.definition.name) new.now ≡ Err OtherSchema)) }
+    {
+        let definition = new.definition();
+        match self.schema().type_named(&definition.name) {
+            Some(own) => {
+                if own.is_same(definition) {
+                    Ok(())
+                } else {
+                    Err(StoreError::Refused(Refusal::OtherSchema))
+                }
+            }
+            None => Err(StoreError::Refused(Refusal::OtherSchema)),
+        }
+    }
+
+    // What putting a record with this primary key writes.
+    fn replacement(&self, new: &Record, primary_key: &Tuple) -> Result<Vec<Mutation>, AllocError>
+        requires { primary_key.now ≡ primary_key_of new.now }
+        ensures mutations { IfOk result (λ mutations. mutations.items ≡ record_writes self.now.prefix new.now) }
+        ensures cells { OnOk result (All IsCell new.now.cells) }
+    {
+        let alloc = self.alloc();
+        let key = record_key(alloc, self.prefix(), primary_key)?;
+        let value = record_value(alloc, new.cells())?;
+        let mut mutations = Vec::new(alloc);
+        mutations.push(Mutation::Set { key, value })?;
+        Ok(mutations)
+    }
+
+    /// Puts a record in the place of the one with its primary key, which is answered.
+    ///
+    /// Refused with `OtherSchema` where the store's schema hasn't the record's type, before anything is read; then with the snapshot's refusal of the read, with `Corrupt` and the record's key where the value that stands there isn't that of such a record, and last with the write limit that the record meets.
+    pub fn save<S: Snapshot>(
+        &self,
+        tx: &mut Transaction,
+        db: &S,
+        new: &Record,
+    ) -> Result<Option<Record>, StoreError>
+        requires { self.now.schema.indexes ≡ [] }
+        ensures saved { IfOk result (λ old. IsAnswered (S.map_at db.now) self.now (save_call self.now new.now) old tx.old tx.new) }
+        ensures refused { IfErr result (λ error. IsRefused (S.map_at db.now) (S.refusal db.now) self.now (save_call self.now new.now) error tx.old tx.new) }
+    {
+        self.check_type(new)?;
+        let primary_key = new.primary_key(self.alloc())?;
+        let old = self.read_record(tx, db, new.definition(), &primary_key)?;
+        let mutations = self.replacement(new, &primary_key)?;
+        tx.write_all(mutations)?;
+        Ok(old)
+    }
+}

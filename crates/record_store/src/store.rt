@@ -1,0 +1,68 @@
+ghost use Rattle.std.specs.Prelude.{◌≡◌, None, Some, IfOk, IfErr, IsTrue};
+ghost use Rattle.kv_core.specs.Bytes.{end_of_keys, key_lt};
+ghost use Rattle.metadata.specs.Lawful.{IsLawfulSchema};
+ghost use Rattle.metadata.specs.Schema.{find_type};
+ghost use Rattle.record_store.specs.Steps.{unknown_type};
+
+use crate::error::StoreError;
+use metadata::{Refusal, Schema, TypeDefinition};
+use std::alloc::Global;
+use std::marker::Model;
+use tuple_codec::Text;
+
+/// A store that was opened in a transaction: the prefix of its keys, and its schema.
+///
+/// It is used in the transaction in which it was opened, where nothing else writes under its prefix meanwhile.
+#[derive(Drop)]
+pub struct Store {
+    pub(crate) prefix: Vec<u8>,
+    pub(crate) schema: Schema,
+}
+
+impl Model for Store {
+    ghost use Rattle.std.specs.Prelude.{IsTrue};
+    ghost use Rattle.kv_core.specs.Bytes.{end_of_keys, key_lt};
+    ghost use Rattle.metadata.specs.Lawful.{IsLawfulSchema};
+    ghost use Rattle.record_store.specs.Call.{Opened};
+
+    ghost Value = { Opened };
+
+    ghost view = { λ s. record { prefix = s.prefix.items; schema = s.schema } };
+
+    ghost invariant = { λ s. IsTrue (key_lt s.prefix.items end_of_keys) × IsLawfulSchema s.schema };
+}
+
+impl Store {
+    /// The schema of the store.
+    pub fn schema(&self) -> &Schema
+        ensures { result.now ≡ self.now.schema }
+    {
+        &self.schema
+    }
+
+    // The prefix of the store's keys.
+    pub(crate) fn prefix(&self) -> &[u8]
+        ensures prefix { result.now ≡ self.now.prefix }
+        ensures below { IsTrue (key_lt self.now.prefix end_of_keys) }
+        ensures lawful { IsLawfulSchema self.now.schema }
+    {
+        &self.prefix
+    }
+
+    // The definition of the type of this name.
+    pub(crate) fn definition(&self, type_name: &Text) -> Result<&TypeDefinition, StoreError>
+        ensures found { IfOk result (λ definition. find_type self.now.schema type_name.now ≡ Some definition.now) }
+        ensures own { IfOk result (λ definition. find_type self.now.schema definition.now.name ≡ Some definition.now) }
+        ensures refused { IfErr result (λ error. (error ≡ unknown_type) × (find_type self.now.schema type_name.now ≡ None)) }
+    {
+        match self.schema().type_named(type_name) {
+            Some(definition) => Ok(definition),
+            None => Err(StoreError::Refused(Refusal::UnknownType)),
+        }
+    }
+
+    // The allocator of the store.
+    pub(crate) fn alloc(&self) -> Global {
+        *self.prefix.allocator()
+    }
+}

@@ -1,0 +1,22 @@
+use Rattle.std.proofs.Common.{refl}
+use Rattle.record_store.specs.Steps.{of_metadata}
+use Rattle.schedule.proofs.Outcomes.{exit_with}
+use Rattle.schedule.proofs.Serving.{made_plain}
+use Rattle.schedule.proofs.Creating.{created_now, refused_request, uncreated}
+use Rattle.schedule.proofs.commands.create.Goals as goal
+
+pub returns-in_err-schema-clause-refused : goal.returns-in_err-schema-clause-refused
+returns-in_err-schema-clause-refused g c =
+    exit_with c.from_residual.result (of_metadata c.in_err-schema.field-0.0) _ c.from_residual.ensures (refused_request c.args.request.now c.in_err-schema.field-0.0 c.in_err-schema.ensures.refused)
+
+pub create-requires-clause-plain : goal.create-requires-clause-plain
+create-requires-clause-plain g c = made_plain c.args.request.now c.in_ok-schema.schema c.in_ok-schema.ensures.made
+
+pub returns-in_err-_store-clause-refused : goal.returns-in_err-_store-clause-refused
+returns-in_err-_store-clause-refused g c =
+    exit_with c.from_residual-in_err-_store.result c.in_err-_store.field-0.0 _ c.from_residual-in_err-_store.ensures
+    (uncreated c.args.request.now _ c.in_ok-schema.schema c.in_err-_store.field-0.0 refl c.in_ok-schema.ensures.made c.in_err-_store.ensures.refused)
+
+pub returns-clause-performed : goal.returns-clause-performed
+returns-clause-performed g c =
+    created_now c.args.request.now c.in_ok-_store._store c.in_ok-schema.schema c.in_ok-_store.ensures.prefix c.in_ok-_store.ensures.schema c.in_ok-schema.ensures.made c.in_ok-_store.ensures.created

@@ -1,0 +1,179 @@
+ghost use Rattle.std.specs.Prelude.{◌≡◌, [], Ok, IfOk, IfErr, map};
+ghost use Rattle.metadata.specs.Answers.{IsRefusedAs};
+ghost use Rattle.metadata.specs.Record.{record_of};
+ghost use Rattle.record_store.specs.Opening.{IsOpened, IsUnopened};
+ghost use Rattle.schedule.specs.declared.step.Command.{Command};
+ghost use Rattle.schedule.specs.Layout.{store_prefix};
+ghost use Rattle.schedule.specs.Serve.{cells_in, reply_to_load, reply_to_save};
+ghost use Rattle.schedule.specs.Performed.{IsPerformed};
+ghost use Rattle.schedule.specs.Calls.{IsRefused, removal_reply};
+
+use crate::reply::{Reply, Rows};
+use crate::step::Query;
+use metadata::{Cells, MetadataError, Record, Schema, SchemaRequest, TypeRequest};
+use record_store::{Records, Store, StoreError};
+use std::alloc::{AllocError, Global};
+use tuple_codec::Text;
+use txn::{Snapshot, Transaction};
+
+/// What each key of the store begins with: the pack of (1).
+const PREFIX: [u8; 2] = [0x15, 0x01];
+
+/// Opens the store.
+fn open<S: Snapshot>(alloc: Global, tx: &mut Transaction, db: &S) -> Result<Store, StoreError>
+    ensures opened { IfOk result (λ store. IsOpened (S.map_at db.now) store tx.old tx.new) }
+    ensures prefix { IfOk result (λ store. store.prefix ≡ store_prefix) }
+    ensures plain { IfOk result (λ store. store.schema.indexes ≡ []) }
+    ensures refused { IfErr result (λ error. IsUnopened (S.map_at db.now) (S.refusal db.now) store_prefix error tx.old tx.new) }
+{
+    Store::open(alloc, &PREFIX, tx, db)
+}
+
+/// Makes a store of these types, where there is none.
+pub(crate) fn create<S: Snapshot>(
+    alloc: Global,
+    tx: &mut Transaction,
+    db: &S,
+    request: &SchemaRequest,
+) -> Result<Reply, StoreError>
+    ensures performed { IfOk result (λ answer. IsPerformed (S.map_at db.now) (λ range. S.refusal db.now range tx.old.read_version) (Command.Create request.now) answer tx.old tx.new) }
+    ensures refused { IfErr result (λ error. IsRefused (S.map_at db.now) (S.refusal db.now) (Command.Create request.now) error tx.old tx.new) }
+{
+    let schema = Schema::of_request(alloc, request)?;
+    let _store = Store::create(alloc, &PREFIX, tx, db, &schema)?;
+    Ok(Reply::Done)
+}
+
+/// Adds a type to the store.
+pub(crate) fn add_type<S: Snapshot>(
+    alloc: Global,
+    tx: &mut Transaction,
+    db: &S,
+    request: &TypeRequest,
+) -> Result<Reply, StoreError>
+    ensures performed { IfOk result (λ answer. IsPerformed (S.map_at db.now) (λ range. S.refusal db.now range tx.old.read_version) (Command.«Type» request.now) answer tx.old tx.new) }
+    ensures refused { IfErr result (λ error. IsRefused (S.map_at db.now) (S.refusal db.now) (Command.«Type» request.now) error tx.old tx.new) }
+{
+    let mut store = open(alloc, tx, db)?;
+    store.add_type(tx, request)?;
+    Ok(Reply::Done)
+}
+
+/// The record of the type of this name with these cells.
+fn record_asked(
+    alloc: Global,
+    schema: &Schema,
+    type_name: &Text,
+    cells: &Cells,
+) -> Result<Record, MetadataError>
+    ensures made { IfOk result (λ made. record_of schema.now type_name.now cells.now ≡ Ok made) }
+    ensures refused { IfErr result (λ error. IsRefusedAs error (record_of schema.now type_name.now cells.now)) }
+{
+    let cells = cells.copy()?;
+    Record::new(alloc, schema, type_name, cells)
+}
+
+/// The reply to a save, by the record that was there.
+fn saved_reply(old: Option<Record>) -> Reply
+    ensures { result ≡ reply_to_save (cells_in old) }
+{
+    match old {
+        Some(old) => Reply::SavedOver(old.into_cells()),
+        None => Reply::SavedNew,
+    }
+}
+
+/// Puts the record of the type of this name with these cells in the place of the one with its primary key.
+pub(crate) fn save<S: Snapshot>(
+    alloc: Global,
+    tx: &mut Transaction,
+    db: &S,
+    type_name: &Text,
+    cells: &Cells,
+) -> Result<Reply, StoreError>
+    ensures performed { IfOk result (λ answer. IsPerformed (S.map_at db.now) (λ range. S.refusal db.now range tx.old.read_version) (Command.Save type_name.now cells.now) answer tx.old tx.new) }
+    ensures refused { IfErr result (λ error. IsRefused (S.map_at db.now) (S.refusal db.now) (Command.Save type_name.now cells.now) error tx.old tx.new) }
+{
+    let store = open(alloc, tx, db)?;
+    let new = record_asked(alloc, store.schema(), type_name, cells)?;
+    let old = store.save(tx, db, &new)?;
+    Ok(saved_reply(old))
+}
+
+/// The reply to a load, by the record that was found.
+fn loaded_reply(found: Option<Record>) -> Reply
+    ensures { result ≡ reply_to_load (cells_in found) }
+{
+    match found {
+        Some(found) => Reply::Found(found.into_cells()),
+        None => Reply::Absent,
+    }
+}
+
+/// Asks for the record of the type of this name with these key cells.
+pub(crate) fn load<S: Snapshot>(
+    alloc: Global,
+    tx: &mut Transaction,
+    db: &S,
+    type_name: &Text,
+    cells: &Cells,
+) -> Result<Reply, StoreError>
+    ensures performed { IfOk result (λ answer. IsPerformed (S.map_at db.now) (λ range. S.refusal db.now range tx.old.read_version) (Command.Load type_name.now cells.now) answer tx.old tx.new) }
+    ensures refused { IfErr result (λ error. IsRefused (S.map_at db.now) (S.refusal db.now) (Command.Load type_name.now cells.now) error tx.old tx.new) }
+{
+    let store = open(alloc, tx, db)?;
+    let found = store.load(tx, db, type_name, cells)?;
+    Ok(loaded_reply(found))
+}
+
+/// The reply to a removal, by whether there was a record.
+fn removed_reply(was_there: bool) -> Reply
+    ensures { result ≡ removal_reply was_there }
+{
+    if was_there {
+        Reply::Removed
+    } else {
+        Reply::Absent
+    }
+}
+
+/// Takes out the record of the type of this name with these key cells.
+pub(crate) fn remove<S: Snapshot>(
+    alloc: Global,
+    tx: &mut Transaction,
+    db: &S,
+    type_name: &Text,
+    cells: &Cells,
+) -> Result<Reply, StoreError>
+    ensures performed { IfOk result (λ answer. IsPerformed (S.map_at db.now) (λ range. S.refusal db.now range tx.old.read_version) (Command.Remove type_name.now cells.now) answer tx.old tx.new) }
+    ensures refused { IfErr result (λ error. IsRefused (S.map_at db.now) (S.refusal db.now) (Command.Remove type_name.now cells.now) error tx.old tx.new) }
+{
+    let store = open(alloc, tx, db)?;
+    let was_there = store.remove(tx, db, type_name, cells)?;
+    Ok(removed_reply(was_there))
+}
+
+/// The rows that records are.
+fn rows_of(alloc: Global, records: Records) -> Result<Rows, AllocError>
+    ensures { IfOk result (λ rows. rows ≡ map (λ r. r.cells) records) }
+{
+    let found = records.into_vec();
+    let rows = found.into_iter().map(Record::into_cells).collect(alloc)?;
+    Ok(Rows::new(rows))
+}
+
+/// Asks for the answer to a query.
+pub(crate) fn query<S: Snapshot>(
+    alloc: Global,
+    tx: &mut Transaction,
+    db: &S,
+    query: &Query,
+) -> Result<Reply, StoreError>
+    ensures performed { IfOk result (λ answer. IsPerformed (S.map_at db.now) (λ range. S.refusal db.now range tx.old.read_version) (Command.Query query.now) answer tx.old tx.new) }
+    ensures refused { IfErr result (λ error. IsRefused (S.map_at db.now) (S.refusal db.now) (Command.Query query.now) error tx.old tx.new) }
+{
+    let store = open(alloc, tx, db)?;
+    let records = store.records(tx, db, &query.record_type)?;
+    let rows = rows_of(alloc, records)?;
+    Ok(Reply::Rows(rows))
+}
