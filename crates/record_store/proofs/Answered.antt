@@ -1,7 +1,7 @@
 -- What calls on an open store come to, from what their reads and their writes establish.
 use Rattle.std.proofs.Common.{◌≡◌, ◌⊎◌, inl, inr, ℕ, Bool, true, false, not, cond, ◌==◌, List, [], ◌∷◌, refl, sym, ap, subst, ◌∙◌, Option, Some, None, Ok, Err, Result, append-nil, length}
 use Rattle.std.specs.Prelude.{IsNone}
-use Rattle.std.specs.List.{AllByRecursion}
+use Rattle.std.specs.List.{AllByRecursion, find, list_any}
 use Rattle.std.specs.Str.{bytes_eq}
 use Rattle.std.proofs.lemmas.Slice.Eq.{bytes_eq-Decides}
 use Rattle.tuple_codec.specs.Item.{Item, IsTuple}
@@ -36,7 +36,7 @@ use Rattle.record_store.specs.Call.{AtStore, Call, IsAnswered, IsFailure, IsRefu
 use Rattle.record_store.specs.Calls.{done_with, own_record}
 use Rattle.record_store.specs.Reading.{HasNotFound, IsKeyOf}
 use Rattle.record_store.specs.Steps.{DidRead, of_metadata, of_write}
-use Rattle.record_store.proofs.Creating.{is_none}
+use Rattle.record_store.proofs.Creating.{is_none, of_limit}
 
 -- ---- names and keys
 
@@ -44,12 +44,12 @@ use Rattle.record_store.proofs.Creating.{is_none}
 pub found_own : (schema : Schema) (name : List ℕ) (type : TypeDefinition) → find_type schema name ≡ Some type → find_type schema type.name ≡ Some type
 found_own schema name type found = subst (λ n. find_type schema n ≡ Some type) (sym (named schema.types found)) found
   where
-    named : (types : List TypeDefinition) → Rattle.std.specs.List.find (λ (one : TypeDefinition). bytes_eq one.name name) types ≡ Some type → type.name ≡ name
+    named : (types : List TypeDefinition) → find (λ (one : TypeDefinition). bytes_eq one.name name) types ≡ Some type → type.name ≡ name
     named [] is = cc
     named (one ∷ types) is = by_test (bytes_eq one.name name) refl is (named types)
       where
-        by_test : (b : Bool) → bytes_eq one.name name ≡ b → cond b (Some one) (Rattle.std.specs.List.find (λ (t : TypeDefinition). bytes_eq t.name name) types) ≡ Some type →
-            (Rattle.std.specs.List.find (λ (t : TypeDefinition). bytes_eq t.name name) types ≡ Some type → type.name ≡ name) → type.name ≡ name
+        by_test : (b : Bool) → bytes_eq one.name name ≡ b → cond b (Some one) (find (λ (t : TypeDefinition). bytes_eq t.name name) types) ≡ Some type →
+            (find (λ (t : TypeDefinition). bytes_eq t.name name) types ≡ Some type → type.name ≡ name) → type.name ≡ name
         by_test true has some go = let same : one ≡ type = cc in ap (λ (t : TypeDefinition). t.name) (sym same) ∙ (bytes_eq-Decides one.name name).0 has
         by_test false has some go = go some
 
@@ -67,13 +67,13 @@ key_given schema name cells type key found given tuple = record { cells = cells;
         same_type_is : t ≡ type
         same_type_is = let both : ◌≡◌ {A = Option TypeDefinition} (Some t) (Some type) = sym some ∙ found in cc
 
-        by_null : (b : Bool) → Rattle.std.specs.List.list_any is_null cells ≡ b → all_fit (key_kinds t) cells ≡ true → key_of schema name cells ≡ Ok key → key ≡ key_items type.number cells
+        by_null : (b : Bool) → list_any is_null cells ≡ b → all_fit (key_kinds t) cells ≡ true → key_of schema name cells ≡ Ok key → key ≡ key_items type.number cells
         by_null true null fit is = cc
         by_null false null fit is = let inner : ◌≡◌ {A = Result (List Item) Refusal} (Ok (key_items t.number cells)) (Ok key) = cc in made t same_type_is inner
 
         by_fit : (b : Bool) → all_fit (key_kinds t) cells ≡ b → key_of schema name cells ≡ Ok key → key ≡ key_items type.number cells
         by_fit false fit is = cc
-        by_fit true fit is = by_null (Rattle.std.specs.List.list_any is_null cells) refl fit is
+        by_fit true fit is = by_null (list_any is_null cells) refl fit is
 
 -- a record of the schema's own type: its type is found by its name
 pub own_found : (schema : Schema) (r : Record) → own_record (find_type schema r.definition.name) r ≡ Ok r → find_type schema r.definition.name ≡ Some r.definition
@@ -134,23 +134,12 @@ module _ {A : Type 0} (maps : ℕ → Map) (refuses : KeyRange → ℕ → Optio
   refused_limit {old = old} {mid = mid} {new = new} {F = F} call service list error accepted ran wrote same says =
       subst (λ c. IsRefused maps refuses opened c (of_write error) old new) (sym accepted)
       (subst (λ n. DidRead maps service.reach old n (IsFailure (λ range. refuses range old.read_version) opened service (of_write error) old.mutations)) (sym same)
-      (ran_because ran (λ m found. right error m found.1 says)))
+      (ran_because ran (λ m found. of_limit (λ e. IsFailure (λ range. refuses range old.read_version) opened service e old.mutations m) error says tt (λ e is. limit e m found.1 is))))
     where
       limit : (e : WriteError) (m : Map) → AtStore opened m F → write_all_refusal mid.mutations list ≡ Some e → AtStore opened m (λ store. write_all_refusal old.mutations (service.writes store) ≡ Some e)
       limit e m found is store holds schema =
           ap (λ ms. write_all_refusal ms (service.writes store)) (sym (ran.wrote ∙ append-nil old.mutations))
           ∙ ap (write_all_refusal mid.mutations) (sym (wrote m store holds schema (found store holds schema))) ∙ is
-
-      right : (e : WriteError) (m : Map) → AtStore opened m F → (e ≡ write.Memory) ⊎ (write_all_refusal mid.mutations list ≡ Some e) → IsFailure (λ range. refuses range old.read_version) opened service (of_write e) old.mutations m
-      right write.Memory m found is = tt
-      right write.KeyOutside m found (inl memory) = absurd (cc)
-      right write.KeyOutside m found (inr is) = limit write.KeyOutside m found is
-      right write.KeyTooLarge m found (inl memory) = absurd (cc)
-      right write.KeyTooLarge m found (inr is) = limit write.KeyTooLarge m found is
-      right write.ValueTooLarge m found (inl memory) = absurd (cc)
-      right write.ValueTooLarge m found (inr is) = limit write.ValueTooLarge m found is
-      right write.TransactionTooLarge m found (inl memory) = absurd (cc)
-      right write.TransactionTooLarge m found (inr is) = limit write.TransactionTooLarge m found is
 
   -- ANSWERED: reads, and then writes that no limit refuses
   pub answered : {old mid new : CommitRequest} {F : Store → Type 0} (call : Call A) (service : Service A) (answer : A) (list : List Mutation) → call ≡ Ok service → (length list == 0) ≡ not (service.changes answer) →

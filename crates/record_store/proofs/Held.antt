@@ -2,16 +2,16 @@
 use Rattle.std.proofs.Common.{◌≡◌, ℕ, Bool, true, false, not, ◌&&◌, cond, ◌==◌, ◌<◌, ◌^◌, List, [], ◌∷◌, ◌++◌, append_assoc, refl, sym, ap, subst, ◌∙◌, Some, None, IsTrue, map, pos}
 use Rattle.std.specs.declared.cmp.Ordering.{Ordering}
 use Rattle.std.specs.declared.cmp.Ordering.TheVariants.{Less, Equal, Greater}
-use Rattle.std.specs.List.{filter, find, AllByRecursion}
+use Rattle.std.specs.List.{AllByRecursion}
 use Rattle.std.specs.List.Sorted.{IsStrictlySortedBy}
 use Rattle.std.specs.Map.{keys_of, lookup}
-use Rattle.std.specs.BTreeMap.{insert_entry, is_at}
+use Rattle.std.specs.BTreeMap.{is_at}
 use Rattle.std.specs.Option.{option_map}
-use Rattle.std.specs.Ordering.{is_lt, is_eq, match_ordering, nat_cmp, ordering_then}
-use Rattle.std.specs.FinMap.{get, from_entries, nat_cmp-IsAntisymmetric}
+use Rattle.std.specs.Ordering.{is_lt, is_eq, nat_cmp, ordering_then, ordering_reverse}
+use Rattle.std.specs.FinMap.{get, nat_cmp-IsAntisymmetric}
 use Rattle.std.proofs.lemmas.Bool.{and_parts, not-true}
 use Rattle.std.proofs.lemmas.Cmp.{nat_list_cmp_total}
-use Rattle.tuple_codec.specs.Item.{Item, IsTuple}
+use Rattle.tuple_codec.specs.Item.{Item, IsTuple, int}
 use Rattle.tuple_codec.specs.Order.{tuple_cmp}
 use Rattle.tuple_codec.specs.Spelling.{int_spelling, spelling}
 use Rattle.tuple_codec.proofs.Prefixes.{cmp_behind}
@@ -60,7 +60,7 @@ nothing_rises = tt
 
 -- what the keys of a type's records begin with, behind the place of records
 abbrev pub type_begin : ℕ → List ℕ
-type_begin n = spelling (Rattle.tuple_codec.specs.Item.int (pos n) ∷ [])
+type_begin n = spelling (int (pos n) ∷ [])
 
 -- where there is no index no state is listed
 pub none_listed : (states : List (ℕ × State)) → AllByRecursion (IsListed []) states → states ≡ []
@@ -79,7 +79,7 @@ module _ (prefix : List ℕ) where
       ap is_eq (nat_list_cmp_total.antisymm (record_key prefix key) (id prefix r)) ∙ reversed (key_cmp (id prefix r) (record_key prefix key))
       ∙ ap is_eq (key_order prefix (primary_key r) key s.key t)
     where
-      reversed : (o : Ordering) → is_eq (Rattle.std.specs.Ordering.ordering_reverse o) ≡ is_eq o
+      reversed : (o : Ordering) → is_eq (ordering_reverse o) ≡ is_eq o
       reversed Less = refl
       reversed Equal = refl
       reversed Greater = refl
@@ -105,7 +105,7 @@ module _ (prefix : List ℕ) where
   nothing_held m bytes holds = holds bytes
 
   pub no_schema_held : (m : Map) → Holds prefix m None → get m (schema_key prefix) ≡ None
-  no_schema_held m holds = holds (spelling (Rattle.tuple_codec.specs.Item.int (pos 0) ∷ []))
+  no_schema_held m holds = holds (spelling (int (pos 0) ∷ []))
 
   -- RECORD: at a record's key stands the record's value, or nothing
   pub value_held : (m : Map) (store : Store) (key : List Item) → IsTuple key → Holds prefix m (Some store) →
@@ -168,8 +168,8 @@ module _ (prefix : List ℕ) where
   -- the range of a type, behind the place of records
   pub type_range_is : (n : ℕ) → type_range prefix n ≡ record { begin = place prefix 1 ++ type_begin n; end = place prefix 1 ++ (type_begin n ++ 255 ∷ []) }
   type_range_is n i = record {
-    begin = sym (record_key_is prefix (Rattle.tuple_codec.specs.Item.int (pos n) ∷ [])) i;
-    end = (ap (λ k. k ++ 255 ∷ []) (sym (record_key_is prefix (Rattle.tuple_codec.specs.Item.int (pos n) ∷ []))) ∙ append_assoc (place prefix 1) (type_begin n) (255 ∷ [])) i;
+    begin = sym (record_key_is prefix (int (pos n) ∷ [])) i;
+    end = (ap (λ k. k ++ 255 ∷ []) (sym (record_key_is prefix (int (pos n) ∷ []))) ∙ append_assoc (place prefix 1) (type_begin n) (255 ∷ [])) i;
   }
 
   -- TYPE: the pairs in the range of a type are those of its records, in order

@@ -1,5 +1,5 @@
 -- What a change of a store leaves: keys of other places, and what is had there.
-use Rattle.std.proofs.Common.{◌≡◌, ℕ, true, not, ◌&&◌, ◌==◌, cond, arith, List, [], ◌∷◌, ◌++◌, refl, sym, ap, ◌∙◌, Some, None, append-nil, pos}
+use Rattle.std.proofs.Common.{◌≡◌, ℕ, true, not, ◌&&◌, ◌==◌, cond, arith, List, [], ◌∷◌, ◌++◌, refl, sym, ap, ◌∙◌, Some, None, append-nil, append_assoc, pos}
 use Rattle.std.proofs.lemmas.Bool.{and_parts, eqb-false, false_from_ne_true, ltb-true, not-true}
 use Rattle.std.proofs.lemmas.Cmp.{nat_list_cmp_total, tied_itself}
 use Rattle.std.specs.Prelude.{nat_lt}
@@ -7,7 +7,7 @@ use Rattle.std.specs.List.{AllByRecursion}
 use Rattle.std.specs.FinMap.{get}
 use Rattle.std.specs.Ordering.{is_eq}
 use Rattle.tuple_codec.specs.Item.{Item, int}
-use Rattle.tuple_codec.specs.Spelling.{spelling}
+use Rattle.tuple_codec.specs.Spelling.{int_spelling, spelling}
 use Rattle.tuple_codec.specs.Subspace.{BeginsWith, key_of}
 use Rattle.kv_core.specs.Bytes.{key_cmp}
 use Rattle.kv_core.specs.Map.{Map, after}
@@ -22,7 +22,7 @@ use Rattle.metadata.specs.declared.index.State.TheVariants.{Readable, WriteOnly,
 use Rattle.metadata.specs.Record.{Record}
 use Rattle.index_maint.specs.Layout.{entries_prefix}
 use Rattle.index_maint.proofs.Places.{begins_before, entries_elsewhere, places_differ}
-use Rattle.record_store.specs.Layout.{place, record_key, schema_key}
+use Rattle.record_store.specs.Layout.{place, record_key, schema_key, state_key}
 use Rattle.record_store.specs.Holds.{HasIndex, Holds, IsNoEntry}
 use Rattle.record_store.proofs.Keys.{record_key_is}
 
@@ -57,18 +57,30 @@ module _ (prefix : List ℕ) where
       places_differ prefix at (key_of prefix (int (pos p) ∷ ps)) n p ns ps (omega (arith, high)) (omega (arith, low)) (eqb-false n p (not-true (n == p) two.1)) there (itself (key_of prefix (int (pos p) ∷ ps))) same
 
   -- a key under another number than 2 is that of no entry
-  pub no_entry_at : (n : ℕ) (ns : List Item) (indexes : List IndexDefinition) (key : List ℕ) → (nat_lt n 6 && not (n == 2)) ≡ true → BeginsWith (key_of prefix (int (pos n) ∷ ns)) key → IsNoEntry prefix indexes key
-  no_entry_at n ns [] key other there = tt
-  no_entry_at n ns (index ∷ indexes) key other there =
+  pub not_entry : (i n : ℕ) (ns : List Item) (key : List ℕ) → (nat_lt n 6 && not (n == 2)) ≡ true → BeginsWith (key_of prefix (int (pos n) ∷ ns)) key → BeginsWith (entries_prefix prefix i) key → ⊥
+  not_entry i n ns key other there entry =
       let parts = and_parts (nat_lt n 6) (not (n == 2)) other in
       let low = ltb-true n 6 parts.0 in
-      (λ entry. entries_elsewhere prefix key index.number n ns (omega (arith, low)) (eqb-false n 2 (not-true (n == 2) parts.1)) entry there, no_entry_at n ns indexes key other there)
+      entries_elsewhere prefix key i n ns (omega (arith, low)) (eqb-false n 2 (not-true (n == 2) parts.1)) entry there
+
+  pub no_entry_at : (n : ℕ) (ns : List Item) (indexes : List IndexDefinition) (key : List ℕ) → (nat_lt n 6 && not (n == 2)) ≡ true → BeginsWith (key_of prefix (int (pos n) ∷ ns)) key → IsNoEntry prefix indexes key
+  no_entry_at n ns [] key other there = tt
+  no_entry_at n ns (index ∷ indexes) key other there = (not_entry index.number n ns key other there, no_entry_at n ns indexes key other there)
 
   pub no_entry_schema : (indexes : List IndexDefinition) → IsNoEntry prefix indexes (schema_key prefix)
   no_entry_schema indexes = no_entry_at 0 [] indexes (schema_key prefix) refl (itself (schema_key prefix))
 
   pub no_entry_in : (n : ℕ) (indexes : List IndexDefinition) (bytes : List ℕ) → (nat_lt n 6 && not (n == 2)) ≡ true → IsNoEntry prefix indexes (place prefix n ++ bytes)
   no_entry_in n indexes bytes other = no_entry_at n [] indexes (place prefix n ++ bytes) other (bytes, refl)
+
+  -- a state's key is in the place of states
+  pub state_key_is : (number : ℕ) → place prefix 5 ++ spelling (int (pos number) ∷ []) ≡ state_key prefix number
+  state_key_is number =
+      let rest = spelling (int (pos number) ∷ []) in
+      append_assoc prefix (spelling (int (pos 5) ∷ [])) rest ∙ ap (λ s. prefix ++ s) (append_assoc (int_spelling (pos 5)) [] rest)
+
+  pub state_in_place : (number : ℕ) (at : List ℕ) → at ≡ state_key prefix number → BeginsWith (place prefix 5) at
+  state_in_place number at same = (spelling (int (pos number) ∷ []), same ∙ sym (state_key_is number))
 
   -- a record's key is in the place of records
   pub record_in_place : (key : List Item) (at : List ℕ) → at ≡ record_key prefix key → BeginsWith (place prefix 1) at

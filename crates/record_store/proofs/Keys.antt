@@ -92,7 +92,7 @@ module _ (prefix : List ℕ) where
       equal_of Greater h = cc
 
   -- the test of a tie is that of equality
-  tied_numbers : (m n : ℕ) → is_eq (nat_cmp m n) ≡ (m == n)
+  pub tied_numbers : (m n : ℕ) → is_eq (nat_cmp m n) ≡ (m == n)
   tied_numbers m n = by_test (m == n) refl
     where
       apart : (b : Bool) → is_eq (nat_cmp m n) ≡ b → (m ≡ n → ⊥) → b ≡ false
@@ -119,7 +119,7 @@ module _ (prefix : List ℕ) where
 
   -- ---- ranges
 
-  above_itself : (a x : List ℕ) → key_le a (a ++ x) ≡ true
+  pub above_itself : (a x : List ℕ) → key_le a (a ++ x) ≡ true
   above_itself a x = ap (λ b. not b) (ap (λ k. is_lt (key_cmp (a ++ x) k)) (sym (append-nil a)) ∙ ap is_lt (cmp_behind a x []) ∙ not_below_nothing x)
 
   pub is_type_range : (n : ℕ) → key_lt prefix end_of_keys ≡ true → is_key_range (type_range prefix n) ≡ true

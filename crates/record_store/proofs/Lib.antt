@@ -8,3 +8,10 @@ pub mod Creating
 pub mod Answered
 pub mod RecordCalls
 pub mod Scanning
+pub mod States
+pub mod IndexedRecords
+pub mod EntryRanges
+pub mod IndexChanges
+pub mod NewIndexes
+pub mod Plain
+pub mod StatePairs

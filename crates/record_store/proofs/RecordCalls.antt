@@ -1,27 +1,34 @@
 -- What the calls on records come to, one by one.
-use Rattle.std.proofs.Common.{◌≡◌, ◌⊎◌, inl, inr, ℕ, Bool, true, false, not, cond, ◌==◌, ◌<◌, ◌^◌, List, [], ◌∷◌, ◌++◌, refl, sym, ap, subst, ◌∙◌, Option, Some, None, Ok, Err, Result, map, append-nil, length, take, drop, arith, is_some}
-use Rattle.std.specs.List.{AllByRecursion}
+use Rattle.std.proofs.Common.{◌≡◌, ℕ, Bool, true, false, not, cond, ◌==◌, List, [], ◌∷◌, ◌++◌, refl, sym, ap, subst, ◌∙◌, Option, Some, None, Ok, Err, Result, length, is_some, All}
+use Rattle.std.specs.List.{AllByRecursion, find}
 use Rattle.tuple_codec.specs.Item.{Item, IsTuple}
 use Rattle.kv_core.specs.Range.{point}
 use Rattle.kv_core.specs.Map.{Map, after_all}
 use Rattle.kv_core.specs.declared.change.CommitRequest.{CommitRequest}
 use Rattle.kv_core.specs.declared.change.Mutation.{Mutation}
-use Rattle.txn.proofs.Running.{ran_read}
+use Rattle.txn.proofs.Running.{ran_still}
 use Rattle.metadata.specs.declared.definition.TypeDefinition.{TypeDefinition}
 use Rattle.metadata.specs.declared.definition.TypeRequest.{TypeRequest}
 use Rattle.metadata.specs.declared.refusal.Refusal.{Refusal}
-use Rattle.metadata.specs.Change.{add_type}
+use Rattle.metadata.specs.Change.{add_type, with_type, type_refusal, type_asked}
 use Rattle.metadata.specs.Lawful.{IsLawfulSchema}
-use Rattle.metadata.specs.Record.{Record, primary_key}
-use Rattle.metadata.specs.Records.{IsStorable, of_type, record_at}
+use Rattle.metadata.specs.Record.{Record, primary_key, record_in}
+use Rattle.metadata.specs.Records.{IsStorable, of_type, record_at, without_record, has_primary_key}
 use Rattle.metadata.specs.Schema.{Schema, find_type}
-use Rattle.record_store.specs.Store.{Store}
+use Rattle.record_store.specs.Store.{Store, saved, removed, extended}
 use Rattle.record_store.specs.Holds.{Holds, IsOfSchema}
-use Rattle.record_store.specs.Call.{Opened}
-use Rattle.record_store.specs.Calls.{load_service, record_writes, records_service, removal, remove_service, save_service, schema_service, schema_writes}
-use Rattle.record_store.specs.Reading.{IsKeyOf}
-use Rattle.record_store.proofs.Answered.{IsServed}
+use Rattle.record_store.specs.Call.{Opened, AtStore}
+use Rattle.record_store.specs.Calls.{load_service, record_writes, records_service, removal, remove_service, save_service, schema_service, schema_writes, own_record, save_call, done_with}
+use Rattle.record_store.specs.Reading.{IsRead}
+use Rattle.record_store.proofs.Answered.{IsServed, own_typed}
 use Rattle.record_store.proofs.Changed.{extended_holds, removed_holds, saved_holds}
+use Rattle.std.specs.Str.{bytes_eq}
+use Rattle.record_store.proofs.RecordPairs.{own_type}
+use Rattle.metadata.specs.declared.refusal.Refusal.TheVariants.{UnknownType}
+use Rattle.record_store.specs.Steps.{DidRead}
+use Rattle.record_store.specs.Form.{IsRecordPair, read_in}
+use Rattle.record_store.specs.Layout.{record_key}
+use Rattle.metadata.specs.Cell.{IsCell}
 
 -- ---- one record
 
@@ -37,7 +44,7 @@ pub save_served : (opened : Opened) (new : Record) (old : Option Record) (list :
 save_served opened new old list none wrote typed can m store holds schema is = record {
   answers = is;
   wrote = wrote;
-  holds = subst (λ ms. Holds opened.prefix (after_all ms m) (Some (Rattle.record_store.specs.Store.saved store new))) (sym wrote) (saved_holds opened.prefix m store new (ap (λ (s : Schema). s.indexes) schema ∙ none) (subst (λ s. IsOfSchema s new) (sym schema) typed) can holds);
+  holds = subst (λ ms. Holds opened.prefix (after_all ms m) (Some (saved store new))) (sym wrote) (saved_holds opened.prefix m store new (ap (λ (s : Schema). s.indexes) schema ∙ none) (subst (λ s. IsOfSchema s new) (sym schema) typed) can holds);
 }
 
 -- REMOVE: the record is gone
@@ -47,19 +54,19 @@ pub remove_served : (opened : Opened) (key : List Item) (old : Option Record) (w
 remove_served opened key old was_there list plain wrote there tuple m store holds schema is = record {
   answers = there ∙ ap is_some is;
   wrote = wrote ∙ ap (removal opened.prefix key) is;
-  holds = subst (λ ms. Holds opened.prefix (after_all ms m) (Some (Rattle.record_store.specs.Store.removed store key))) (sym (wrote ∙ ap (removal opened.prefix key) is)) (by_record (record_at key store.records) refl);
+  holds = subst (λ ms. Holds opened.prefix (after_all ms m) (Some (removed store key))) (sym (wrote ∙ ap (removal opened.prefix key) is)) (by_record (record_at key store.records) refl);
 }
   where
-    by_record : (o : Option Record) → record_at key store.records ≡ o → Holds opened.prefix (after_all (removal opened.prefix key o) m) (Some (Rattle.record_store.specs.Store.removed store key))
+    by_record : (o : Option Record) → record_at key store.records ≡ o → Holds opened.prefix (after_all (removal opened.prefix key o) m) (Some (removed store key))
     by_record (Some r) is_there = removed_holds opened.prefix m store key (ap (λ (s : Schema). s.indexes) schema ∙ plain) tuple holds
     by_record None none = subst (λ rs. Holds opened.prefix m (Some (record store { records = rs }))) (sym (without_none store.records none)) holds
       where
-        without_none : (records : List Record) → record_at key records ≡ None → Rattle.metadata.specs.Records.without_record key records ≡ records
+        without_none : (records : List Record) → record_at key records ≡ None → without_record key records ≡ records
         without_none [] none = refl
-        without_none (r ∷ records) none = by_test (Rattle.metadata.specs.Records.has_primary_key key r) refl none (without_none records)
+        without_none (r ∷ records) none = by_test (has_primary_key key r) refl none (without_none records)
           where
-            by_test : (b : Bool) → Rattle.metadata.specs.Records.has_primary_key key r ≡ b → cond b (Some r) (record_at key records) ≡ None → (record_at key records ≡ None → Rattle.metadata.specs.Records.without_record key records ≡ records) →
-                cond (not b) (r ∷ Rattle.metadata.specs.Records.without_record key records) (Rattle.metadata.specs.Records.without_record key records) ≡ r ∷ records
+            by_test : (b : Bool) → has_primary_key key r ≡ b → cond b (Some r) (record_at key records) ≡ None → (record_at key records ≡ None → without_record key records ≡ records) →
+                cond (not b) (r ∷ without_record key records) (without_record key records) ≡ r ∷ records
             by_test true has some go = absurd (cc)
             by_test false has none go = ap (λ rs. r ∷ rs) (go none)
 
@@ -69,33 +76,33 @@ removal_changes prefix key None was_there list wrote there = ap (λ ms. length m
 removal_changes prefix key (Some r) was_there list wrote there = ap (λ ms. length ms == 0) wrote ∙ sym (ap not there)
 
 -- a record of the schema's own type is accepted
-pub save_accepted : (opened : Opened) (r : Record) → Rattle.record_store.specs.Calls.own_record (find_type opened.schema r.definition.name) r ≡ Ok r → Rattle.record_store.specs.Calls.save_call opened r ≡ Ok (save_service opened r)
-save_accepted opened r own = ap (Rattle.record_store.specs.Calls.done_with (save_service opened)) own
+pub save_accepted : (opened : Opened) (r : Record) → own_record (find_type opened.schema r.definition.name) r ≡ Ok r → save_call opened r ≡ Ok (save_service opened r)
+save_accepted opened r own = ap (done_with (save_service opened)) own
 
 -- ---- a type more
 
 -- a type that is found is found where one more stands behind
-still_found : (types : List TypeDefinition) (last type : TypeDefinition) (name : List ℕ) → Rattle.std.specs.List.find (λ (t : TypeDefinition). Rattle.std.specs.Str.bytes_eq t.name name) types ≡ Some type →
-    Rattle.std.specs.List.find (λ (t : TypeDefinition). Rattle.std.specs.Str.bytes_eq t.name name) (types ++ last ∷ []) ≡ Some type
+still_found : (types : List TypeDefinition) (last type : TypeDefinition) (name : List ℕ) → find (λ (t : TypeDefinition). bytes_eq t.name name) types ≡ Some type →
+    find (λ (t : TypeDefinition). bytes_eq t.name name) (types ++ last ∷ []) ≡ Some type
 still_found [] last type name is = absurd (cc)
-still_found (t ∷ types) last type name is = by_test (Rattle.std.specs.Str.bytes_eq t.name name) is (still_found types last type name)
+still_found (t ∷ types) last type name is = by_test (bytes_eq t.name name) is (still_found types last type name)
   where
-    by_test : (b : Bool) → cond b (Some t) (Rattle.std.specs.List.find (λ (t : TypeDefinition). Rattle.std.specs.Str.bytes_eq t.name name) types) ≡ Some type →
-        (Rattle.std.specs.List.find (λ (t : TypeDefinition). Rattle.std.specs.Str.bytes_eq t.name name) types ≡ Some type → Rattle.std.specs.List.find (λ (t : TypeDefinition). Rattle.std.specs.Str.bytes_eq t.name name) (types ++ last ∷ []) ≡ Some type) →
-        cond b (Some t) (Rattle.std.specs.List.find (λ (t : TypeDefinition). Rattle.std.specs.Str.bytes_eq t.name name) (types ++ last ∷ [])) ≡ Some type
+    by_test : (b : Bool) → cond b (Some t) (find (λ (t : TypeDefinition). bytes_eq t.name name) types) ≡ Some type →
+        (find (λ (t : TypeDefinition). bytes_eq t.name name) types ≡ Some type → find (λ (t : TypeDefinition). bytes_eq t.name name) (types ++ last ∷ []) ≡ Some type) →
+        cond b (Some t) (find (λ (t : TypeDefinition). bytes_eq t.name name) (types ++ last ∷ [])) ≡ Some type
     by_test true some go = some
     by_test false some go = go some
 
 -- records of a schema are of the schema with a type more
 still_typed : (schema next : Schema) (request : TypeRequest) (r : Record) → IsLawfulSchema schema → add_type schema request ≡ Ok next → IsOfSchema schema r → IsOfSchema next r
 still_typed schema next request r lawful added typed =
-    let own = Rattle.record_store.proofs.RecordPairs.own_type schema r lawful typed in
-    let is : next ≡ Rattle.metadata.specs.Change.with_type schema request = made (Rattle.metadata.specs.Change.type_refusal schema request) added in
+    let own = own_type schema r lawful typed in
+    let is : next ≡ with_type schema request = made (type_refusal schema request) added in
     let found : find_type next r.definition.name ≡ Some r.definition =
-    ap (λ s. find_type s r.definition.name) is ∙ still_found schema.types (Rattle.metadata.specs.Change.type_asked schema request) r.definition r.definition.name own.2 in
-    ap (λ t. elim t [ None ↦ Err Rattle.metadata.specs.declared.refusal.Refusal.TheVariants.UnknownType | Some one ↦ Rattle.metadata.specs.Record.record_in one r.cells ]) found ∙ own.1
+    ap (λ s. find_type s r.definition.name) is ∙ still_found schema.types (type_asked schema request) r.definition r.definition.name own.2 in
+    ap (λ t. elim t [ None ↦ Err UnknownType | Some one ↦ record_in one r.cells ]) found ∙ own.1
   where
-    made : (o : Option Refusal) → ◌≡◌ {A = Result Schema Refusal} (elim o [ None ↦ Ok (Rattle.metadata.specs.Change.with_type schema request) | Some refusal ↦ Err refusal ]) (Ok next) → next ≡ Rattle.metadata.specs.Change.with_type schema request
+    made : (o : Option Refusal) → ◌≡◌ {A = Result Schema Refusal} (elim o [ None ↦ Ok (with_type schema request) | Some refusal ↦ Err refusal ]) (Ok next) → next ≡ with_type schema request
     made None same = cc
     made (Some refusal) same = absurd (cc)
 
@@ -105,10 +112,10 @@ all_typed schema next request (r ∷ records) lawful added typed = (still_typed 
 
 -- a type more leaves the indexes
 same_indexes : (schema next : Schema) (request : TypeRequest) → add_type schema request ≡ Ok next → next.indexes ≡ schema.indexes
-same_indexes schema next request added = made (Rattle.metadata.specs.Change.type_refusal schema request) added
+same_indexes schema next request added = made (type_refusal schema request) added
   where
-    made : (o : Option Refusal) → ◌≡◌ {A = Result Schema Refusal} (elim o [ None ↦ Ok (Rattle.metadata.specs.Change.with_type schema request) | Some refusal ↦ Err refusal ]) (Ok next) → next.indexes ≡ schema.indexes
-    made None same = let is : Rattle.metadata.specs.Change.with_type schema request ≡ next = cc in ap (λ (s : Schema). s.indexes) (sym is)
+    made : (o : Option Refusal) → ◌≡◌ {A = Result Schema Refusal} (elim o [ None ↦ Ok (with_type schema request) | Some refusal ↦ Err refusal ]) (Ok next) → next.indexes ≡ schema.indexes
+    made None same = let is : with_type schema request ≡ next = cc in ap (λ (s : Schema). s.indexes) (sym is)
     made (Some refusal) same = absurd (cc)
 
 pub type_served : (opened : Opened) (next : Schema) (request : TypeRequest) (list : List Mutation) → list ≡ schema_writes opened.prefix next → IsLawfulSchema next → add_type opened.schema request ≡ Ok next →
@@ -117,30 +124,30 @@ type_served opened next request list wrote lawful added m store holds same = rec
   answers = refl;
   wrote = wrote;
   holds =
-      subst (λ ms. Holds opened.prefix (after_all ms m) (Some (Rattle.record_store.specs.Store.extended store next))) (sym wrote)
+      subst (λ ms. Holds opened.prefix (after_all ms m) (Some (extended store next))) (sym wrote)
       (extended_holds opened.prefix m store next (same_indexes store.schema next request (ap (λ s. add_type s request) same ∙ added)) lawful (all_typed store.schema next request store.records holds.lawful.schema (ap (λ s. add_type s request) same ∙ added) holds.lawful.typed) holds);
 }
 
 -- a call that reads nothing
-pub nothing_read : (maps : ℕ → Map) (opened : Opened) {old : CommitRequest} → Rattle.record_store.specs.Steps.DidRead maps [] old old (λ m.
-    AllByRecursion (Rattle.record_store.specs.Form.IsRecordPair opened.prefix opened.schema) (Rattle.record_store.specs.Form.read_in m []) × Rattle.record_store.specs.Call.AtStore opened m (λ store. Unit {0}))
-nothing_read maps opened = Rattle.txn.proofs.Running.ran_still refl (λ m. (tt, λ store holds same. tt))
+pub nothing_read : (maps : ℕ → Map) (opened : Opened) {old : CommitRequest} → DidRead maps [] old old (λ m.
+    AllByRecursion (IsRecordPair opened.prefix opened.schema) (read_in m []) × AtStore opened m (λ store. Unit {0}))
+nothing_read maps opened = ran_still refl (λ m. (tt, λ store holds same. tt))
 
 -- ---- saves and scans, by their parts
 
 -- the read of a save
 pub save_read : (opened : Opened) (new : Record) (key : List Item) (old : Option Record) {maps : ℕ → Map} {before after : CommitRequest} → key ≡ primary_key new →
-    Rattle.record_store.specs.Steps.DidRead maps (point (Rattle.record_store.specs.Layout.record_key opened.prefix key) ∷ []) before after (Rattle.record_store.specs.Reading.IsRead opened key old) →
-    Rattle.record_store.specs.Steps.DidRead maps (point (Rattle.record_store.specs.Layout.record_key opened.prefix (primary_key new)) ∷ []) before after (Rattle.record_store.specs.Reading.IsRead opened (primary_key new) old)
+    DidRead maps (point (record_key opened.prefix key) ∷ []) before after (IsRead opened key old) →
+    DidRead maps (point (record_key opened.prefix (primary_key new)) ∷ []) before after (IsRead opened (primary_key new) old)
 save_read opened new key old {maps = maps} {before = before} {after = now} same ran =
-    subst (λ k. Rattle.record_store.specs.Steps.DidRead maps (point (Rattle.record_store.specs.Layout.record_key opened.prefix k) ∷ []) before now (Rattle.record_store.specs.Reading.IsRead opened k old)) same ran
+    subst (λ k. DidRead maps (point (record_key opened.prefix k) ∷ []) before now (IsRead opened k old)) same ran
 
 pub save_serves : (opened : Opened) (new : Record) (old : Option Record) (list : List Mutation) (key : List Item) → opened.schema.indexes ≡ [] → list ≡ record_writes opened.prefix new →
-    Rattle.record_store.specs.Calls.own_record (find_type opened.schema new.definition.name) new ≡ Ok new → Rattle.metadata.specs.Record.record_in new.definition new.cells ≡ Ok new → key ≡ primary_key new → IsTuple key →
-    Rattle.std.proofs.Common.All Rattle.metadata.specs.Cell.IsCell new.cells →
+    own_record (find_type opened.schema new.definition.name) new ≡ Ok new → record_in new.definition new.cells ≡ Ok new → key ≡ primary_key new → IsTuple key →
+    All IsCell new.cells →
     (m : Map) (store : Store) → Holds opened.prefix m (Some store) → store.schema ≡ opened.schema → old ≡ record_at (primary_key new) store.records → IsServed opened (save_service opened new) old list m store
 save_serves opened new old list key none wrote own made same tuple cells m store holds schema is =
-    save_served opened new old list none wrote (Rattle.record_store.proofs.Answered.own_typed opened.schema new own made) (record { key = subst IsTuple same tuple; cells = cells }) m store holds schema is
+    save_served opened new old list none wrote (own_typed opened.schema new own made) (record { key = subst IsTuple same tuple; cells = cells }) m store holds schema is
 
 pub records_served : (opened : Opened) (number : ℕ) (rows : List Record) (m : Map) (store : Store) → Holds opened.prefix m (Some store) → rows ≡ of_type number store.records → IsServed opened (records_service opened number) rows [] m store
 records_served opened number rows m store holds is = record { answers = is; wrote = refl; holds = holds }

@@ -9,7 +9,7 @@ use Rattle.std.proofs.lemmas.List.{append_cancel_left}
 use Rattle.tuple_codec.specs.Item.{Item, IsTuple}
 use Rattle.tuple_codec.specs.Item as item
 use Rattle.tuple_codec.specs.Order.{tuple_cmp}
-use Rattle.tuple_codec.specs.Spelling.{int_spelling, spelling}
+use Rattle.tuple_codec.specs.Spelling.{int_spelling, spelling, Spells}
 use Rattle.tuple_codec.proofs.Spellings.{one_tuple, spelling_spells}
 use Rattle.tuple_codec.proofs.TupleOrder.{tuple_order}
 use Rattle.kv_core.specs.Bytes.{key_cmp}
@@ -24,7 +24,7 @@ use Rattle.metadata.specs.declared.definition.TypeDefinition.{TypeDefinition}
 use Rattle.metadata.specs.Lawful.{IsLawfulSchema}
 use Rattle.metadata.specs.Record.{Record, key_items, primary_key, record_in, record_of}
 use Rattle.metadata.specs.Records.{IsStorable, has_primary_key, of_type, record_at}
-use Rattle.metadata.specs.Schema.{Schema, find_type}
+use Rattle.metadata.specs.Schema.{Schema, find_type, type_at}
 use Rattle.metadata.specs.Stored.{IsOfNoRecord, IsStoredAs, IsTypeOf}
 use Rattle.metadata.proofs.StoredApart.{named_typed, storable}
 use Rattle.metadata.proofs.StoredOnce.{made_is, stored_once}
@@ -33,6 +33,8 @@ use Rattle.record_store.specs.Layout.{record_key, record_pair, record_value, typ
 use Rattle.record_store.specs.Holds.{Holds, IsOfSchema}
 use Rattle.record_store.specs.Form.{IsFirstBad, IsRecordPair}
 use Rattle.record_store.proofs.Held.{type_held, value_held}
+use Rattle.metadata.specs.declared.refusal.Refusal.TheVariants.{UnknownType}
+use Rattle.index_maint.proofs.RecordLists.{all_filter}
 
 abbrev Pair : Type 0
 Pair = List ℕ × List ℕ
@@ -87,7 +89,7 @@ own_type schema r lawful typed = by_type (find_type schema r.definition.name) re
 -- types of the schema with one number are the same
 pub one_type : (schema : Schema) (a b : TypeDefinition) → IsTypeOf schema a → IsTypeOf schema b → a.number ≡ b.number → a ≡ b
 one_type schema a b first second same =
-    let both : ◌≡◌ {A = Option TypeDefinition} (Some a) (Some b) = sym first ∙ ap (Rattle.metadata.specs.Schema.type_at schema.types) same ∙ second in cc
+    let both : ◌≡◌ {A = Option TypeDefinition} (Some a) (Some b) = sym first ∙ ap (type_at schema.types) same ∙ second in cc
 
 -- the number of the type of a record
 number_of_key : (r : Record) (number : ℕ) (cells : List Cell) → primary_key r ≡ key_items number cells → r.definition.number ≡ number
@@ -112,7 +114,7 @@ stored_as schema type r lawful typed made can number =
 pub of_stored : (schema : Schema) (type : TypeDefinition) (key value : List ℕ) (r : Record) → IsLawfulSchema schema → find_type schema type.name ≡ Some type → IsStoredAs type key value r → IsOfSchema schema r × IsStorable r
 of_stored schema type key value r lawful found is =
     let same : type ≡ r.definition = ap (λ (one : Record). one.definition) (made_is type r.cells r is.made) in (
-      subst (λ t. record_of schema t.name r.cells ≡ Ok r) same (ap (λ t. elim t [ None ↦ Err Rattle.metadata.specs.declared.refusal.Refusal.TheVariants.UnknownType | Some one ↦ record_in one r.cells ]) found ∙ is.made),
+      subst (λ t. record_of schema t.name r.cells ≡ Ok r) same (ap (λ t. elim t [ None ↦ Err UnknownType | Some one ↦ record_in one r.cells ]) found ∙ is.made),
       storable schema type key value r lawful (named_typed schema type.name type lawful found) is,
     )
 
@@ -120,7 +122,7 @@ of_stored schema type key value r lawful found is =
 pub tied_tuples : (t u : List Item) → IsTuple t → IsTuple u → is_eq (tuple_cmp t u) ≡ true → t ≡ u
 tied_tuples t u h k tie =
     let same : spelling t ≡ spelling u = tied_keys (spelling t) (spelling u) (ap is_eq (tuple_order t u h.items k.items) ∙ tie) in
-    one_tuple t u (spelling t) (spelling_spells t h.items h.depth) (subst (Rattle.tuple_codec.specs.Spelling.Spells u) (sym same) (spelling_spells u k.items k.depth))
+    one_tuple t u (spelling t) (spelling_spells t h.items h.depth) (subst (Spells u) (sym same) (spelling_spells u k.items k.depth))
 
 -- what is found by a primary key has it, and what holds of all holds of it
 pub found_at : (P : Record → Type 0) (key : List Item) (records : List Record) (r : Record) → AllByRecursion P records → record_at key records ≡ Some r → P r × (has_primary_key key r ≡ true)
@@ -147,7 +149,7 @@ module _ (prefix : List ℕ) where
       let bytes = key_bytes (key_items type.number cells) (primary_key pair.stored) (ap (λ (p : Pair). p.0) pair.is) in
       let key = one_tuple (primary_key pair.stored) (key_items type.number cells) (spelling (primary_key pair.stored))
       (spelling_spells (primary_key pair.stored) pair.storable.key.items pair.storable.key.depth)
-      (subst (Rattle.tuple_codec.specs.Spelling.Spells (key_items type.number cells)) bytes (spelling_spells (key_items type.number cells) t.items t.depth)) in
+      (subst (Spells (key_items type.number cells)) bytes (spelling_spells (key_items type.number cells) t.items t.depth)) in
       let put = stored_as schema type pair.stored lawful typed pair.typed pair.storable (number_of_key pair.stored type.number cells key) in
       none pair.stored (record { made = put.made; cells = put.cells; has_key = bytes; has_value = ap (λ (p : Pair). p.1) pair.is })
 
@@ -204,8 +206,8 @@ module _ (prefix : List ℕ) where
     pub type_form : (n : ℕ) → n < 2 ^ 64 → AllByRecursion (IsRecordPair prefix store.schema) (pairs_in m (type_range prefix n))
     type_form n hn =
         subst (AllByRecursion (IsRecordPair prefix store.schema)) (sym (type_held prefix m store n hn holds))
-        (all_form (of_type n store.records) (Rattle.index_maint.proofs.RecordLists.all_filter (IsOfSchema store.schema) (λ r. r.definition.number == n) store.records holds.lawful.typed)
-        (Rattle.index_maint.proofs.RecordLists.all_filter IsStorable (λ r. r.definition.number == n) store.records holds.lawful.storable))
+        (all_form (of_type n store.records) (all_filter (IsOfSchema store.schema) (λ r. r.definition.number == n) store.records holds.lawful.typed)
+        (all_filter IsStorable (λ r. r.definition.number == n) store.records holds.lawful.storable))
 
 -- DAMAGE: where all pairs are of the form, none is the first that isn't
 pub none_bad : {Form : Pair → Type 0} (pairs : List Pair) (key : List ℕ) → AllByRecursion Form pairs → IsFirstBad Form pairs key → ⊥

@@ -15,7 +15,7 @@ use Rattle.metadata.specs.Lawful.{IsLawfulSchema}
 use Rattle.metadata.specs.Record.{Record, key_cells, primary_key}
 use Rattle.metadata.specs.Records.{IsStorable, of_type}
 use Rattle.metadata.specs.Schema.{find_type}
-use Rattle.metadata.specs.Stored.{IsStoredAs, IsTypeOf}
+use Rattle.metadata.specs.Stored.{IsStoredAs, IsTypeOf, IsOfNoRecord}
 use Rattle.metadata.proofs.StoredApart.{named_typed}
 use Rattle.metadata.proofs.StoredOnce.{made_is, stored_once}
 use Rattle.record_store.specs.declared.error.StoreError.{StoreError}
@@ -29,7 +29,10 @@ use Rattle.record_store.specs.Steps.{DidRead}
 use Rattle.record_store.proofs.Held.{type_held}
 use Rattle.record_store.proofs.Keys.{in_type_range, record_key_is}
 use Rattle.record_store.proofs.Openings.{one_covers, pairs_lie}
-use Rattle.record_store.proofs.RecordPairs.{none_bad, of_stored, stored_as, type_form}
+use Rattle.record_store.proofs.RecordPairs.{none_bad, of_stored, stored_as, type_form, key_bytes}
+use Rattle.std.proofs.lemmas.Bool.{eqb-true}
+use Rattle.std.specs.Option.{IfNone}
+use Rattle.std.proofs.lemmas.List.{append_cancel_left}
 
 abbrev Pair : Type 0
 Pair = List ℕ × List ℕ
@@ -81,7 +84,7 @@ module _ (opened : Opened) (type : TypeDefinition) (lawful : IsLawfulSchema open
       let key_is : pair.0 ≡ record_key opened.prefix (primary_key is.stored) = ap (λ (p : Pair). p.0) is.is in
       let here : contains (type_range opened.prefix type.number) (record_key opened.prefix (primary_key is.stored)) ≡ true = ap (contains (type_range opened.prefix type.number)) (sym key_is) ∙ inside in
       let number : (is.stored.definition.number == type.number) ≡ true = sym (in_type_range opened.prefix is.stored.definition.number type.number (items_of (key_cells is.stored)) is.storable.key small) ∙ here in
-      let put = stored_as opened.schema type is.stored lawful own is.typed is.storable (Rattle.std.proofs.lemmas.Bool.eqb-true is.stored.definition.number type.number number) in
+      let put = stored_as opened.schema type is.stored lawful own is.typed is.storable (eqb-true is.stored.definition.number type.number number) in
       none is.stored (record {
         rest = spelling (primary_key is.stored);
         behind = key_is ∙ sym (record_key_is opened.prefix (primary_key is.stored));
@@ -101,7 +104,7 @@ module _ (opened : Opened) (type : TypeDefinition) (lawful : IsLawfulSchema open
       let rest : pairs ≡ map (record_pair opened.prefix) others = cc in
       let put = stored_as opened.schema type s lawful own all.0.0 all.0.1 all.0.2 in
       let both : record_pair opened.prefix r ≡ record_pair opened.prefix s = sym (pair_is pair r good.0) ∙ first in
-      let keys : spelling (primary_key r) ≡ spelling (primary_key s) = Rattle.record_store.proofs.RecordPairs.key_bytes opened.prefix (primary_key r) (primary_key s) (ap (λ (p : Pair). p.0) both) in
+      let keys : spelling (primary_key r) ≡ spelling (primary_key s) = key_bytes opened.prefix (primary_key r) (primary_key s) (ap (λ (p : Pair). p.0) both) in
       let mine = good.0.is in
       let one = stored_once type (spelling (primary_key r)) (record_value r.cells) r s
       (record { made = mine.made; cells = mine.cells; has_key = refl; has_value = refl })
@@ -116,7 +119,7 @@ module _ (opened : Opened) (type : TypeDefinition) (lawful : IsLawfulSchema open
     where
       by_test : (b : Bool) → (r.definition.number == type.number) ≡ b → AllByRecursion (λ (s : Record). IsOfSchema opened.schema s × IsStorable s × (s.definition.number ≡ type.number)) (of_type type.number records) →
           AllByRecursion (λ (s : Record). IsOfSchema opened.schema s × IsStorable s × (s.definition.number ≡ type.number)) (cond b (r ∷ of_type type.number records) (of_type type.number records))
-      by_test true is rest = ((typed.0, can.0, Rattle.std.proofs.lemmas.Bool.eqb-true r.definition.number type.number is), rest)
+      by_test true is rest = ((typed.0, can.0, eqb-true r.definition.number type.number is), rest)
       by_test false is rest = rest
 
   -- ---- what was read
@@ -194,9 +197,9 @@ module _ (opened : Opened) (type : TypeDefinition) (lawful : IsLawfulSchema open
 
 -- where behind the place stand a key and a value of no record, the pair is that of none
 pub no_pair : (records_place : List ℕ) (type : TypeDefinition) (pair : Pair) (slice rest value : List ℕ) (found : Option Record) → slice ≡ pair.0 → slice ≡ records_place ++ rest → value ≡ pair.1 →
-    Rattle.std.specs.Option.IfNone found (Rattle.metadata.specs.Stored.IsOfNoRecord type rest value) → found ≡ None → (stored : Record) → IsPairOf records_place type pair stored → ⊥
+    IfNone found (IsOfNoRecord type rest value) → found ≡ None → (stored : Record) → IsPairOf records_place type pair stored → ⊥
 no_pair records_place type pair slice rest value None at behind same none is stored pair_of =
-    let rests : rest ≡ pair_of.rest = Rattle.std.proofs.lemmas.List.append_cancel_left records_place rest pair_of.rest (sym behind ∙ at ∙ pair_of.behind) in
+    let rests : rest ≡ pair_of.rest = append_cancel_left records_place rest pair_of.rest (sym behind ∙ at ∙ pair_of.behind) in
     none stored (record { made = pair_of.is.made; cells = pair_of.is.cells; has_key = rests ∙ pair_of.is.has_key; has_value = same ∙ pair_of.is.has_value })
 no_pair records_place type pair slice rest value (Some r) at behind same none is stored pair_of = absurd (cc)
 

@@ -11,6 +11,7 @@ use Rattle.metadata.specs.Cell.{items_of}
 use Rattle.metadata.specs.Record.{Record, primary_key}
 use Rattle.metadata.specs.Schema.{Schema}
 use Rattle.metadata.specs.Written.{schema_bytes}
+use Rattle.index_maint.specs.Layout.{entries_prefix}
 
 -- what the keys of a place begin with: the store's prefix, and the pack of the place's number
 abbrev pub place : List ℕ → ℕ → List ℕ
@@ -55,6 +56,10 @@ state_value state = spelling (int (pos (state_number state)) ∷ [])
 -- the pair that stands for the state of the index with a number
 abbrev pub state_pair : List ℕ → ℕ × State → List ℕ × List ℕ
 state_pair prefix listed = (state_key prefix listed.0, state_value listed.1)
+
+-- the range of the entries of the index with this number
+abbrev pub entries_range : List ℕ → ℕ → KeyRange
+entries_range prefix number = record { begin = entries_prefix prefix number; end = entries_prefix prefix number ++ 255 ∷ [] }
 
 -- the range of the records of the type with this number
 abbrev pub type_range : List ℕ → ℕ → KeyRange

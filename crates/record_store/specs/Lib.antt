@@ -7,3 +7,4 @@ pub mod Calls
 pub mod Opening
 pub mod Steps
 pub mod Reading
+pub mod IndexWrites

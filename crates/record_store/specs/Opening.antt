@@ -19,7 +19,7 @@ use Rattle.record_store.specs.Holds.{HasNoIndex, Holds}
 use Rattle.record_store.specs.Form.{IsFirstBad, IsSchemaPair, read_in}
 use Rattle.record_store.specs.Call.{IsReadRefusedAs, Opened}
 use Rattle.record_store.specs.Calls.{schema_writes}
-use Rattle.record_store.specs.Steps.{DidRead}
+use Rattle.record_store.specs.Steps.{DidRead, ReadsAll}
 
 -- what opening a store reads: its schema, and the states of its indexes
 abbrev pub opening_reach : List ℕ → List KeyRange
@@ -73,3 +73,9 @@ IsCreateFailure refuses opened (Corrupt key) before m = ⊥
 -- a store wasn't made: nothing was written
 pub record IsUncreated (maps : ℕ → Map) (refuses : KeyRange → ℕ → Option ReadError) (opened : Opened) (error : StoreError) (old new : CommitRequest) : Type 0 where
   pub ran : DidRead maps (opening_reach opened.prefix) old new (IsCreateFailure (λ range. refuses range old.read_version) opened error old.mutations)
+
+-- a store that isn't made for what was read, or for a limit, was looked for as an opening does: all was read that it reads
+abbrev pub HasLooked : List ℕ → StoreError → CommitRequest → Type 0
+HasLooked prefix (Refused refusal) new = ReadsAll (opening_reach prefix) new
+HasLooked prefix (Write error) new = ReadsAll (opening_reach prefix) new
+HasLooked prefix error new = Unit {0}

@@ -43,3 +43,7 @@ of_metadata (meta.Refused refusal) = Refused refusal
 -- a run read within these ranges and wrote nothing, and the fact stands of every map that agrees with what was read
 abbrev pub DidRead : (ℕ → Map) → List KeyRange → CommitRequest → CommitRequest → (Map → Type 0) → Type 0
 DidRead maps within old new Fact = Ran maps (λ key. IsTrue (covers within key)) old new [] Fact
+
+-- the transaction has read all of these ranges
+abbrev pub ReadsAll : List KeyRange → CommitRequest → Type 0
+ReadsAll ranges request = (key : List ℕ) → IsTrue (covers ranges key) → IsTrue (covers request.reads key)

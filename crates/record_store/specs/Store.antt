@@ -1,13 +1,17 @@
 -- The serial store: a schema, records by primary key, and the states of indexes, as values.
-use Rattle.std.specs.Prelude.{ℕ, ◌==◌, List, [], Option, unwrap_or}
+use Rattle.std.specs.Prelude.{ℕ, ◌==◌, not, List, [], ◌∷◌, Option, unwrap_or, filter}
+use Rattle.std.specs.BTreeMap.{insert_entry}
 use Rattle.std.specs.Map.{lookup}
 use Rattle.std.specs.Option.{option_map}
+use Rattle.std.specs.Ordering.{nat_cmp}
 use Rattle.tuple_codec.specs.Item.{Item}
+use Rattle.metadata.specs.declared.index.IndexDefinition.{IndexDefinition}
 use Rattle.metadata.specs.declared.index.State.{State}
-use Rattle.metadata.specs.declared.index.State.TheVariants.{Readable}
+use Rattle.metadata.specs.declared.index.State.TheVariants.{Readable, Disabled}
+use Rattle.metadata.specs.IndexChange.{with_index, without_index}
 use Rattle.metadata.specs.Schema.{Schema}
 use Rattle.metadata.specs.Record.{Record}
-use Rattle.metadata.specs.Records.{with_record, without_record}
+use Rattle.metadata.specs.Records.{of_type, with_record, without_record}
 
 -- a store: its records stand in the order of their primary keys, each key once, and so do the states of the indexes that aren't readable, by the indexes' numbers
 pub record Store : Type 0 where
@@ -40,3 +44,28 @@ removed store key = record store { records = without_record key store.records }
 
 abbrev pub extended : Store → Schema → Store
 extended store schema = record store { schema = schema }
+
+-- states with this one for the index with a number, in the place of what was listed for it, and without that of the index
+abbrev pub with_state : ℕ → State → List (ℕ × State) → List (ℕ × State)
+with_state number state states = insert_entry nat_cmp states number state
+
+abbrev pub without_state : ℕ → List (ℕ × State) → List (ℕ × State)
+without_state number states = filter (λ listed. not (listed.0 == number)) states
+
+-- the states with that of a new index, over these records: it is readable where there are none, else disabled
+abbrev pub new_states : ℕ → List Record → List (ℕ × State) → List (ℕ × State)
+new_states number [] states = states
+new_states number (r ∷ records) states = with_state number Disabled states
+
+-- the store with one more index, without the index with this number, and with that index disabled
+abbrev pub indexed : Store → IndexDefinition → Store
+indexed store index = record store {
+  schema = with_index store.schema index;
+  states = new_states index.number (of_type index.type_number store.records) store.states;
+}
+
+abbrev pub dropped : Store → ℕ → Store
+dropped store number = record store { schema = without_index store.schema number; states = without_state number store.states }
+
+abbrev pub disabled : Store → ℕ → Store
+disabled store number = record store { states = with_state number Disabled store.states }

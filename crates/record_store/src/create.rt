@@ -1,8 +1,9 @@
 ghost use Rattle.std.specs.Prelude.{◌≡◌, [], None, IfOk, IfErr, IsTrue, OnOk};
 ghost use Rattle.kv_core.specs.Bytes.{end_of_keys, key_lt};
 ghost use Rattle.record_store.specs.Calls.{schema_writes};
-ghost use Rattle.record_store.specs.Opening.{IsCreated, IsUncreated};
+ghost use Rattle.record_store.specs.Opening.{HasLooked, IsCreated, IsUncreated, opening_reach};
 ghost use Rattle.record_store.specs.Reading.{IsThere};
+ghost use Rattle.record_store.specs.Steps.{ReadsAll};
 
 use crate::error::StoreError;
 use crate::layout::schema_key;
@@ -54,9 +55,11 @@ impl Store {
         requires below { IsTrue (key_lt prefix.now end_of_keys) }
         requires plain { schema.now.indexes ≡ [] }
         ensures created { IfOk result (λ store. IsCreated (S.map_at db.now) store tx.old tx.new) }
+        ensures looked { OnOk result (ReadsAll (opening_reach prefix.now) tx.new) }
         ensures prefix { IfOk result (λ store. store.prefix ≡ prefix.now) }
         ensures schema { IfOk result (λ store. store.schema ≡ schema.now) }
         ensures refused { IfErr result (λ error. IsUncreated (S.map_at db.now) (S.refusal db.now) (record { prefix = prefix.now; schema = schema.now }) error tx.old tx.new) }
+        ensures refused_looked { IfErr result (λ error. HasLooked prefix.now error tx.new) }
     {
         let _lawful = schema.types();
         let written = read_schema(alloc, prefix, tx, db)?;

@@ -8,7 +8,7 @@ ghost use Rattle.metadata.specs.Written.{schema_bytes};
 ghost use Rattle.record_store.specs.Layout.{schema_key, states_range};
 ghost use Rattle.record_store.specs.Opening.{IsOpened, IsUnopened};
 ghost use Rattle.record_store.specs.Reading.{HasNotRead, IsBadSchema, IsBadState, IsNoSchema, IsSchema};
-ghost use Rattle.record_store.specs.Steps.{DidRead};
+ghost use Rattle.record_store.specs.Steps.{DidRead, ReadsAll};
 
 use crate::error::StoreError;
 use crate::layout::{schema_key, states_range};
@@ -27,6 +27,7 @@ pub(crate) fn read_schema<S: Snapshot>(
 ) -> Result<Option<Bytes>, StoreError>
     requires { IsTrue (key_lt prefix.now end_of_keys) }
     ensures read { IfOk result (λ written. DidRead (S.map_at db.now) (point (schema_key prefix.now) ∷ []) tx.old tx.new (λ m. written ≡ value_at m (schema_key prefix.now))) }
+    ensures whole { OnOk result (ReadsAll (point (schema_key prefix.now) ∷ []) tx.new) }
     ensures refused { IfErr result (λ error. HasNotRead (S.map_at db.now) (S.refusal db.now) (point (schema_key prefix.now) ∷ []) error tx.old tx.new) }
 {
     let key = schema_key(alloc, prefix)?;
@@ -43,6 +44,7 @@ pub(crate) fn read_states<S: Snapshot>(
 ) -> Result<Vec<Pair>, StoreError>
     requires { IsTrue (key_lt prefix.now end_of_keys) }
     ensures read { IfOk result (λ states. DidRead (S.map_at db.now) (states_range prefix.now ∷ []) tx.old tx.new (λ m. states.items ≡ pairs_in m (states_range prefix.now))) }
+    ensures whole { OnOk result (ReadsAll (states_range prefix.now ∷ []) tx.new) }
     ensures refused { IfErr result (λ error. HasNotRead (S.map_at db.now) (S.refusal db.now) (states_range prefix.now ∷ []) error tx.old tx.new) }
 {
     let range = states_range(alloc, prefix)?;

@@ -1,0 +1,199 @@
+-- What a map holds of a store after an index is disabled or dropped.
+use Rattle.std.proofs.Common.{◌≡◌, inl, inr, ℕ, Bool, true, false, not, cond, ◌==◌, ◌<◌, ◌^◌, List, [], ◌∷◌, ◌++◌, refl, sym, ap, subst, ◌∙◌, Some, None, map, pos, unwrap_or}
+use Rattle.std.specs.Prelude.{filter}
+use Rattle.std.specs.FinMap.{get}
+use Rattle.std.specs.List.{AllByRecursion}
+use Rattle.std.specs.Map.{lookup}
+use Rattle.std.proofs.lemmas.Bool.{eqb-false, eqb-true}
+use Rattle.tuple_codec.specs.Item.{int}
+use Rattle.tuple_codec.specs.Subspace.{BeginsWith}
+use Rattle.kv_core.specs.Map.{Map, after, after_all}
+use Rattle.kv_core.specs.Range.{point}
+use Rattle.kv_core.specs.declared.change.Mutation.TheVariants.{Set, ClearRange}
+use Rattle.metadata.specs.declared.index.IndexDefinition.{IndexDefinition}
+use Rattle.metadata.specs.declared.index.State.{State}
+use Rattle.metadata.specs.declared.index.State.TheVariants.{Readable, Disabled}
+use Rattle.metadata.specs.IndexChange.{without_index}
+use Rattle.metadata.specs.Lawful.{IsLawfulSchema}
+use Rattle.metadata.specs.Written.{schema_bytes}
+use Rattle.index_maint.specs.Layout.{entries_prefix}
+use Rattle.index_maint.proofs.Places.{indexes_apart}
+use Rattle.index_maint.proofs.Several.{AreApart}
+use Rattle.record_store.specs.Store.{Store, disabled, dropped, state_of, with_state}
+use Rattle.record_store.specs.Layout.{entries_range, place, record_pair, schema_key, state_key, state_value}
+use Rattle.record_store.specs.Holds.{HasIndex, HasPairs, Holds, IsElsewhere, IsListed, IsNoEntry, has_number}
+use Rattle.record_store.specs.IndexWrites.{disable_writes, drop_writes}
+use Rattle.record_store.proofs.EntryRanges.{begins_or_other, nothing_out_of, range_clears, range_leaves}
+use Rattle.record_store.proofs.Kept.{clear_leaves, itself, kept_index, not_entry, other_place, set_leaves, set_there, state_in_place}
+use Rattle.record_store.proofs.States.{all_with_state, listed_without, number_low, rising_with, rising_without, schema_apart, state_itself, state_other, state_without, states_cleared, states_low, states_put}
+
+pub not_readable : ◌≡◌ {A = State} Disabled Readable → ⊥
+not_readable is = cc
+
+-- a change of an index leaves what is neither the schema's pair, nor its state, nor its entries
+module _ (prefix : List ℕ) (m n : Map) (store : Store) (number : ℕ) (low : number < 2 ^ 64) (holds : Holds prefix m (Some store))
+    (leaves : (at : List ℕ) → (at ≡ schema_key prefix → ⊥) → (at ≡ state_key prefix number → ⊥) → (BeginsWith (entries_prefix prefix number) at → ⊥) → get n at ≡ get m at) where
+  pub records_stay : HasPairs (place prefix 1) (map (record_pair prefix) store.records) n
+  records_stay bytes =
+      let at = place prefix 1 ++ bytes in
+      leaves at (other_place prefix 0 [] 1 [] at refl (bytes, refl)) (other_place prefix 5 (int (pos number) ∷ []) 1 [] at refl (bytes, refl)) (not_entry prefix number 1 [] at refl (bytes, refl)) ∙ holds.records bytes
+
+  pub other_stays : (index : IndexDefinition) (state : State) → index.number < 2 ^ 64 → (index.number ≡ number → ⊥) → HasIndex prefix store.records m index state → HasIndex prefix store.records n index state
+  other_stays index state small differ has =
+      kept_index prefix store.records m n index state
+      (λ bytes.
+      let at = entries_prefix prefix index.number ++ bytes in
+      leaves at (other_place prefix 0 [] 2 (int (pos index.number) ∷ []) at refl (bytes, refl)) (other_place prefix 5 (int (pos number) ∷ []) 2 (int (pos index.number) ∷ []) at refl (bytes, refl))
+      (λ begins. differ (indexes_apart prefix at index.number number small low (bytes, refl) begins))) has
+
+  pub nothing_stays : (at : List ℕ) → BeginsWith prefix at → IsElsewhere prefix store.schema.indexes at → (BeginsWith (entries_prefix prefix number) at → ⊥) → get n at ≡ None
+  nothing_stays at under elsewhere other =
+      leaves at elsewhere.schema (λ same. elsewhere.states (state_in_place prefix number at same)) other ∙ holds.nothing_else at under elsewhere
+
+-- where the entries of an index are cleared it has none
+cleared_entries : (prefix : List ℕ) (m first : Map) (store : Store) (number : ℕ) → has_number store.schema.indexes number ≡ true → Holds prefix m (Some store) →
+    ((bytes : List ℕ) → get first (entries_prefix prefix number ++ bytes) ≡ get m (entries_prefix prefix number ++ bytes)) →
+    (bytes : List ℕ) → get (after (ClearRange (entries_range prefix number)) first) (entries_prefix prefix number ++ bytes) ≡ None
+cleared_entries prefix m first store number there holds same bytes =
+    range_clears prefix number first (entries_prefix prefix number ++ bytes)
+    (λ out. same bytes ∙ nothing_out_of prefix store.records holds.lawful.storable m (state_of store) number store.schema.indexes bytes there holds.entries out)
+
+-- a key that isn't that of an index's entry, where none is there if it is
+at_or_none : (prefix : List ℕ) (n : Map) (number : ℕ) (at : List ℕ) → ((bytes : List ℕ) → get n (entries_prefix prefix number ++ bytes) ≡ None) → ((BeginsWith (entries_prefix prefix number) at → ⊥) → get n at ≡ None) → get n at ≡ None
+at_or_none prefix n number at none other = elim (begins_or_other (entries_prefix prefix number) at) [ inl there ↦ ap (get n) there.1 ∙ none there.0 | inr apart ↦ other apart ]
+
+module _ (prefix : List ℕ) (m : Map) (store : Store) (number : ℕ) (there : has_number store.schema.indexes number ≡ true) (holds : Holds prefix m (Some store)) where
+  low : number < 2 ^ 64
+  low = number_low store.schema.indexes number (schema_apart store.schema holds.lawful.schema) there
+
+  -- DISABLE: with the state put and the entries cleared, the map holds the store with the index disabled
+  pub disabled_holds : Holds prefix (after_all (disable_writes prefix number) m) (Some (disabled store number))
+  disabled_holds = record {
+    lawful = record {
+      schema = holds.lawful.schema;
+      typed = holds.lawful.typed;
+      ordered = holds.lawful.ordered;
+      storable = holds.lawful.storable;
+      rising = rising_with number Disabled store.states holds.lawful.rising;
+      listed =
+          all_with_state (IsListed store.schema.indexes) number Disabled store.states (record { there = there; state = not_readable })
+          (λ one is. record { there = is.there; state = not_readable }) holds.lawful.listed;
+    };
+    schema =
+        range_leaves prefix number first (schema_key prefix) (not_entry prefix number 0 [] (schema_key prefix) refl (itself (schema_key prefix)))
+        ∙ set_leaves m (state_key prefix number) (state_value Disabled) (schema_key prefix) (other_place prefix 5 (int (pos number) ∷ []) 0 [] (schema_key prefix) refl (itself (schema_key prefix))) ∙ holds.schema;
+    records = records_stay prefix m last store number low holds leaves;
+    entries = each store.schema.indexes (schema_apart store.schema holds.lawful.schema) holds.entries;
+    states = λ bytes.
+        let at = place prefix 5 ++ bytes in
+        range_leaves prefix number first at (not_entry prefix number 5 [] at refl (bytes, refl))
+        ∙ states_put prefix number Disabled store.states m low (states_low store.schema.indexes store.states (schema_apart store.schema holds.lawful.schema) holds.lawful.listed) holds.states bytes;
+    nothing_else = λ at under elsewhere. at_or_none prefix last number at none (nothing_stays prefix m last store number low holds leaves at under elsewhere);
+  }
+    where
+      first : Map
+      first = after (Set (state_key prefix number) (state_value Disabled)) m
+
+      last : Map
+      last = after (ClearRange (entries_range prefix number)) first
+
+      leaves : (at : List ℕ) → (at ≡ schema_key prefix → ⊥) → (at ≡ state_key prefix number → ⊥) → (BeginsWith (entries_prefix prefix number) at → ⊥) → get last at ≡ get m at
+      leaves at schema state entry = range_leaves prefix number first at entry ∙ set_leaves m (state_key prefix number) (state_value Disabled) at state
+
+      none : (bytes : List ℕ) → get last (entries_prefix prefix number ++ bytes) ≡ None
+      none =
+          cleared_entries prefix m first store number there holds
+          (λ bytes. set_leaves m (state_key prefix number) (state_value Disabled) (entries_prefix prefix number ++ bytes)
+          (other_place prefix 5 (int (pos number) ∷ []) 2 (int (pos number) ∷ []) (entries_prefix prefix number ++ bytes) refl (bytes, refl)))
+
+      one : (index : IndexDefinition) → index.number < 2 ^ 64 → HasIndex prefix store.records m index (state_of store index.number) → (b : Bool) → (index.number == number) ≡ b →
+          HasIndex prefix store.records last index (state_of (disabled store number) index.number)
+      one index small has true is =
+          let same = eqb-true index.number number is in
+          subst (HasIndex prefix store.records last index) (sym (ap (λ k. unwrap_or (lookup (λ own. own == k) (with_state number Disabled store.states)) Readable) same ∙ state_itself number Disabled store.states))
+          (subst (λ k. (bytes : List ℕ) → get last (entries_prefix prefix k ++ bytes) ≡ None) (sym same) none)
+      one index small has false is =
+          let differ = eqb-false index.number number is in
+          subst (HasIndex prefix store.records last index) (sym (state_other number index.number Disabled store.states differ))
+          (other_stays prefix m last store number low holds leaves index (state_of store index.number) small differ has)
+
+      each : (indexes : List IndexDefinition) → AreApart indexes → AllByRecursion (λ index. HasIndex prefix store.records m index (state_of store index.number)) indexes →
+          AllByRecursion (λ index. HasIndex prefix store.records last index (state_of (disabled store number) index.number)) indexes
+      each [] apart all = tt
+      each (index ∷ indexes) apart all = (one index apart.0 all.0 (index.number == number) refl, each indexes apart.2 all.1)
+
+  -- DROP: with the schema without it put, and its entries and its state cleared, the map holds the store without the index
+  pub dropped_holds : IsLawfulSchema (without_index store.schema number) → Holds prefix (after_all (drop_writes prefix store number) m) (Some (dropped store number))
+  dropped_holds made = record {
+    lawful = record {
+      schema = made;
+      typed = holds.lawful.typed;
+      ordered = holds.lawful.ordered;
+      storable = holds.lawful.storable;
+      rising = rising_without number store.states holds.lawful.rising;
+      listed = listed_without store.schema.indexes number store.states holds.lawful.listed;
+    };
+    schema =
+        clear_leaves second (state_key prefix number) (schema_key prefix) (other_place prefix 5 (int (pos number) ∷ []) 0 [] (schema_key prefix) refl (itself (schema_key prefix)))
+        ∙ range_leaves prefix number first (schema_key prefix) (not_entry prefix number 0 [] (schema_key prefix) refl (itself (schema_key prefix))) ∙ set_there m (schema_key prefix) written;
+    records = records_stay prefix m last store number low holds leaves;
+    entries = each store.schema.indexes (schema_apart store.schema holds.lawful.schema) holds.entries;
+    states =
+        states_cleared prefix number store.states second low (states_low store.schema.indexes store.states (schema_apart store.schema holds.lawful.schema) holds.lawful.listed)
+        (λ bytes.
+        let at = place prefix 5 ++ bytes in
+        range_leaves prefix number first at (not_entry prefix number 5 [] at refl (bytes, refl))
+        ∙ set_leaves m (schema_key prefix) written at (other_place prefix 0 [] 5 [] at refl (bytes, refl)) ∙ holds.states bytes);
+    nothing_else = λ at under elsewhere. at_or_none prefix last number at none (λ other.
+        nothing_stays prefix m last store number low holds leaves at under
+        (record { schema = elsewhere.schema; records = elsewhere.records; entries = no_more at other store.schema.indexes elsewhere.entries; states = elsewhere.states }) other);
+  }
+    where
+      written : List ℕ
+      written = schema_bytes (without_index store.schema number)
+
+      first : Map
+      first = after (Set (schema_key prefix) written) m
+
+      second : Map
+      second = after (ClearRange (entries_range prefix number)) first
+
+      last : Map
+      last = after (ClearRange (point (state_key prefix number))) second
+
+      leaves : (at : List ℕ) → (at ≡ schema_key prefix → ⊥) → (at ≡ state_key prefix number → ⊥) → (BeginsWith (entries_prefix prefix number) at → ⊥) → get last at ≡ get m at
+      leaves at schema state entry = clear_leaves second (state_key prefix number) at state ∙ range_leaves prefix number first at entry ∙ set_leaves m (schema_key prefix) written at schema
+
+      none : (bytes : List ℕ) → get last (entries_prefix prefix number ++ bytes) ≡ None
+      none bytes =
+          let at = entries_prefix prefix number ++ bytes in
+          clear_leaves second (state_key prefix number) at (other_place prefix 5 (int (pos number) ∷ []) 2 (int (pos number) ∷ []) at refl (bytes, refl))
+          ∙ cleared_entries prefix m first store number there holds
+          (λ more. set_leaves m (schema_key prefix) written (entries_prefix prefix number ++ more)
+          (other_place prefix 0 [] 2 (int (pos number) ∷ []) (entries_prefix prefix number ++ more) refl (more, refl))) bytes
+
+      each : (indexes : List IndexDefinition) → AreApart indexes → AllByRecursion (λ index. HasIndex prefix store.records m index (state_of store index.number)) indexes →
+          AllByRecursion (λ index. HasIndex prefix store.records last index (state_of (dropped store number) index.number)) (filter (λ index. not (index.number == number)) indexes)
+      each [] apart all = tt
+      each (index ∷ indexes) apart all = by_test (index.number == number) refl (each indexes apart.2 all.1)
+        where
+          by_test : (b : Bool) → (index.number == number) ≡ b →
+              AllByRecursion (λ index. HasIndex prefix store.records last index (state_of (dropped store number) index.number)) (filter (λ index. not (index.number == number)) indexes) →
+              AllByRecursion (λ index. HasIndex prefix store.records last index (state_of (dropped store number) index.number))
+              (cond (not b) (index ∷ filter (λ index. not (index.number == number)) indexes) (filter (λ index. not (index.number == number)) indexes))
+          by_test true is rest = rest
+          by_test false is rest =
+              let differ = eqb-false index.number number is in (
+                subst (HasIndex prefix store.records last index) (sym (ap (λ o. unwrap_or o Readable) (state_without number index.number store.states differ)))
+                    (other_stays prefix m last store number low holds leaves index (state_of store index.number) apart.0 differ all.0),
+                rest,
+              )
+
+      no_more : (at : List ℕ) → (BeginsWith (entries_prefix prefix number) at → ⊥) → (indexes : List IndexDefinition) → IsNoEntry prefix (filter (λ index. not (index.number == number)) indexes) at → IsNoEntry prefix indexes at
+      no_more at other [] all = tt
+      no_more at other (index ∷ indexes) all = by_test (index.number == number) refl all (no_more at other indexes)
+        where
+          by_test : (b : Bool) → (index.number == number) ≡ b → IsNoEntry prefix (cond (not b) (index ∷ filter (λ index. not (index.number == number)) indexes) (filter (λ index. not (index.number == number)) indexes)) at →
+              (IsNoEntry prefix (filter (λ index. not (index.number == number)) indexes) at → IsNoEntry prefix indexes at) → IsNoEntry prefix (index ∷ indexes) at
+          by_test true is none_of go = (λ begins. other (subst (λ k. BeginsWith (entries_prefix prefix k) at) (eqb-true index.number number is) begins), go none_of)
+          by_test false is none_of go = (none_of.0, go none_of.1)

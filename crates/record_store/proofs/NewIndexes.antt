@@ -1,0 +1,194 @@
+-- What a map holds of a store after an index is added.
+use Rattle.std.proofs.Common.{◌≡◌, ℕ, Bool, true, false, ◌||◌, ◌==◌, ◌<◌, ◌^◌, List, [], ◌∷◌, ◌++◌, refl, sym, ap, subst, ◌∙◌, Some, None, map, pos, unwrap_or}
+use Rattle.std.specs.BTreeMap.{is_at}
+use Rattle.std.specs.FinMap.{get}
+use Rattle.std.specs.List.{AllByRecursion}
+use Rattle.std.specs.Map.{lookup}
+use Rattle.std.proofs.lemmas.Bool.{eq-eqb, eqb-true, or_right}
+use Rattle.std.proofs.lemmas.List.Folds.{list_any-append}
+use Rattle.tuple_codec.specs.Item.{int}
+use Rattle.tuple_codec.specs.Spelling.{spelling}
+use Rattle.tuple_codec.specs.Subspace.{BeginsWith}
+use Rattle.kv_core.specs.Bytes.{key_cmp}
+use Rattle.kv_core.specs.Map.{Map, after, after_all}
+use Rattle.kv_core.specs.declared.change.Mutation.TheVariants.{Set}
+use Rattle.kv_core.proofs.Stored.{get-stored}
+use Rattle.metadata.specs.declared.index.IndexDefinition.{IndexDefinition}
+use Rattle.metadata.specs.declared.index.State.{State}
+use Rattle.metadata.specs.declared.index.State.TheVariants.{Readable, Disabled}
+use Rattle.metadata.specs.IndexChange.{with_index}
+use Rattle.metadata.specs.Lawful.{IsLawfulSchema}
+use Rattle.metadata.specs.Record.{Record}
+use Rattle.metadata.specs.Records.{of_type}
+use Rattle.metadata.specs.Written.{schema_bytes}
+use Rattle.index_maint.specs.Changes.{HasEntries}
+use Rattle.index_maint.specs.Entries.{entry_of}
+use Rattle.index_maint.specs.Layout.{entries_prefix, entry_pair, entry_pairs}
+use Rattle.index_maint.proofs.Places.{begins_before, indexes_apart}
+use Rattle.index_maint.proofs.Several.{AreApart}
+use Rattle.record_store.specs.Store.{Store, indexed, new_states, state_of, with_state}
+use Rattle.record_store.specs.Layout.{place, schema_key, state_key, state_pair, state_value}
+use Rattle.record_store.specs.Holds.{HasIndex, HasPairs, Holds, IsLawful, IsListed, IsNoEntry, has_number}
+use Rattle.record_store.specs.IndexWrites.{index_added_writes, new_state_writes}
+use Rattle.record_store.proofs.IndexChanges.{not_readable, nothing_stays, other_stays, records_stay}
+use Rattle.record_store.proofs.Kept.{itself, not_entry, other_place, set_leaves, set_there}
+use Rattle.record_store.proofs.States.{all_with_state, listed_more, rising_with, schema_apart, state_itself, state_of_none, state_other, states_low, states_put}
+
+-- ---- the last index
+
+pub all_append : {X : Type 0} (P : X → Type 0) (xs : List X) (last : X) → AllByRecursion P xs → P last → AllByRecursion P (xs ++ last ∷ [])
+all_append P [] last all is = (is, tt)
+all_append P (x ∷ xs) last all is = (all.0, all_append P xs last all.1 is)
+
+all_parts : {X : Type 0} (P : X → Type 0) (xs : List X) (last : X) → AllByRecursion P (xs ++ last ∷ []) → AllByRecursion P xs × P last
+all_parts P [] last all = (tt, all.0)
+all_parts P (x ∷ xs) last all = let rest = all_parts P xs last all.1 in ((all.0, rest.0), rest.1)
+
+-- its number is one of 64 bits, and differs from those of the others
+last_low : (indexes : List IndexDefinition) (last : IndexDefinition) → AreApart (indexes ++ last ∷ []) → last.number < 2 ^ 64
+last_low [] last apart = apart.0
+last_low (index ∷ indexes) last apart = last_low indexes last apart.2
+
+last_other : (indexes : List IndexDefinition) (last : IndexDefinition) → AreApart (indexes ++ last ∷ []) → AllByRecursion (λ index. index.number ≡ last.number → ⊥) indexes
+last_other [] last apart = tt
+last_other (index ∷ indexes) last apart = ((all_parts (λ i. index.number ≡ i.number → ⊥) indexes last apart.1).1, last_other indexes last apart.2)
+
+none_before : (indexes : List IndexDefinition) (number : ℕ) → AllByRecursion (λ index. index.number ≡ number → ⊥) indexes → has_number indexes number ≡ true → ⊥
+none_before [] number others there = cc
+none_before (index ∷ indexes) number others there = by_test (index.number == number) refl there (none_before indexes number others.1)
+  where
+    by_test : (b : Bool) → (index.number == number) ≡ b → (b || has_number indexes number) ≡ true → (has_number indexes number ≡ true → ⊥) → ⊥
+    by_test true is some go = others.0 (eqb-true index.number number is)
+    by_test false is some go = go some
+
+module _ (prefix : List ℕ) (m : Map) (store : Store) (index : IndexDefinition) (made : IsLawfulSchema (with_index store.schema index)) (holds : Holds prefix m (Some store)) where
+  apart_old : AreApart store.schema.indexes
+  apart_old = schema_apart store.schema holds.lawful.schema
+
+  apart_new : AreApart (store.schema.indexes ++ index ∷ [])
+  apart_new = schema_apart (with_index store.schema index) made
+
+  low : index.number < 2 ^ 64
+  low = last_low store.schema.indexes index apart_new
+
+  others : AllByRecursion (λ i. i.number ≡ index.number → ⊥) store.schema.indexes
+  others = last_other store.schema.indexes index apart_new
+
+  -- nothing was at the keys of its entries
+  nothing_before : (bytes : List ℕ) → get m (entries_prefix prefix index.number ++ bytes) ≡ None
+  nothing_before bytes =
+      holds.nothing_else at (begins_before prefix (spelling (int (pos 2) ∷ int (pos index.number) ∷ [])) at (bytes, refl)) (record {
+        schema = other_place prefix 0 [] 2 (int (pos index.number) ∷ []) at refl (bytes, refl);
+        records = λ begins. not_entry prefix index.number 1 [] at refl begins (bytes, refl);
+        entries = none_of store.schema.indexes apart_old others;
+        states = λ begins. not_entry prefix index.number 5 [] at refl begins (bytes, refl);
+      })
+    where
+      at : List ℕ
+      at = entries_prefix prefix index.number ++ bytes
+
+      none_of : (indexes : List IndexDefinition) → AreApart indexes → AllByRecursion (λ i. i.number ≡ index.number → ⊥) indexes → IsNoEntry prefix indexes at
+      none_of [] apart differ = tt
+      none_of (i ∷ indexes) apart differ = (λ begins. differ.0 (indexes_apart prefix at i.number index.number apart.0 low begins (bytes, refl)), none_of indexes apart.2 differ.1)
+
+  -- what the map holds once the new schema stands, and its state, if it has one
+  module _ (n : Map) (states : List (ℕ × State)) (lawful : IsLawful (record store { schema = with_index store.schema index; states = states }))
+      (leaves : (at : List ℕ) → (at ≡ schema_key prefix → ⊥) → (at ≡ state_key prefix index.number → ⊥) → (BeginsWith (entries_prefix prefix index.number) at → ⊥) → get n at ≡ get m at)
+      (same : (number : ℕ) → (number ≡ index.number → ⊥) → unwrap_or (lookup (λ own. own == number) states) Readable ≡ state_of store number) where
+    each : (indexes : List IndexDefinition) → AreApart indexes → AllByRecursion (λ i. i.number ≡ index.number → ⊥) indexes → AllByRecursion (λ i. HasIndex prefix store.records m i (state_of store i.number)) indexes →
+        AllByRecursion (λ i. HasIndex prefix store.records n i (unwrap_or (lookup (λ own. own == i.number) states) Readable)) indexes
+    each [] apart differ all = tt
+    each (i ∷ indexes) apart differ all = (
+      subst (HasIndex prefix store.records n i) (sym (same i.number differ.0)) (other_stays prefix m n store index.number low holds leaves i (state_of store i.number) apart.0 differ.0 all.0),
+      each indexes apart.2 differ.1 all.1,
+    )
+
+    indexed_by : get n (schema_key prefix) ≡ Some (schema_bytes (with_index store.schema index)) → HasPairs (place prefix 5) (map (state_pair prefix) states) n →
+        HasIndex prefix store.records n index (unwrap_or (lookup (λ own. own == index.number) states) Readable) →
+        Holds prefix n (Some (record store { schema = with_index store.schema index; states = states }))
+    indexed_by written listed new = record {
+      lawful = lawful;
+      schema = written;
+      records = records_stay prefix m n store index.number low holds leaves;
+      entries =
+          all_append (λ i. HasIndex prefix store.records n i (unwrap_or (lookup (λ own. own == i.number) states) Readable)) store.schema.indexes index (each store.schema.indexes apart_old others holds.entries) new;
+      states = listed;
+      nothing_else = λ at under elsewhere.
+          let parts = all_parts (λ i. BeginsWith (entries_prefix prefix i.number) at → ⊥) store.schema.indexes index elsewhere.entries in
+          nothing_stays prefix m n store index.number low holds leaves at under (record { schema = elsewhere.schema; records = elsewhere.records; entries = parts.0; states = elsewhere.states }) parts.1;
+    }
+
+  -- the map with the new schema
+  abbrev first : Map
+  first = after (Set (schema_key prefix) (schema_bytes (with_index store.schema index))) m
+
+  first_leaves : (at : List ℕ) → (at ≡ schema_key prefix → ⊥) → get first at ≡ get m at
+  first_leaves at schema = set_leaves m (schema_key prefix) (schema_bytes (with_index store.schema index)) at schema
+
+  first_nothing : (bytes : List ℕ) → get first (entries_prefix prefix index.number ++ bytes) ≡ None
+  first_nothing bytes =
+      first_leaves (entries_prefix prefix index.number ++ bytes) (other_place prefix 0 [] 2 (int (pos index.number) ∷ []) (entries_prefix prefix index.number ++ bytes) refl (bytes, refl)) ∙ nothing_before bytes
+
+  first_states : HasPairs (place prefix 5) (map (state_pair prefix) store.states) first
+  first_states bytes = first_leaves (place prefix 5 ++ bytes) (other_place prefix 0 [] 5 [] (place prefix 5 ++ bytes) refl (bytes, refl)) ∙ holds.states bytes
+
+  -- NO RECORDS: where no record is of the type the index is readable
+  readable_now : of_type index.type_number store.records ≡ [] → Holds prefix first (Some (record store { schema = with_index store.schema index }))
+  readable_now none =
+      indexed_by first store.states (record {
+        schema = made;
+        typed = holds.lawful.typed;
+        ordered = holds.lawful.ordered;
+        storable = holds.lawful.storable;
+        rising = holds.lawful.rising;
+        listed = listed_more store.schema.indexes (index ∷ []) store.states holds.lawful.listed;
+      }) (λ at schema state entry. first_leaves at schema) (λ number differ. refl)
+      (set_there m (schema_key prefix) (schema_bytes (with_index store.schema index))) first_states
+      (subst (HasIndex prefix store.records first index) (sym (ap (λ o. unwrap_or o Readable) (state_of_none store.schema.indexes index.number store.states (none_before store.schema.indexes index.number others) holds.lawful.listed))) no_entries)
+    where
+      no_entries : HasEntries prefix index store.records first
+      no_entries bytes =
+          first_nothing bytes
+          ∙ sym (get-stored (entry_pairs prefix index store.records) (entries_prefix prefix index.number ++ bytes)
+          ∙ ap (λ rs. lookup (is_at (key_cmp (entries_prefix prefix index.number ++ bytes))) (map (entry_pair prefix index.number) (map (entry_of index) rs))) none)
+
+  -- RECORDS: where there are some it is disabled
+  disabled_now : Holds prefix (after (Set (state_key prefix index.number) (state_value Disabled)) first) (Some (record store { schema = with_index store.schema index; states = with_state index.number Disabled store.states }))
+  disabled_now =
+      indexed_by last (with_state index.number Disabled store.states) (record {
+        schema = made;
+        typed = holds.lawful.typed;
+        ordered = holds.lawful.ordered;
+        storable = holds.lawful.storable;
+        rising = rising_with index.number Disabled store.states holds.lawful.rising;
+        listed =
+            all_with_state (IsListed (store.schema.indexes ++ index ∷ [])) index.number Disabled store.states (record { there = itself_there; state = not_readable })
+            (λ one is. record { there = is.there; state = not_readable }) (listed_more store.schema.indexes (index ∷ []) store.states holds.lawful.listed);
+      }) (λ at schema state entry. put_leaves at state ∙ first_leaves at schema) (λ number differ. state_other index.number number Disabled store.states differ)
+      (put_leaves (schema_key prefix) (other_place prefix 5 (int (pos index.number) ∷ []) 0 [] (schema_key prefix) refl (itself (schema_key prefix))) ∙ set_there m (schema_key prefix) (schema_bytes (with_index store.schema index)))
+      (states_put prefix index.number Disabled store.states first low (states_low store.schema.indexes store.states apart_old holds.lawful.listed) first_states)
+      (subst (HasIndex prefix store.records last index) (sym (state_itself index.number Disabled store.states))
+      (λ bytes.
+      put_leaves (entries_prefix prefix index.number ++ bytes) (other_place prefix 5 (int (pos index.number) ∷ []) 2 (int (pos index.number) ∷ []) (entries_prefix prefix index.number ++ bytes) refl (bytes, refl))
+      ∙ first_nothing bytes))
+    where
+      last : Map
+      last = after (Set (state_key prefix index.number) (state_value Disabled)) first
+
+      put_leaves : (at : List ℕ) → (at ≡ state_key prefix index.number → ⊥) → get last at ≡ get first at
+      put_leaves at state = set_leaves first (state_key prefix index.number) (state_value Disabled) at state
+
+      itself_there : has_number (store.schema.indexes ++ index ∷ []) index.number ≡ true
+      itself_there =
+          list_any-append (λ (i : IndexDefinition). i.number == index.number) store.schema.indexes (index ∷ [])
+          ∙ or_right (has_number store.schema.indexes index.number) (has_number (index ∷ []) index.number) (ap (λ b. b || false) (eq-eqb index.number index.number refl))
+
+  -- INDEX: with the schema put, and the state of the new index where it has one, the map holds the store with the index
+  pub indexed_holds : Holds prefix (after_all (index_added_writes prefix store index) m) (Some (indexed store index))
+  indexed_holds = by_records (of_type index.type_number store.records) refl
+    where
+      by_records : (records : List Record) → of_type index.type_number store.records ≡ records →
+          Holds prefix (after_all (Set (schema_key prefix) (schema_bytes (with_index store.schema index)) ∷ new_state_writes prefix index.number records) m)
+          (Some (record store { schema = with_index store.schema index; states = new_states index.number records store.states }))
+      by_records [] is = readable_now is
+      by_records (r ∷ records) is = disabled_now
