@@ -128,13 +128,13 @@ module _ {A : Type 0} (maps : ℕ → Map) (refuses : KeyRange → ℕ → Optio
       subst (λ c. IsRefused maps refuses opened c Memory old new) (sym accepted) (ran_because ran (λ m says. tt))
 
   -- LIMIT: what the call writes was refused
-  pub refused_limit : {old mid new : CommitRequest} {F : Store → Type 0} {Form : Map → Type 0} (call : Call A) (service : Service A) (list : List Mutation) (error : WriteError) → call ≡ Ok service →
-      DidRead maps service.reach old mid (λ m. Form m × AtStore opened m F) → ((m : Map) (store : Store) → Holds opened.prefix m (Some store) → store.schema ≡ opened.schema → F store → list ≡ service.writes store) → new ≡ mid →
+  pub refused_limit : {old mid new : CommitRequest} {F : Store → Type 0} (call : Call A) (service : Service A) (list : List Mutation) (error : WriteError) → call ≡ Ok service →
+      DidRead maps service.reach old mid (λ m. AllByRecursion (IsRecordPair opened.prefix opened.schema) (read_in m service.reach) × AtStore opened m F) → ((m : Map) (store : Store) → Holds opened.prefix m (Some store) → store.schema ≡ opened.schema → F store → list ≡ service.writes store) → new ≡ mid →
       (error ≡ write.Memory) ⊎ (write_all_refusal mid.mutations list ≡ Some error) → IsRefused maps refuses opened call (of_write error) old new
   refused_limit {old = old} {mid = mid} {new = new} {F = F} call service list error accepted ran wrote same says =
       subst (λ c. IsRefused maps refuses opened c (of_write error) old new) (sym accepted)
       (subst (λ n. DidRead maps service.reach old n (IsFailure (λ range. refuses range old.read_version) opened service (of_write error) old.mutations)) (sym same)
-      (ran_because ran (λ m found. of_limit (λ e. IsFailure (λ range. refuses range old.read_version) opened service e old.mutations m) error says tt (λ e is. limit e m found.1 is))))
+      (ran_because ran (λ m found. of_limit (λ e. IsFailure (λ range. refuses range old.read_version) opened service e old.mutations m) error says tt (λ e is. (found.0, limit e m found.1 is)))))
     where
       limit : (e : WriteError) (m : Map) → AtStore opened m F → write_all_refusal mid.mutations list ≡ Some e → AtStore opened m (λ store. write_all_refusal old.mutations (service.writes store) ≡ Some e)
       limit e m found is store holds schema =

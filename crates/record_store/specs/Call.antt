@@ -69,9 +69,10 @@ IsUnread refuses opened within (Corrupt key) m =
     IsFirstBad (IsRecordPair opened.prefix opened.schema) (read_in m within) key × AtStore opened m (λ store. ⊥)
 IsUnread refuses opened within error m = ⊥
 
--- why a service isn't done: its reads aren't answered, or a limit refuses what is to be written
+-- why a service isn't done: its reads aren't answered, or all that was read is of the written form and a limit refuses what is to be written
 abbrev pub IsFailure : {A : Type 0} → (KeyRange → Option ReadError) → Opened → Service A → StoreError → List Mutation → Map → Type 0
-IsFailure refuses opened service (Write error) before m = AtStore opened m (λ store. write_all_refusal before (service.writes store) ≡ Some error)
+IsFailure refuses opened service (Write error) before m =
+    AllByRecursion (IsRecordPair opened.prefix opened.schema) (read_in m service.reach) × AtStore opened m (λ store. write_all_refusal before (service.writes store) ≡ Some error)
 IsFailure refuses opened service error before m = IsUnread refuses opened service.reach error m
 
 -- why a call wasn't answered: its own refusal, before it read anything; or it failed, having read within its reach and written nothing. Want of memory can come anywhere

@@ -311,7 +311,7 @@ refused_at {refuses = refuses} {old = old} {mid = mid} schema command (Ok servic
     right (Write reason) m says (Some store) stands has =
         let same : store.schema ≡ schema = cc in
         limit_right (λ range. refuses range old.read_version) (Some schema) command old.mutations reason (Some store) (has_within schema command (Some store) has)
-        (ap (λ ms. write_all_refusal ms (writes (Some store) command)) (sym (unwritten opened)) ∙ ap (write_all_refusal mid.mutations) (serves.wrote store same) ∙ says store stands.held same)
+        (ap (λ ms. write_all_refusal ms (writes (Some store) command)) (sym (unwritten opened)) ∙ ap (write_all_refusal mid.mutations) (serves.wrote store same) ∙ says.1 store stands.held same)
     right (Refused refusal) m says (Some store) stands has = absurd says
 
 -- ---- the same where the opened store stands at the store's prefix
