@@ -22,5 +22,6 @@ pub mod StayLawful
 pub mod IndexAdded
 pub mod IndexExamples
 pub mod TestedIndexes
+pub mod AskedKinds
 pub mod SameTypes
 pub mod StillLawful

@@ -3,6 +3,7 @@ pub mod Cell
 pub mod Schema
 pub mod Change
 pub mod IndexChange
+pub mod Asked
 pub mod Lawful
 pub mod Record
 pub mod Written

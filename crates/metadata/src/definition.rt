@@ -2,6 +2,7 @@ ghost use Rattle.std.specs.Prelude.{◌≡◌, IfOk};
 ghost use Rattle.metadata.specs.Schema.{field_kinds, key_kinds, kind_at};
 
 use crate::cells::Kind;
+use crate::index::IndexRequest;
 use std::alloc::{AllocError, Global};
 use std::marker::Model;
 use tuple_codec::Text;
@@ -222,51 +223,71 @@ impl TypeRequest {
     }
 }
 
-/// A schema as it is asked for: types, added in this order.
+// Equal types.
+fn copy_types(alloc: Global, types: &[TypeRequest]) -> Result<Vec<TypeRequest>, AllocError>
+    ensures { IfOk result (λ copy. copy.items ≡ types.now) }
+{
+    let mut copy = Vec::with_capacity(alloc, types.len())?;
+    for one in types {
+        copy.push(one.copy()?)?;
+    }
+    Ok(copy)
+}
+
+// Equal indexes.
+fn copy_indexes(alloc: Global, indexes: &[IndexRequest]) -> Result<Vec<IndexRequest>, AllocError>
+    ensures { IfOk result (λ copy. copy.items ≡ indexes.now) }
+{
+    let mut copy = Vec::with_capacity(alloc, indexes.len())?;
+    for index in indexes {
+        copy.push(index.copy()?)?;
+    }
+    Ok(copy)
+}
+
+/// A schema as it is asked for: types, added in this order, and then indexes, in theirs.
 #[derive(Drop)]
 pub struct SchemaRequest {
     types: Vec<TypeRequest>,
+    indexes: Vec<IndexRequest>,
 }
 
 impl Model for SchemaRequest {
-    ghost use Rattle.std.specs.Prelude.{List};
-    ghost use Rattle.metadata.specs.declared.definition.TypeRequest.{TypeRequest};
+    ghost use Rattle.metadata.specs.Asked.{SchemaRequest as SchemaRequestValue};
 
-    ghost Value = { List TypeRequest };
+    ghost Value = { SchemaRequestValue };
 
-    ghost view = { λ s. s.types.items };
+    ghost view = { λ s. record { types = s.types.items; indexes = s.indexes.items } };
 }
 
 impl SchemaRequest {
-    /// The request for these types.
-    pub fn new(types: Vec<TypeRequest>) -> SchemaRequest
-        ensures { result ≡ types.items }
+    /// The request for these types and these indexes over them.
+    pub fn new(types: Vec<TypeRequest>, indexes: Vec<IndexRequest>) -> SchemaRequest
+        ensures { result ≡ record { types = types.items; indexes = indexes.items } }
     {
-        SchemaRequest { types }
+        SchemaRequest { types, indexes }
     }
 
     /// The types asked for.
     pub fn types(&self) -> &[TypeRequest]
-        ensures { result.now ≡ self.now }
+        ensures { result.now ≡ self.now.types }
     {
         self.types.as_slice()
     }
 
-    // The types asked for, handed over.
-    pub(crate) fn into_types(self) -> Vec<TypeRequest>
-        ensures { result.items ≡ self }
+    /// The indexes asked for.
+    pub fn indexes(&self) -> &[IndexRequest]
+        ensures { result.now ≡ self.now.indexes }
     {
-        self.types
+        self.indexes.as_slice()
     }
 
     /// An equal request.
     pub fn copy(&self) -> Result<SchemaRequest, AllocError>
         ensures { IfOk result (λ copy. copy ≡ self.now) }
     {
-        let mut types = Vec::with_capacity(*self.types.allocator(), self.types.len())?;
-        for one in &self.types {
-            types.push(one.copy()?)?;
-        }
-        Ok(SchemaRequest { types })
+        let types = copy_types(*self.types.allocator(), &self.types)?;
+        let indexes = copy_indexes(*self.indexes.allocator(), &self.indexes)?;
+        Ok(SchemaRequest { types, indexes })
     }
 }

@@ -171,8 +171,8 @@ impl Schema {
         })
     }
 
-    // The index that is asked for, or the refusal.
-    fn new_index(&self, request: &IndexRequest) -> Result<IndexDefinition, MetadataError>
+    /// The index that `add_index` would add, with the number after the one that was given last. It is refused as `add_index` is.
+    pub fn new_index(&self, request: &IndexRequest) -> Result<IndexDefinition, MetadataError>
         ensures made { IfOk result (λ index. new_index self.now request.now ≡ Ok index) }
         ensures refused { IfErr result (λ error. IsRefusedAs error (new_index self.now request.now)) }
     {

@@ -1,8 +1,8 @@
 // Indexes of schemas as a caller meets them, with memory at hand.
 use crate::tests::{asked, names, refusal, schema_of_t, text};
 use crate::{
-    Field, Fields, IndexKind, IndexRequest, Kind, MetadataError, Names, Refusal, Schema, State,
-    States, TypeRequest,
+    Field, Fields, IndexKind, IndexRequest, Kind, MetadataError, Names, Refusal, Schema,
+    SchemaRequest, State, States, TypeRequest,
 };
 use std::alloc::{AllocError, Global};
 use std::test::Fail;
@@ -167,6 +167,47 @@ fn refuses_indexes(rt: HostRuntime) -> Result<(), Fail> {
         let request = index(alloc, name, kind, over, columns, summed)?;
         let answer = schema.add_index(&request);
         assert_eq!(rt; refusal(answer), Some(want), "{name} {over} {columns}");
+    }
+    Ok(())
+}
+
+// A request for the type t with a VALUE index for each name, over the type beside it.
+fn asked_with(alloc: Global, rows: &[(&str, &str)]) -> Result<SchemaRequest, AllocError> {
+    let types = vec![in alloc; asked(alloc, "t", "kab", "k")?]?;
+    let mut indexes = Vec::new(alloc);
+    for (name, over) in rows {
+        indexes.push(index(alloc, name, IndexKind::Value, over, "a", None)?)?;
+    }
+    Ok(SchemaRequest::new(types, indexes))
+}
+
+#[test]
+fn indexes_are_asked_for_with_types(rt: HostRuntime) -> Result<(), Fail> {
+    let alloc = rt.alloc();
+    let request = asked_with(alloc, &[("v", "t"), ("w", "t")])?.copy()?;
+    assert_eq!(rt; request.types().len(), 1);
+    assert_eq!(rt; request.indexes().len(), 2);
+    let schema = Schema::of_request(alloc, &request)?;
+    assert_eq!(rt; schema.indexes().len(), 2);
+    for (name, number) in [("v", 1), ("w", 2)] {
+        let name = text(alloc, name)?;
+        let found = schema.index_named(&name).map(|found| found.number);
+        assert_eq!(rt; found, Some(number));
+    }
+    Ok(())
+}
+
+#[test]
+fn refuses_indexes_asked_for_with_types(rt: HostRuntime) -> Result<(), Fail> {
+    let alloc = rt.alloc();
+    let rows: [(&str, &str, Refusal); 2] = [
+        ("v", "t", Refusal::NameTaken),
+        ("w", "u", Refusal::UnknownType),
+    ];
+    for (name, over, want) in rows {
+        let request = asked_with(alloc, &[("v", "t"), (name, over)])?;
+        let made = Schema::of_request(alloc, &request);
+        assert_eq!(rt; refusal(made), Some(want), "{name} {over}");
     }
     Ok(())
 }

@@ -1,12 +1,12 @@
 // The types that a schema's tuple asks for. What is passed over here, as the numbers of types, is
 // compared with the schema's own written form.
 ghost use Rattle.std.specs.Prelude.{◌≡◌, IfOk, IfErr};
-ghost use Rattle.std.specs.Option.{option_copied};
+ghost use Rattle.std.specs.Option.{option_copied, option_map};
 ghost use Rattle.tuple_codec.specs.Elements.{item_in, items_in};
 ghost use Rattle.metadata.specs.Reading.{all_read, asked_of, field_in, field_of, kind_of, name_of, read_at, request_in, request_of, requests_in, small_of, text_of, tuple_of};
 
 use crate::cells::Kind;
-use crate::definition::{Field, Fields, Names, SchemaRequest, TypeRequest};
+use crate::definition::{Field, Fields, Names, TypeRequest};
 use std::alloc::{AllocError, Global};
 use tuple_codec::{Element, Text, Tuple};
 
@@ -184,8 +184,8 @@ fn request_of(alloc: Global, element: &Element) -> Result<Option<TypeRequest>, A
 }
 
 // The requests for the types that elements are.
-fn requests_of(alloc: Global, elements: &[Element]) -> Result<Option<SchemaRequest>, AllocError>
-    ensures { IfOk result (λ request. request ≡ all_read request_of (items_in elements.now)) }
+fn requests_of(alloc: Global, elements: &[Element]) -> Result<Option<Vec<TypeRequest>>, AllocError>
+    ensures { IfOk result (λ requests. option_map (λ found. found.items) requests ≡ all_read request_of (items_in elements.now)) }
 {
     let mut types = Vec::with_capacity(alloc, elements.len())?;
     for element in elements {
@@ -194,12 +194,15 @@ fn requests_of(alloc: Global, elements: &[Element]) -> Result<Option<SchemaReque
         };
         types.push(request)?;
     }
-    Ok(Some(SchemaRequest::new(types)))
+    Ok(Some(types))
 }
 
 // The requests for the types of a schema's tuple.
-pub(crate) fn requests_in(alloc: Global, tuple: &Tuple) -> Result<Option<SchemaRequest>, AllocError>
-    ensures { IfOk result (λ request. request ≡ requests_in tuple.now) }
+pub(crate) fn requests_in(
+    alloc: Global,
+    tuple: &Tuple,
+) -> Result<Option<Vec<TypeRequest>>, AllocError>
+    ensures { IfOk result (λ requests. option_map (λ found. found.items) requests ≡ requests_in tuple.now) }
 {
     match tuple_at(tuple, 3) {
         Some(types) => requests_of(alloc, types.elements()),

@@ -3,12 +3,13 @@ ghost use Rattle.std.specs.Option.{option_copied};
 ghost use Rattle.std.specs.List.{list_all};
 ghost use Rattle.std.specs.Str.{bytes_eq};
 ghost use Rattle.metadata.specs.Schema.{find_type};
-ghost use Rattle.metadata.specs.Change.{add_type, empty_schema, field_names, has_twice, is_name, same_field, schema_of, type_refusal, with_type};
+ghost use Rattle.metadata.specs.Asked.{add_indexes, schema_asked};
+ghost use Rattle.metadata.specs.Change.{add_type, add_types, empty_schema, field_names, has_twice, is_name, same_field, schema_of, type_refusal, with_type};
 ghost use Rattle.metadata.specs.Answers.{IsRefusedAs};
 ghost use Rattle.metadata.specs.Lawful.{IsLawfulSchema, has_good_indexes};
 
 use crate::definition::{Fields, SchemaRequest, TypeDefinition, TypeRequest};
-use crate::index::IndexDefinition;
+use crate::index::{IndexDefinition, IndexRequest};
 use crate::names::{are_named, has_twice, has_unknown, is_name, is_same, places_of};
 use crate::refusal::{MetadataError, Refusal};
 use std::alloc::{AllocError, Global};
@@ -95,25 +96,46 @@ impl Schema {
         }
     }
 
-    /// The schema of these types, added to the empty one in their order; or the refusal of the first type that `add_type` refuses.
+    // Adds types in their order, as far as the first that `add_type` refuses.
+    fn add_types(&mut self, types: &[TypeRequest]) -> Result<(), MetadataError>
+        ensures ok { OnOk result (add_types self.old types.now ≡ Ok self.new) }
+        ensures refused { IfErr result (λ error. IsRefusedAs error (add_types self.old types.now)) }
+    {
+        for one in types {
+            self.add_type(one)?;
+        }
+        Ok(())
+    }
+
+    // Adds indexes in their order, as far as the first that `add_index` refuses.
+    fn add_indexes(&mut self, indexes: &[IndexRequest]) -> Result<(), MetadataError>
+        ensures ok { OnOk result (add_indexes self.old indexes.now ≡ Ok self.new) }
+        ensures refused { IfErr result (λ error. IsRefusedAs error (add_indexes self.old indexes.now)) }
+    {
+        for index in indexes {
+            self.add_index(index)?;
+        }
+        Ok(())
+    }
+
+    /// The schema of this request: its types are added to the empty schema in their order, then its indexes. The refusal is that of the first `add_type` or `add_index` that refuses.
     pub fn of_request(alloc: Global, request: &SchemaRequest) -> Result<Schema, MetadataError>
-        ensures made { IfOk result (λ schema. schema_of request.now ≡ Ok schema) }
-        ensures refused { IfErr result (λ error. IsRefusedAs error (schema_of request.now)) }
+        ensures made { IfOk result (λ schema. schema_asked request.now ≡ Ok schema) }
+        ensures refused { IfErr result (λ error. IsRefusedAs error (schema_asked request.now)) }
     {
         let mut schema = Schema::new(alloc);
-        for one in request.types() {
-            schema.add_type(one)?;
-        }
+        schema.add_types(request.types())?;
+        schema.add_indexes(request.indexes())?;
         Ok(schema)
     }
 
-    // The same of a request that is handed over.
-    pub(crate) fn of_types(alloc: Global, request: SchemaRequest) -> Result<Schema, MetadataError>
-        ensures made { IfOk result (λ schema. schema_of request ≡ Ok schema) }
-        ensures refused { IfErr result (λ error. IsRefusedAs error (schema_of request)) }
+    // The schema of these types alone, which are handed over.
+    pub(crate) fn of_types(alloc: Global, types: Vec<TypeRequest>) -> Result<Schema, MetadataError>
+        ensures made { IfOk result (λ schema. schema_of types.items ≡ Ok schema) }
+        ensures refused { IfErr result (λ error. IsRefusedAs error (schema_of types.items)) }
     {
         let mut schema = Schema::new(alloc);
-        for one in request.into_types() {
+        for one in types {
             schema.take_type(one)?;
         }
         Ok(schema)

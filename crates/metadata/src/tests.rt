@@ -58,7 +58,7 @@ fn row(alloc: Global, numbers: &[Option<i64>]) -> Result<Cells, AllocError> {
 pub(crate) fn schema_of_t(alloc: Global) -> Result<Schema, MetadataError> {
     let mut types = Vec::new(alloc);
     types.push(asked(alloc, "t", "kab", "k")?)?;
-    let request = SchemaRequest::new(types);
+    let request = SchemaRequest::new(types, Vec::new(alloc));
     Schema::of_request(alloc, &request)
 }
 

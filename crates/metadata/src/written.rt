@@ -38,10 +38,10 @@ fn types_in(alloc: Global, tuple: &Tuple) -> Result<Option<Schema>, AllocError>
     ensures read { IfOk result (λ found. option_map (λ schema. schema.types) found ≡ types_in tuple.now) }
     ensures made { IfOk result (λ found. IfSome found (λ schema. (requests : List TypeRequest) × (schema_of requests ≡ Ok schema))) }
 {
-    let Some(request) = requests_in(alloc, tuple)? else {
+    let Some(requests) = requests_in(alloc, tuple)? else {
         return Ok(None);
     };
-    match Schema::of_types(alloc, request) {
+    match Schema::of_types(alloc, requests) {
         Ok(schema) => Ok(Some(schema)),
         Err(MetadataError::Memory) => Err(AllocError),
         Err(MetadataError::Refused(_)) => Ok(None),

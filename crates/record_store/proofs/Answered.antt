@@ -31,8 +31,8 @@ use Rattle.record_store.specs.declared.error.StoreError.{StoreError}
 use Rattle.record_store.specs.declared.error.StoreError.TheVariants.{Memory, Read, Write, Corrupt, Refused}
 use Rattle.record_store.specs.Store.{Store}
 use Rattle.record_store.specs.Holds.{Holds, IsOfSchema}
-use Rattle.record_store.specs.Form.{IsRecordPair, read_in}
-use Rattle.record_store.specs.Call.{AtStore, Call, IsAnswered, IsFailure, IsRefused, IsUnread, Opened, Service}
+use Rattle.record_store.specs.Form.{IsRecordPair}
+use Rattle.record_store.specs.Call.{AtStore, Call, IsAnswered, IsFailure, IsOpenAs, IsRefused, IsUnread, Opened, Service}
 use Rattle.record_store.specs.Calls.{done_with, own_record}
 use Rattle.record_store.specs.Reading.{HasNotFound, IsKeyOf}
 use Rattle.record_store.specs.Steps.{DidRead, of_metadata, of_write}
@@ -109,14 +109,14 @@ module _ {A : Type 0} (maps : ℕ → Map) (refuses : KeyRange → ℕ → Optio
   refused_own service (Err refusal) (meta.Refused other) is same = (inr (let one : refusal ≡ other = cc in ap Refused (sym one)), same)
 
   -- UNREAD: its reads weren't answered
-  failure_of : (refused : KeyRange → Option ReadError) (service : Service A) (error : StoreError) (before : List Mutation) (m : Map) → IsUnread refused opened service.reach error m → IsFailure refused opened service error before m
+  failure_of : (refused : KeyRange → Option ReadError) (service : Service A) (error : StoreError) (before : List Mutation) (m : Map) → IsUnread refused opened service.reach service.reads error m → IsFailure refused opened service error before m
   failure_of refused service Memory before m says = says
   failure_of refused service (Read error) before m says = says
   failure_of refused service (Corrupt key) before m says = says
   failure_of refused service (Write error) before m says = absurd says
   failure_of refused service (Refused refusal) before m says = absurd says
 
-  pub refused_unread : {old new : CommitRequest} (call : Call A) (service : Service A) (error : StoreError) → call ≡ Ok service → HasNotFound maps refuses opened service.reach error old new →
+  pub refused_unread : {old new : CommitRequest} (call : Call A) (service : Service A) (error : StoreError) → call ≡ Ok service → HasNotFound maps refuses opened service.reach service.reads error old new →
       IsRefused maps refuses opened call error old new
   refused_unread {old = old} {new = new} call service error accepted unread =
       subst (λ c. IsRefused maps refuses opened c error old new) (sym accepted)
@@ -129,7 +129,7 @@ module _ {A : Type 0} (maps : ℕ → Map) (refuses : KeyRange → ℕ → Optio
 
   -- LIMIT: what the call writes was refused
   pub refused_limit : {old mid new : CommitRequest} {F : Store → Type 0} (call : Call A) (service : Service A) (list : List Mutation) (error : WriteError) → call ≡ Ok service →
-      DidRead maps service.reach old mid (λ m. AllByRecursion (IsRecordPair opened.prefix opened.schema) (read_in m service.reach) × AtStore opened m F) → ((m : Map) (store : Store) → Holds opened.prefix m (Some store) → store.schema ≡ opened.schema → F store → list ≡ service.writes store) → new ≡ mid →
+      DidRead maps service.reach old mid (λ m. AllByRecursion (IsRecordPair opened.prefix opened.schema) (service.reads m) × AtStore opened m F) → ((m : Map) (store : Store) → Holds opened.prefix m (Some store) → IsOpenAs opened store → F store → list ≡ service.writes store) → new ≡ mid →
       (error ≡ write.Memory) ⊎ (write_all_refusal mid.mutations list ≡ Some error) → IsRefused maps refuses opened call (of_write error) old new
   refused_limit {old = old} {mid = mid} {new = new} {F = F} call service list error accepted ran wrote same says =
       subst (λ c. IsRefused maps refuses opened c (of_write error) old new) (sym accepted)
@@ -143,9 +143,9 @@ module _ {A : Type 0} (maps : ℕ → Map) (refuses : KeyRange → ℕ → Optio
 
   -- ANSWERED: reads, and then writes that no limit refuses
   pub answered : {old mid new : CommitRequest} {F : Store → Type 0} (call : Call A) (service : Service A) (answer : A) (list : List Mutation) → call ≡ Ok service → (length list == 0) ≡ not (service.changes answer) →
-      DidRead maps service.reach old mid (λ m. AllByRecursion (IsRecordPair opened.prefix opened.schema) (read_in m service.reach) × AtStore opened m F) →
+      DidRead maps service.reach old mid (λ m. AllByRecursion (IsRecordPair opened.prefix opened.schema) (service.reads m) × AtStore opened m F) →
       new ≡ with_mutations list mid → IsNone (write_all_refusal mid.mutations list) →
-      ((m : Map) (store : Store) → Holds opened.prefix m (Some store) → store.schema ≡ opened.schema → F store → IsServed opened service answer list m store) → IsAnswered maps opened call answer old new
+      ((m : Map) (store : Store) → Holds opened.prefix m (Some store) → IsOpenAs opened store → F store → IsServed opened service answer list m store) → IsAnswered maps opened call answer old new
   answered {old = old} {mid = mid} call service answer list accepted changes ran is allowed serves = record {
     service = service;
     accepted = accepted;
@@ -167,8 +167,8 @@ module _ {A : Type 0} (maps : ℕ → Map) (refuses : KeyRange → ℕ → Optio
 
   -- ANSWERED: reads alone
   pub answered_reading : {old new : CommitRequest} {F : Store → Type 0} (call : Call A) (service : Service A) (answer : A) → call ≡ Ok service → true ≡ not (service.changes answer) →
-      DidRead maps service.reach old new (λ m. AllByRecursion (IsRecordPair opened.prefix opened.schema) (read_in m service.reach) × AtStore opened m F) →
-      ((m : Map) (store : Store) → Holds opened.prefix m (Some store) → store.schema ≡ opened.schema → F store → IsServed opened service answer [] m store) → IsAnswered maps opened call answer old new
+      DidRead maps service.reach old new (λ m. AllByRecursion (IsRecordPair opened.prefix opened.schema) (service.reads m) × AtStore opened m F) →
+      ((m : Map) (store : Store) → Holds opened.prefix m (Some store) → IsOpenAs opened store → F store → IsServed opened service answer [] m store) → IsAnswered maps opened call answer old new
   answered_reading {old = old} call service answer accepted changes ran serves = record {
     service = service;
     accepted = accepted;

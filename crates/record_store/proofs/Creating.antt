@@ -49,7 +49,7 @@ of_limit So write.TransactionTooLarge (inr met) memory limit = limit write.Trans
 
 module _ (prefix : List ℕ) (schema : Schema) where
   abbrev made : Opened
-  made = record { prefix = prefix; schema = schema }
+  made = record { prefix = prefix; schema = schema; states = [] }
 
   create_error : (refuses : KeyRange → Option ReadError) (near : List KeyRange) → ((k : List ℕ) → covers near k ≡ true → covers (opening_reach prefix) k ≡ true) →
       (error : StoreError) (before : List Mutation) (m : Map) → IsReadError refuses near error → IsCreateFailure refuses made error before m

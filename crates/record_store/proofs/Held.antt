@@ -25,9 +25,9 @@ use Rattle.metadata.specs.Records.{AreOrdered, IsStorable, has_primary_key, of_t
 use Rattle.metadata.specs.Cell.{items_of}
 use Rattle.metadata.specs.Written.{schema_bytes}
 use Rattle.metadata.specs.declared.index.State.{State}
-use Rattle.record_store.specs.Store.{Store, Serial}
-use Rattle.record_store.specs.Layout.{place, record_key, record_pair, record_value, schema_key, state_pair, states_range, type_range}
-use Rattle.record_store.specs.Holds.{HasNoIndex, HasPairs, Holds, IsListed}
+use Rattle.record_store.specs.Store.{Store}
+use Rattle.record_store.specs.Layout.{place, record_key, record_pair, record_value, schema_key, states_range, type_range}
+use Rattle.record_store.specs.Holds.{HasPairs, Holds, IsListed}
 use Rattle.record_store.proofs.Keys.{in_type_range, key_order, record_key_is, states_end_is}
 
 -- ---- keys under a prefix
@@ -180,13 +180,9 @@ module _ (prefix : List ℕ) where
       ∙ pairs_in-stored (map (record_pair prefix) store.records) (type_range prefix n) (rising store.records holds.lawful.storable holds.lawful.ordered)
       ∙ in_range n store.records hn holds.lawful.storable
 
-  -- STATES: where there is no index there is nothing in the range of the states
-  pub no_states : (m : Map) (serial : Serial) → HasNoIndex serial → Holds prefix m serial → pairs_in m (states_range prefix) ≡ []
-  no_states m None plain holds =
+  -- STATES: where there is no store there is nothing in the range of the states
+  pub no_states : (m : Map) → Holds prefix m None → pairs_in m (states_range prefix) ≡ []
+  no_states m holds =
       held_in prefix [] m (states_range prefix) (0x15 ∷ 0x05 ∷ 0 ∷ []) (0x15 ∷ 0x05 ∷ 255 ∷ []) (λ i. record { begin = states_end_is prefix 0 i; end = states_end_is prefix 255 i })
       (λ bytes. holds bytes ∙ sym (get-stored [] (prefix ++ bytes)))
-      ∙ pairs_in-stored [] (states_range prefix) nothing_rises
-  no_states m (Some store) plain holds =
-      held_in (place prefix 5) (map (state_pair prefix) store.states) m (states_range prefix) (0 ∷ []) (255 ∷ []) refl holds.states
-      ∙ ap (λ states. pairs_in (stored (map (state_pair prefix) states)) (states_range prefix)) (none_listed store.states (subst (λ is. AllByRecursion (IsListed is) store.states) plain holds.lawful.listed))
       ∙ pairs_in-stored [] (states_range prefix) nothing_rises

@@ -8,11 +8,10 @@ use Rattle.kv_core.specs.Map.{Map, after, after_all}
 use Rattle.kv_core.specs.Range.{point}
 use Rattle.kv_core.specs.declared.change.Mutation.{Mutation}
 use Rattle.kv_core.specs.declared.change.Mutation.TheVariants.{Set, ClearRange}
-use Rattle.metadata.specs.declared.cells.Cell.{Cell}
 use Rattle.metadata.specs.declared.index.IndexDefinition.{IndexDefinition}
 use Rattle.metadata.specs.declared.index.State.{State}
 use Rattle.metadata.specs.declared.index.State.TheVariants.{Readable, WriteOnly, Disabled}
-use Rattle.metadata.specs.Record.{Record, key_cells, key_items, primary_key}
+use Rattle.metadata.specs.Record.{Record, key_cells, primary_key}
 use Rattle.metadata.specs.Records.{IsStorable, record_at}
 use Rattle.index_maint.specs.Changes.{value_changes}
 use Rattle.index_maint.specs.Layout.{entries_prefix}
@@ -33,7 +32,7 @@ module _ (prefix : List ℕ) (store : Store) (number : ℕ) where
   abbrev writes_of : Option Record → Option Record → IndexDefinition → List Mutation
   writes_of old new index = cond (is_readable (state_of store index.number)) (writes_for prefix number old new index) []
 
-  writes_are : (old new : Option Record) → index_writes prefix store number old new ≡ flat_map (writes_of old new) store.schema.indexes
+  pub writes_are : (old new : Option Record) → index_writes prefix store number old new ≡ flat_map (writes_of old new) store.schema.indexes
   writes_are old new =
       flat_map-filter (λ index. value_changes prefix index old new) (λ index. index.type_number == number) (readable_indexes store)
       ∙ flat_map-filter (writes_for prefix number old new) (λ index. is_readable (state_of store index.number)) store.schema.indexes
@@ -98,21 +97,20 @@ module _ (prefix : List ℕ) where
       given = record { ordered = holds.lawful.ordered; storable = holds.lawful.storable; tuple = can.key; found = refl; newer = (can, refl) }
 
   -- REMOVE: with a record taken out and what its indexes want written, the map holds the store without the record
-  pub removed_holds_all : (m : Map) (store : Store) (number : ℕ) (cells : List Cell) (key : List Item) → key ≡ key_items number cells → IsTuple key → Holds prefix m (Some store) →
-      Holds prefix (after_all (remove_writes prefix store number key (record_at key store.records)) m) (Some (removed store key))
-  removed_holds_all m store number cells key is tuple holds = by_record (record_at key store.records) refl
+  pub removed_holds_all : (m : Map) (store : Store) (key : List Item) → IsTuple key → Holds prefix m (Some store) →
+      Holds prefix (after_all (remove_writes prefix store key (record_at key store.records)) m) (Some (removed store key))
+  removed_holds_all m store key tuple holds = by_record (record_at key store.records) refl
     where
       then : Map
       then = after (ClearRange (point (record_key prefix key))) m
 
-      by_record : (old : Option Record) → record_at key store.records ≡ old → Holds prefix (after_all (remove_writes prefix store number key old) m) (Some (removed store key))
+      by_record : (old : Option Record) → record_at key store.records ≡ old → Holds prefix (after_all (remove_writes prefix store key old) m) (Some (removed store key))
       by_record None none = subst (λ rs. Holds prefix m (Some (record store { records = rs }))) (sym (found_none key store.records none)) holds
       by_record (Some old) there =
           let given : IsReplacement key (Some old) None store.records = record { ordered = holds.lawful.ordered; storable = holds.lawful.storable; tuple = tuple; found = sym there; newer = tt } in
-          removed_by prefix m (after_all (index_writes prefix store number (Some old) None) then) store key tuple holds
-          (λ at none. writes_leave prefix store number (Some old) None then at none)
-          (writes_follow prefix store number key (Some old) None given
-          (old_typed number cells key (Some old) None store.records given is) tt then (schema_apart store.schema holds.lawful.schema)
+          removed_by prefix m (after_all (index_writes prefix store old.definition.number (Some old) None) then) store key tuple holds
+          (λ at none. writes_leave prefix store old.definition.number (Some old) None then at none)
+          (writes_follow prefix store old.definition.number key (Some old) None given refl tt then (schema_apart store.schema holds.lawful.schema)
           (kept_indexes prefix store.records (state_of store) m then store.schema.indexes
           (λ n bytes. clear_leaves m (record_key prefix key) (entries_prefix prefix n ++ bytes)
           (other_place prefix 1 key 2 (int (pos n) ∷ []) (entries_prefix prefix n ++ bytes) refl (bytes, refl))) holds.entries))

@@ -18,7 +18,8 @@ use Rattle.std.proofs.lemmas.List.{append-nil}
 use Rattle.kv_core.specs.Bytes.{key_cmp, key_le, key_lt, end_of_keys}
 use Rattle.kv_core.specs.Range.{KeyRange, contains, is_key_range}
 use Rattle.kv_core.proofs.Order.{le_from_lt}
-use Rattle.record_store.specs.Layout.{place, record_key, schema_key, states_range, type_range}
+use Rattle.index_maint.specs.Layout.{entries_prefix}
+use Rattle.record_store.specs.Layout.{entries_range, state_key, place, record_key, schema_key, states_range, type_range}
 
 -- ---- below the end
 
@@ -44,6 +45,10 @@ module _ (prefix : List ℕ) where
   pub record_below : (key : List Item) → key_lt prefix end_of_keys ≡ true → key_lt (record_key prefix key) end_of_keys ≡ true
   unfolding int_spelling written.byte_count
   record_below key p = below_with prefix (0x15 ∷ 0x01 ∷ spelling key) p refl
+
+  pub state_below : (number : ℕ) → key_lt prefix end_of_keys ≡ true → key_lt (state_key prefix number) end_of_keys ≡ true
+  unfolding int_spelling written.byte_count
+  state_below number p = below_with prefix (int_spelling (pos 5) ++ spelling (int (pos number) ∷ [])) p refl
 
   -- the bytes behind the prefix in the key of a place, and of a record
   pub record_key_is : (key : List Item) → place prefix 1 ++ spelling key ≡ record_key prefix key
@@ -128,6 +133,14 @@ module _ (prefix : List ℕ) where
       (λ i. above_itself (record_key prefix (int (pos n) ∷ [])) (255 ∷ []) i && key_le (record_key prefix (int (pos n) ∷ []) ++ 255 ∷ []) end_of_keys)
       ∙ le_from_lt (record_key prefix (int (pos n) ∷ []) ++ 255 ∷ []) end_of_keys
       (ap (λ k. key_lt k end_of_keys) (end_is n) ∙ below_with prefix (int_spelling (pos 1) ++ (int_spelling (pos n) ++ 255 ∷ [])) p refl)
+
+  pub is_entries_range : (n : ℕ) → key_lt prefix end_of_keys ≡ true → is_key_range (entries_range prefix n) ≡ true
+  unfolding int_spelling written.byte_count
+  is_entries_range n p =
+      let rest : List ℕ = int_spelling (pos 2) ++ (int_spelling (pos n) ++ []) in
+      (λ i. above_itself (entries_prefix prefix n) (255 ∷ []) i && key_le (entries_prefix prefix n ++ 255 ∷ []) end_of_keys)
+      ∙ le_from_lt (entries_prefix prefix n ++ 255 ∷ []) end_of_keys
+      (ap (λ k. key_lt k end_of_keys) (append_assoc prefix rest (255 ∷ [])) ∙ below_with prefix (rest ++ 255 ∷ []) p refl)
 
   -- the ends of the states' range, behind the prefix
   pub states_end_is : (b : ℕ) → place prefix 5 ++ b ∷ [] ≡ prefix ++ (0x15 ∷ 0x05 ∷ b ∷ [])

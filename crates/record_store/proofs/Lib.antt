@@ -15,3 +15,7 @@ pub mod IndexChanges
 pub mod NewIndexes
 pub mod Plain
 pub mod StatePairs
+pub mod IndexSteps
+pub mod StateSteps
+pub mod IndexCalls
+pub mod AddedCalls

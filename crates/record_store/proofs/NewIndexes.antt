@@ -26,10 +26,10 @@ use Rattle.index_maint.specs.Entries.{entry_of}
 use Rattle.index_maint.specs.Layout.{entries_prefix, entry_pair, entry_pairs}
 use Rattle.index_maint.proofs.Places.{begins_before, indexes_apart}
 use Rattle.index_maint.proofs.Several.{AreApart}
-use Rattle.record_store.specs.Store.{Store, indexed, new_states, state_of, with_state}
+use Rattle.record_store.specs.Store.{Store, indexed, listed_as, new_state, state_of, with_state}
 use Rattle.record_store.specs.Layout.{place, schema_key, state_key, state_pair, state_value}
 use Rattle.record_store.specs.Holds.{HasIndex, HasPairs, Holds, IsLawful, IsListed, IsNoEntry, has_number}
-use Rattle.record_store.specs.IndexWrites.{index_added_writes, new_state_writes}
+use Rattle.record_store.specs.IndexWrites.{index_added_writes, state_writes}
 use Rattle.record_store.proofs.IndexChanges.{not_readable, nothing_stays, other_stays, records_stay}
 use Rattle.record_store.proofs.Kept.{itself, not_entry, other_place, set_leaves, set_there}
 use Rattle.record_store.proofs.States.{all_with_state, listed_more, rising_with, schema_apart, state_itself, state_of_none, state_other, states_low, states_put}
@@ -188,7 +188,7 @@ module _ (prefix : List ℕ) (m : Map) (store : Store) (index : IndexDefinition)
   indexed_holds = by_records (of_type index.type_number store.records) refl
     where
       by_records : (records : List Record) → of_type index.type_number store.records ≡ records →
-          Holds prefix (after_all (Set (schema_key prefix) (schema_bytes (with_index store.schema index)) ∷ new_state_writes prefix index.number records) m)
-          (Some (record store { schema = with_index store.schema index; states = new_states index.number records store.states }))
+          Holds prefix (after_all (Set (schema_key prefix) (schema_bytes (with_index store.schema index)) ∷ state_writes prefix index.number (new_state records)) m)
+          (Some (record store { schema = with_index store.schema index; states = listed_as index.number (new_state records) store.states }))
       by_records [] is = readable_now is
       by_records (r ∷ records) is = disabled_now

@@ -1,12 +1,12 @@
 -- What reading a record and opening a store establish.
-use Rattle.std.proofs.Common.{◌≡◌, inl, inr, ℕ, Bool, true, false, ◌||◌, cond, List, [], ◌∷◌, ◌++◌, refl, sym, ap, subst, ◌∙◌, Option, Some, None, Result, append-nil, pos, length, ◌==◌}
+use Rattle.std.proofs.Common.{◌≡◌, inl, inr, ℕ, Bool, true, false, ◌||◌, cond, List, [], ◌∷◌, ◌++◌, refl, sym, ap, subst, subst₂, ◌∙◌, Option, Some, None, Result, append-nil, map, pos, ◌&&◌}
 use Rattle.std.specs.Prelude.{IfErr}
 use Rattle.std.specs.Result.{IsErr, IsErrAnd}
 use Rattle.std.proofs.lemmas.Result.{err_from_is_err_and}
-use Rattle.std.proofs.lemmas.Bool.{or_left, or_right}
-use Rattle.std.specs.List.{AllByRecursion, filter}
+use Rattle.std.proofs.lemmas.Bool.{and_parts, or_left, or_right}
+use Rattle.std.specs.List.{AllByRecursion, filter, list_all}
 use Rattle.std.specs.FinMap.{entries, get}
-use Rattle.tuple_codec.specs.Item.{Item, IsTuple}
+use Rattle.tuple_codec.specs.Item.{Item, IsTuple, int}
 use Rattle.tuple_codec.specs.Spelling.{int_spelling, spelling}
 use Rattle.kv_core.specs.Range.{KeyRange, contains, covers, point}
 use Rattle.kv_core.specs.Map.{Map, Agree, pairs_in}
@@ -16,6 +16,11 @@ use Rattle.cluster_core.specs.declared.answers.ReadError.{ReadError}
 use Rattle.txn.specs.Reads.{seen, has_read}
 use Rattle.txn.proofs.Running.{ran_because, ran_wider, ran_then, ran_read}
 use Rattle.metadata.specs.declared.definition.TypeDefinition.{TypeDefinition}
+use Rattle.metadata.specs.declared.index.IndexDefinition.{IndexDefinition}
+use Rattle.metadata.specs.declared.index.IndexKind.{IndexKind}
+use Rattle.metadata.specs.declared.index.IndexKind.TheVariants.{Value, Count, Sum}
+use Rattle.metadata.specs.declared.index.State.{State}
+use Rattle.metadata.specs.declared.index.State.TheVariants.{Disabled}
 use Rattle.metadata.specs.Lawful.{IsLawfulSchema}
 use Rattle.metadata.specs.Record.{Record}
 use Rattle.metadata.specs.Records.{record_at}
@@ -26,15 +31,19 @@ use Rattle.metadata.proofs.OneSchema.{written_once}
 use Rattle.metadata.proofs.StoredApart.{named_typed}
 use Rattle.record_store.specs.declared.error.StoreError.{StoreError}
 use Rattle.record_store.specs.declared.error.StoreError.TheVariants.{Memory, Read, Write, Corrupt, Refused}
-use Rattle.record_store.specs.Store.{Serial, schema_in}
-use Rattle.record_store.specs.Layout.{record_key, schema_key, states_range}
-use Rattle.record_store.specs.Holds.{HasNoIndex, Holds}
-use Rattle.record_store.specs.Form.{IsFirstBad, IsRecordPair, IsSchemaPair, read_in}
+use Rattle.record_store.specs.Store.{Serial}
+use Rattle.record_store.specs.Layout.{record_key, schema_key, state_pair, states_range}
+use Rattle.record_store.specs.Holds.{HasPlainIndexes, Holds, IsListed, IsPlain}
+use Rattle.record_store.specs.Form.{IsDisabledOf, IsFirstBad, IsOpeningPair, IsRecordPair, IsSchemaPair, IsStatePair, read_in}
 use Rattle.record_store.specs.Call.{IsUnread, Opened}
-use Rattle.record_store.specs.Opening.{HasSchema, IsOpenFailure, IsOpened, IsUnopened, opening_reach}
-use Rattle.record_store.specs.Reading.{AreOfNoSchema, HasNotFound, HasNotRead, IsBadSchema, IsBadState, IsFound, IsKeyOf, IsNoSchema, IsNotFound, IsRead, IsReadError, IsSchema}
+use Rattle.record_store.specs.Opening.{HasSchema, IsOpenFailure, IsOpened, IsThereAs, IsUnopened, opening_reach}
+use Rattle.record_store.specs.Reading.{AreOfNoSchema, AreStates, HasNotFound, HasNotRead, HaveNoStates, IsBadSchema, IsBadStateAmong, IsFound, IsKeyOf, IsNoSchema, IsNoState, IsNotFound, IsRead, IsReadError, IsSchema, is_value}
 use Rattle.record_store.specs.Steps.{DidRead}
 use Rattle.record_store.proofs.Held.{no_schema_held, no_schema_state, no_states, schema_held}
+use Rattle.record_store.proofs.IndexChanges.{not_readable}
+use Rattle.record_store.proofs.Kept.{itself, other_place}
+use Rattle.record_store.proofs.StatePairs.{same_states, states_held}
+use Rattle.record_store.proofs.States.{schema_apart, states_low}
 use Rattle.record_store.proofs.RecordPairs.{at_key, key_form, no_record_pair, none_bad, none_there, of_stored, pairs_at, record_there}
 
 abbrev Pair : Type 0
@@ -81,13 +90,13 @@ module _ (opened : Opened) (type : TypeDefinition) (key : List Item) (lawful : I
     subst (AllByRecursion (IsRecordPair opened.prefix opened.schema)) (sym (read_at m (record_key opened.prefix key) (Some value) is)) (stored_form value r says, tt),
     λ store holds same.
         subst (λ k. Some r ≡ record_at k store.records) (sym key_of.is)
-        (record_there opened.prefix m store holds type key_of.cells value r (subst (λ s. IsTypeOf s type) (sym same) own) (subst IsTuple key_of.is key_of.tuple)
+        (record_there opened.prefix m store holds type key_of.cells value r (subst (λ s. IsTypeOf s type) (sym same.schema) own) (subst IsTuple key_of.is key_of.tuple)
         (ap (λ k. get m (record_key opened.prefix k)) (sym key_of.is) ∙ is) (subst (λ k. IsStoredAs type (spelling k) value r) key_of.is says)),
   )
 
   -- UNREAD: what was found is none of the type's
   unread_there : (refuses : KeyRange → Option ReadError) (m : Map) (value : Option (List ℕ)) (error : StoreError) → get m (record_key opened.prefix key) ≡ value →
-      IsNotFound type (spelling key) (record_key opened.prefix key) value error → IsUnread refuses opened (point (record_key opened.prefix key) ∷ []) error m
+      IsNotFound type (spelling key) (record_key opened.prefix key) value error → IsUnread refuses opened (point (record_key opened.prefix key) ∷ []) (λ n. read_in n (point (record_key opened.prefix key) ∷ [])) error m
   unread_there refuses m value Memory is says = tt
   unread_there refuses m None (Read error) is says = absurd says
   unread_there refuses m None (Write error) is says = absurd says
@@ -101,7 +110,7 @@ module _ (opened : Opened) (type : TypeDefinition) (key : List Item) (lawful : I
     λ store holds same.
         none_bad (read_in m (point (record_key opened.prefix key) ∷ [])) at
         (subst (AllByRecursion (IsRecordPair opened.prefix opened.schema)) (sym (append-nil (pairs_in m (point (record_key opened.prefix key)))))
-        (subst (λ s. AllByRecursion (IsRecordPair opened.prefix s) (pairs_in m (point (record_key opened.prefix key)))) same (key_form opened.prefix m store holds key key_of.tuple))) bad,
+        (subst (λ s. AllByRecursion (IsRecordPair opened.prefix s) (pairs_in m (point (record_key opened.prefix key)))) same.schema (key_form opened.prefix m store holds key key_of.tuple))) bad,
   )
     where
       none : IsRecordPair opened.prefix opened.schema (record_key opened.prefix key, value) → ⊥
@@ -130,7 +139,7 @@ module _ (opened : Opened) (type : TypeDefinition) (key : List Item) (lawful : I
 
   pub record_unread : {maps : ℕ → Map} {refuses : KeyRange → ℕ → Option ReadError} {old new : CommitRequest} (k packed : List ℕ) (value : Option (List ℕ)) (error : StoreError) → k ≡ record_key opened.prefix key → packed ≡ spelling key →
       new ≡ has_read (point k) old → ((m : Map) → Agree new.reads (maps old.read_version) m → value ≡ get (seen old m) k) → IsNotFound type packed k value error →
-      HasNotFound maps refuses opened (point (record_key opened.prefix key) ∷ []) error old new
+      HasNotFound maps refuses opened (point (record_key opened.prefix key) ∷ []) (λ m. read_in m (point (record_key opened.prefix key) ∷ [])) error old new
   record_unread {refuses = refuses} {old = old} k packed value error is pack read answer says = record {
     ran =
         ran_read (point k) read (one_covers (point k) (point (record_key opened.prefix key)) (ap point is))
@@ -140,14 +149,26 @@ module _ (opened : Opened) (type : TypeDefinition) (key : List Item) (lawful : I
 
 -- ---- the schema
 
--- a list that is told not to be empty isn't
-pub not_empty : {X : Type 0} (test : Bool) (xs ys : List X) → test ≡ (length xs == 0) → test ≡ false → xs ≡ ys → ys ≡ [] → ⊥
-not_empty test xs ys is filled same none = let both : false ≡ true = sym filled ∙ is ∙ ap (λ l. length l == 0) (same ∙ none) in cc
+-- indexes that are told to be VALUE indexes are
+value_kind : (kind : IndexKind) → is_value kind ≡ true → kind ≡ Value
+value_kind Value is = refl
+value_kind Count is = cc
+value_kind Sum is = cc
 
--- the bytes of a schema with indexes are those of none without
-pub of_no_schema : (bytes : List ℕ) (schema : Schema) → IsLawfulSchema schema → bytes ≡ schema_bytes schema → (schema.indexes ≡ [] → ⊥) → AreOfNoSchema bytes
-of_no_schema bytes schema made is some other made_other plain same =
-    some (ap (λ (s : Schema). s.indexes) (written_once schema other made made_other (sym is ∙ same)) ∙ plain)
+pub all_values : (indexes : List IndexDefinition) → list_all (λ index. is_value index.kind) indexes ≡ true → AllByRecursion (λ index. index.kind ≡ Value) indexes
+all_values [] all = tt
+all_values (index ∷ indexes) all =
+    let both = and_parts (is_value index.kind) (list_all (λ index. is_value index.kind) indexes) all in (value_kind index.kind both.0, all_values indexes both.1)
+
+values_all : (indexes : List IndexDefinition) → AllByRecursion (λ (index : IndexDefinition). index.kind ≡ Value) indexes → list_all (λ index. is_value index.kind) indexes ≡ true
+values_all [] all = refl
+values_all (index ∷ indexes) all = λ i. is_value (all.0 i) && values_all indexes all.1 i
+
+-- the bytes of a schema with another index are those of none whose indexes are VALUE indexes
+pub of_no_schema : (bytes : List ℕ) (schema : Schema) → IsLawfulSchema schema → bytes ≡ schema_bytes schema → list_all (λ index. is_value index.kind) schema.indexes ≡ false → AreOfNoSchema bytes
+of_no_schema bytes schema made is some other made_other kinds same =
+    let one : schema ≡ other = written_once schema other made made_other (sym is ∙ same) in
+    let both : false ≡ true = sym some ∙ ap (λ (s : Schema). list_all (λ (index : IndexDefinition). is_value index.kind) s.indexes) one ∙ values_all other.indexes kinds in cc
 
 module _ (prefix : List ℕ) where
   -- the two reads of an opening lie in its reach
@@ -188,28 +209,43 @@ module _ (prefix : List ℕ) where
         (subst (λ v. IsReadError (λ range. refuses range v) (states_range prefix ∷ []) error) one.version says.1));
   }
 
-  -- OPENED: the map has the schema that was read, and all that it holds is a store of it
-  has_schema : (m : Map) (schema : Schema) (written : Option (List ℕ)) (states : List Pair) → IsSchema written states schema → written ≡ get m (schema_key prefix) → states ≡ pairs_in m (states_range prefix) →
-      HasSchema (record { prefix = prefix; schema = schema }) m
-  has_schema m schema written states is found listed = record { made = is.made; plain = is.plain; bytes = sym found ∙ is.bytes; stateless = sym listed ∙ is.stateless }
+  -- OPENED: the map has the schema and the states that were read, and all that it holds is a store with them
+  has_schema : (m : Map) (schema : Schema) (states : List (ℕ × State)) (written : Option (List ℕ)) (pairs : List Pair) → IsSchema written schema → AreStates prefix schema.indexes pairs states →
+      written ≡ get m (schema_key prefix) → pairs ≡ pairs_in m (states_range prefix) → HasSchema (record { prefix = prefix; schema = schema; states = states }) m
+  has_schema m schema states written pairs is are found listed = record { made = is.made; kinds = is.kinds; listed = are.disabled; bytes = sym found ∙ is.bytes; states = sym listed ∙ are.are }
 
-  schema_there : (m : Map) (schema : Schema) (serial : Serial) → IsLawfulSchema schema → get m (schema_key prefix) ≡ Some (schema_bytes schema) → Holds prefix m serial → schema_in serial ≡ Some schema
-  schema_there m schema None made found holds =
-      let some : ◌≡◌ {A = Option (List ℕ)} (Some (schema_bytes schema)) None = sym found ∙ no_schema_held prefix m holds in absurd (cc)
-  schema_there m schema (Some store) made found holds =
-      let both : ◌≡◌ {A = Option (List ℕ)} (Some (schema_bytes store.schema)) (Some (schema_bytes schema)) = sym (schema_held prefix m store holds) ∙ found in
-      let bytes : schema_bytes store.schema ≡ schema_bytes schema = cc in
-      ap Some (written_once store.schema schema holds.lawful.schema made bytes)
+  listed_of : (indexes : List IndexDefinition) (states : List (ℕ × State)) → AllByRecursion (IsDisabledOf indexes) states → AllByRecursion (IsListed indexes) states
+  listed_of indexes [] all = tt
+  listed_of indexes (one ∷ states) all = (record { there = all.0.there; state = λ is. not_readable (sym all.0.state ∙ is) }, listed_of indexes states all.1)
 
-  pub opened_now : {maps : ℕ → Map} {old mid new : CommitRequest} (written : Option (List ℕ)) (states : List Pair) (schema : Schema) →
-      DidRead maps (point (schema_key prefix) ∷ []) old mid (λ m. written ≡ get m (schema_key prefix)) → DidRead maps (states_range prefix ∷ []) mid new (λ m. states ≡ pairs_in m (states_range prefix)) →
-      IsSchema written states schema → IsOpened maps (record { prefix = prefix; schema = schema }) old new
-  opened_now written states schema one two is = record {
-    ran = ran_because (both_read one two) (λ m found. (
-      has_schema m schema written states is found.0 found.1,
-      λ serial holds. schema_there m schema serial is.made (sym found.0 ∙ is.bytes) holds,
-    ));
+  opened_there : (m : Map) (schema : Schema) (states : List (ℕ × State)) (serial : Serial) → HasSchema (record { prefix = prefix; schema = schema; states = states }) m → Holds prefix m serial →
+      IsThereAs (record { prefix = prefix; schema = schema; states = states }) serial
+  opened_there m schema states None has holds =
+      let some : ◌≡◌ {A = Option (List ℕ)} (Some (schema_bytes schema)) None = sym has.bytes ∙ no_schema_held prefix m holds in absurd (cc)
+  opened_there m schema states (Some store) has holds =
+      let both : ◌≡◌ {A = Option (List ℕ)} (Some (schema_bytes store.schema)) (Some (schema_bytes schema)) = sym (schema_held prefix m store holds) ∙ has.bytes in
+      let bytes : schema_bytes store.schema ≡ schema_bytes schema = cc in record {
+        schema = written_once store.schema schema holds.lawful.schema has.made bytes;
+        states =
+            same_states prefix store.states states (states_low store.schema.indexes store.states (schema_apart store.schema holds.lawful.schema) holds.lawful.listed)
+            (states_low schema.indexes states (schema_apart schema has.made) (listed_of schema.indexes states has.listed)) (sym (states_held prefix m store holds) ∙ has.states);
+      }
+
+  pub opened_now : {maps : ℕ → Map} {old mid new : CommitRequest} (written : Option (List ℕ)) (pairs : List Pair) (schema : Schema) (states : List (ℕ × State)) →
+      DidRead maps (point (schema_key prefix) ∷ []) old mid (λ m. written ≡ get m (schema_key prefix)) → DidRead maps (states_range prefix ∷ []) mid new (λ m. pairs ≡ pairs_in m (states_range prefix)) →
+      IsSchema written schema → AreStates prefix schema.indexes pairs states → IsOpened maps (record { prefix = prefix; schema = schema; states = states }) old new
+  opened_now written pairs schema states one two is are = record {
+    ran = ran_because (both_read one two) (λ m found.
+        let has = has_schema m schema states written pairs is are found.0 found.1 in (has, λ serial holds. opened_there m schema states serial has holds));
   }
+
+  -- its indexes are VALUE indexes, each readable or disabled
+  pub opened_plain : (written : Option (List ℕ)) (pairs : List Pair) (schema : Schema) (states : List (ℕ × State)) → IsSchema written schema → AreStates prefix schema.indexes pairs states → HasPlainIndexes schema states
+  opened_plain written pairs schema states is are = record { kinds = is.kinds; listed = all_disabled states are.disabled }
+    where
+      all_disabled : (left : List (ℕ × State)) → AllByRecursion (IsDisabledOf schema.indexes) left → AllByRecursion (λ (one : ℕ × State). one.1 ≡ Disabled) left
+      all_disabled [] all = tt
+      all_disabled (one ∷ left) all = (all.0.state, all_disabled left all.1)
 
   -- ---- damage
 
@@ -237,56 +273,97 @@ module _ (prefix : List ℕ) where
   opening_pairs m written states found listed =
       (λ i. pairs_at m (schema_key prefix) written (sym found) i ++ append-nil (pairs_in m (states_range prefix)) i) ∙ ap (λ ps. at_key (schema_key prefix) written ++ ps) (sym listed)
 
-  -- all pairs read of what holds a store without indexes are of the form
-  opening_form : (m : Map) (serial : Serial) → HasNoIndex serial → Holds prefix m serial → AllByRecursion (IsSchemaPair prefix) (read_in m (opening_reach prefix))
+  -- the pairs of states of a schema that the map has are of the form
+  states_form : (m : Map) (schema : Schema) (states : List (ℕ × State)) → IsLawfulSchema schema → get m (schema_key prefix) ≡ Some (schema_bytes schema) → AllByRecursion (IsDisabledOf schema.indexes) states →
+      AllByRecursion (IsOpeningPair prefix m) (map (state_pair prefix) states)
+  states_form m schema [] made written all = tt
+  states_form m schema (one ∷ states) made written all =
+      (inr (record { schema = schema; made = made; written = written; is = record { listed = one; disabled = all.0; is = refl } }), states_form m schema states made written all.1)
+
+  disabled_of : (indexes : List IndexDefinition) (states : List (ℕ × State)) → AllByRecursion (IsListed indexes) states → AllByRecursion (λ (one : ℕ × State). one.1 ≡ Disabled) states → AllByRecursion (IsDisabledOf indexes) states
+  disabled_of indexes [] listed plain = tt
+  disabled_of indexes (one ∷ states) listed plain = (record { there = listed.0.there; state = plain.0 }, disabled_of indexes states listed.1 plain.1)
+
+  -- all pairs read of what holds a store of VALUE indexes that are readable or disabled are of the form
+  opening_form : (m : Map) (serial : Serial) → IsPlain serial → Holds prefix m serial → AllByRecursion (IsOpeningPair prefix m) (read_in m (opening_reach prefix))
   opening_form m None plain holds =
-      subst (AllByRecursion (IsSchemaPair prefix)) (sym (opening_pairs m None [] (sym (no_schema_held prefix m holds)) (sym (no_states prefix m None plain holds)))) tt
+      subst (AllByRecursion (IsOpeningPair prefix m)) (sym (opening_pairs m None [] (sym (no_schema_held prefix m holds)) (sym (no_states prefix m holds)))) tt
   opening_form m (Some store) plain holds =
-      subst (AllByRecursion (IsSchemaPair prefix)) (sym (opening_pairs m (Some (schema_bytes store.schema)) [] (sym (schema_held prefix m store holds)) (sym (no_states prefix m (Some store) plain holds))))
-      (record { schema = store.schema; made = holds.lawful.schema; plain = plain; is = refl }, tt)
+      subst (AllByRecursion (IsOpeningPair prefix m)) (sym (opening_pairs m (Some (schema_bytes store.schema)) (map (state_pair prefix) store.states) (sym (schema_held prefix m store holds)) (sym (states_held prefix m store holds)))) (
+        inl (record { schema = store.schema; made = holds.lawful.schema; kinds = plain.kinds; is = refl }),
+        states_form m store.schema store.states holds.lawful.schema (schema_held prefix m store holds) (disabled_of store.schema.indexes store.states holds.lawful.listed plain.listed),
+      )
 
   -- a damaged opening
-  damaged : (refuses : KeyRange → Option ReadError) (m : Map) (key : List ℕ) → IsFirstBad (IsSchemaPair prefix) (read_in m (opening_reach prefix)) key → IsOpenFailure refuses prefix (Corrupt key) m
+  damaged : (refuses : KeyRange → Option ReadError) (m : Map) (key : List ℕ) → IsFirstBad (IsOpeningPair prefix m) (read_in m (opening_reach prefix)) key → IsOpenFailure refuses prefix (Corrupt key) m
   damaged refuses m key bad = (bad, λ serial holds plain. none_bad (read_in m (opening_reach prefix)) key (opening_form m serial plain holds) bad)
 
-  bad_schema : (refuses : KeyRange → Option ReadError) (m : Map) (bytes : List ℕ) (states : List Pair) (error : StoreError) → Some bytes ≡ get m (schema_key prefix) → states ≡ pairs_in m (states_range prefix) →
+  bad_schema : (refuses : KeyRange → Option ReadError) (m : Map) (bytes : List ℕ) (pairs : List Pair) (error : StoreError) → Some bytes ≡ get m (schema_key prefix) → pairs ≡ pairs_in m (states_range prefix) →
       IsBadSchema prefix bytes error → IsOpenFailure refuses prefix error m
-  bad_schema refuses m bytes states Memory found listed says = tt
-  bad_schema refuses m bytes states (Read error) found listed says = absurd says
-  bad_schema refuses m bytes states (Write error) found listed says = absurd says
-  bad_schema refuses m bytes states (Refused refusal) found listed says = absurd says
-  bad_schema refuses m bytes states (Corrupt key) found listed says =
+  bad_schema refuses m bytes pairs Memory found listed says = tt
+  bad_schema refuses m bytes pairs (Read error) found listed says = absurd says
+  bad_schema refuses m bytes pairs (Write error) found listed says = absurd says
+  bad_schema refuses m bytes pairs (Refused refusal) found listed says = absurd says
+  bad_schema refuses m bytes pairs (Corrupt key) found listed says =
       damaged refuses m key (record {
         before = [];
         bad = (schema_key prefix, bytes);
-        behind = states;
-        split = opening_pairs m (Some bytes) states found listed;
+        behind = pairs;
+        split = opening_pairs m (Some bytes) pairs found listed;
         good = tt;
-        malformed = λ pair. says.1 pair.schema pair.made pair.plain (ap (λ (p : Pair). p.1) pair.is);
+        malformed = malformed;
         at = says.0;
       })
+    where
+      malformed : IsOpeningPair prefix m (schema_key prefix, bytes) → ⊥
+      malformed (inl pair) = says.1 pair.schema pair.made pair.kinds (ap (λ (p : Pair). p.1) pair.is)
+      malformed (inr state) = other_place prefix 5 (int (pos state.is.listed.0) ∷ []) 0 [] (schema_key prefix) refl (itself (schema_key prefix)) (ap (λ (p : Pair). p.0) state.is.is)
 
-  bad_state : (refuses : KeyRange → Option ReadError) (m : Map) (bytes : List ℕ) (states : List Pair) (schema : Schema) → IsLawfulSchema schema → schema.indexes ≡ [] → bytes ≡ schema_bytes schema → (error : StoreError) →
-      Some bytes ≡ get m (schema_key prefix) → states ≡ pairs_in m (states_range prefix) → IsBadState states error → IsOpenFailure refuses prefix error m
-  bad_state refuses m bytes states schema made plain is Memory found listed says = tt
-  bad_state refuses m bytes [] schema made plain is (Read error) found listed says = absurd says
-  bad_state refuses m bytes [] schema made plain is (Write error) found listed says = absurd says
-  bad_state refuses m bytes [] schema made plain is (Refused refusal) found listed says = absurd says
-  bad_state refuses m bytes [] schema made plain is (Corrupt key) found listed says = absurd says
-  bad_state refuses m bytes (pair ∷ states) schema made plain is (Read error) found listed says = absurd says
-  bad_state refuses m bytes (pair ∷ states) schema made plain is (Write error) found listed says = absurd says
-  bad_state refuses m bytes (pair ∷ states) schema made plain is (Refused refusal) found listed says = absurd says
-  bad_state refuses m bytes (pair ∷ states) schema made plain is (Corrupt key) found listed says =
-      let lie = subst (AllByRecursion (λ (e : Pair). contains (states_range prefix) e.0 ≡ true)) (sym listed) (pairs_lie m (states_range prefix)) in
-      damaged refuses m key (record {
-        before = (schema_key prefix, bytes) ∷ [];
-        bad = pair;
-        behind = states;
-        split = opening_pairs m (Some bytes) (pair ∷ states) found listed;
-        good = (record { schema = schema; made = made; plain = plain; is = λ i. (schema_key prefix, is i) }, tt);
-        malformed = no_state pair lie.0;
-        at = says;
-      })
+  -- what lies in the middle
+  in_middle : (before behind : List Pair) (bad : Pair) → AllByRecursion (λ (e : Pair). contains (states_range prefix) e.0 ≡ true) (before ++ bad ∷ behind) → contains (states_range prefix) bad.0 ≡ true
+  in_middle [] behind bad all = all.0
+  in_middle (pair ∷ before) behind bad all = in_middle before behind bad all.1
+
+  module _ (m : Map) (bytes : List ℕ) (pairs : List Pair) (schema : Schema) (is : IsSchema (Some bytes) schema) (found : Some bytes ≡ get m (schema_key prefix)) (listed : pairs ≡ pairs_in m (states_range prefix)) where
+    bad_state : (error : StoreError) (key : List ℕ) (among : IsBadStateAmong prefix schema.indexes pairs error) → IsNoState prefix schema.indexes among.bad (Corrupt key) → IsFirstBad (IsOpeningPair prefix m) (read_in m (opening_reach prefix)) key
+    bad_state error key among says = record {
+      before = (schema_key prefix, bytes) ∷ among.before;
+      bad = among.bad;
+      behind = among.behind;
+      split = opening_pairs m (Some bytes) pairs found listed ∙ ap (λ ps. (schema_key prefix, bytes) ∷ ps) among.split;
+      good = (
+        inl (record { schema = schema; made = is.made; kinds = is.kinds; is = λ i. (schema_key prefix, written i) }),
+        subst (AllByRecursion (IsOpeningPair prefix m)) (sym among.good.are) (states_form m schema among.states is.made (sym found ∙ is.bytes) among.good.disabled),
+      );
+      malformed = malformed;
+      at = says.0;
+    }
+      where
+        written : bytes ≡ schema_bytes schema
+        written = let both : ◌≡◌ {A = Option (List ℕ)} (Some bytes) (Some (schema_bytes schema)) = is.bytes in cc
+
+        inside : contains (states_range prefix) among.bad.0 ≡ true
+        inside =
+            in_middle among.before among.behind among.bad
+            (subst (AllByRecursion (λ (e : Pair). contains (states_range prefix) e.0 ≡ true)) (sym listed ∙ among.split) (pairs_lie m (states_range prefix)))
+
+        malformed : IsOpeningPair prefix m among.bad → ⊥
+        malformed (inl pair) = no_state among.bad inside pair
+        malformed (inr state) =
+            let both : ◌≡◌ {A = Option (List ℕ)} (Some (schema_bytes state.schema)) (Some (schema_bytes schema)) = sym state.written ∙ sym found ∙ is.bytes in
+            let same : schema_bytes state.schema ≡ schema_bytes schema = cc in
+            says.1 (subst (λ (s : Schema). IsStatePair prefix s.indexes among.bad) (written_once state.schema schema state.made is.made same) state.is)
+
+    states_failure : (refuses : KeyRange → Option ReadError) (error : StoreError) → HaveNoStates prefix schema.indexes pairs error → IsOpenFailure refuses prefix error m
+    states_failure refuses error (inl memory) = subst (λ e. IsOpenFailure refuses prefix e m) (sym memory) tt
+    states_failure refuses error (inr among) = by_error error among.none
+      where
+        by_error : (e : StoreError) → IsNoState prefix schema.indexes among.bad e → IsOpenFailure refuses prefix e m
+        by_error Memory says = tt
+        by_error (Read reason) says = absurd says
+        by_error (Write reason) says = absurd says
+        by_error (Refused refusal) says = absurd says
+        by_error (Corrupt key) says = damaged refuses m key (bad_state error key among says)
 
   -- nothing is there
   pub nothing_there : (m : Map) (serial : Serial) → None ≡ get m (schema_key prefix) → Holds prefix m serial → serial ≡ None
@@ -294,16 +371,32 @@ module _ (prefix : List ℕ) where
   nothing_there m (Some store) found holds =
       let some : ◌≡◌ {A = Option (List ℕ)} None (Some (schema_bytes store.schema)) = found ∙ schema_held prefix m store holds in absurd (cc)
 
-  open_failure : (refuses : KeyRange → Option ReadError) (m : Map) (written : Option (List ℕ)) (states : List Pair) (error : StoreError) → written ≡ get m (schema_key prefix) → states ≡ pairs_in m (states_range prefix) →
-      IsNoSchema prefix written states error → IsOpenFailure refuses prefix error m
-  open_failure refuses m None states error found listed says =
+  schema_failure : (refuses : KeyRange → Option ReadError) (m : Map) (written : Option (List ℕ)) (pairs : List Pair) (error : StoreError) → written ≡ get m (schema_key prefix) → pairs ≡ pairs_in m (states_range prefix) →
+      IsNoSchema prefix written error → IsOpenFailure refuses prefix error m
+  schema_failure refuses m None pairs error found listed says =
       subst (λ e. IsOpenFailure refuses prefix e m) (sym says) (refl, sym found, λ serial holds. nothing_there m serial found holds)
-  open_failure refuses m (Some bytes) states error found listed (inl bad) = bad_schema refuses m bytes states error found listed bad
-  open_failure refuses m (Some bytes) states error found listed (inr bad) = bad_state refuses m bytes states bad.schema bad.made bad.plain bad.is error found listed bad.bad
+  schema_failure refuses m (Some bytes) pairs error found listed bad = bad_schema refuses m bytes pairs error found listed bad
 
-  pub unopened_by : {maps : ℕ → Map} {refuses : KeyRange → ℕ → Option ReadError} {old mid new : CommitRequest} (written : Option (List ℕ)) (states : List Pair) (error : StoreError) →
-      DidRead maps (point (schema_key prefix) ∷ []) old mid (λ m. written ≡ get m (schema_key prefix)) → DidRead maps (states_range prefix ∷ []) mid new (λ m. states ≡ pairs_in m (states_range prefix)) →
-      IsNoSchema prefix written states error → IsUnopened maps refuses prefix error old new
-  unopened_by {refuses = refuses} {old = old} written states error one two says = record {
-    ran = ran_because (both_read one two) (λ m found. open_failure (λ range. refuses range old.read_version) m written states error found.0 found.1 says);
-  }
+  all_failure : (refuses : KeyRange → Option ReadError) (m : Map) (written : Option (List ℕ)) (pairs : List Pair) (schema : Schema) (error : StoreError) → IsSchema written schema → written ≡ get m (schema_key prefix) → pairs ≡ pairs_in m (states_range prefix) →
+      HaveNoStates prefix schema.indexes pairs error → IsOpenFailure refuses prefix error m
+  all_failure refuses m None pairs schema error is found listed says = let some : ◌≡◌ {A = Option (List ℕ)} None (Some (schema_bytes schema)) = is.bytes in absurd (cc)
+  all_failure refuses m (Some bytes) pairs schema error is found listed says = states_failure m bytes pairs schema is found listed refuses error says
+
+  module _ {maps : ℕ → Map} {refuses : KeyRange → ℕ → Option ReadError} {old mid new : CommitRequest} (written : Option (List ℕ)) (pairs : List Pair)
+      (one : DidRead maps (point (schema_key prefix) ∷ []) old mid (λ m. written ≡ get m (schema_key prefix))) (two : DidRead maps (states_range prefix ∷ []) mid new (λ m. pairs ≡ pairs_in m (states_range prefix))) where
+    pub unopened_schema : (error : StoreError) → IsNoSchema prefix written error → IsUnopened maps refuses prefix error old new
+    unopened_schema error says = record {
+      ran = ran_because (both_read one two) (λ m found. schema_failure (λ range. refuses range old.read_version) m written pairs error found.0 found.1 says);
+    }
+
+    pub unopened_states : (schema : Schema) (error : StoreError) → IsSchema written schema → HaveNoStates prefix schema.indexes pairs error → IsUnopened maps refuses prefix error old new
+    unopened_states schema error is says = record {
+      ran = ran_because (both_read one two) (λ m found. all_failure (λ range. refuses range old.read_version) m written pairs schema error is found.0 found.1 says);
+    }
+
+  -- what is told of slices is so of what they show
+  pub states_by : (indexes mine : List IndexDefinition) (pairs read : List Pair) (states : List (ℕ × State)) → indexes ≡ mine → pairs ≡ read → AreStates prefix indexes pairs states → AreStates prefix mine read states
+  states_by indexes mine pairs read states is shown are = subst₂ (λ (is : List IndexDefinition) (ps : List Pair). AreStates prefix is ps states) is shown are
+
+  pub unstated_by : (indexes mine : List IndexDefinition) (pairs read : List Pair) (error : StoreError) → indexes ≡ mine → pairs ≡ read → HaveNoStates prefix indexes pairs error → HaveNoStates prefix mine read error
+  unstated_by indexes mine pairs read error is shown none = subst₂ (λ (is : List IndexDefinition) (ps : List Pair). HaveNoStates prefix is ps error) is shown none

@@ -1,5 +1,5 @@
 -- A store whose indexes are all VALUE indexes, readable or disabled, stays one after each change.
-use Rattle.std.proofs.Common.{◌≡◌, ℕ, not, ◌==◌, List, [], ◌∷◌, refl, sym, subst}
+use Rattle.std.proofs.Common.{◌≡◌, ℕ, not, ◌==◌, List, [], ◌∷◌, refl, sym, subst, Some}
 use Rattle.std.specs.List.{AllByRecursion}
 use Rattle.tuple_codec.specs.Item.{Item}
 use Rattle.metadata.specs.declared.index.IndexDefinition.{IndexDefinition}
@@ -9,46 +9,46 @@ use Rattle.metadata.specs.declared.index.State.TheVariants.{Disabled}
 use Rattle.metadata.specs.Record.{Record}
 use Rattle.metadata.specs.Records.{of_type}
 use Rattle.metadata.specs.Schema.{Schema}
-use Rattle.record_store.specs.Store.{Store, created, disabled, dropped, indexed, new_states, removed, saved}
-use Rattle.record_store.specs.Holds.{HasPlainIndexes, IsLawful, IsListed}
+use Rattle.record_store.specs.Store.{Store, created, disabled, dropped, indexed, listed_as, new_state, removed, saved}
+use Rattle.record_store.specs.Holds.{IsLawful, IsListed, IsPlain}
 use Rattle.record_store.proofs.Held.{none_listed}
 use Rattle.record_store.proofs.NewIndexes.{all_append}
 use Rattle.record_store.proofs.States.{all_kept, all_with_state}
 
 -- a store without indexes is one
-pub none_plain : (store : Store) → IsLawful store → store.schema.indexes ≡ [] → HasPlainIndexes store
+pub none_plain : (store : Store) → IsLawful store → store.schema.indexes ≡ [] → IsPlain (Some store)
 none_plain store lawful none = record {
   kinds = subst (AllByRecursion (λ (index : IndexDefinition). index.kind ≡ Value)) (sym none) tt;
-  states = subst (AllByRecursion (λ (listed : ℕ × State). listed.1 ≡ Disabled)) (sym (none_listed store.states (subst (λ is. AllByRecursion (IsListed is) store.states) none lawful.listed))) tt;
+  listed = subst (AllByRecursion (λ (listed : ℕ × State). listed.1 ≡ Disabled)) (sym (none_listed store.states (subst (λ is. AllByRecursion (IsListed is) store.states) none lawful.listed))) tt;
 }
 
-pub created_plain : (schema : Schema) → AllByRecursion (λ (index : IndexDefinition). index.kind ≡ Value) schema.indexes → HasPlainIndexes (created schema)
-created_plain schema kinds = record { kinds = kinds; states = tt }
+pub created_plain : (schema : Schema) → AllByRecursion (λ (index : IndexDefinition). index.kind ≡ Value) schema.indexes → IsPlain (Some (created schema))
+created_plain schema kinds = record { kinds = kinds; listed = tt }
 
-pub saved_plain : (store : Store) (new : Record) → HasPlainIndexes store → HasPlainIndexes (saved store new)
-saved_plain store new plain = record { kinds = plain.kinds; states = plain.states }
+pub saved_plain : (store : Store) (new : Record) → IsPlain (Some store) → IsPlain (Some (saved store new))
+saved_plain store new plain = record { kinds = plain.kinds; listed = plain.listed }
 
-pub removed_plain : (store : Store) (key : List Item) → HasPlainIndexes store → HasPlainIndexes (removed store key)
-removed_plain store key plain = record { kinds = plain.kinds; states = plain.states }
+pub removed_plain : (store : Store) (key : List Item) → IsPlain (Some store) → IsPlain (Some (removed store key))
+removed_plain store key plain = record { kinds = plain.kinds; listed = plain.listed }
 
-pub disabled_plain : (store : Store) (number : ℕ) → HasPlainIndexes store → HasPlainIndexes (disabled store number)
+pub disabled_plain : (store : Store) (number : ℕ) → IsPlain (Some store) → IsPlain (Some (disabled store number))
 disabled_plain store number plain = record {
   kinds = plain.kinds;
-  states = all_with_state (λ listed. listed.1 ≡ Disabled) number Disabled store.states refl (λ one is. refl) plain.states;
+  listed = all_with_state (λ listed. listed.1 ≡ Disabled) number Disabled store.states refl (λ one is. refl) plain.listed;
 }
 
-pub dropped_plain : (store : Store) (number : ℕ) → HasPlainIndexes store → HasPlainIndexes (dropped store number)
+pub dropped_plain : (store : Store) (number : ℕ) → IsPlain (Some store) → IsPlain (Some (dropped store number))
 dropped_plain store number plain = record {
   kinds = all_kept (λ (index : IndexDefinition). index.kind ≡ Value) (λ index. not (index.number == number)) store.schema.indexes plain.kinds;
-  states = all_kept (λ (listed : ℕ × State). listed.1 ≡ Disabled) (λ listed. not (listed.0 == number)) store.states plain.states;
+  listed = all_kept (λ (listed : ℕ × State). listed.1 ≡ Disabled) (λ listed. not (listed.0 == number)) store.states plain.listed;
 }
 
-pub indexed_plain : (store : Store) (index : IndexDefinition) → index.kind ≡ Value → HasPlainIndexes store → HasPlainIndexes (indexed store index)
+pub indexed_plain : (store : Store) (index : IndexDefinition) → index.kind ≡ Value → IsPlain (Some store) → IsPlain (Some (indexed store index))
 indexed_plain store index kind plain = record {
   kinds = all_append (λ (one : IndexDefinition). one.kind ≡ Value) store.schema.indexes index plain.kinds kind;
-  states = by_records (of_type index.type_number store.records);
+  listed = by_records (of_type index.type_number store.records);
 }
   where
-    by_records : (records : List Record) → AllByRecursion (λ (listed : ℕ × State). listed.1 ≡ Disabled) (new_states index.number records store.states)
-    by_records [] = plain.states
-    by_records (r ∷ records) = all_with_state (λ listed. listed.1 ≡ Disabled) index.number Disabled store.states refl (λ one is. refl) plain.states
+    by_records : (records : List Record) → AllByRecursion (λ (listed : ℕ × State). listed.1 ≡ Disabled) (listed_as index.number (new_state records) store.states)
+    by_records [] = plain.listed
+    by_records (r ∷ records) = all_with_state (λ listed. listed.1 ≡ Disabled) index.number Disabled store.states refl (λ one is. refl) plain.listed

@@ -1,6 +1,7 @@
 -- What the calls on records come to, one by one.
-use Rattle.std.proofs.Common.{◌≡◌, ℕ, Bool, true, false, not, cond, ◌==◌, List, [], ◌∷◌, ◌++◌, refl, sym, ap, subst, ◌∙◌, Option, Some, None, Ok, Err, Result, length, is_some, All}
+use Rattle.std.proofs.Common.{◌≡◌, ℕ, Bool, true, false, not, cond, ◌==◌, List, [], ◌∷◌, ◌++◌, refl, sym, ap, subst, ◌∙◌, Option, Some, None, Ok, Err, Result, length, arith, is_some, All}
 use Rattle.std.specs.List.{AllByRecursion, find}
+use Rattle.std.specs.Prelude.{suc}
 use Rattle.tuple_codec.specs.Item.{Item, IsTuple}
 use Rattle.kv_core.specs.Range.{point}
 use Rattle.kv_core.specs.Map.{Map, after_all}
@@ -13,21 +14,25 @@ use Rattle.metadata.specs.declared.refusal.Refusal.{Refusal}
 use Rattle.metadata.specs.Change.{add_type, with_type, type_refusal, type_asked}
 use Rattle.metadata.specs.Lawful.{IsLawfulSchema}
 use Rattle.metadata.specs.Record.{Record, primary_key, record_in}
-use Rattle.metadata.specs.Records.{IsStorable, of_type, record_at, without_record, has_primary_key}
+use Rattle.metadata.specs.Records.{IsStorable, of_type, record_at}
 use Rattle.metadata.specs.Schema.{Schema, find_type}
 use Rattle.record_store.specs.Store.{Store, saved, removed, extended}
 use Rattle.record_store.specs.Holds.{Holds, IsOfSchema}
-use Rattle.record_store.specs.Call.{Opened, AtStore}
-use Rattle.record_store.specs.Calls.{load_service, record_writes, records_service, removal, remove_service, save_service, schema_service, schema_writes, own_record, save_call, done_with}
+use Rattle.record_store.specs.Call.{AtStore, IsOpenAs, Opened}
+use Rattle.record_store.specs.Calls.{load_service, records_service, remove_service, save_service, schema_service, schema_writes, own_record, save_call, done_with}
 use Rattle.record_store.specs.Reading.{IsRead}
 use Rattle.record_store.proofs.Answered.{IsServed, own_typed}
-use Rattle.record_store.proofs.Changed.{extended_holds, removed_holds, saved_holds}
+use Rattle.record_store.proofs.Changed.{extended_holds}
+use Rattle.record_store.proofs.IndexedRecords.{removed_holds_all, saved_holds_all}
+use Rattle.record_store.specs.IndexWrites.{index_writes, remove_writes, save_writes, store_of}
+use Rattle.std.proofs.lemmas.Bool.{eqb-true, false_from_ne_true}
+use Rattle.kv_core.specs.declared.change.Mutation.TheVariants.{Set, ClearRange}
 use Rattle.std.specs.Str.{bytes_eq}
 use Rattle.record_store.proofs.RecordPairs.{own_type}
 use Rattle.metadata.specs.declared.refusal.Refusal.TheVariants.{UnknownType}
 use Rattle.record_store.specs.Steps.{DidRead}
-use Rattle.record_store.specs.Form.{IsRecordPair, read_in}
-use Rattle.record_store.specs.Layout.{record_key}
+use Rattle.record_store.specs.Form.{IsRecordPair}
+use Rattle.record_store.specs.Layout.{record_key, record_value}
 use Rattle.metadata.specs.Cell.{IsCell}
 
 -- ---- one record
@@ -37,43 +42,64 @@ pub load_served : (opened : Opened) (key : List Item) (found : Option Record) (m
     IsServed opened (load_service opened key) found [] m store
 load_served opened key found m store holds is = record { answers = is; wrote = refl; holds = holds }
 
+-- a list that begins with something isn't empty
+pub filled : {X : Type 0} (x : X) (xs : List X) → (length (x ∷ xs) == 0) ≡ false
+filled x xs = false_from_ne_true (length (x ∷ xs) == 0) (λ is. let none : suc (length xs) ≡ 0 = eqb-true (length (x ∷ xs)) 0 is in omega (arith, none))
+
+-- what the indexes want written is told by what was opened
+same_index_writes : (opened : Opened) (store : Store) (number : ℕ) (old new : Option Record) → IsOpenAs opened store → index_writes opened.prefix (store_of opened) number old new ≡ index_writes opened.prefix store number old new
+same_index_writes opened store number old new same i = index_writes opened.prefix (record { schema = sym same.schema i; records = []; states = sym same.states i }) number old new
+
+same_remove_writes : (opened : Opened) (store : Store) (key : List Item) (old : Option Record) → IsOpenAs opened store → remove_writes opened.prefix (store_of opened) key old ≡ remove_writes opened.prefix store key old
+same_remove_writes opened store key None same = refl
+same_remove_writes opened store key (Some old) same = ap (λ ms. ClearRange (point (record_key opened.prefix key)) ∷ ms) (same_index_writes opened store old.definition.number (Some old) None same)
+
+-- what a save writes, by what it read
+abbrev pub replacement : Opened → Record → Option Record → List Mutation
+replacement opened new old = Set (record_key opened.prefix (primary_key new)) (record_value new.cells) ∷ index_writes opened.prefix (store_of opened) new.definition.number old (Some new)
+
+pub save_wrote : (opened : Opened) (new : Record) (old : Option Record) (list : List Mutation) → list ≡ replacement opened new old → (store : Store) → IsOpenAs opened store → old ≡ record_at (primary_key new) store.records →
+    list ≡ save_writes opened.prefix store new
+save_wrote opened new old list wrote store same is =
+    wrote
+    ∙ ap (λ ms. Set (record_key opened.prefix (primary_key new)) (record_value new.cells) ∷ ms)
+    (same_index_writes opened store new.definition.number old (Some new) same ∙ ap (λ o. index_writes opened.prefix store new.definition.number o (Some new)) is)
+
+pub save_changes : (opened : Opened) (new : Record) (old : Option Record) (list : List Mutation) → list ≡ replacement opened new old → (length list == 0) ≡ false
+save_changes opened new old list wrote =
+    ap (λ ms. length ms == 0) wrote ∙ filled (Set (record_key opened.prefix (primary_key new)) (record_value new.cells)) (index_writes opened.prefix (store_of opened) new.definition.number old (Some new))
+
 -- SAVE: the record stands in its place
-pub save_served : (opened : Opened) (new : Record) (old : Option Record) (list : List Mutation) → opened.schema.indexes ≡ [] → list ≡ record_writes opened.prefix new → IsOfSchema opened.schema new → IsStorable new →
-    (m : Map) (store : Store) → Holds opened.prefix m (Some store) → store.schema ≡ opened.schema → old ≡ record_at (primary_key new) store.records →
+pub save_served : (opened : Opened) (new : Record) (old : Option Record) (list : List Mutation) → list ≡ replacement opened new old → IsOfSchema opened.schema new → IsStorable new →
+    (m : Map) (store : Store) → Holds opened.prefix m (Some store) → IsOpenAs opened store → old ≡ record_at (primary_key new) store.records →
     IsServed opened (save_service opened new) old list m store
-save_served opened new old list none wrote typed can m store holds schema is = record {
-  answers = is;
-  wrote = wrote;
-  holds = subst (λ ms. Holds opened.prefix (after_all ms m) (Some (saved store new))) (sym wrote) (saved_holds opened.prefix m store new (ap (λ (s : Schema). s.indexes) schema ∙ none) (subst (λ s. IsOfSchema s new) (sym schema) typed) can holds);
-}
+save_served opened new old list wrote typed can m store holds same is =
+    let writes = save_wrote opened new old list wrote store same is in record {
+      answers = is;
+      wrote = writes;
+      holds = subst (λ ms. Holds opened.prefix (after_all ms m) (Some (saved store new))) (sym writes) (saved_holds_all opened.prefix m store new (subst (λ s. IsOfSchema s new) (sym same.schema) typed) can holds);
+    }
+
+pub remove_wrote : (opened : Opened) (key : List Item) (old : Option Record) (list : List Mutation) → list ≡ remove_writes opened.prefix (store_of opened) key old → (store : Store) → IsOpenAs opened store → old ≡ record_at key store.records →
+    list ≡ remove_writes opened.prefix store key (record_at key store.records)
+remove_wrote opened key old list wrote store same is = wrote ∙ same_remove_writes opened store key old same ∙ ap (remove_writes opened.prefix store key) is
 
 -- REMOVE: the record is gone
-pub remove_served : (opened : Opened) (key : List Item) (old : Option Record) (was_there : Bool) (list : List Mutation) → opened.schema.indexes ≡ [] → list ≡ removal opened.prefix key old → was_there ≡ is_some old → IsTuple key →
-    (m : Map) (store : Store) → Holds opened.prefix m (Some store) → store.schema ≡ opened.schema → old ≡ record_at key store.records →
+pub remove_served : (opened : Opened) (key : List Item) (old : Option Record) (was_there : Bool) (list : List Mutation) → list ≡ remove_writes opened.prefix (store_of opened) key old → was_there ≡ is_some old → IsTuple key →
+    (m : Map) (store : Store) → Holds opened.prefix m (Some store) → IsOpenAs opened store → old ≡ record_at key store.records →
     IsServed opened (remove_service opened key) was_there list m store
-remove_served opened key old was_there list plain wrote there tuple m store holds schema is = record {
-  answers = there ∙ ap is_some is;
-  wrote = wrote ∙ ap (removal opened.prefix key) is;
-  holds = subst (λ ms. Holds opened.prefix (after_all ms m) (Some (removed store key))) (sym (wrote ∙ ap (removal opened.prefix key) is)) (by_record (record_at key store.records) refl);
-}
-  where
-    by_record : (o : Option Record) → record_at key store.records ≡ o → Holds opened.prefix (after_all (removal opened.prefix key o) m) (Some (removed store key))
-    by_record (Some r) is_there = removed_holds opened.prefix m store key (ap (λ (s : Schema). s.indexes) schema ∙ plain) tuple holds
-    by_record None none = subst (λ rs. Holds opened.prefix m (Some (record store { records = rs }))) (sym (without_none store.records none)) holds
-      where
-        without_none : (records : List Record) → record_at key records ≡ None → without_record key records ≡ records
-        without_none [] none = refl
-        without_none (r ∷ records) none = by_test (has_primary_key key r) refl none (without_none records)
-          where
-            by_test : (b : Bool) → has_primary_key key r ≡ b → cond b (Some r) (record_at key records) ≡ None → (record_at key records ≡ None → without_record key records ≡ records) →
-                cond (not b) (r ∷ without_record key records) (without_record key records) ≡ r ∷ records
-            by_test true has some go = absurd (cc)
-            by_test false has none go = ap (λ rs. r ∷ rs) (go none)
+remove_served opened key old was_there list wrote there tuple m store holds same is =
+    let writes = remove_wrote opened key old list wrote store same is in record {
+      answers = there ∙ ap is_some is;
+      wrote = writes;
+      holds = subst (λ ms. Holds opened.prefix (after_all ms m) (Some (removed store key))) (sym writes) (removed_holds_all opened.prefix m store key tuple holds);
+    }
 
 -- an answer of a removal tells whether something was written
-pub removal_changes : (prefix : List ℕ) (key : List Item) (old : Option Record) (was_there : Bool) (list : List Mutation) → list ≡ removal prefix key old → was_there ≡ is_some old → (length list == 0) ≡ not was_there
-removal_changes prefix key None was_there list wrote there = ap (λ ms. length ms == 0) wrote ∙ sym (ap not there)
-removal_changes prefix key (Some r) was_there list wrote there = ap (λ ms. length ms == 0) wrote ∙ sym (ap not there)
+pub removal_changes : (opened : Opened) (key : List Item) (old : Option Record) (was_there : Bool) (list : List Mutation) → list ≡ remove_writes opened.prefix (store_of opened) key old → was_there ≡ is_some old → (length list == 0) ≡ not was_there
+removal_changes opened key None was_there list wrote there = ap (λ ms. length ms == 0) wrote ∙ sym (ap not there)
+removal_changes opened key (Some r) was_there list wrote there =
+    ap (λ ms. length ms == 0) wrote ∙ filled (ClearRange (point (record_key opened.prefix key))) (index_writes opened.prefix (store_of opened) r.definition.number (Some r) None) ∙ sym (ap not there)
 
 -- a record of the schema's own type is accepted
 pub save_accepted : (opened : Opened) (r : Record) → own_record (find_type opened.schema r.definition.name) r ≡ Ok r → save_call opened r ≡ Ok (save_service opened r)
@@ -119,18 +145,18 @@ same_indexes schema next request added = made (type_refusal schema request) adde
     made (Some refusal) same = absurd (cc)
 
 pub type_served : (opened : Opened) (next : Schema) (request : TypeRequest) (list : List Mutation) → list ≡ schema_writes opened.prefix next → IsLawfulSchema next → add_type opened.schema request ≡ Ok next →
-    (m : Map) (store : Store) → Holds opened.prefix m (Some store) → store.schema ≡ opened.schema → IsServed opened (schema_service opened next) next list m store
+    (m : Map) (store : Store) → Holds opened.prefix m (Some store) → IsOpenAs opened store → IsServed opened (schema_service opened next) next list m store
 type_served opened next request list wrote lawful added m store holds same = record {
   answers = refl;
   wrote = wrote;
   holds =
       subst (λ ms. Holds opened.prefix (after_all ms m) (Some (extended store next))) (sym wrote)
-      (extended_holds opened.prefix m store next (same_indexes store.schema next request (ap (λ s. add_type s request) same ∙ added)) lawful (all_typed store.schema next request store.records holds.lawful.schema (ap (λ s. add_type s request) same ∙ added) holds.lawful.typed) holds);
+      (extended_holds opened.prefix m store next (same_indexes store.schema next request (ap (λ s. add_type s request) same.schema ∙ added)) lawful (all_typed store.schema next request store.records holds.lawful.schema (ap (λ s. add_type s request) same.schema ∙ added) holds.lawful.typed) holds);
 }
 
 -- a call that reads nothing
 pub nothing_read : (maps : ℕ → Map) (opened : Opened) {old : CommitRequest} → DidRead maps [] old old (λ m.
-    AllByRecursion (IsRecordPair opened.prefix opened.schema) (read_in m []) × AtStore opened m (λ store. Unit {0}))
+    AllByRecursion (IsRecordPair opened.prefix opened.schema) [] × AtStore opened m (λ store. Unit {0}))
 nothing_read maps opened = ran_still refl (λ m. (tt, λ store holds same. tt))
 
 -- ---- saves and scans, by their parts
@@ -142,12 +168,12 @@ pub save_read : (opened : Opened) (new : Record) (key : List Item) (old : Option
 save_read opened new key old {maps = maps} {before = before} {after = now} same ran =
     subst (λ k. DidRead maps (point (record_key opened.prefix k) ∷ []) before now (IsRead opened k old)) same ran
 
-pub save_serves : (opened : Opened) (new : Record) (old : Option Record) (list : List Mutation) (key : List Item) → opened.schema.indexes ≡ [] → list ≡ record_writes opened.prefix new →
+pub save_serves : (opened : Opened) (new : Record) (old : Option Record) (list : List Mutation) (key : List Item) → list ≡ replacement opened new old →
     own_record (find_type opened.schema new.definition.name) new ≡ Ok new → record_in new.definition new.cells ≡ Ok new → key ≡ primary_key new → IsTuple key →
     All IsCell new.cells →
-    (m : Map) (store : Store) → Holds opened.prefix m (Some store) → store.schema ≡ opened.schema → old ≡ record_at (primary_key new) store.records → IsServed opened (save_service opened new) old list m store
-save_serves opened new old list key none wrote own made same tuple cells m store holds schema is =
-    save_served opened new old list none wrote (own_typed opened.schema new own made) (record { key = subst IsTuple same tuple; cells = cells }) m store holds schema is
+    (m : Map) (store : Store) → Holds opened.prefix m (Some store) → IsOpenAs opened store → old ≡ record_at (primary_key new) store.records → IsServed opened (save_service opened new) old list m store
+save_serves opened new old list key wrote own made same tuple cells m store holds schema is =
+    save_served opened new old list wrote (own_typed opened.schema new own made) (record { key = subst IsTuple same tuple; cells = cells }) m store holds schema is
 
 pub records_served : (opened : Opened) (number : ℕ) (rows : List Record) (m : Map) (store : Store) → Holds opened.prefix m (Some store) → rows ≡ of_type number store.records → IsServed opened (records_service opened number) rows [] m store
 records_served opened number rows m store holds is = record { answers = is; wrote = refl; holds = holds }

@@ -3,9 +3,12 @@ use Rattle.std.proofs.Common.{◌≡◌, inl, inr, ℕ, Bool, true, false, cond,
 use Rattle.std.specs.Prelude.{get_or, zero, suc}
 use Rattle.std.specs.List.{AllByRecursion}
 use Rattle.tuple_codec.specs.Spelling.{spelling}
-use Rattle.kv_core.specs.Range.{KeyRange, contains}
+use Rattle.kv_core.specs.Range.{KeyRange, contains, covers}
 use Rattle.kv_core.specs.Map.{Map, Agree, pairs_in}
+use Rattle.kv_core.specs.Read.{range_read, read_of}
 use Rattle.kv_core.specs.declared.change.CommitRequest.{CommitRequest}
+use Rattle.kv_core.proofs.Lists.{All-take}
+use Rattle.kv_core.proofs.Pairs.{inside_read}
 use Rattle.cluster_core.specs.declared.answers.ReadError.{ReadError}
 use Rattle.txn.specs.Reads.{has_read, seen}
 use Rattle.txn.proofs.Running.{ran_read}
@@ -16,15 +19,17 @@ use Rattle.metadata.specs.Record.{Record, key_cells, primary_key}
 use Rattle.metadata.specs.Records.{IsStorable, of_type}
 use Rattle.metadata.specs.Schema.{find_type}
 use Rattle.metadata.specs.Stored.{IsStoredAs, IsTypeOf, IsOfNoRecord}
-use Rattle.metadata.proofs.StoredApart.{named_typed}
+use Rattle.metadata.proofs.StoredApart.{named_typed, number_small}
 use Rattle.metadata.proofs.StoredOnce.{made_is, stored_once}
 use Rattle.record_store.specs.declared.error.StoreError.{StoreError}
 use Rattle.record_store.specs.declared.error.StoreError.TheVariants.{Memory, Read, Write, Corrupt, Refused}
 use Rattle.record_store.specs.Layout.{place, record_key, record_pair, record_value, type_range}
-use Rattle.record_store.specs.Holds.{IsOfSchema}
+use Rattle.record_store.specs.Store.{Store}
+use Rattle.record_store.specs.Holds.{Holds, IsOfSchema}
 use Rattle.record_store.specs.Form.{IsFirstBad, IsRecordPair, read_in}
-use Rattle.record_store.specs.Call.{AtStore, IsUnread, Opened}
-use Rattle.record_store.specs.Reading.{ArePairsOf, HasNotFound, HaveNoRecords, IsPairOf, IsPairOfNone}
+use Rattle.record_store.specs.Call.{AtStore, IsOpenAs, IsUnread, Opened}
+use Rattle.record_store.specs.Store.{new_state}
+use Rattle.record_store.specs.Reading.{ArePairsOf, HasNotFound, HaveNoRecords, IsPairOf, IsPairOfNone, IsStateRead}
 use Rattle.record_store.specs.Steps.{DidRead}
 use Rattle.record_store.proofs.Held.{type_held}
 use Rattle.record_store.proofs.Keys.{in_type_range, record_key_is}
@@ -32,7 +37,8 @@ use Rattle.record_store.proofs.Openings.{one_covers, pairs_lie}
 use Rattle.record_store.proofs.RecordPairs.{none_bad, of_stored, stored_as, type_form, key_bytes}
 use Rattle.std.proofs.lemmas.Bool.{eqb-true}
 use Rattle.std.specs.Option.{IfNone}
-use Rattle.std.proofs.lemmas.List.{append_cancel_left}
+use Rattle.std.proofs.lemmas.List.{append_cancel_left, length-map, take-map}
+use Rattle.std.proofs.Math.Seq.{take-length}
 
 abbrev Pair : Type 0
 Pair = List ℕ × List ℕ
@@ -124,74 +130,132 @@ module _ (opened : Opened) (type : TypeDefinition) (lawful : IsLawfulSchema open
 
   -- ---- what was read
 
-  module _ (small : type.number < 2 ^ 64) where
-    read_pairs : (m : Map) → read_in m (type_range opened.prefix type.number ∷ []) ≡ pairs_in m (type_range opened.prefix type.number)
-    read_pairs m = append-nil (pairs_in m (type_range opened.prefix type.number))
+  small : type.number < 2 ^ 64
+  small = number_small opened.schema type lawful own
 
-    -- FOUND: the rows are the records of the type
-    rows_there : (m : Map) (pairs : List Pair) (rows : List Record) → pairs ≡ pairs_in m (type_range opened.prefix type.number) → ArePairsOf (place opened.prefix 1) type pairs rows →
-        AllByRecursion (IsRecordPair opened.prefix opened.schema) (read_in m (type_range opened.prefix type.number ∷ [])) × AtStore opened m (λ store. rows ≡ of_type type.number store.records)
-    rows_there m pairs rows is good = (
-      subst (AllByRecursion (IsRecordPair opened.prefix opened.schema)) (is ∙ sym (read_pairs m)) (good_form pairs rows good),
-      λ store holds same.
-          same_records rows (of_type type.number store.records) pairs good (is ∙ type_held opened.prefix m store type.number small holds)
-          (of_type_good store.records (subst (λ s. AllByRecursion (IsOfSchema s) store.records) same holds.lawful.typed) holds.lawful.storable),
-    )
+  abbrev here : KeyRange
+  here = type_range opened.prefix type.number
 
-    -- NOT FOUND: one of the pairs is that of no record
-    bad_inside : (m : Map) (before behind : List Pair) (bad : Pair) → pairs_in m (type_range opened.prefix type.number) ≡ before ++ bad ∷ behind → contains (type_range opened.prefix type.number) bad.0 ≡ true
-    bad_inside m before behind bad split =
-        in_middle before (subst (AllByRecursion (λ (e : Pair). contains (type_range opened.prefix type.number) e.0 ≡ true)) split (pairs_lie opened.prefix m (type_range opened.prefix type.number)))
-      where
-        in_middle : (before : List Pair) → AllByRecursion (λ (e : Pair). contains (type_range opened.prefix type.number) e.0 ≡ true) (before ++ bad ∷ behind) → contains (type_range opened.prefix type.number) bad.0 ≡ true
-        in_middle [] all = all.0
-        in_middle (pair ∷ before) all = in_middle before all.1
+  -- FOUND: of the pairs of the type the first ones were read, up to a limit, and the rows are the first records
+  rows_there : (m : Map) (limit : ℕ) (pairs : List Pair) (rows : List Record) → pairs ≡ take limit (pairs_in m here) → ArePairsOf (place opened.prefix 1) type pairs rows →
+      AllByRecursion (IsRecordPair opened.prefix opened.schema) pairs × AtStore opened m (λ store. rows ≡ take limit (of_type type.number store.records))
+  rows_there m limit pairs rows is good = (
+    good_form pairs rows good,
+    λ store holds same.
+        let all = of_type_good store.records (subst (λ s. AllByRecursion (IsOfSchema s) store.records) same.schema holds.lawful.typed) holds.lawful.storable in
+        same_records rows (take limit (of_type type.number store.records)) pairs good
+        (is ∙ ap (take limit) (type_held opened.prefix m store type.number small holds) ∙ take-map (record_pair opened.prefix) limit (of_type type.number store.records))
+        (All-take (λ (r : Record). IsOfSchema opened.schema r × IsStorable r × (r.definition.number ≡ type.number)) limit (of_type type.number store.records) all),
+  )
 
-    unread_there : (refuses : KeyRange → Option ReadError) (m : Map) (pairs : List Pair) (error : StoreError) → pairs ≡ pairs_in m (type_range opened.prefix type.number) → HaveNoRecords (place opened.prefix 1) type pairs error →
-        IsUnread refuses opened (type_range opened.prefix type.number ∷ []) error m
-    unread_there refuses m pairs error is (inl memory) = subst (λ e. IsUnread refuses opened (type_range opened.prefix type.number ∷ []) e m) (sym memory) tt
-    unread_there refuses m pairs error is (inr among) = by_error error among.none
-      where
-        first : (key : List ℕ) → IsPairOfNone (place opened.prefix 1) type among.bad (Corrupt key) → IsFirstBad (IsRecordPair opened.prefix opened.schema) (read_in m (type_range opened.prefix type.number ∷ [])) key
-        first key says = record {
-          before = among.before;
-          bad = among.bad;
-          behind = among.behind;
-          split = read_pairs m ∙ sym is ∙ among.split;
-          good = good_form among.before among.records among.good;
-          malformed = bad_form among.bad (bad_inside m among.before among.behind among.bad (sym is ∙ among.split)) small says.1;
-          at = says.0;
-        }
+  -- NOT FOUND: one of the pairs is that of no record
+  bad_inside : (m : Map) (limit : ℕ) (before behind : List Pair) (bad : Pair) → take limit (pairs_in m here) ≡ before ++ bad ∷ behind → contains here bad.0 ≡ true
+  bad_inside m limit before behind bad split =
+      in_middle before (subst (AllByRecursion (λ (e : Pair). contains here e.0 ≡ true)) split (All-take (λ (e : Pair). contains here e.0 ≡ true) limit (pairs_in m here) (pairs_lie opened.prefix m here)))
+    where
+      in_middle : (before : List Pair) → AllByRecursion (λ (e : Pair). contains here e.0 ≡ true) (before ++ bad ∷ behind) → contains here bad.0 ≡ true
+      in_middle [] all = all.0
+      in_middle (pair ∷ before) all = in_middle before all.1
 
-        by_error : (e : StoreError) → IsPairOfNone (place opened.prefix 1) type among.bad e → IsUnread refuses opened (type_range opened.prefix type.number ∷ []) e m
-        by_error Memory says = tt
-        by_error (Read reason) says = absurd says
-        by_error (Write reason) says = absurd says
-        by_error (Refused refusal) says = absurd says
-        by_error (Corrupt key) says = (
-          first key says,
-          λ store holds same.
-              none_bad (read_in m (type_range opened.prefix type.number ∷ [])) key
-              (subst (AllByRecursion (IsRecordPair opened.prefix opened.schema)) (sym (read_pairs m)) (subst (λ s. AllByRecursion (IsRecordPair opened.prefix s) (pairs_in m (type_range opened.prefix type.number))) same (type_form opened.prefix m store holds type.number small)))
-              (first key says),
-        )
+  unread_there : (refuses : KeyRange → Option ReadError) (reads : Map → List Pair) (m : Map) (limit : ℕ) (pairs : List Pair) (error : StoreError) → pairs ≡ take limit (pairs_in m here) → reads m ≡ pairs →
+      HaveNoRecords (place opened.prefix 1) type pairs error → IsUnread refuses opened (here ∷ []) reads error m
+  unread_there refuses reads m limit pairs error is read (inl memory) = subst (λ e. IsUnread refuses opened (here ∷ []) reads e m) (sym memory) tt
+  unread_there refuses reads m limit pairs error is read (inr among) = by_error error among.none
+    where
+      first : (key : List ℕ) → IsPairOfNone (place opened.prefix 1) type among.bad (Corrupt key) → IsFirstBad (IsRecordPair opened.prefix opened.schema) (reads m) key
+      first key says = record {
+        before = among.before;
+        bad = among.bad;
+        behind = among.behind;
+        split = read ∙ among.split;
+        good = good_form among.before among.records among.good;
+        malformed = bad_form among.bad (bad_inside m limit among.before among.behind among.bad (sym is ∙ among.split)) small says.1;
+        at = says.0;
+      }
 
-    pub rows_read : {maps : ℕ → Map} {old new : CommitRequest} (range : KeyRange) (pairs : List Pair) (records_place : List ℕ) (rows : List Record) → range ≡ type_range opened.prefix type.number → records_place ≡ place opened.prefix 1 →
-        new ≡ has_read range old → ((m : Map) → Agree new.reads (maps old.read_version) m → pairs ≡ pairs_in (seen old m) range) → ArePairsOf records_place type pairs rows →
-        DidRead maps (type_range opened.prefix type.number ∷ []) old new (λ m.
-        AllByRecursion (IsRecordPair opened.prefix opened.schema) (read_in m (type_range opened.prefix type.number ∷ [])) × AtStore opened m (λ store. rows ≡ of_type type.number store.records))
-    rows_read {old = old} range pairs records_place rows is at read answer good =
-        ran_read range read (one_covers range (type_range opened.prefix type.number) is)
-        (λ m agree. rows_there (seen old m) pairs rows (answer m agree ∙ ap (pairs_in (seen old m)) is) (subst (λ p. ArePairsOf p type pairs rows) at good))
+      all_good : (store : Store) → Holds opened.prefix m (Some store) → IsOpenAs opened store → AllByRecursion (IsRecordPair opened.prefix opened.schema) (reads m)
+      all_good store holds same =
+          subst (AllByRecursion (IsRecordPair opened.prefix opened.schema)) (sym (read ∙ is))
+          (All-take (IsRecordPair opened.prefix opened.schema) limit (pairs_in m here) (subst (λ s. AllByRecursion (IsRecordPair opened.prefix s) (pairs_in m here)) same.schema (type_form opened.prefix m store holds type.number small)))
 
-    pub rows_unread : {maps : ℕ → Map} {refuses : KeyRange → ℕ → Option ReadError} {old new : CommitRequest} (range : KeyRange) (pairs : List Pair) (records_place : List ℕ) (error : StoreError) → range ≡ type_range opened.prefix type.number → records_place ≡ place opened.prefix 1 →
-        new ≡ has_read range old → ((m : Map) → Agree new.reads (maps old.read_version) m → pairs ≡ pairs_in (seen old m) range) → HaveNoRecords records_place type pairs error →
-        HasNotFound maps refuses opened (type_range opened.prefix type.number ∷ []) error old new
-    rows_unread {refuses = refuses} {old = old} range pairs records_place error is at read answer none = record {
-      ran =
-          ran_read range read (one_covers range (type_range opened.prefix type.number) is)
-          (λ m agree. unread_there (λ r. refuses r old.read_version) (seen old m) pairs error (answer m agree ∙ ap (pairs_in (seen old m)) is) (subst (λ p. HaveNoRecords p type pairs error) at none));
-    }
+      by_error : (e : StoreError) → IsPairOfNone (place opened.prefix 1) type among.bad e → IsUnread refuses opened (here ∷ []) reads e m
+      by_error Memory says = tt
+      by_error (Read reason) says = absurd says
+      by_error (Write reason) says = absurd says
+      by_error (Refused refusal) says = absurd says
+      by_error (Corrupt key) says = (first key says, λ store holds same. none_bad (reads m) key (all_good store holds same) (first key says))
+
+  -- ---- all of them
+
+  read_pairs : (m : Map) → read_in m (here ∷ []) ≡ pairs_in m here
+  read_pairs m = append-nil (pairs_in m here)
+
+  -- where all pairs are read, up to a limit there are no others
+  whole_pairs : (m : Map) (pairs : List Pair) → pairs ≡ pairs_in m here → pairs ≡ take (length pairs) (pairs_in m here)
+  whole_pairs m pairs is = sym (take-length pairs) ∙ ap (take (length pairs)) is
+
+  whole_rows : (m : Map) (pairs : List Pair) (rows : List Record) → pairs ≡ pairs_in m here → ArePairsOf (place opened.prefix 1) type pairs rows → AtStore opened m (λ store. rows ≡ of_type type.number store.records)
+  whole_rows m pairs rows is good store holds same =
+      let all = of_type type.number store.records in
+      let many : length all ≡ length pairs = sym (length-map all (record_pair opened.prefix)) ∙ ap length (sym (is ∙ type_held opened.prefix m store type.number small holds)) in
+      (rows_there m (length pairs) pairs rows (whole_pairs m pairs is) good).1 store holds same ∙ ap (λ n. take n all) (sym many) ∙ take-length all
+
+  pub rows_read : {maps : ℕ → Map} {old new : CommitRequest} (range : KeyRange) (pairs : List Pair) (records_place : List ℕ) (rows : List Record) → range ≡ here → records_place ≡ place opened.prefix 1 →
+      new ≡ has_read range old → ((m : Map) → Agree new.reads (maps old.read_version) m → pairs ≡ pairs_in (seen old m) range) → ArePairsOf records_place type pairs rows →
+      DidRead maps (here ∷ []) old new (λ m. AllByRecursion (IsRecordPair opened.prefix opened.schema) (read_in m (here ∷ [])) × AtStore opened m (λ store. rows ≡ of_type type.number store.records))
+  rows_read {old = old} range pairs records_place rows is at read answer found =
+      ran_read range read (one_covers range here is)
+      (λ m agree.
+      let all : pairs ≡ pairs_in (seen old m) here = answer m agree ∙ ap (pairs_in (seen old m)) is in
+      let good = subst (λ p. ArePairsOf p type pairs rows) at found in
+      (subst (AllByRecursion (IsRecordPair opened.prefix opened.schema)) (all ∙ sym (read_pairs (seen old m))) (good_form pairs rows good), whole_rows (seen old m) pairs rows all good))
+
+  pub rows_unread : {maps : ℕ → Map} {refuses : KeyRange → ℕ → Option ReadError} {old new : CommitRequest} (range : KeyRange) (pairs : List Pair) (records_place : List ℕ) (error : StoreError) → range ≡ here → records_place ≡ place opened.prefix 1 →
+      new ≡ has_read range old → ((m : Map) → Agree new.reads (maps old.read_version) m → pairs ≡ pairs_in (seen old m) range) → HaveNoRecords records_place type pairs error →
+      HasNotFound maps refuses opened (here ∷ []) (λ m. read_in m (here ∷ [])) error old new
+  rows_unread {refuses = refuses} {old = old} range pairs records_place error is at read answer none = record {
+    ran =
+        ran_read range read (one_covers range here is)
+        (λ m agree.
+        let all : pairs ≡ pairs_in (seen old m) here = answer m agree ∙ ap (pairs_in (seen old m)) is in
+        unread_there (λ r. refuses r old.read_version) (λ n. read_in n (here ∷ [])) (seen old m) (length pairs) pairs error (whole_pairs (seen old m) pairs all) (read_pairs (seen old m) ∙ sym all)
+        (subst (λ p. HaveNoRecords p type pairs error) at none));
+  }
+
+  -- ---- the first one
+
+  -- what decides a read up to a limit lies in the range
+  part_inside : (maps : ℕ → Map) (old new : CommitRequest) (range : KeyRange) (pairs : List Pair) → range ≡ here → ((m : Map) → Agree new.reads (maps old.read_version) m → pairs ≡ read_of (seen old m) range 1 false) →
+      (k : List ℕ) → contains (range_read range 1 false pairs) k ≡ true → covers (here ∷ []) k ≡ true
+  part_inside maps old new range pairs is answer k inside =
+      one_covers range here is k
+      (inside_read (seen old (maps old.read_version)) range 1 false (omega arith) k (subst (λ ps. contains (range_read range 1 false ps) k ≡ true) (answer (maps old.read_version) (λ key h. refl)) inside))
+
+  -- a new index over the first record is as one over all
+  state_first : (records : List Record) → new_state (take 1 records) ≡ new_state records
+  state_first [] = refl
+  state_first (r ∷ records) = refl
+
+  pub state_read : {maps : ℕ → Map} {old new : CommitRequest} (range : KeyRange) (pairs : List Pair) (records_place : List ℕ) (rows : List Record) → range ≡ here → records_place ≡ place opened.prefix 1 →
+      new ≡ has_read (range_read range 1 false pairs) old → ((m : Map) → Agree new.reads (maps old.read_version) m → pairs ≡ read_of (seen old m) range 1 false) → ArePairsOf records_place type pairs rows →
+      DidRead maps (here ∷ []) old new (IsStateRead opened type.number (new_state rows))
+  state_read {maps = maps} {old = old} {new = new} range pairs records_place rows is at read answer found =
+      ran_read (range_read range 1 false pairs) read (part_inside maps old new range pairs is answer)
+      (λ m agree.
+      let some : pairs ≡ take 1 (pairs_in (seen old m) here) = answer m agree ∙ ap (λ r. take 1 (pairs_in (seen old m) r)) is in
+      let there = rows_there (seen old m) 1 pairs rows some (subst (λ p. ArePairsOf p type pairs rows) at found) in
+      (subst (AllByRecursion (IsRecordPair opened.prefix opened.schema)) some there.0, λ store holds same. ap new_state (there.1 store holds same) ∙ state_first (of_type type.number store.records)))
+
+  pub state_unread : {maps : ℕ → Map} {refuses : KeyRange → ℕ → Option ReadError} {old new : CommitRequest} (range : KeyRange) (pairs : List Pair) (records_place : List ℕ) (error : StoreError) → range ≡ here → records_place ≡ place opened.prefix 1 →
+      new ≡ has_read (range_read range 1 false pairs) old → ((m : Map) → Agree new.reads (maps old.read_version) m → pairs ≡ read_of (seen old m) range 1 false) → HaveNoRecords records_place type pairs error →
+      HasNotFound maps refuses opened (here ∷ []) (λ m. read_of m here 1 false) error old new
+  state_unread {maps = maps} {refuses = refuses} {old = old} {new = new} range pairs records_place error is at read answer none = record {
+    ran =
+        ran_read (range_read range 1 false pairs) read (part_inside maps old new range pairs is answer)
+        (λ m agree.
+        let some : pairs ≡ take 1 (pairs_in (seen old m) here) = answer m agree ∙ ap (λ r. take 1 (pairs_in (seen old m) r)) is in
+        unread_there (λ r. refuses r old.read_version) (λ n. read_of n here 1 false) (seen old m) 1 pairs error some (sym some) (subst (λ p. HaveNoRecords p type pairs error) at none));
+  }
 
 -- ---- one pair
 

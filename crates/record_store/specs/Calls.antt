@@ -1,22 +1,30 @@
 -- The calls on an open store, one by one: what each may read, answers, leaves and writes.
-use Rattle.std.specs.Prelude.{ℕ, Bool, true, false, List, [], ◌∷◌, Option, Some, None, Result, Ok, Err, is_some}
+use Rattle.std.specs.Prelude.{◌≡◌, ℕ, Bool, true, false, List, [], ◌∷◌, Option, Some, None, Result, Ok, Err, is_some}
 use Rattle.tuple_codec.specs.Item.{Item}
 use Rattle.kv_core.specs.Range.{point}
 use Rattle.kv_core.specs.declared.change.Mutation.{Mutation}
-use Rattle.kv_core.specs.declared.change.Mutation.TheVariants.{Set, ClearRange}
+use Rattle.kv_core.specs.declared.change.Mutation.TheVariants.{Set}
+use Rattle.kv_core.specs.Read.{read_of}
 use Rattle.metadata.specs.declared.cells.Cell.{Cell}
 use Rattle.metadata.specs.declared.definition.TypeDefinition.{TypeDefinition}
 use Rattle.metadata.specs.declared.definition.TypeRequest.{TypeRequest}
+use Rattle.metadata.specs.declared.index.IndexDefinition.{IndexDefinition}
+use Rattle.metadata.specs.declared.index.IndexRequest.{IndexRequest}
+use Rattle.metadata.specs.declared.index.State.{State}
+use Rattle.metadata.specs.declared.index.State.TheVariants.{Readable, Disabled}
 use Rattle.metadata.specs.declared.refusal.Refusal.{Refusal}
-use Rattle.metadata.specs.declared.refusal.Refusal.TheVariants.{OtherSchema, UnknownType}
+use Rattle.metadata.specs.declared.refusal.Refusal.TheVariants.{OtherSchema, UnknownIndex, UnknownType}
 use Rattle.metadata.specs.Change.{add_type}
+use Rattle.metadata.specs.IndexChange.{new_index, with_index, without_index}
 use Rattle.metadata.specs.Record.{Record, key_of, primary_key}
 use Rattle.metadata.specs.Records.{of_type, record_at}
 use Rattle.metadata.specs.Same.{same_type}
-use Rattle.metadata.specs.Schema.{Schema, find_type}
+use Rattle.metadata.specs.Schema.{Schema, find_index, find_type}
 use Rattle.metadata.specs.Written.{schema_bytes}
-use Rattle.record_store.specs.Store.{extended, removed, saved}
-use Rattle.record_store.specs.Layout.{record_key, record_value, schema_key, type_range}
+use Rattle.record_store.specs.Store.{disabled, dropped, extended, indexed, listed_as, new_state, removed, saved, state_in, with_state, without_state}
+use Rattle.record_store.specs.Layout.{record_key, schema_key, type_range}
+use Rattle.record_store.specs.Form.{read_in}
+use Rattle.record_store.specs.IndexWrites.{disable_writes, drop_writes, index_added_writes, remove_writes, save_writes}
 use Rattle.record_store.specs.Call.{Call, Opened, Service}
 
 -- what is done with a value, or the refusal
@@ -28,6 +36,7 @@ done_with service (Err refusal) = Err refusal
 abbrev pub load_service : Opened → List Item → Service (Option Record)
 load_service opened key = record {
   reach = point (record_key opened.prefix key) ∷ [];
+  reads = λ m. read_in m (point (record_key opened.prefix key) ∷ []);
   answer = λ store. record_at key store.records;
   after = λ store. store;
   writes = λ store. [];
@@ -37,16 +46,14 @@ load_service opened key = record {
 abbrev pub load_call : Opened → List ℕ → List Cell → Call (Option Record)
 load_call opened name cells = done_with (load_service opened) (key_of opened.schema name cells)
 
--- SAVE: a record is put in the place of that with its primary key, which is answered
-abbrev pub record_writes : List ℕ → Record → List Mutation
-record_writes prefix r = Set (record_key prefix (primary_key r)) (record_value r.cells) ∷ []
-
+-- SAVE: a record is put in the place of that with its primary key, which is answered, and its indexes follow
 abbrev pub save_service : Opened → Record → Service (Option Record)
 save_service opened r = record {
   reach = point (record_key opened.prefix (primary_key r)) ∷ [];
+  reads = λ m. read_in m (point (record_key opened.prefix (primary_key r)) ∷ []);
   answer = λ store. record_at (primary_key r) store.records;
   after = λ store. saved store r;
-  writes = λ store. record_writes opened.prefix r;
+  writes = λ store. save_writes opened.prefix store r;
   changes = λ old. true;
 }
 
@@ -58,17 +65,14 @@ own_record (Some type) r = elim (same_type type r.definition) [ true ↦ Ok r | 
 abbrev pub save_call : Opened → Record → Call (Option Record)
 save_call opened r = done_with (save_service opened) (own_record (find_type opened.schema r.definition.name) r)
 
--- REMOVE: the record of a primary key is taken out, where it is there
-abbrev pub removal : List ℕ → List Item → Option Record → List Mutation
-removal prefix key None = []
-removal prefix key (Some old) = ClearRange (point (record_key prefix key)) ∷ []
-
+-- REMOVE: the record of a primary key is taken out, where it is there, and its indexes follow
 abbrev pub remove_service : Opened → List Item → Service Bool
 remove_service opened key = record {
   reach = point (record_key opened.prefix key) ∷ [];
+  reads = λ m. read_in m (point (record_key opened.prefix key) ∷ []);
   answer = λ store. is_some (record_at key store.records);
   after = λ store. removed store key;
-  writes = λ store. removal opened.prefix key (record_at key store.records);
+  writes = λ store. remove_writes opened.prefix store key (record_at key store.records);
   changes = λ was_there. was_there;
 }
 
@@ -83,6 +87,7 @@ number_of (Some type) = Ok type.number
 abbrev pub records_service : Opened → ℕ → Service (List Record)
 records_service opened number = record {
   reach = type_range opened.prefix number ∷ [];
+  reads = λ m. read_in m (type_range opened.prefix number ∷ []);
   answer = λ store. of_type number store.records;
   after = λ store. store;
   writes = λ store. [];
@@ -99,6 +104,7 @@ schema_writes prefix schema = Set (schema_key prefix) (schema_bytes schema) ∷ 
 abbrev pub schema_service : Opened → Schema → Service Schema
 schema_service opened schema = record {
   reach = [];
+  reads = λ m. [];
   answer = λ store. schema;
   after = λ store. extended store schema;
   writes = λ store. schema_writes opened.prefix schema;
@@ -107,3 +113,67 @@ schema_service opened schema = record {
 
 abbrev pub type_call : Opened → TypeRequest → Call Schema
 type_call opened request = done_with (schema_service opened) (add_type opened.schema request)
+
+-- INDEX: an index is added, and its state answered. Of the type's records the first alone is read
+abbrev pub index_service : Opened → IndexDefinition → Service State
+index_service opened index = record {
+  reach = type_range opened.prefix index.type_number ∷ [];
+  reads = λ m. read_of m (type_range opened.prefix index.type_number) 1 false;
+  answer = λ store. new_state (of_type index.type_number store.records);
+  after = λ store. indexed store index;
+  writes = λ store. index_added_writes opened.prefix store index;
+  changes = λ state. true;
+}
+
+abbrev pub index_call : Opened → IndexRequest → Call State
+index_call opened request = done_with (index_service opened) (new_index opened.schema request)
+
+-- the opened store with one more index that has this state
+pub record IsIndexedAs (old new : Opened) (request : IndexRequest) (state : State) : Type 0 where
+  pub index : IndexDefinition
+  pub accepted : new_index old.schema request ≡ Ok index
+  pub is : new ≡ record old { schema = with_index old.schema index; states = listed_as index.number state old.states }
+
+-- the number of an index, or the refusal
+abbrev pub index_number : Option IndexDefinition → Result ℕ Refusal
+index_number None = Err UnknownIndex
+index_number (Some index) = Ok index.number
+
+-- DROP: the schema is written without an index, and answered; what is kept of the index goes
+abbrev pub drop_service : Opened → ℕ → Service Schema
+drop_service opened number = record {
+  reach = [];
+  reads = λ m. [];
+  answer = λ store. without_index store.schema number;
+  after = λ store. dropped store number;
+  writes = λ store. drop_writes opened.prefix store number;
+  changes = λ answer. true;
+}
+
+abbrev pub drop_call : Opened → List ℕ → Call Schema
+drop_call opened name = done_with (drop_service opened) (index_number (find_index opened.schema name))
+
+-- DISABLE: the state of an index is written, its entries go, and the states are answered
+abbrev pub disable_service : Opened → ℕ → Service (List (ℕ × State))
+disable_service opened number = record {
+  reach = [];
+  reads = λ m. [];
+  answer = λ store. with_state number Disabled store.states;
+  after = λ store. disabled store number;
+  writes = λ store. disable_writes opened.prefix number;
+  changes = λ answer. true;
+}
+
+abbrev pub disable_call : Opened → List ℕ → Call (List (ℕ × State))
+disable_call opened name = done_with (disable_service opened) (index_number (find_index opened.schema name))
+
+-- the opened store without the index with this number, and with that index disabled
+abbrev pub opened_without : Opened → ℕ → Opened
+opened_without opened number = record opened { schema = without_index opened.schema number; states = without_state number opened.states }
+
+abbrev pub opened_disabled : Opened → ℕ → Opened
+opened_disabled opened number = record opened { states = with_state number Disabled opened.states }
+
+-- STATE: the state of the index of this name, or the refusal
+abbrev pub state_named : Opened → List ℕ → Result State Refusal
+state_named opened name = elim (find_index opened.schema name) [ None ↦ Err UnknownIndex | Some index ↦ Ok (state_in opened.states index.number) ]

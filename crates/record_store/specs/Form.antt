@@ -1,14 +1,20 @@
 -- The written form of pairs, and the first pair of those read that isn't of it.
-use Rattle.std.specs.Prelude.{◌≡◌, ℕ, List, [], ◌∷◌, ◌++◌}
+use Rattle.std.specs.Prelude.{◌≡◌, ◌⊎◌, ℕ, IsTrue, List, [], ◌∷◌, ◌++◌, Some}
 use Rattle.std.specs.List.{AllByRecursion}
+use Rattle.std.specs.FinMap.{get}
 use Rattle.kv_core.specs.Map.{Map, pairs_in}
 use Rattle.kv_core.specs.Range.{KeyRange}
+use Rattle.metadata.specs.declared.index.IndexDefinition.{IndexDefinition}
+use Rattle.metadata.specs.declared.index.IndexKind.TheVariants.{Value}
+use Rattle.metadata.specs.declared.index.State.{State}
+use Rattle.metadata.specs.declared.index.State.TheVariants.{Disabled}
 use Rattle.metadata.specs.Lawful.{IsLawfulSchema}
 use Rattle.metadata.specs.Record.{Record}
 use Rattle.metadata.specs.Records.{IsStorable}
 use Rattle.metadata.specs.Schema.{Schema}
-use Rattle.record_store.specs.Layout.{record_pair, schema_pair}
-use Rattle.record_store.specs.Holds.{IsOfSchema}
+use Rattle.metadata.specs.Written.{schema_bytes}
+use Rattle.record_store.specs.Layout.{record_pair, schema_key, schema_pair, state_pair}
+use Rattle.record_store.specs.Holds.{IsOfSchema, has_number}
 
 -- a pair stands for a record of the schema
 pub record IsRecordPair (prefix : List ℕ) (schema : Schema) (pair : List ℕ × List ℕ) : Type 0 where
@@ -17,12 +23,34 @@ pub record IsRecordPair (prefix : List ℕ) (schema : Schema) (pair : List ℕ �
   pub storable : IsStorable stored
   pub is : pair ≡ record_pair prefix stored
 
--- a pair stands for a schema, which has no index
+-- a pair stands for a schema, all of whose indexes are VALUE indexes
 pub record IsSchemaPair (prefix : List ℕ) (pair : List ℕ × List ℕ) : Type 0 where
   pub schema : Schema
   pub made : IsLawfulSchema schema
-  pub plain : schema.indexes ≡ []
+  pub kinds : AllByRecursion (λ index. index.kind ≡ Value) schema.indexes
   pub is : pair ≡ schema_pair prefix schema
+
+-- one of these indexes is disabled
+pub record IsDisabledOf (indexes : List IndexDefinition) (listed : ℕ × State) : Type 0 where
+  pub there : IsTrue (has_number indexes listed.0)
+  pub state : listed.1 ≡ Disabled
+
+-- a pair stands for the state of one of these indexes, which is disabled
+pub record IsStatePair (prefix : List ℕ) (indexes : List IndexDefinition) (pair : List ℕ × List ℕ) : Type 0 where
+  pub listed : ℕ × State
+  pub disabled : IsDisabledOf indexes listed
+  pub is : pair ≡ state_pair prefix listed
+
+-- a pair stands for the state of an index of the schema that the map has
+pub record IsStatePairIn (prefix : List ℕ) (m : Map) (pair : List ℕ × List ℕ) : Type 0 where
+  pub schema : Schema
+  pub made : IsLawfulSchema schema
+  pub written : get m (schema_key prefix) ≡ Some (schema_bytes schema)
+  pub is : IsStatePair prefix schema.indexes pair
+
+-- a pair is one that an opening reads of a store: its schema's, or that of a state
+abbrev pub IsOpeningPair : List ℕ → Map → List ℕ × List ℕ → Type 0
+IsOpeningPair prefix m pair = IsSchemaPair prefix pair ⊎ IsStatePairIn prefix m pair
 
 -- the pairs of a map in some ranges, in reading order
 abbrev pub read_in : Map → List KeyRange → List (List ℕ × List ℕ)

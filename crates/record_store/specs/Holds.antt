@@ -83,16 +83,11 @@ abbrev pub Holds : List ℕ → Map → Serial → Type 0
 Holds prefix m None = (bytes : List ℕ) → get m (prefix ++ bytes) ≡ None
 Holds prefix m (Some store) = HoldsStore prefix m store
 
--- no index stands in the schema of what is there
-abbrev pub HasNoIndex : Serial → Type 0
-HasNoIndex None = Unit {0}
-HasNoIndex (Some store) = store.schema.indexes ≡ []
-
 -- each index is a VALUE index, and is readable or disabled
-pub record HasPlainIndexes (store : Store) : Type 0 where
-  pub kinds : AllByRecursion (λ index. index.kind ≡ Value) store.schema.indexes
-  pub states : AllByRecursion (λ listed. listed.1 ≡ Disabled) store.states
+pub record HasPlainIndexes (schema : Schema) (states : List (ℕ × State)) : Type 0 where
+  pub kinds : AllByRecursion (λ index. index.kind ≡ Value) schema.indexes
+  pub listed : AllByRecursion (λ one. one.1 ≡ Disabled) states
 
 abbrev pub IsPlain : Serial → Type 0
 IsPlain None = Unit {0}
-IsPlain (Some store) = HasPlainIndexes store
+IsPlain (Some store) = HasPlainIndexes store.schema store.states

@@ -1,5 +1,5 @@
 -- What calls on a store with indexes write.
-use Rattle.std.specs.Prelude.{ℕ, Bool, true, false, ◌==◌, List, [], ◌∷◌, Option, Some, None, filter}
+use Rattle.std.specs.Prelude.{ℕ, Bool, true, false, ◌==◌, ◌&&◌, if◌then◌else◌, List, [], ◌∷◌, Option, Some, None, filter}
 use Rattle.std.specs.List.{flat_map}
 use Rattle.tuple_codec.specs.Item.{Item}
 use Rattle.kv_core.specs.Range.{point}
@@ -13,7 +13,8 @@ use Rattle.metadata.specs.Record.{Record, primary_key}
 use Rattle.metadata.specs.Records.{of_type, record_at}
 use Rattle.metadata.specs.Written.{schema_bytes}
 use Rattle.index_maint.specs.Changes.{value_changes}
-use Rattle.record_store.specs.Store.{Store, state_of}
+use Rattle.record_store.specs.Store.{Store, new_state, state_in, state_of}
+use Rattle.record_store.specs.Call.{Opened}
 use Rattle.record_store.specs.Layout.{entries_range, record_key, record_value, schema_key, state_key, state_value}
 
 -- the state is that of an index that may be read
@@ -21,9 +22,17 @@ abbrev pub is_readable : State → Bool
 is_readable Readable = true
 is_readable state = false
 
+-- the store that was opened so, without its records
+abbrev pub store_of : Opened → Store
+store_of opened = record { schema = opened.schema; records = []; states = opened.states }
+
 -- the indexes that may be read, in the order of their numbers
 abbrev pub readable_indexes : Store → List IndexDefinition
 readable_indexes store = filter (λ index. is_readable (state_of store index.number)) store.schema.indexes
+
+-- what is written for one index where a record of the type with this number gives way to another: its changes, where it is of the type and readable
+abbrev pub one_index_writes : Opened → ℕ → Option Record → Option Record → IndexDefinition → List Mutation
+one_index_writes opened number old new index = if index.type_number == number && is_readable (state_in opened.states index.number) then value_changes opened.prefix index old new else []
 
 -- what is written for the indexes where a record of the type with this number gives way to another: the changes of each readable index of the type
 abbrev pub index_writes : List ℕ → Store → ℕ → Option Record → Option Record → List Mutation
@@ -34,23 +43,24 @@ abbrev pub save_writes : List ℕ → Store → Record → List Mutation
 save_writes prefix store new =
     Set (record_key prefix (primary_key new)) (record_value new.cells) ∷ index_writes prefix store new.definition.number (record_at (primary_key new) store.records) (Some new)
 
--- REMOVE: the record with this primary key, of the type with this number, is taken out where it is there, then its indexes follow
-abbrev pub remove_writes : List ℕ → Store → ℕ → List Item → Option Record → List Mutation
-remove_writes prefix store number key None = []
-remove_writes prefix store number key (Some old) = ClearRange (point (record_key prefix key)) ∷ index_writes prefix store number (Some old) None
+-- REMOVE: the record with this primary key is taken out where it is there, then its indexes follow
+abbrev pub remove_writes : List ℕ → Store → List Item → Option Record → List Mutation
+remove_writes prefix store key None = []
+remove_writes prefix store key (Some old) = ClearRange (point (record_key prefix key)) ∷ index_writes prefix store old.definition.number (Some old) None
 
 -- DISABLE: the state is put, and the entries are taken out
 abbrev pub disable_writes : List ℕ → ℕ → List Mutation
 disable_writes prefix number = Set (state_key prefix number) (state_value Disabled) ∷ ClearRange (entries_range prefix number) ∷ []
 
--- INDEX: the schema is written with one more index, which is disabled where records are of its type
-abbrev pub new_state_writes : List ℕ → ℕ → List Record → List Mutation
-new_state_writes prefix number [] = []
-new_state_writes prefix number (r ∷ records) = Set (state_key prefix number) (state_value Disabled) ∷ []
+-- what is written of a new index's state: nothing where it is readable
+abbrev pub state_writes : List ℕ → ℕ → State → List Mutation
+state_writes prefix number Readable = []
+state_writes prefix number state = Set (state_key prefix number) (state_value state) ∷ []
 
+-- INDEX: the schema is written with one more index, and the index's state
 abbrev pub index_added_writes : List ℕ → Store → IndexDefinition → List Mutation
 index_added_writes prefix store index =
-    Set (schema_key prefix) (schema_bytes (with_index store.schema index)) ∷ new_state_writes prefix index.number (of_type index.type_number store.records)
+    Set (schema_key prefix) (schema_bytes (with_index store.schema index)) ∷ state_writes prefix index.number (new_state (of_type index.type_number store.records))
 
 -- DROP: the schema is written without the index, whose entries and state are taken out
 abbrev pub drop_writes : List ℕ → Store → ℕ → List Mutation

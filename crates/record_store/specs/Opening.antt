@@ -1,6 +1,7 @@
 -- What opening a store and making one establish.
-use Rattle.std.specs.Prelude.{◌≡◌, ℕ, List, [], ◌∷◌, Option, Some, None, IsTrue}
+use Rattle.std.specs.Prelude.{◌≡◌, ℕ, List, [], ◌∷◌, Option, Some, None, IsTrue, map}
 use Rattle.std.specs.FinMap.{get}
+use Rattle.std.specs.List.{AllByRecursion}
 use Rattle.kv_core.specs.Range.{KeyRange, covers, point}
 use Rattle.kv_core.specs.Map.{Map, after_all, pairs_in}
 use Rattle.kv_core.specs.Limits.{write_all_refusal}
@@ -8,16 +9,17 @@ use Rattle.kv_core.specs.declared.change.CommitRequest.{CommitRequest}
 use Rattle.kv_core.specs.declared.change.Mutation.{Mutation}
 use Rattle.cluster_core.specs.declared.answers.ReadError.{ReadError}
 use Rattle.txn.specs.Runs.{Ran}
+use Rattle.metadata.specs.declared.index.IndexKind.TheVariants.{Value}
 use Rattle.metadata.specs.Lawful.{IsLawfulSchema}
 use Rattle.metadata.specs.Written.{schema_bytes}
 use Rattle.metadata.specs.declared.refusal.Refusal.TheVariants.{AlreadyThere, NoStore}
 use Rattle.record_store.specs.declared.error.StoreError.{StoreError}
 use Rattle.record_store.specs.declared.error.StoreError.TheVariants.{Memory, Read, Write, Corrupt, Refused}
-use Rattle.record_store.specs.Store.{Serial, created, schema_in}
-use Rattle.record_store.specs.Layout.{schema_key, states_range}
-use Rattle.record_store.specs.Holds.{HasNoIndex, Holds}
-use Rattle.record_store.specs.Form.{IsFirstBad, IsSchemaPair, read_in}
-use Rattle.record_store.specs.Call.{IsReadRefusedAs, Opened}
+use Rattle.record_store.specs.Store.{Serial, created}
+use Rattle.record_store.specs.Layout.{schema_key, state_pair, states_range}
+use Rattle.record_store.specs.Holds.{Holds, IsPlain}
+use Rattle.record_store.specs.Form.{IsDisabledOf, IsFirstBad, IsOpeningPair, read_in}
+use Rattle.record_store.specs.Call.{IsOpenAs, IsReadRefusedAs, Opened}
 use Rattle.record_store.specs.Calls.{schema_writes}
 use Rattle.record_store.specs.Steps.{DidRead, ReadsAll}
 
@@ -29,24 +31,30 @@ opening_reach prefix = point (schema_key prefix) ∷ states_range prefix ∷ []
 abbrev pub AtSerials : List ℕ → Map → (Serial → Type 0) → Type 0
 AtSerials prefix m Fact = (serial : Serial) → Holds prefix m serial → Fact serial
 
--- the map has the bytes of this schema, which has no index, and no state of an index
+-- the map has the bytes of this schema, all of whose indexes are VALUE indexes, and the pairs of these states, each of an index that is disabled
 pub record HasSchema (opened : Opened) (m : Map) : Type 0 where
   pub made : IsLawfulSchema opened.schema
-  pub plain : opened.schema.indexes ≡ []
+  pub kinds : AllByRecursion (λ index. index.kind ≡ Value) opened.schema.indexes
+  pub listed : AllByRecursion (IsDisabledOf opened.schema.indexes) opened.states
   pub bytes : get m (schema_key opened.prefix) ≡ Some (schema_bytes opened.schema)
-  pub stateless : pairs_in m (states_range opened.prefix) ≡ []
+  pub states : pairs_in m (states_range opened.prefix) ≡ map (state_pair opened.prefix) opened.states
 
--- a store was opened: every map that agrees with what was read has its schema, and what it holds is a store of this schema
+-- what is there is a store with the schema and the states that were opened
+abbrev pub IsThereAs : Opened → Serial → Type 0
+IsThereAs opened None = ⊥
+IsThereAs opened (Some store) = IsOpenAs opened store
+
+-- a store was opened: every map that agrees with what was read has its schema and its states, and what it holds is a store with them
 pub record IsOpened (maps : ℕ → Map) (opened : Opened) (old new : CommitRequest) : Type 0 where
-  pub ran : DidRead maps (opening_reach opened.prefix) old new (λ m. HasSchema opened m × AtSerials opened.prefix m (λ serial. schema_in serial ≡ Some opened.schema))
+  pub ran : DidRead maps (opening_reach opened.prefix) old new (λ m. HasSchema opened m × AtSerials opened.prefix m (IsThereAs opened))
 
--- why no store is opened: memory is wanting, a read is refused, no schema stands there, or the first pair read that isn't of the written form has this key, which nothing without indexes has
+-- why no store is opened: memory is wanting, a read is refused, no schema stands there, or the first pair read that isn't of the written form has this key, which no store has whose indexes are VALUE indexes, each readable or disabled
 abbrev pub IsOpenFailure : (KeyRange → Option ReadError) → List ℕ → StoreError → Map → Type 0
 IsOpenFailure refuses prefix Memory m = Unit {0}
 IsOpenFailure refuses prefix (Read error) m = IsReadRefusedAs refuses (opening_reach prefix) error
 IsOpenFailure refuses prefix (Refused refusal) m = (refusal ≡ NoStore) × (get m (schema_key prefix) ≡ None) × AtSerials prefix m (λ serial. serial ≡ None)
 IsOpenFailure refuses prefix (Corrupt key) m =
-    IsFirstBad (IsSchemaPair prefix) (read_in m (opening_reach prefix)) key × AtSerials prefix m (λ serial. HasNoIndex serial → ⊥)
+    IsFirstBad (IsOpeningPair prefix m) (read_in m (opening_reach prefix)) key × AtSerials prefix m (λ serial. IsPlain serial → ⊥)
 IsOpenFailure refuses prefix (Write error) m = ⊥
 
 -- a store wasn't opened: nothing was written

@@ -1,25 +1,33 @@
 -- What the reads of a store and the decoding of what they find establish, beneath whole calls.
-use Rattle.std.specs.Prelude.{◌≡◌, ◌⊎◌, ℕ, List, [], ◌∷◌, ◌++◌, Option, Some, None}
+use Rattle.std.specs.Prelude.{◌≡◌, ◌⊎◌, ℕ, Bool, true, false, ◌&&◌, List, [], ◌∷◌, ◌++◌, Option, Some, None, map}
 use Rattle.std.specs.List.{AllByRecursion}
+use Rattle.std.specs.Ordering.{is_eq}
 use Rattle.tuple_codec.specs.Item.{Item, IsTuple}
+use Rattle.kv_core.specs.Bytes.{key_cmp}
 use Rattle.kv_core.specs.Range.{KeyRange, point}
 use Rattle.kv_core.specs.Map.{Map}
+use Rattle.kv_core.specs.Read.{read_of}
 use Rattle.kv_core.specs.declared.change.CommitRequest.{CommitRequest}
 use Rattle.cluster_core.specs.declared.answers.ReadError.{ReadError}
 use Rattle.metadata.specs.declared.cells.Cell.{Cell}
 use Rattle.metadata.specs.declared.definition.TypeDefinition.{TypeDefinition}
+use Rattle.metadata.specs.declared.index.IndexDefinition.{IndexDefinition}
+use Rattle.metadata.specs.declared.index.IndexKind.{IndexKind}
+use Rattle.metadata.specs.declared.index.IndexKind.TheVariants.{Value}
+use Rattle.metadata.specs.declared.index.State.{State}
 use Rattle.metadata.specs.declared.refusal.Refusal.TheVariants.{AlreadyThere, NoStore}
 use Rattle.metadata.specs.Lawful.{IsLawfulSchema}
 use Rattle.metadata.specs.Record.{Record, key_items}
-use Rattle.metadata.specs.Records.{record_at}
+use Rattle.metadata.specs.Records.{of_type, record_at}
 use Rattle.metadata.specs.Schema.{Schema}
 use Rattle.metadata.specs.Stored.{IsOfNoRecord, IsStoredAs}
 use Rattle.metadata.specs.Written.{schema_bytes}
 use Rattle.record_store.specs.declared.error.StoreError.{StoreError}
 use Rattle.record_store.specs.declared.error.StoreError.TheVariants.{Memory, Read, Corrupt, Refused}
-use Rattle.record_store.specs.Layout.{record_key, schema_key}
-use Rattle.record_store.specs.Form.{IsRecordPair, read_in}
+use Rattle.record_store.specs.Layout.{record_key, schema_key, state_pair, type_range}
+use Rattle.record_store.specs.Form.{IsDisabledOf, IsRecordPair, IsStatePair, read_in}
 use Rattle.record_store.specs.Call.{AtStore, IsReadRefusedAs, IsUnread, Opened}
+use Rattle.record_store.specs.Store.{new_state}
 use Rattle.record_store.specs.Steps.{DidRead}
 
 -- the error of reads within these ranges: memory is wanting, or a read of a range in them is refused so
@@ -32,16 +40,24 @@ IsReadError refuses within error = ⊥
 pub record HasNotRead (maps : ℕ → Map) (refuses : KeyRange → ℕ → Option ReadError) (within : List KeyRange) (error : StoreError) (old new : CommitRequest) : Type 0 where
   pub ran : DidRead maps within old new (λ m. IsReadError (λ range. refuses range old.read_version) within error)
 
--- what was found where a schema may stand is the bytes of this schema, which has no index, and there is no state of an index
-pub record IsSchema (written : Option (List ℕ)) (states : List (List ℕ × List ℕ)) (schema : Schema) : Type 0 where
-  pub made : IsLawfulSchema schema
-  pub plain : schema.indexes ≡ []
-  pub bytes : written ≡ Some (schema_bytes schema)
-  pub stateless : states ≡ []
+-- the kind is that of a VALUE index
+abbrev pub is_value : IndexKind → Bool
+is_value Value = true
+is_value kind = false
 
--- the bytes are those of no schema without indexes
+-- two pairs have the same key and the same value
+abbrev pub same_pair : List ℕ × List ℕ → List ℕ × List ℕ → Bool
+same_pair pair other = is_eq (key_cmp pair.0 other.0) && is_eq (key_cmp pair.1 other.1)
+
+-- what was found where a schema may stand is the bytes of this schema, all of whose indexes are VALUE indexes
+pub record IsSchema (written : Option (List ℕ)) (schema : Schema) : Type 0 where
+  pub made : IsLawfulSchema schema
+  pub kinds : AllByRecursion (λ index. index.kind ≡ Value) schema.indexes
+  pub bytes : written ≡ Some (schema_bytes schema)
+
+-- the bytes are those of no schema whose indexes are all VALUE indexes
 abbrev pub AreOfNoSchema : List ℕ → Type 0
-AreOfNoSchema bytes = (schema : Schema) → IsLawfulSchema schema → schema.indexes ≡ [] → bytes ≡ schema_bytes schema → ⊥
+AreOfNoSchema bytes = (schema : Schema) → IsLawfulSchema schema → AllByRecursion (λ index. index.kind ≡ Value) schema.indexes → bytes ≡ schema_bytes schema → ⊥
 
 -- why bytes are no schema: memory is wanting, or they are those of none
 abbrev pub IsBadSchema : List ℕ → List ℕ → StoreError → Type 0
@@ -49,24 +65,40 @@ IsBadSchema prefix bytes Memory = Unit {0}
 IsBadSchema prefix bytes (Corrupt key) = (key ≡ schema_key prefix) × AreOfNoSchema bytes
 IsBadSchema prefix bytes error = ⊥
 
--- why there may be no states: memory is wanting, or there is one, at this key
-abbrev pub IsBadState : List (List ℕ × List ℕ) → StoreError → Type 0
-IsBadState states Memory = Unit {0}
-IsBadState (pair ∷ others) (Corrupt key) = key ≡ pair.0
-IsBadState states error = ⊥
+-- why what was found is no schema: nothing was found, or bytes of no schema
+abbrev pub IsNoSchema : List ℕ → Option (List ℕ) → StoreError → Type 0
+IsNoSchema prefix None error = error ≡ Refused NoStore
+IsNoSchema prefix (Some bytes) error = IsBadSchema prefix bytes error
 
--- behind the bytes of a schema there may be no states
-pub record IsBadStateBehind (bytes : List ℕ) (states : List (List ℕ × List ℕ)) (error : StoreError) : Type 0 where
-  pub schema : Schema
-  pub made : IsLawfulSchema schema
-  pub plain : schema.indexes ≡ []
-  pub is : bytes ≡ schema_bytes schema
-  pub bad : IsBadState states error
+-- a pair is that of the state of one of the indexes
+pub record IsPairOfState (prefix : List ℕ) (indexes : List IndexDefinition) (pair : List ℕ × List ℕ) (listed : ℕ × State) : Type 0 where
+  pub disabled : IsDisabledOf indexes listed
+  pub is : pair ≡ state_pair prefix listed
 
--- why what was found is no schema: nothing was found, or bytes of no schema, or a state of an index
-abbrev pub IsNoSchema : List ℕ → Option (List ℕ) → List (List ℕ × List ℕ) → StoreError → Type 0
-IsNoSchema prefix None states error = error ≡ Refused NoStore
-IsNoSchema prefix (Some bytes) states error = IsBadSchema prefix bytes error ⊎ IsBadStateBehind bytes states error
+-- why a pair is that of no state: memory is wanting, or it isn't
+abbrev pub IsNoState : List ℕ → List IndexDefinition → List ℕ × List ℕ → StoreError → Type 0
+IsNoState prefix indexes pair Memory = Unit {0}
+IsNoState prefix indexes pair (Corrupt key) = (key ≡ pair.0) × (IsStatePair prefix indexes pair → ⊥)
+IsNoState prefix indexes pair error = ⊥
+
+-- the pairs are those of these states, each of one of the indexes
+pub record AreStates (prefix : List ℕ) (indexes : List IndexDefinition) (pairs : List (List ℕ × List ℕ)) (states : List (ℕ × State)) : Type 0 where
+  pub disabled : AllByRecursion (IsDisabledOf indexes) states
+  pub are : pairs ≡ map (state_pair prefix) states
+
+-- behind pairs of states one isn't
+pub record IsBadStateAmong (prefix : List ℕ) (indexes : List IndexDefinition) (pairs : List (List ℕ × List ℕ)) (error : StoreError) : Type 0 where
+  pub before : List (List ℕ × List ℕ)
+  pub bad : List ℕ × List ℕ
+  pub behind : List (List ℕ × List ℕ)
+  pub states : List (ℕ × State)
+  pub split : pairs ≡ before ++ bad ∷ behind
+  pub good : AreStates prefix indexes before states
+  pub none : IsNoState prefix indexes bad error
+
+-- why pairs aren't those of states: memory is wanting, or one of them isn't
+abbrev pub HaveNoStates : List ℕ → List IndexDefinition → List (List ℕ × List ℕ) → StoreError → Type 0
+HaveNoStates prefix indexes pairs error = (error ≡ Memory) ⊎ IsBadStateAmong prefix indexes pairs error
 
 -- the key is the primary key of a record of the type
 pub record IsKeyOf (type : TypeDefinition) (key : List Item) : Type 0 where
@@ -92,9 +124,15 @@ IsRead opened key found m =
     AllByRecursion (IsRecordPair opened.prefix opened.schema) (read_in m (point (record_key opened.prefix key) ∷ []))
     × AtStore opened m (λ store. found ≡ record_at key store.records)
 
+-- the first record of a type was read, if there is one: what was read is of the written form, and a new index over the type has this state
+abbrev pub IsStateRead : Opened → ℕ → State → Map → Type 0
+IsStateRead opened number state m =
+    AllByRecursion (IsRecordPair opened.prefix opened.schema) (read_of m (type_range opened.prefix number) 1 false)
+    × AtStore opened m (λ store. state ≡ new_state (of_type number store.records))
+
 -- reads within these ranges of an open store weren't answered
-pub record HasNotFound (maps : ℕ → Map) (refuses : KeyRange → ℕ → Option ReadError) (opened : Opened) (within : List KeyRange) (error : StoreError) (old new : CommitRequest) : Type 0 where
-  pub ran : DidRead maps within old new (IsUnread (λ range. refuses range old.read_version) opened within error)
+pub record HasNotFound (maps : ℕ → Map) (refuses : KeyRange → ℕ → Option ReadError) (opened : Opened) (within : List KeyRange) (reads : Map → List (List ℕ × List ℕ)) (error : StoreError) (old new : CommitRequest) : Type 0 where
+  pub ran : DidRead maps within old new (IsUnread (λ range. refuses range old.read_version) opened within reads error)
 
 -- a pair has the key of a record of the type behind the place of records, and its value
 pub record IsPairOf (records_place : List ℕ) (type : TypeDefinition) (pair : List ℕ × List ℕ) (stored : Record) : Type 0 where

@@ -1,5 +1,5 @@
 -- The serial store: a schema, records by primary key, and the states of indexes, as values.
-use Rattle.std.specs.Prelude.{ℕ, ◌==◌, not, List, [], ◌∷◌, Option, unwrap_or, filter}
+use Rattle.std.specs.Prelude.{ℕ, Bool, true, false, ◌==◌, not, List, [], ◌∷◌, Option, unwrap_or, filter}
 use Rattle.std.specs.BTreeMap.{insert_entry}
 use Rattle.std.specs.Map.{lookup}
 use Rattle.std.specs.Option.{option_map}
@@ -19,9 +19,12 @@ pub record Store : Type 0 where
   pub records : List Record
   pub states : List (ℕ × State)
 
--- the state of the index with this number
+-- the state of the index with this number, by the states that are listed: it is readable where none is
+abbrev pub state_in : List (ℕ × State) → ℕ → State
+state_in states number = unwrap_or (lookup (λ own. own == number) states) Readable
+
 abbrev pub state_of : Store → ℕ → State
-state_of store number = unwrap_or (lookup (λ own. own == number) store.states) Readable
+state_of store number = state_in store.states number
 
 -- no store, or a store
 abbrev pub Serial : Type 0
@@ -52,16 +55,26 @@ with_state number state states = insert_entry nat_cmp states number state
 abbrev pub without_state : ℕ → List (ℕ × State) → List (ℕ × State)
 without_state number states = filter (λ listed. not (listed.0 == number)) states
 
--- the states with that of a new index, over these records: it is readable where there are none, else disabled
-abbrev pub new_states : ℕ → List Record → List (ℕ × State) → List (ℕ × State)
-new_states number [] states = states
-new_states number (r ∷ records) states = with_state number Disabled states
+-- the states that are still to be listed, where that of the index with this number has its place already or not
+abbrev pub still_listed : Bool → ℕ → State → List (ℕ × State) → List (ℕ × State)
+still_listed true number state states = states
+still_listed false number state states = with_state number state states
+
+-- the state of a new index over these records: it is readable where there are none, else disabled
+abbrev pub new_state : List Record → State
+new_state [] = Readable
+new_state (r ∷ records) = Disabled
+
+-- states with this one for a new index: it is listed where the index isn't readable
+abbrev pub listed_as : ℕ → State → List (ℕ × State) → List (ℕ × State)
+listed_as number Readable states = states
+listed_as number state states = with_state number state states
 
 -- the store with one more index, without the index with this number, and with that index disabled
 abbrev pub indexed : Store → IndexDefinition → Store
 indexed store index = record store {
   schema = with_index store.schema index;
-  states = new_states index.number (of_type index.type_number store.records) store.states;
+  states = listed_as index.number (new_state (of_type index.type_number store.records)) store.states;
 }
 
 abbrev pub dropped : Store → ℕ → Store

@@ -1,5 +1,7 @@
 ghost use Rattle.std.specs.Prelude.{◌≡◌, [], None, IfOk, IfErr, IsTrue, OnOk};
+ghost use Rattle.std.specs.List.{AllByRecursion};
 ghost use Rattle.kv_core.specs.Bytes.{end_of_keys, key_lt};
+ghost use Rattle.metadata.specs.declared.index.IndexKind.TheVariants.{Value};
 ghost use Rattle.record_store.specs.Calls.{schema_writes};
 ghost use Rattle.record_store.specs.Opening.{HasLooked, IsCreated, IsUncreated, opening_reach};
 ghost use Rattle.record_store.specs.Reading.{IsThere};
@@ -42,7 +44,7 @@ pub(crate) fn schema_mutations(
 }
 
 impl Store {
-    /// Makes a store of this schema, without records, under this prefix, which doesn't begin with the byte FF.
+    /// Makes a store of this schema, all of whose indexes are VALUE indexes, without records, under this prefix, which doesn't begin with the byte FF. Its indexes are readable.
     ///
     /// It reads what opening a store reads. Refused with `AlreadyThere` where a pair stands at the schema's key, with the snapshot's refusal of a read, and with the write limit that the schema meets.
     pub fn create<S: Snapshot>(
@@ -53,12 +55,13 @@ impl Store {
         schema: &Schema,
     ) -> Result<Store, StoreError>
         requires below { IsTrue (key_lt prefix.now end_of_keys) }
-        requires plain { schema.now.indexes ≡ [] }
+        requires kinds { AllByRecursion (λ index. index.kind ≡ Value) schema.now.indexes }
         ensures created { IfOk result (λ store. IsCreated (S.map_at db.now) store tx.old tx.new) }
         ensures looked { OnOk result (ReadsAll (opening_reach prefix.now) tx.new) }
         ensures prefix { IfOk result (λ store. store.prefix ≡ prefix.now) }
         ensures schema { IfOk result (λ store. store.schema ≡ schema.now) }
-        ensures refused { IfErr result (λ error. IsUncreated (S.map_at db.now) (S.refusal db.now) (record { prefix = prefix.now; schema = schema.now }) error tx.old tx.new) }
+        ensures states { IfOk result (λ store. store.states ≡ []) }
+        ensures refused { IfErr result (λ error. IsUncreated (S.map_at db.now) (S.refusal db.now) (record { prefix = prefix.now; schema = schema.now; states = [] }) error tx.old tx.new) }
         ensures refused_looked { IfErr result (λ error. HasLooked prefix.now error tx.new) }
     {
         let _lawful = schema.types();
@@ -72,6 +75,7 @@ impl Store {
         Ok(Store {
             prefix: own_prefix,
             schema: own_schema,
+            states: Vec::new(alloc),
         })
     }
 }

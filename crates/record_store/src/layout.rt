@@ -3,10 +3,11 @@ ghost use Rattle.std.specs.Prelude.{◌≡◌, ◌∷◌, [], All, IfOk, IsTrue,
 ghost use Rattle.tuple_codec.specs.Item.{int};
 ghost use Rattle.kv_core.specs.Bytes.{end_of_keys, key_lt};
 ghost use Rattle.metadata.specs.Cell.{IsCell};
-ghost use Rattle.record_store.specs.Layout.{place, record_key, record_value, schema_key, states_range, type_range};
+ghost use Rattle.record_store.specs.Layout.{entries_range, place, record_key, record_value, schema_key, state_key, state_number, state_value, states_range, type_range};
 
+use index_maint::entries_prefix;
 use kv_core::{Bytes, KeyRange};
-use metadata::Cells;
+use metadata::{Cells, State};
 use std::alloc::{AllocError, Global};
 use tuple_codec::{Element, Subspace, Tuple, TupleInt, pack, pack_into};
 
@@ -87,6 +88,56 @@ pub(crate) fn type_range(alloc: Global, prefix: &[u8], number: u64) -> Result<Ke
     let mut end = Vec::from_slice(alloc, begin.as_slice())?;
     end.push(0xff)?;
     match KeyRange::new(begin, Bytes::new(end)) {
+        Some(range) => Ok(range),
+        None => unreachable!(),
+    }
+}
+
+// The number that stands for a state.
+fn state_number(state: State) -> u64
+    ensures { result ≡ state_number state }
+{
+    match state {
+        State::Readable => 0,
+        State::WriteOnly => 1,
+        State::Disabled => 2,
+    }
+}
+
+/// The key of the state of the index with this number.
+pub(crate) fn state_key(alloc: Global, prefix: &[u8], number: u64) -> Result<Bytes, AllocError>
+    requires { IsTrue (key_lt prefix.now end_of_keys) }
+    ensures key { IfOk result (λ key. key ≡ state_key prefix.now number) }
+    ensures below { IfOk result (λ key. IsTrue (key_lt key end_of_keys)) }
+{
+    let tuple = number_tuple(alloc, number)?;
+    let mut key = place(alloc, prefix, 5)?;
+    pack_into(&tuple, &mut key)?;
+    Ok(Bytes::new(key))
+}
+
+/// The value that stands for a state.
+pub(crate) fn state_value(alloc: Global, state: State) -> Result<Bytes, AllocError>
+    ensures { IfOk result (λ value. value ≡ state_value state) }
+{
+    let tuple = number_tuple(alloc, state_number(state))?;
+    let value = pack(alloc, &tuple)?;
+    Ok(Bytes::new(value))
+}
+
+/// The range of the entries of the index with this number.
+pub(crate) fn entries_range(
+    alloc: Global,
+    prefix: &[u8],
+    number: u64,
+) -> Result<KeyRange, AllocError>
+    requires { IsTrue (key_lt prefix.now end_of_keys) }
+    ensures { IfOk result (λ range. range ≡ entries_range prefix.now number) }
+{
+    let begin = entries_prefix(alloc, prefix, number)?;
+    let mut end = Vec::from_slice(alloc, begin.as_slice())?;
+    end.push(0xff)?;
+    match KeyRange::new(Bytes::new(begin), Bytes::new(end)) {
         Some(range) => Ok(range),
         None => unreachable!(),
     }

@@ -4,8 +4,11 @@
 //! read stay in the transaction.
 #![tactic(auto)]
 
+mod adding;
 mod create;
 mod error;
+mod following;
+mod indexes;
 mod layout;
 mod load;
 mod opening;

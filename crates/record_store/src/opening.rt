@@ -1,21 +1,25 @@
 ghost use Rattle.std.specs.Prelude.{◌≡◌, ◌∷◌, [], IfOk, IfErr, IsTrue, OnOk};
+ghost use Rattle.std.specs.List.{AllByRecursion, list_all};
 ghost use Rattle.std.specs.FinMap.{get as value_at};
 ghost use Rattle.kv_core.specs.Bytes.{end_of_keys, key_lt};
 ghost use Rattle.kv_core.specs.Map.{pairs_in};
 ghost use Rattle.kv_core.specs.Range.{point};
+ghost use Rattle.metadata.specs.declared.index.IndexKind.TheVariants.{Value};
+ghost use Rattle.metadata.specs.declared.index.State.TheVariants.{Disabled};
 ghost use Rattle.metadata.specs.Lawful.{IsLawfulSchema};
 ghost use Rattle.metadata.specs.Written.{schema_bytes};
-ghost use Rattle.record_store.specs.Layout.{schema_key, states_range};
+ghost use Rattle.record_store.specs.Layout.{schema_key, state_pair, states_range};
 ghost use Rattle.record_store.specs.Opening.{IsOpened, IsUnopened};
-ghost use Rattle.record_store.specs.Reading.{HasNotRead, IsBadSchema, IsBadState, IsNoSchema, IsSchema};
+ghost use Rattle.record_store.specs.Reading.{AreStates, HasNotRead, HaveNoStates, IsBadSchema, IsNoSchema, IsNoState, IsPairOfState, IsSchema, is_value, same_pair};
+ghost use Rattle.record_store.specs.Holds.{HasPlainIndexes};
 ghost use Rattle.record_store.specs.Steps.{DidRead, ReadsAll};
 
 use crate::error::StoreError;
-use crate::layout::{schema_key, states_range};
+use crate::layout::{schema_key, state_key, state_value, states_range};
 use crate::store::Store;
 use kv_core::{Bytes, Pair};
-use metadata::{MetadataError, Refusal, Schema};
-use std::alloc::Global;
+use metadata::{IndexDefinition, IndexKind, MetadataError, Refusal, Schema, State};
+use std::alloc::{AllocError, Global};
 use txn::{Snapshot, Transaction};
 
 // Reads the pair of the schema.
@@ -52,17 +56,35 @@ pub(crate) fn read_states<S: Snapshot>(
     Ok(states)
 }
 
-// The schema of these bytes, which has no index.
+// Whether the kind is that of a VALUE index.
+fn is_value(kind: IndexKind) -> bool
+    ensures { result ≡ is_value kind }
+{
+    match kind {
+        IndexKind::Value => true,
+        IndexKind::Count => false,
+        IndexKind::Sum => false,
+    }
+}
+
+// Whether all indexes are VALUE indexes.
+fn are_values(indexes: &[IndexDefinition]) -> bool
+    ensures { result ≡ list_all (λ index. is_value index.kind) indexes.now }
+{
+    indexes.iter().all(|index| is_value(index.kind))
+}
+
+// The schema of these bytes, all of whose indexes are VALUE indexes.
 fn decode_schema(alloc: Global, prefix: &[u8], bytes: &Bytes) -> Result<Schema, StoreError>
     requires { IsTrue (key_lt prefix.now end_of_keys) }
     ensures made { IfOk result IsLawfulSchema }
-    ensures plain { IfOk result (λ schema. schema.indexes ≡ []) }
+    ensures kinds { IfOk result (λ schema. AllByRecursion (λ index. index.kind ≡ Value) schema.indexes) }
     ensures bytes { IfOk result (λ schema. bytes.now ≡ schema_bytes schema) }
     ensures refused { IfErr result (IsBadSchema prefix.now bytes.now) }
 {
     match Schema::decode(alloc, bytes.as_slice()) {
         Ok(schema) => {
-            if schema.indexes().is_empty() {
+            if are_values(schema.indexes()) {
                 Ok(schema)
             } else {
                 Err(StoreError::Corrupt(schema_key(alloc, prefix)?))
@@ -73,42 +95,76 @@ fn decode_schema(alloc: Global, prefix: &[u8], bytes: &Bytes) -> Result<Schema, 
     }
 }
 
-// Refuses states of indexes, since the schema has no index.
-fn refuse_states(states: &[Pair]) -> Result<(), StoreError>
-    ensures none { OnOk result (states.now ≡ []) }
-    ensures refused { IfErr result (IsBadState states.now) }
-{
-    match states.first() {
-        None => Ok(()),
-        Some(pair) => Err(StoreError::Corrupt(pair.0.copy()?)),
-    }
-}
-
 // The schema that was read.
-fn schema_found(
-    alloc: Global,
-    prefix: &[u8],
-    written: Option<Bytes>,
-    states: Vec<Pair>,
-) -> Result<Schema, StoreError>
+fn schema_found(alloc: Global, prefix: &[u8], written: Option<Bytes>) -> Result<Schema, StoreError>
     requires { IsTrue (key_lt prefix.now end_of_keys) }
-    ensures found { IfOk result (IsSchema written states.items) }
-    ensures refused { IfErr result (IsNoSchema prefix.now written states.items) }
+    ensures found { IfOk result (IsSchema written) }
+    ensures refused { IfErr result (IsNoSchema prefix.now written) }
 {
     match written {
         None => Err(StoreError::Refused(Refusal::NoStore)),
-        Some(bytes) => {
-            let schema = decode_schema(alloc, prefix, &bytes)?;
-            refuse_states(states.as_slice())?;
-            Ok(schema)
+        Some(bytes) => decode_schema(alloc, prefix, &bytes),
+    }
+}
+
+// Whether the pair is that of the state of the index with this number, which is disabled.
+fn is_disabled_pair(
+    alloc: Global,
+    prefix: &[u8],
+    number: u64,
+    pair: &Pair,
+) -> Result<bool, AllocError>
+    requires { IsTrue (key_lt prefix.now end_of_keys) }
+    ensures { IfOk result (λ same. same ≡ same_pair pair.now (state_pair prefix.now (number, Disabled))) }
+{
+    let key = state_key(alloc, prefix, number)?;
+    let value = state_value(alloc, State::Disabled)?;
+    Ok(pair.0 == key && pair.1 == value)
+}
+
+// The state that a pair stands for: one of these indexes is disabled.
+fn state_found(
+    alloc: Global,
+    prefix: &[u8],
+    indexes: &[IndexDefinition],
+    pair: &Pair,
+) -> Result<(u64, State), StoreError>
+    requires { IsTrue (key_lt prefix.now end_of_keys) }
+    ensures found { IfOk result (IsPairOfState prefix.now indexes.now pair.now) }
+    ensures refused { IfErr result (IsNoState prefix.now indexes.now pair.now) }
+{
+    for index in indexes {
+        let is_its_pair = is_disabled_pair(alloc, prefix, index.number, pair)?;
+        if is_its_pair {
+            return Ok((index.number, State::Disabled));
         }
     }
+    Err(StoreError::Corrupt(pair.0.copy()?))
+}
+
+// The states that pairs stand for.
+fn states_found(
+    alloc: Global,
+    prefix: &[u8],
+    indexes: &[IndexDefinition],
+    pairs: &[Pair],
+) -> Result<Vec<(u64, State)>, StoreError>
+    requires { IsTrue (key_lt prefix.now end_of_keys) }
+    ensures found { IfOk result (λ states. AreStates prefix.now indexes.now pairs.now states.items) }
+    ensures refused { IfErr result (HaveNoStates prefix.now indexes.now pairs.now) }
+{
+    let mut states = Vec::new(alloc);
+    for pair in pairs {
+        let found = state_found(alloc, prefix, indexes, pair)?;
+        states.push(found)?;
+    }
+    Ok(states)
 }
 
 impl Store {
     /// Opens the store under this prefix, which doesn't begin with the byte FF: reads its schema and the states of its indexes.
     ///
-    /// Refused with `NoStore` where no schema stands there, with `Corrupt` and its key where the first pair that isn't of the written form is the schema's or a state's, and with the snapshot's refusal of a read.
+    /// Refused with `NoStore` where no schema stands there, with `Corrupt` and its key where the first pair that isn't of the written form is the schema's or a state's, and with the snapshot's refusal of a read. Of the written form are schemas whose indexes are all VALUE indexes, and pairs of those of them that are disabled: where there is an index of another kind, or a pair of another state, `Corrupt` is answered.
     pub fn open<S: Snapshot>(
         alloc: Global,
         prefix: &[u8],
@@ -118,13 +174,18 @@ impl Store {
         requires { IsTrue (key_lt prefix.now end_of_keys) }
         ensures opened { IfOk result (λ store. IsOpened (S.map_at db.now) store tx.old tx.new) }
         ensures prefix { IfOk result (λ store. store.prefix ≡ prefix.now) }
-        ensures plain { IfOk result (λ store. store.schema.indexes ≡ []) }
+        ensures plain { IfOk result (λ store. HasPlainIndexes store.schema store.states) }
         ensures refused { IfErr result (λ error. IsUnopened (S.map_at db.now) (S.refusal db.now) prefix.now error tx.old tx.new) }
     {
         let written = read_schema(alloc, prefix, tx, db)?;
-        let states = read_states(alloc, prefix, tx, db)?;
-        let schema = schema_found(alloc, prefix, written, states)?;
+        let pairs = read_states(alloc, prefix, tx, db)?;
+        let schema = schema_found(alloc, prefix, written)?;
+        let states = states_found(alloc, prefix, schema.indexes(), pairs.as_slice())?;
         let prefix = Vec::from_slice(alloc, prefix)?;
-        Ok(Store { prefix, schema })
+        Ok(Store {
+            prefix,
+            schema,
+            states,
+        })
     }
 }

@@ -1,6 +1,8 @@
-ghost use Rattle.std.specs.Prelude.{◌≡◌, [], IfOk, IfErr};
+ghost use Rattle.std.specs.Prelude.{◌≡◌, IfOk, IfErr};
+ghost use Rattle.record_store.specs.Holds.{HasPlainIndexes};
+ghost use Rattle.record_store.specs.IndexWrites.{remove_writes, store_of};
 ghost use Rattle.record_store.specs.Call.{IsAnswered, IsRefused};
-ghost use Rattle.record_store.specs.Calls.{removal, remove_call};
+ghost use Rattle.record_store.specs.Calls.{remove_call};
 
 use crate::error::StoreError;
 use crate::layout::record_key;
@@ -18,19 +20,21 @@ impl Store {
         primary_key: &Tuple,
         found: &Option<Record>,
     ) -> Result<Vec<Mutation>, AllocError>
-        ensures { IfOk result (λ mutations. mutations.items ≡ removal self.now.prefix primary_key.now found.now) }
+        ensures { IfOk result (λ mutations. mutations.items ≡ remove_writes self.now.prefix (store_of self.now) primary_key.now found.now) }
     {
         let alloc = self.alloc();
         let mut mutations = Vec::new(alloc);
-        if found.is_some() {
+        if let Some(old) = found {
             let key = record_key(alloc, self.prefix(), primary_key)?;
             let range = KeyRange::point(alloc, &key)?;
             mutations.push(Mutation::ClearRange(range))?;
+            let number = old.definition().number;
+            self.push_index_changes(number, Some(old), None, &mut mutations)?;
         }
         Ok(mutations)
     }
 
-    /// Takes out the record of the type of this name with these key cells, and tells whether there was one. Where there was none nothing is written.
+    /// Takes out the record of the type of this name with these key cells, and tells whether there was one; the readable indexes of its type follow. Where there was none nothing is written.
     ///
     /// Refused as `load` is, and last with the write limit that the removal meets.
     pub fn remove<S: Snapshot>(
@@ -40,7 +44,7 @@ impl Store {
         type_name: &Text,
         key: &Cells,
     ) -> Result<bool, StoreError>
-        requires { self.now.schema.indexes ≡ [] }
+        requires { HasPlainIndexes self.now.schema self.now.states }
         ensures removed { IfOk result (λ was_there. IsAnswered (S.map_at db.now) self.now (remove_call self.now type_name.now key.now) was_there tx.old tx.new) }
         ensures refused { IfErr result (λ error. IsRefused (S.map_at db.now) (S.refusal db.now) self.now (remove_call self.now type_name.now key.now) error tx.old tx.new) }
     {

@@ -1,10 +1,15 @@
-ghost use Rattle.std.specs.Prelude.{◌≡◌, [], All, Err, Ok, IfOk, IfErr, OnOk};
+ghost use Rattle.std.specs.Prelude.{◌≡◌, ◌∷◌, All, Err, Ok, Some, IfOk, IfErr, OnOk};
+ghost use Rattle.std.specs.Option.{option_copied};
 ghost use Rattle.metadata.specs.Cell.{IsCell};
 ghost use Rattle.metadata.specs.declared.refusal.Refusal.TheVariants.{OtherSchema};
 ghost use Rattle.metadata.specs.Record.{primary_key as primary_key_of};
 ghost use Rattle.metadata.specs.Schema.{find_type};
 ghost use Rattle.record_store.specs.Call.{IsAnswered, IsRefused};
-ghost use Rattle.record_store.specs.Calls.{own_record, record_writes, save_call};
+ghost use Rattle.kv_core.specs.declared.change.Mutation.TheVariants.{Set};
+ghost use Rattle.record_store.specs.Calls.{own_record, save_call};
+ghost use Rattle.record_store.specs.Holds.{HasPlainIndexes};
+ghost use Rattle.record_store.specs.IndexWrites.{index_writes, store_of};
+ghost use Rattle.record_store.specs.Layout.{record_key, record_value};
 ghost use Rattle.record_store.specs.Steps.{other_schema};
 
 use crate::error::StoreError;
@@ -35,10 +40,15 @@ impl Store {
         }
     }
 
-    // What putting a record with this primary key writes.
-    fn replacement(&self, new: &Record, primary_key: &Tuple) -> Result<Vec<Mutation>, AllocError>
+    // What putting a record with this primary key in the place of another one writes.
+    fn replacement(
+        &self,
+        new: &Record,
+        old: Option<&Record>,
+        primary_key: &Tuple,
+    ) -> Result<Vec<Mutation>, AllocError>
         requires { primary_key.now ≡ primary_key_of new.now }
-        ensures mutations { IfOk result (λ mutations. mutations.items ≡ record_writes self.now.prefix new.now) }
+        ensures mutations { IfOk result (λ mutations. mutations.items ≡ Set (record_key self.now.prefix (primary_key_of new.now)) (record_value new.now.cells) ∷ index_writes self.now.prefix (store_of self.now) new.now.definition.number (option_copied old.entry) (Some new.now)) }
         ensures cells { OnOk result (All IsCell new.now.cells) }
     {
         let alloc = self.alloc();
@@ -46,10 +56,12 @@ impl Store {
         let value = record_value(alloc, new.cells())?;
         let mut mutations = Vec::new(alloc);
         mutations.push(Mutation::Set { key, value })?;
+        let number = new.definition().number;
+        self.push_index_changes(number, old, Some(new), &mut mutations)?;
         Ok(mutations)
     }
 
-    /// Puts a record in the place of the one with its primary key, which is answered.
+    /// Puts a record in the place of the one with its primary key, which is answered, and has the readable indexes of its type follow.
     ///
     /// Refused with `OtherSchema` where the store's schema hasn't the record's type, before anything is read; then with the snapshot's refusal of the read, with `Corrupt` and the record's key where the value that stands there isn't that of such a record, and last with the write limit that the record meets.
     pub fn save<S: Snapshot>(
@@ -58,14 +70,14 @@ impl Store {
         db: &S,
         new: &Record,
     ) -> Result<Option<Record>, StoreError>
-        requires { self.now.schema.indexes ≡ [] }
+        requires { HasPlainIndexes self.now.schema self.now.states }
         ensures saved { IfOk result (λ old. IsAnswered (S.map_at db.now) self.now (save_call self.now new.now) old tx.old tx.new) }
         ensures refused { IfErr result (λ error. IsRefused (S.map_at db.now) (S.refusal db.now) self.now (save_call self.now new.now) error tx.old tx.new) }
     {
         self.check_type(new)?;
         let primary_key = new.primary_key(self.alloc())?;
         let old = self.read_record(tx, db, new.definition(), &primary_key)?;
-        let mutations = self.replacement(new, &primary_key)?;
+        let mutations = self.replacement(new, old.as_ref(), &primary_key)?;
         tx.write_all(mutations)?;
         Ok(old)
     }

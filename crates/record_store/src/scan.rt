@@ -81,7 +81,7 @@ fn record_in(
 }
 
 // The records of the type that pairs behind the place of records stand for.
-fn records_in(
+pub(crate) fn records_in(
     alloc: Global,
     place: &[u8],
     definition: &TypeDefinition,

@@ -1,6 +1,7 @@
 // A store over a map, in a transaction, and what its calls tell in words.
 ghost use Rattle.std.specs.Prelude.{◌≡◌, None, [], IfOk};
 ghost use Rattle.metadata.specs.Lawful.{IsLawfulSchema};
+ghost use Rattle.record_store.specs.Holds.{HasPlainIndexes};
 
 use crate::{Store, StoreError};
 use cluster_core::ReadError;
@@ -97,7 +98,9 @@ pub(crate) fn schema_of(alloc: Global, kinds: &[(&str, Kind)]) -> Result<Schema,
     ensures plain { IfOk result (λ schema. schema.indexes ≡ []) }
 {
     let types = vec![in alloc; asked(alloc, "t", kinds)?]?;
-    let written = Schema::of_request(alloc, &SchemaRequest::new(types))?.encode(alloc)?;
+    let written = Schema::of_request(alloc, &SchemaRequest::new(types, Vec::new(alloc)))?.encode(
+        alloc,
+    )?;
     let schema = Schema::decode(alloc, written.as_slice())?;
     match schema.indexes().first() {
         None => Ok(schema),
@@ -180,7 +183,7 @@ impl Scene {
 
     /// The store that is there.
     fn store(&mut self) -> Result<Store, Fail>
-        ensures { IfOk result (λ store. store.schema.indexes ≡ []) }
+        ensures { IfOk result (λ store. HasPlainIndexes store.schema store.states) }
     {
         if !self.prefix.is_key() {
             return Err(Fail::from("no prefix"));
@@ -211,15 +214,6 @@ impl Scene {
         let prefix = self.prefix.as_slice();
         match Store::create(self.alloc, prefix, &mut self.tx, &self.db, &schema) {
             Ok(_) => Ok(String::from_str(self.alloc, "done")?),
-            Err(error) => Ok(told(self.alloc, error)?),
-        }
-    }
-
-    /// What adding a type of these fields tells.
-    pub(crate) fn add_type(&mut self, name: &str, kinds: &[(&str, Kind)]) -> Result<String, Fail> {
-        let request = asked(self.alloc, name, kinds)?;
-        match self.store()?.add_type(&mut self.tx, &request) {
-            Ok(()) => Ok(String::from_str(self.alloc, "done")?),
             Err(error) => Ok(told(self.alloc, error)?),
         }
     }

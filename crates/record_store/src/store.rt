@@ -5,18 +5,19 @@ ghost use Rattle.metadata.specs.Schema.{find_type};
 ghost use Rattle.record_store.specs.Steps.{unknown_type};
 
 use crate::error::StoreError;
-use metadata::{Refusal, Schema, TypeDefinition};
+use metadata::{Refusal, Schema, State, TypeDefinition};
 use std::alloc::Global;
 use std::marker::Model;
 use tuple_codec::Text;
 
-/// A store that was opened in a transaction: the prefix of its keys, and its schema.
+/// A store that was opened in a transaction: the prefix of its keys, its schema, and the states of those indexes that aren't readable, by their numbers.
 ///
 /// It is used in the transaction in which it was opened, where nothing else writes under its prefix meanwhile.
 #[derive(Drop)]
 pub struct Store {
     pub(crate) prefix: Vec<u8>,
     pub(crate) schema: Schema,
+    pub(crate) states: Vec<(u64, State)>,
 }
 
 impl Model for Store {
@@ -27,7 +28,7 @@ impl Model for Store {
 
     ghost Value = { Opened };
 
-    ghost view = { λ s. record { prefix = s.prefix.items; schema = s.schema } };
+    ghost view = { λ s. record { prefix = s.prefix.items; schema = s.schema; states = s.states.items } };
 
     ghost invariant = { λ s. IsTrue (key_lt s.prefix.items end_of_keys) × IsLawfulSchema s.schema };
 }

@@ -9,7 +9,7 @@ use Rattle.serde_json.specs.Data.{Data}
 use Rattle.serde_json.specs.Find.{as_str}
 use Rattle.recordctl.specs.CellJson.{cells_in}
 use Rattle.recordctl.specs.Json.{list_in, named, number_in, only_member}
-use Rattle.recordctl.specs.SchemaJson.{schema_in, type_in}
+use Rattle.recordctl.specs.SchemaJson.{index_in, schema_in, type_in}
 
 -- the query that an object asks: all records of the type of this name
 abbrev pub query_in : Data → Option Query
@@ -20,7 +20,8 @@ abbrev pub command_with : List ℕ → Data → Option Command
 command_with name part =
     option_and_then (λ (reads : Data → Option Command). reads part)
     (named ((codes "create", λ d. option_map commands.Create (schema_in d)) ∷ (codes "type", λ d. option_map commands.«Type» (type_in d))
-    ∷ (codes "query", λ d. option_map commands.Query (query_in d)) ∷ []) name)
+    ∷ (codes "query", λ d. option_map commands.Query (query_in d)) ∷ (codes "index", λ d. option_map commands.Index (index_in d)) ∷ (codes "drop", λ d. option_map commands.Drop (as_str d))
+    ∷ (codes "disable", λ d. option_map commands.Disable (as_str d)) ∷ (codes "state", λ d. option_map commands.State (as_str d)) ∷ []) name)
 
 -- the command of this name with a type's name and cells
 abbrev pub command_on : List ℕ → Data → Data → Option Command

@@ -1,6 +1,6 @@
 use crate::cell_json::{cells_text, rows_text};
 use kv_core::{Bytes, KeyRange};
-use metadata::Cells;
+use metadata::{Cells, State};
 use schedule::{Reply, Report, Rows};
 use std::alloc::{AllocError, Global};
 use std::fmt::Write;
@@ -64,6 +64,15 @@ fn push_corrupt(alloc: Global, line: &mut String, key: &Bytes) -> Result<(), All
     write!(line, "refused Corrupt {digits}")
 }
 
+// The name of a state.
+fn state_name(state: State) -> &'static str {
+    match state {
+        State::Readable => "readable",
+        State::WriteOnly => "write-only",
+        State::Disabled => "disabled",
+    }
+}
+
 fn push_reply(alloc: Global, line: &mut String, reply: &Reply) -> Result<(), AllocError> {
     match reply {
         Reply::Begun(version) => write!(line, "begun {version}"),
@@ -74,6 +83,7 @@ fn push_reply(alloc: Global, line: &mut String, reply: &Reply) -> Result<(), All
         Reply::Absent => line.push_str("none"),
         Reply::Removed => line.push_str("removed"),
         Reply::Rows(rows) => push_rows(alloc, line, rows),
+        Reply::State(state) => line.push_str(state_name(*state)),
         Reply::Submitted(version) => write!(line, "submitted {version}"),
         Reply::ReadOnly => line.push_str("read only"),
         Reply::Nothing => line.push_str("nothing"),

@@ -1,7 +1,7 @@
 // Tests of the lines of replies that no short script has.
 use crate::print::make_line;
 use kv_core::{Bytes, KeyRange};
-use metadata::Refusal;
+use metadata::{Refusal, State};
 use schedule::{Reply, Report, Reports};
 use std::alloc::{AllocError, Global};
 use std::test::Fail;
@@ -80,6 +80,21 @@ static REFUSALS: [(Refusal, &str); 9] = [
 fn prints_refusals(rt: HostRuntime) -> Result<(), Fail> {
     for (refusal, wanted) in REFUSALS {
         let line = line_of(rt.alloc(), 1, &Reply::Refused(refusal))?;
+        assert!(rt; line.as_str() == wanted);
+    }
+    Ok(())
+}
+
+static STATES: [(State, &str); 3] = [
+    (State::Readable, "7 readable\n"),
+    (State::WriteOnly, "7 write-only\n"),
+    (State::Disabled, "7 disabled\n"),
+];
+
+#[test]
+fn prints_states(rt: HostRuntime) -> Result<(), Fail> {
+    for (state, wanted) in STATES {
+        let line = line_of(rt.alloc(), 7, &Reply::State(state))?;
         assert!(rt; line.as_str() == wanted);
     }
     Ok(())

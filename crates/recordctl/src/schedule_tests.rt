@@ -4,7 +4,7 @@ use std::alloc::{AllocError, Global};
 use std::test::Fail;
 
 // What a schedule shows, its script, and the lines that it prints.
-static SCHEDULES: [(&str, &str, &str); 16] = [
+static SCHEDULES: [(&str, &str, &str); 18] = [
     (
         "a client reads its own writes, and another what was committed when it began",
         "{\"steps\":[[\"begin\",0],[\"create\",0,{\"types\":[{\"name\":\"t\",\"fields\":[[\"k\",\"int\"],[\"a\",\"int\"],[\"b\",\"int\"]],\"key\":[\"k\"]}]}],[\"commit\",0],[\"settle\"],[\"begin\",1],[\"begin\",0],[\"query\",0,{\"type\":\"t\"}],[\"save\",0,\"t\",[1,5,null]],[\"query\",0,{\"type\":\"t\"}],[\"commit\",0],[\"settle\"],[\"query\",1,{\"type\":\"t\"}],[\"commit\",1]]}",
@@ -85,6 +85,16 @@ static SCHEDULES: [(&str, &str, &str); 16] = [
         "{\"steps\":[[\"begin\",0],[\"create\",0,{\"types\":[{\"name\":\"t\",\"fields\":[[\"k\",\"int\"],[\"a\",\"int\"],[\"b\",\"int\"]],\"key\":[\"k\"]}]}],[\"commit\",0],[\"settle\"],[\"begin\",0],[\"begin\",1],[\"begin\",2],[\"load\",1,\"t\",[1]],[\"save\",1,\"t\",[1,0,0]],[\"type\",0,{\"name\":\"u\",\"fields\":[[\"k\",\"int\"]],\"key\":[\"k\"]}],[\"type\",2,{\"name\":\"u\",\"fields\":[[\"k\",\"int\"]],\"key\":[\"k\"]}],[\"commit\",0],[\"commit\",1],[\"commit\",2],[\"settle\"],[\"begin\",1],[\"save\",1,\"u\",[7]]]}",
         "1 begun 0\n2 ok\n3 submitted 1\n4 client 0 committed 1\n5 begun 1\n6 begun 1\n7 begun 1\n8 none\n9 saved new\n10 ok\n11 ok\n12 submitted 2\n13 submitted 3\n14 submitted 4\n15 client 0 committed 2, client 1 conflict 2 150114..15011400, client 2 conflict 2 150114..15011400\n16 begun 4\n17 saved new\n",
     ),
+    (
+        "indexes that are refused",
+        "{\"steps\":[[\"begin\",0],[\"create\",0,{\"types\":[{\"name\":\"t\",\"fields\":[[\"k\",\"int\"],[\"a\",\"int\"],[\"b\",\"int\"]],\"key\":[\"k\"]}],\"indexes\":[{\"name\":\"by_a\",\"kind\":\"value\",\"type\":\"t\",\"columns\":[\"a\"]}]}],[\"index\",0,{\"name\":\"i\",\"kind\":\"value\",\"type\":\"z\",\"columns\":[\"a\"]}],[\"index\",0,{\"name\":\"by_a\",\"kind\":\"value\",\"type\":\"t\",\"columns\":[\"a\"]}],[\"index\",0,{\"name\":\"i\",\"kind\":\"value\",\"type\":\"t\",\"columns\":[\"z\"]}],[\"index\",0,{\"name\":\"i\",\"kind\":\"value\",\"type\":\"t\",\"columns\":[]}],[\"state\",0,\"by_a\"],[\"state\",0,\"i\"]]}",
+        "1 begun 0\n2 ok\n3 refused UnknownType\n4 refused NameTaken\n5 refused UnknownField\n6 refused BadSchema\n7 readable\n8 refused UnknownIndex\n",
+    ),
+    (
+        "indexes are readable or disabled, and dropped ones are gone",
+        "{\"steps\":[[\"begin\",0],[\"create\",0,{\"types\":[{\"name\":\"t\",\"fields\":[[\"k\",\"int\"],[\"a\",\"int\"],[\"b\",\"int\"]],\"key\":[\"k\"]}]}],[\"index\",0,{\"name\":\"by_b\",\"kind\":\"value\",\"type\":\"t\",\"columns\":[\"b\"]}],[\"save\",0,\"t\",[1,2,3]],[\"index\",0,{\"name\":\"by_a\",\"kind\":\"value\",\"type\":\"t\",\"columns\":[\"a\"]}],[\"state\",0,\"by_a\"],[\"state\",0,\"by_b\"],[\"disable\",0,\"by_b\"],[\"state\",0,\"by_b\"],[\"drop\",0,\"by_a\"],[\"state\",0,\"by_a\"],[\"drop\",0,\"by_a\"],[\"disable\",0,\"by_a\"],[\"save\",0,\"t\",[1,2,4]],[\"remove\",0,\"t\",[1]],[\"commit\",0],[\"settle\"],[\"begin\",1],[\"state\",1,\"by_b\"],[\"index\",1,{\"name\":\"by_a\",\"kind\":\"value\",\"type\":\"t\",\"columns\":[\"a\",\"b\"]}]]}",
+        "1 begun 0\n2 ok\n3 readable\n4 saved new\n5 disabled\n6 disabled\n7 readable\n8 ok\n9 disabled\n10 ok\n11 refused UnknownIndex\n12 refused UnknownIndex\n13 refused UnknownIndex\n14 saved over [1,2,3]\n15 removed\n16 submitted 1\n17 client 0 committed 1\n18 begun 1\n19 disabled\n20 readable\n",
+    ),
 ];
 
 #[test]
@@ -118,5 +128,31 @@ fn refuses_large_values(rt: HostRuntime) -> Result<(), Fail> {
     let too_long = script_with_text(alloc, 99_997)?;
     let outcome = outcome_of(alloc, too_long.as_bytes());
     assert!(rt; outcome.is_printed("1 begun 0\n2 ok\n3 refused ValueTooLarge\n"));
+    Ok(())
+}
+
+// A script that saves a record with a text of so many letters under an index over that text, and takes it out again.
+fn script_with_indexed_text(alloc: Global, letters: usize) -> Result<String, AllocError> {
+    let mut script = String::from_str(
+        alloc,
+        "{\"steps\":[[\"begin\",0],[\"create\",0,{\"types\":[{\"name\":\"u\",\"fields\":[[\"k\",\"int\"],[\"s\",\"text\"],[\"y\",\"bytes\"]],\"key\":[\"k\"]}],\"indexes\":[{\"name\":\"by_s\",\"kind\":\"value\",\"type\":\"u\",\"columns\":[\"s\"]},{\"name\":\"by_y\",\"kind\":\"value\",\"type\":\"u\",\"columns\":[\"y\"]}]}],[\"save\",0,\"u\",[1,\"",
+    )?;
+    for _ in 0..letters {
+        script.push_str("n")?;
+    }
+    script.push_str("\",null]],[\"remove\",0,\"u\",[1]]]}")?;
+    Ok(script)
+}
+
+// An entry's key has 12 bytes beside its text, and keys have 10,000 at most.
+#[test]
+fn refuses_large_entries(rt: HostRuntime) -> Result<(), Fail> {
+    let alloc = rt.alloc();
+    let longest = script_with_indexed_text(alloc, 9_988)?;
+    let outcome = outcome_of(alloc, longest.as_bytes());
+    assert!(rt; outcome.is_printed("1 begun 0\n2 ok\n3 saved new\n4 removed\n"));
+    let too_long = script_with_indexed_text(alloc, 9_989)?;
+    let outcome = outcome_of(alloc, too_long.as_bytes());
+    assert!(rt; outcome.is_printed("1 begun 0\n2 ok\n3 refused KeyTooLarge\n4 none\n"));
     Ok(())
 }

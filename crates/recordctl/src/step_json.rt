@@ -1,11 +1,12 @@
 ghost use Rattle.std.specs.Prelude.{◌≡◌, Some, None, IfOk, IfErr, map};
 ghost use Rattle.serde_json.specs.View.{view};
 ghost use Rattle.recordctl.specs.Steps.{command_on, command_with, common_step, numbered_step, query_in, step_in, step_of_number};
+ghost use Rattle.schedule.specs.Values.{AsksValues, StepAsksValues};
 
 use crate::cell_json::cells_of;
 use crate::fault::PartError;
 use crate::form::{list_of, number_of, only_member, str_of, text_of};
-use crate::schema_json::{schema_of, type_of};
+use crate::schema_json::{index_of, schema_of, type_of};
 use schedule::{Command, Query, Step};
 use serde_json::Value;
 use std::alloc::Global;
@@ -22,12 +23,17 @@ fn query_of(alloc: Global, value: &Value) -> Result<Query, PartError>
 // A command with one part behind the client.
 fn command_of_one(alloc: Global, name: &str, part: &Value) -> Result<Command, PartError>
     ensures ok { IfOk result (λ command. command_with name.now (view part.now) ≡ Some command) }
+    ensures values { IfOk result AsksValues }
     ensures err { IfErr result (λ error. error ≡ PartError.BadForm → command_with name.now (view part.now) ≡ None) }
 {
     match name {
         "create" => Ok(Command::Create(schema_of(alloc, part)?)),
         "type" => Ok(Command::Type(type_of(alloc, part)?)),
         "query" => Ok(Command::Query(query_of(alloc, part)?)),
+        "index" => Ok(Command::Index(index_of(alloc, part)?)),
+        "drop" => Ok(Command::Drop(text_of(alloc, part)?)),
+        "disable" => Ok(Command::Disable(text_of(alloc, part)?)),
+        "state" => Ok(Command::State(text_of(alloc, part)?)),
         _ => Err(PartError::BadForm),
     }
 }
@@ -40,6 +46,7 @@ fn command_on_type(
     cells: &Value,
 ) -> Result<Command, PartError>
     ensures ok { IfOk result (λ command. command_on name.now (view type_name.now) (view cells.now) ≡ Some command) }
+    ensures values { IfOk result AsksValues }
     ensures err { IfErr result (λ error. error ≡ PartError.BadForm
         → command_on name.now (view type_name.now) (view cells.now) ≡ None) }
 {
@@ -56,6 +63,7 @@ fn command_on_type(
 // A step with just the number of a client or of a role.
 fn step_of_number(name: &str, number: u64) -> Result<Step, PartError>
     ensures ok { IfOk result (λ step. step_of_number name.now number ≡ Some step) }
+    ensures values { IfOk result StepAsksValues }
     ensures err { IfErr result (λ error. error ≡ PartError.BadForm → step_of_number name.now number ≡ None) }
 {
     match name {
@@ -72,6 +80,7 @@ fn step_of_number(name: &str, number: u64) -> Result<Step, PartError>
 // A step with a number, and what stands behind it.
 fn numbered_step(alloc: Global, name: &str, number: u64, parts: &[Value]) -> Result<Step, PartError>
     ensures ok { IfOk result (λ step. numbered_step name.now number (map view parts.now) ≡ Some step) }
+    ensures values { IfOk result StepAsksValues }
     ensures err { IfErr result (λ error. error ≡ PartError.BadForm
         → numbered_step name.now number (map view parts.now) ≡ None) }
 {
@@ -89,6 +98,7 @@ fn numbered_step(alloc: Global, name: &str, number: u64, parts: &[Value]) -> Res
 // A step that is a name alone.
 fn common_step(name: &str) -> Result<Step, PartError>
     ensures ok { IfOk result (λ step. common_step name.now ≡ Some step) }
+    ensures values { IfOk result StepAsksValues }
     ensures err { IfErr result (λ error. error ≡ PartError.BadForm → common_step name.now ≡ None) }
 {
     match name {
@@ -102,6 +112,7 @@ fn common_step(name: &str) -> Result<Step, PartError>
 // A step: a list of its name and its parts.
 pub(crate) fn step_of(alloc: Global, value: &Value) -> Result<Step, PartError>
     ensures ok { IfOk result (λ step. step_in (view value.now) ≡ Some step) }
+    ensures values { IfOk result StepAsksValues }
     ensures err { IfErr result (λ error. error ≡ PartError.BadForm → step_in (view value.now) ≡ None) }
 {
     match list_of(value)? {

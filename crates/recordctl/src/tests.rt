@@ -98,7 +98,7 @@ fn refuses_long_scripts(rt: HostRuntime) -> Result<(), Fail> {
     Ok(())
 }
 
-static STEPS: [&str; 82] = [
+static STEPS: [&str; 91] = [
     "{}",
     "null",
     "\"settle\"",
@@ -139,7 +139,6 @@ static STEPS: [&str; 82] = [
     "[\"pull\",-0]",
     "[\"pull\",18446744073709551616]",
     "[\"pull\",0,[]]",
-    "[\"state\",0,\"i\"]",
     "[\"aggregate\",0,\"i\",[]]",
     "[\"plan\",0,{\"type\":\"t\"}]",
     "[\"execute\",0]",
@@ -174,13 +173,23 @@ static STEPS: [&str; 82] = [
     "[\"query\",0,{\"type\":\"t\",\"sort\":[]}]",
     "[\"create\",0]",
     "[\"create\",0,[]]",
-    "[\"create\",0,{\"types\":[],\"indexes\":[]}]",
     "[\"create\",0,{\"types\":[{\"name\":\"t\",\"fields\":[]}]}]",
     "[\"create\",0,{\"types\":[{\"name\":\"t\",\"fields\":[],\"key\":[],\"x\":1}]}]",
     "[\"create\",0,{\"types\":[{\"name\":\"t\",\"fields\":[[\"k\"]],\"key\":[]}]}]",
     "[\"create\",0,{\"types\":[{\"name\":\"t\",\"fields\":[[\"k\",\"Int\"]],\"key\":[]}]}]",
     "[\"create\",0,{\"types\":[{\"name\":\"t\",\"fields\":[[\"k\",\"int\",1]],\"key\":[]}]}]",
     "[\"create\",0,{\"types\":[{\"name\":\"t\",\"fields\":[],\"key\":[1]}]}]",
+    "[\"index\",0,{\"name\":\"i\",\"kind\":\"count\",\"type\":\"t\",\"columns\":[\"a\"]}]",
+    "[\"index\",0,{\"name\":\"i\",\"kind\":\"sum\",\"type\":\"t\",\"columns\":[\"a\"]}]",
+    "[\"index\",0,{\"name\":\"i\",\"kind\":\"value\",\"type\":\"t\"}]",
+    "[\"index\",0,{\"name\":\"i\",\"kind\":\"value\",\"type\":\"t\",\"columns\":[\"a\"],\"summed\":\"a\"}]",
+    "[\"index\",0,{\"name\":\"i\",\"kind\":\"value\",\"type\":\"t\",\"columns\":\"a\"}]",
+    "[\"drop\",0,[\"i\"]]",
+    "[\"state\",0,7]",
+    "[\"disable\",0]",
+    "[\"create\",0,{\"types\":[{\"name\":\"t\",\"fields\":[[\"k\",\"int\"],[\"a\",\"int\"],[\"b\",\"int\"]],\"key\":[\"k\"]}],\"indexes\":{}}]",
+    "[\"create\",0,{\"indexes\":[]}]",
+    "[\"create\",0,{\"types\":[],\"others\":[]}]",
 ];
 
 #[test]

@@ -47,7 +47,7 @@ field name = record { name = name; kind = kind.Int }
 
 -- the type t of whole numbers k, a, b with key k
 abbrev create : Command
-create = Create (record { name = t; fields = field k ∷ field (97 ∷ []) ∷ field (98 ∷ []) ∷ []; key = k ∷ [] } ∷ [])
+create = Create (record { types = record { name = t; fields = field k ∷ field (97 ∷ []) ∷ field (98 ∷ []) ∷ []; key = k ∷ [] } ∷ []; indexes = [] })
 
 abbrev i : ℕ → Cell
 i n = Int (pos n)
@@ -74,7 +74,7 @@ in_order : effects None (create ∷ save 2 5 ∷ save 1 6 ∷ save 256 0 ∷ sav
 in_order = refl
 
 -- refusals, in their order
-refusals : replies None (save 1 1 ∷ Create (record { name = t; fields = field k ∷ []; key = [] } ∷ []) ∷ create ∷ create ∷ Save z [] ∷ Save t (i 1 ∷ Text z ∷ i 1 ∷ []) ∷ Save t (i 1 ∷ []) ∷ Save t (Null ∷ i 1 ∷ i 1 ∷ []) ∷ Load t (i 1 ∷ i 1 ∷ []) ∷ Load t (Null ∷ []) ∷ Remove z (i 1 ∷ []) ∷ [])
+refusals : replies None (save 1 1 ∷ Create (record { types = record { name = t; fields = field k ∷ []; key = [] } ∷ []; indexes = [] }) ∷ create ∷ create ∷ Save z [] ∷ Save t (i 1 ∷ Text z ∷ i 1 ∷ []) ∷ Save t (i 1 ∷ []) ∷ Save t (Null ∷ i 1 ∷ i 1 ∷ []) ∷ Load t (i 1 ∷ i 1 ∷ []) ∷ Load t (Null ∷ []) ∷ Remove z (i 1 ∷ []) ∷ [])
     ≡ Refused NoStore ∷ Refused BadSchema ∷ Done ∷ Refused AlreadyThere ∷ Refused UnknownType ∷ Refused WrongKind ∷ Refused WrongKind ∷ Refused NullKey ∷ Refused WrongKind ∷ Refused NullKey ∷ Refused UnknownType ∷ []
 refusals = refl
 

@@ -13,5 +13,7 @@ pub mod WorkSteps
 pub mod SettleSteps
 pub mod Outcomes
 pub mod Serving
+pub mod IndexServing
 pub mod Creating
 pub mod Examples
+pub mod IndexExamples

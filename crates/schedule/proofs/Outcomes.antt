@@ -25,13 +25,13 @@ use Rattle.metadata.specs.Schema.{Schema}
 use Rattle.record_store.specs.declared.error.StoreError.{StoreError}
 use Rattle.record_store.specs.declared.error.StoreError.TheVariants.{Memory, Read, Write, Corrupt, Refused}
 use Rattle.record_store.specs.Store.{Store, Serial, schema_in}
-use Rattle.record_store.specs.Holds.{Holds, IsLawful}
-use Rattle.record_store.specs.Call.{AtStore, Call, IsAnswered, IsDone, IsFailure, IsReadRefusedAs, Opened, Service}
+use Rattle.record_store.specs.Holds.{HasPlainIndexes, Holds, IsLawful}
+use Rattle.record_store.specs.Call.{AtStore, Call, IsAnswered, IsDone, IsFailure, IsOpenAs, IsReadRefusedAs, Opened, Service}
 use Rattle.record_store.specs.Call as call
-use Rattle.record_store.specs.Opening.{IsOpenFailure, IsOpened, IsUnopened, opening_reach}
+use Rattle.record_store.specs.Opening.{IsOpenFailure, IsOpened, IsThereAs, IsUnopened, opening_reach}
 use Rattle.record_store.specs.Steps.{of_metadata}
 use Rattle.schedule.specs.declared.step.Command.{Command}
-use Rattle.schedule.specs.declared.step.Command.TheVariants.{Create, «Type», Save, Load, Remove, Query}
+use Rattle.schedule.specs.declared.step.Command.TheVariants.{Create, «Type», Save, Load, Remove, Query, Index, Drop, Disable, State}
 use Rattle.schedule.specs.declared.reply.Reply.{Reply}
 use Rattle.schedule.specs.declared.reply.Reply.TheVariants as reply
 use Rattle.schedule.specs.Layout.{store_prefix}
@@ -72,13 +72,18 @@ none_within schema command k h = opening_within schema command k (subst (λ rang
     alone (Load name cells) = refl
     alone (Remove name cells) = refl
     alone (Query query) = refl
+    alone (Index request) = refl
+    alone (Drop name) = refl
+    alone (Disable name) = refl
+    alone (State name) = refl
 
--- what is known once a schema was read
-abbrev pub Has : Schema → Serial → Type 0
-Has schema serial = schema_in serial ≡ Some schema
+-- the schema of what is there is the one that was opened
+has_schema : (opened : Opened) (serial : Serial) → IsThereAs opened serial → schema_in serial ≡ Some opened.schema
+has_schema opened None has = absurd has
+has_schema opened (Some store) has = ap Some has.schema
 
-has_within : (schema : Schema) (command : Command) (serial : Serial) → Has schema serial → (k : List ℕ) → covers (reach (Some schema) command) k ≡ true → covers (reach (schema_in serial) command) k ≡ true
-has_within schema command serial has k h = subst (λ s. covers (reach s command) k ≡ true) (sym has) h
+has_within : (opened : Opened) (command : Command) (serial : Serial) → IsThereAs opened serial → (k : List ℕ) → covers (reach (Some opened.schema) command) k ≡ true → covers (reach (schema_in serial) command) k ≡ true
+has_within opened command serial has k h = subst (λ s. covers (reach s command) k ≡ true) (sym (has_schema opened serial has)) h
 
 -- ---- refusals
 
@@ -90,6 +95,10 @@ refuses_all (Save name cells) refusal = refl
 refuses_all (Load name cells) refusal = refl
 refuses_all (Remove name cells) refusal = refl
 refuses_all (Query query) refusal = refl
+refuses_all (Index request) refusal = refl
+refuses_all (Drop name) refusal = refl
+refuses_all (Disable name) refusal = refl
+refuses_all (State name) refusal = refl
 
 corrupts_all : (command : Command) (key : List ℕ) → is_reading command (reply.Corrupt key) ≡ true
 corrupts_all (Create request) key = refl
@@ -98,6 +107,10 @@ corrupts_all (Save name cells) key = refl
 corrupts_all (Load name cells) key = refl
 corrupts_all (Remove name cells) key = refl
 corrupts_all (Query query) key = refl
+corrupts_all (Index request) key = refl
+corrupts_all (Drop name) key = refl
+corrupts_all (Disable name) key = refl
+corrupts_all (State name) key = refl
 
 refusing : (command : Command) (refusal : Refusal) (answer : Reply) → ◌≡◌ {A = Option Reply} (Some (reply.Refused refusal)) (Some answer) → (is_accepted answer ≡ false) × (is_reading command answer ≡ true)
 refusing command refusal answer is =
@@ -209,140 +222,137 @@ refused_unopened {refuses = refuses} {old = old} command error is none unopened 
 
 -- ---- calls on an open store
 
--- the place of a store of this schema
-abbrev pub at : Schema → Opened
-at schema = record { prefix = store_prefix; schema = schema }
+-- what was opened, at the store's prefix
+abbrev pub at : Opened → Opened
+at opened = record opened { prefix = store_prefix }
 
--- what a command is by the service that it asks of the store: it may read the same, and at each store of the schema it replies as the service answers, leaves what that leaves, and writes the same
-pub record Serves {A : Type 0} (schema : Schema) (command : Command) (service : Service A) (told : A → Reply) : Type 0 where
-  pub reaches : own_reach (Some schema) command ≡ service.reach
+-- what a command is by the service that it asks of the store: it may read the same, and at each store that was opened so it replies as the service answers, leaves what that leaves, and writes the same
+pub record Serves {A : Type 0} (opened : Opened) (command : Command) (service : Service A) (told : A → Reply) : Type 0 where
+  pub reaches : own_reach (Some opened.schema) command ≡ service.reach
   pub accepted : (answer : A) → is_accepted (told answer) ≡ true
   pub reading : (answer : A) → not (service.changes answer) ≡ is_reading command (told answer)
-  pub replies : (store : Store) → IsLawful store → store.schema ≡ schema → IsReply (Some store) command (told (service.answer store))
-  pub leaves : (store : Store) → store.schema ≡ schema → effect (Some store) command ≡ Some (service.after store)
-  pub wrote : (store : Store) → store.schema ≡ schema → writes (Some store) command ≡ service.writes store
-  pub plain : (store : Store) → store.schema ≡ schema → store.schema.indexes ≡ [] → (service.after store).schema.indexes ≡ []
+  pub replies : (store : Store) → IsLawful store → IsOpenAs opened store → IsReply (Some store) command (told (service.answer store))
+  pub leaves : (store : Store) → IsOpenAs opened store → effect (Some store) command ≡ Some (service.after store)
+  pub wrote : (store : Store) → IsOpenAs opened store → writes (Some store) command ≡ service.writes store
+  pub plain : (store : Store) → IsOpenAs opened store → HasPlainIndexes store.schema store.states → HasPlainIndexes (service.after store).schema (service.after store).states
 
--- what a command is that is refused by the schema: at each store of the schema this is its reply, and it writes nothing
-pub record Refuses (schema : Schema) (command : Command) (refusal : Refusal) : Type 0 where
-  pub replies : (store : Store) → store.schema ≡ schema → IsReply (Some store) command (reply.Refused refusal)
-  pub idle : (store : Store) → store.schema ≡ schema → writes (Some store) command ≡ []
+-- what a command is that is refused by the schema: at each store that was opened so this is its reply, and it writes nothing
+pub record Refuses (opened : Opened) (command : Command) (refusal : Refusal) : Type 0 where
+  pub replies : (store : Store) → IsOpenAs opened store → IsReply (Some store) command (reply.Refused refusal)
+  pub idle : (store : Store) → IsOpenAs opened store → writes (Some store) command ≡ []
 
 -- what a command is by its call
-abbrev pub Meets : {A : Type 0} → Schema → Command → Call A → (A → Reply) → Type 0
-Meets schema command (Ok service) told = Serves schema command service told
-Meets schema command (Err refusal) told = Refuses schema command refusal
+abbrev pub Meets : {A : Type 0} → Opened → Command → Call A → (A → Reply) → Type 0
+Meets opened command (Ok service) told = Serves opened command service told
+Meets opened command (Err refusal) told = Refuses opened command refusal
 
--- what an opened store comes to where a schema was found
-there : {maps : ℕ → Map} {old new : CommitRequest} {F : Map → Type 0} (command : Command) (schema : Schema) (own : List KeyRange) {mid : CommitRequest} {written : List Mutation} → own_reach (Some schema) command ≡ own →
-    IsOpened maps (at schema) old mid → Ran maps (λ k. IsTrue (covers own k)) mid new written F →
-    Ran maps (λ k. IsTrue (covers (reach (Some schema) command) k)) old new written (λ m. ((serial : Serial) → Holds store_prefix m serial → Has schema serial) × F m)
-there command schema own reaches opened ran =
-    ran_then (ran_wider opened.ran (opening_within (Some schema) command)) (ran_wider ran (own_within (Some schema) command own reaches)) (λ m has fact. (has.1, fact))
+-- what an opened store comes to
+there : {maps : ℕ → Map} {old new : CommitRequest} {F : Map → Type 0} (command : Command) (opened : Opened) (own : List KeyRange) {mid : CommitRequest} {written : List Mutation} → own_reach (Some opened.schema) command ≡ own →
+    IsOpened maps (at opened) old mid → Ran maps (λ k. IsTrue (covers own k)) mid new written F →
+    Ran maps (λ k. IsTrue (covers (reach (Some opened.schema) command) k)) old new written (λ m. ((serial : Serial) → Holds store_prefix m serial → IsThereAs (at opened) serial) × F m)
+there command opened own reaches is ran =
+    ran_then (ran_wider is.ran (opening_within (Some opened.schema) command)) (ran_wider ran (own_within (Some opened.schema) command own reaches)) (λ m has fact. (has.1, fact))
 
 -- nothing is written when a store is opened
-unwritten : {maps : ℕ → Map} {old new : CommitRequest} {schema : Schema} → IsOpened maps (at schema) old new → new.mutations ≡ old.mutations
-unwritten {old = old} opened = opened.ran.wrote ∙ append-nil old.mutations
+unwritten : {maps : ℕ → Map} {old new : CommitRequest} (opened : Opened) → IsOpened maps (at opened) old new → new.mutations ≡ old.mutations
+unwritten {old = old} opened is = is.ran.wrote ∙ append-nil old.mutations
 
 -- OWN: a store was opened, and the command is refused by its schema
-pub refused_own : {maps : ℕ → Map} {refuses : KeyRange → ℕ → Option ReadError} {old mid : CommitRequest} (schema : Schema) (command : Command) (refusal : Refusal) →
-    Refuses schema command refusal → IsOpened maps (at schema) old mid → IsRefused maps refuses command (Refused refusal) old mid
-refused_own {refuses = refuses} {old = old} schema command refusal so opened =
-    refused_by command (Some schema) (Refused refusal) (ran_wider (ran_because opened.ran (λ m has serial stands. right serial (has.1 serial stands.held))) (opening_within (Some schema) command))
+pub refused_own : {maps : ℕ → Map} {refuses : KeyRange → ℕ → Option ReadError} {old mid : CommitRequest} (opened : Opened) (command : Command) (refusal : Refusal) →
+    Refuses (at opened) command refusal → IsOpened maps (at opened) old mid → IsRefused maps refuses command (Refused refusal) old mid
+refused_own {refuses = refuses} {old = old} opened command refusal so is =
+    refused_by command (Some opened.schema) (Refused refusal) (ran_wider (ran_because is.ran (λ m has serial stands. right serial (has.1 serial stands.held))) (opening_within (Some opened.schema) command))
   where
-    right : (serial : Serial) → Has schema serial → IsRight (λ range. refuses range old.read_version) (Some schema) command old.mutations (Refused refusal) serial
-    right None has = absurd (cc)
+    right : (serial : Serial) → IsThereAs (at opened) serial → IsRight (λ range. refuses range old.read_version) (Some opened.schema) command old.mutations (Refused refusal) serial
+    right None has = absurd has
     right (Some store) has =
-        let same : store.schema ≡ schema = cc in
-        own_right (λ range. refuses range old.read_version) (Some schema) command old.mutations refusal (Some store) (has_within schema command (Some store) has) (so.replies store same) (so.idle store same)
+        own_right (λ range. refuses range old.read_version) (Some opened.schema) command old.mutations refusal (Some store) (has_within (at opened) command (Some store) has) (so.replies store has) (so.idle store has)
 
 -- ANSWERED: a store was opened, and a call on it was answered
-performed_at : {maps : ℕ → Map} {refuses : KeyRange → Option ReadError} {old mid new : CommitRequest} {A : Type 0} (schema : Schema) (command : Command) (asked : Call A) (told : A → Reply) (answer : A) →
-    Meets schema command asked told → IsOpened maps (at schema) old mid → IsAnswered maps (at schema) asked answer mid new → IsPerformed maps refuses command (told answer) old new
-performed_at {refuses = refuses} {old = old} {mid = mid} {A = A} schema command asked told answer meets opened is = record {
-  schema = Some schema;
+performed_at : {maps : ℕ → Map} {refuses : KeyRange → Option ReadError} {old mid new : CommitRequest} {A : Type 0} (opened : Opened) (command : Command) (asked : Call A) (told : A → Reply) (answer : A) →
+    Meets (at opened) command asked told → IsOpened maps (at opened) old mid → IsAnswered maps (at opened) asked answer mid new → IsPerformed maps refuses command (told answer) old new
+performed_at {refuses = refuses} {old = old} {mid = mid} {A = A} opened command asked told answer meets is_opened is = record {
+  schema = Some opened.schema;
   written = is.written;
   changes = is.changes ∙ serves.reading answer;
-  ran = ran_because (there command schema is.service.reach serves.reaches opened is.ran) (λ m fact serial stands. here m fact.1.1 serial stands (fact.0 serial stands.held));
+  ran = ran_because (there command opened is.service.reach serves.reaches is_opened is.ran) (λ m fact serial stands. here m fact.1.1 serial stands (fact.0 serial stands.held));
 }
   where
-    serves : Serves schema command is.service told
-    serves = subst (λ (c : Call A). Meets schema command c told) is.accepted meets
+    serves : Serves (at opened) command is.service told
+    serves = subst (λ (c : Call A). Meets (at opened) command c told) is.accepted meets
 
-    here : (m : Map) → AtStore (at schema) m (IsDone (at schema) is.service answer mid.mutations is.written m) → (serial : Serial) → Stands m serial → Has schema serial →
-        IsPerformedAt refuses (Some schema) command (told answer) old.mutations is.written m serial
-    here m done None stands has = absurd (cc)
+    here : (m : Map) → AtStore (at opened) m (IsDone (at opened) is.service answer mid.mutations is.written m) → (serial : Serial) → Stands m serial → IsThereAs (at opened) serial →
+        IsPerformedAt refuses (Some opened.schema) command (told answer) old.mutations is.written m serial
+    here m done None stands has = absurd has
     here m done (Some store) stands has =
-        let same : store.schema ≡ schema = cc in
-        let now = done store stands.held same in
-        let wrote : is.written ≡ writes (Some store) command = now.wrote ∙ sym (serves.wrote store same) in record {
+        let now = done store stands.held has in
+        let wrote : is.written ≡ writes (Some store) command = now.wrote ∙ sym (serves.wrote store has) in record {
           right = inl (subst (λ o. IsLimited o (Some store) command (told answer))
-              (sym now.allowed ∙ ap (λ ms. write_all_refusal ms is.written) (unwritten opened) ∙ ap (write_all_refusal old.mutations) wrote)
-              (subst (λ a. IsReply (Some store) command (told a)) (sym now.answers) (serves.replies store stands.held.lawful same)));
+              (sym now.allowed ∙ ap (λ ms. write_all_refusal ms is.written) (unwritten opened is_opened) ∙ ap (write_all_refusal old.mutations) wrote)
+              (subst (λ a. IsReply (Some store) command (told a)) (sym now.answers) (serves.replies store stands.held.lawful has)));
           wrote = wrote ∙ ap (λ b. cond b (writes (Some store) command) []) (sym (serves.accepted answer));
           holds = subst (λ b. Stands (after_all is.written m) (cond b (effect (Some store) command) (Some store))) (sym (serves.accepted answer))
-              (subst (Stands (after_all is.written m)) (sym (serves.leaves store same)) (record { held = now.holds; plain = serves.plain store same stands.plain }));
-          opened = has_within schema command (Some store) has;
+              (subst (Stands (after_all is.written m)) (sym (serves.leaves store has)) (record { held = now.holds; plain = serves.plain store has stands.plain }));
+          opened = has_within (at opened) command (Some store) has;
         }
 
 -- NOT ANSWERED: a store was opened, and a call on it was refused
-refused_at : {maps : ℕ → Map} {refuses : KeyRange → ℕ → Option ReadError} {old mid new : CommitRequest} {A : Type 0} (schema : Schema) (command : Command) (asked : Call A) (told : A → Reply) (error : StoreError) →
-    Meets schema command asked told → IsOpened maps (at schema) old mid → call.IsRefused maps refuses (at schema) asked error mid new → IsRefused maps refuses command error old new
-refused_at {maps = maps} {refuses = refuses} {old = old} {mid = mid} {new = new} schema command (Err refusal) told error meets opened is =
+refused_at : {maps : ℕ → Map} {refuses : KeyRange → ℕ → Option ReadError} {old mid new : CommitRequest} {A : Type 0} (opened : Opened) (command : Command) (asked : Call A) (told : A → Reply) (error : StoreError) →
+    Meets (at opened) command asked told → IsOpened maps (at opened) old mid → call.IsRefused maps refuses (at opened) asked error mid new → IsRefused maps refuses command error old new
+refused_at {maps = maps} {refuses = refuses} {old = old} {mid = mid} {new = new} opened command (Err refusal) told error meets is_opened is =
     subst (λ (t : CommitRequest). IsRefused maps refuses command error old t) (sym is.1) (elim is.0 [
-      | inl memory ↦ subst (λ e. IsRefused maps refuses command e old mid) (sym memory) (refused_memory command (unwritten opened))
-      | inr own ↦ subst (λ e. IsRefused maps refuses command e old mid) (sym own) (refused_own schema command refusal meets opened)
+      | inl memory ↦ subst (λ e. IsRefused maps refuses command e old mid) (sym memory) (refused_memory command (unwritten opened is_opened))
+      | inr own ↦ subst (λ e. IsRefused maps refuses command e old mid) (sym own) (refused_own opened command refusal meets is_opened)
     ])
-refused_at {refuses = refuses} {old = old} {mid = mid} schema command (Ok service) told error serves opened is =
-    refused_by command (Some schema) error (ran_because (there command schema service.reach serves.reaches opened is) (λ m fact serial stands.
+refused_at {refuses = refuses} {old = old} {mid = mid} opened command (Ok service) told error serves is_opened is =
+    refused_by command (Some opened.schema) error (ran_because (there command opened service.reach serves.reaches is_opened is) (λ m fact serial stands.
     right error m (fact.1) serial stands (fact.0 serial stands.held)))
   where
-    right : (error : StoreError) (m : Map) → IsFailure (λ range. refuses range mid.read_version) (at schema) service error mid.mutations m → (serial : Serial) → Stands m serial → Has schema serial →
-        IsRight (λ range. refuses range old.read_version) (Some schema) command old.mutations error serial
-    right error m says None stands has = absurd (cc)
-    right Memory m says (Some store) stands has = (λ answer same. absurd (cc), has_within schema command (Some store) has)
+    right : (error : StoreError) (m : Map) → IsFailure (λ range. refuses range mid.read_version) (at opened) service error mid.mutations m → (serial : Serial) → Stands m serial → IsThereAs (at opened) serial →
+        IsRight (λ range. refuses range old.read_version) (Some opened.schema) command old.mutations error serial
+    right error m says None stands has = absurd has
+    right Memory m says (Some store) stands has = (λ answer same. absurd (cc), has_within (at opened) command (Some store) has)
     right (Read reason) m says (Some store) stands has = (
       λ answer same. inr (read_right (λ range. refuses range old.read_version) service.reach (reach (schema_in (Some store)) command)
-          (λ k h. has_within schema command (Some store) has k (own_within (Some schema) command service.reach serves.reaches k h)) reason answer same
-          (subst (λ v. IsReadRefusedAs (λ range. refuses range v) service.reach reason) opened.ran.version says)),
-      has_within schema command (Some store) has,
+          (λ k h. has_within (at opened) command (Some store) has k (own_within (Some opened.schema) command service.reach serves.reaches k h)) reason answer same
+          (subst (λ v. IsReadRefusedAs (λ range. refuses range v) service.reach reason) is_opened.ran.version says)),
+      has_within (at opened) command (Some store) has,
     )
-    right (Corrupt key) m says (Some store) stands has = absurd (let same : store.schema ≡ schema = cc in says.1 store stands.held same)
+    right (Corrupt key) m says (Some store) stands has = absurd (says.1 store stands.held has)
     right (Write reason) m says (Some store) stands has =
-        let same : store.schema ≡ schema = cc in
-        limit_right (λ range. refuses range old.read_version) (Some schema) command old.mutations reason (Some store) (has_within schema command (Some store) has)
-        (ap (λ ms. write_all_refusal ms (writes (Some store) command)) (sym (unwritten opened)) ∙ ap (write_all_refusal mid.mutations) (serves.wrote store same) ∙ says.1 store stands.held same)
+        limit_right (λ range. refuses range old.read_version) (Some opened.schema) command old.mutations reason (Some store) (has_within (at opened) command (Some store) has)
+        (ap (λ ms. write_all_refusal ms (writes (Some store) command)) (sym (unwritten opened is_opened)) ∙ ap (write_all_refusal mid.mutations) (serves.wrote store has) ∙ says.1 store stands.held has)
     right (Refused refusal) m says (Some store) stands has = absurd says
 
 -- ---- the same where the opened store stands at the store's prefix
 
-pub located : (opened : Opened) → opened.prefix ≡ store_prefix → opened ≡ at opened.schema
-located opened is = λ i. record { prefix = is i; schema = opened.schema }
+pub located : (opened : Opened) → opened.prefix ≡ store_prefix → opened ≡ at opened
+located opened is = λ i. record { prefix = is i; schema = opened.schema; states = opened.states }
 
 -- ANSWERED
 pub performed : {maps : ℕ → Map} {refuses : KeyRange → Option ReadError} {old mid new : CommitRequest} {A : Type 0} (opened : Opened) (command : Command) (asked : Opened → Call A) (told : A → Reply) (answer : A) → opened.prefix ≡ store_prefix →
-    Meets opened.schema command (asked (at opened.schema)) told → IsOpened maps opened old mid → IsAnswered maps opened (asked opened) answer mid new → IsPerformed maps refuses command (told answer) old new
+    Meets (at opened) command (asked (at opened)) told → IsOpened maps opened old mid → IsAnswered maps opened (asked opened) answer mid new → IsPerformed maps refuses command (told answer) old new
 performed {maps = maps} {old = old} {mid = mid} {new = new} opened command asked told answer here meets is_opened is =
-    performed_at opened.schema command (asked (at opened.schema)) told answer meets (subst (λ o. IsOpened maps o old mid) (located opened here) is_opened)
+    performed_at opened command (asked (at opened)) told answer meets (subst (λ o. IsOpened maps o old mid) (located opened here) is_opened)
     (subst (λ o. IsAnswered maps o (asked o) answer mid new) (located opened here) is)
 
 -- NOT ANSWERED
 pub refused : {maps : ℕ → Map} {refuses : KeyRange → ℕ → Option ReadError} {old mid new : CommitRequest} {A : Type 0} (opened : Opened) (command : Command) (asked : Opened → Call A) (told : A → Reply) (error : StoreError) → opened.prefix ≡ store_prefix →
-    Meets opened.schema command (asked (at opened.schema)) told → IsOpened maps opened old mid → call.IsRefused maps refuses opened (asked opened) error mid new → IsRefused maps refuses command error old new
+    Meets (at opened) command (asked (at opened)) told → IsOpened maps opened old mid → call.IsRefused maps refuses opened (asked opened) error mid new → IsRefused maps refuses command error old new
 refused {maps = maps} {refuses = refuses} {old = old} {mid = mid} {new = new} opened command asked told error here meets is_opened is =
-    refused_at opened.schema command (asked (at opened.schema)) told error meets (subst (λ o. IsOpened maps o old mid) (located opened here) is_opened)
+    refused_at opened command (asked (at opened)) told error meets (subst (λ o. IsOpened maps o old mid) (located opened here) is_opened)
     (subst (λ o. call.IsRefused maps refuses o (asked o) error mid new) (located opened here) is)
 
 -- OWN REFUSAL: what the command asks for is refused by the schema, before a call is made
 pub refused_asked : {maps : ℕ → Map} {refuses : KeyRange → ℕ → Option ReadError} {old mid : CommitRequest} {A : Type 0} (opened : Opened) (command : Command) (outcome : Result A Refusal) (error : MetadataError) → opened.prefix ≡ store_prefix →
-    ((refusal : Refusal) → outcome ≡ Err refusal → Refuses opened.schema command refusal) → IsOpened maps opened old mid → IsRefusedAs error outcome → IsRefused maps refuses command (of_metadata error) old mid
+    ((refusal : Refusal) → outcome ≡ Err refusal → Refuses (at opened) command refusal) → IsOpened maps opened old mid → IsRefusedAs error outcome → IsRefused maps refuses command (of_metadata error) old mid
 refused_asked {old = old} {mid = mid} opened command outcome meta.Memory here so is_opened is = refused_memory command (is_opened.ran.wrote ∙ append-nil old.mutations)
 refused_asked {maps = maps} {old = old} {mid = mid} opened command outcome (meta.Refused refusal) here so is_opened is =
-    refused_own opened.schema command refusal (so refusal is) (subst (λ o. IsOpened maps o old mid) (located opened here) is_opened)
+    refused_own opened command refusal (so refusal is) (subst (λ o. IsOpened maps o old mid) (located opened here) is_opened)
 
 -- MEMORY: it is wanting after a call that changed nothing
 pub refused_behind : {maps : ℕ → Map} {refuses : KeyRange → ℕ → Option ReadError} {old mid new : CommitRequest} {A : Type 0} (opened : Opened) (command : Command) (asked : Opened → Call A) (told : A → Reply) (answer : A) → opened.prefix ≡ store_prefix →
-    Meets opened.schema command (asked (at opened.schema)) told → is_reading command (told answer) ≡ true → IsOpened maps opened old mid → IsAnswered maps opened (asked opened) answer mid new →
+    Meets (at opened) command (asked (at opened)) told → is_reading command (told answer) ≡ true → IsOpened maps opened old mid → IsAnswered maps opened (asked opened) answer mid new →
     IsRefused maps refuses command Memory old new
 refused_behind {maps = maps} {old = old} opened command asked told answer here meets reads is_opened is =
     let so : IsPerformed maps (λ range. None) command (told answer) old _ = performed opened command asked told answer here meets is_opened is in

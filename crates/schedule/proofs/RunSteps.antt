@@ -1,6 +1,7 @@
 -- Steps one after another, over plain values.
 use Rattle.std.proofs.Common.{◌≡◌, ℕ, zero, suc, ◌+◌, ◌-◌, ◌<◌, ◌≤◌, List, [], ◌∷◌, ◌++◌, length, take, get_or, map, refl, sym, ap, subst, subst₂, ◌∙◌, Option, None, replicate, append-nil, append_assoc, arith}
 use Rattle.std.specs.Prelude.{All}
+use Rattle.std.specs.List.{AllByRecursion}
 use Rattle.std.proofs.Math.Seq.{drop-nil}
 use Rattle.std.proofs.lemmas.List.{take_more}
 use Rattle.kv_core.specs.declared.change.CommitRequest.{CommitRequest}
@@ -75,6 +76,12 @@ next_run config steps replies step reply old new run next = record {
     one_more = past_of_append (λ past one answer. IsReplyTo (cluster_after config (old.cluster.pipeline.requests ++ []) past) past one answer) [] steps replies step reply (run.right [])
 
 -- a turn of the loop over steps
+-- what is so of each step is so of the one in a place
+pub all_at : {X : Type 0} (P : X → Type 0) (xs : List X) (i : ℕ) (x : X) → i < length xs → x ≡ get_or xs i x → AllByRecursion P xs → P x
+all_at P [] i x within is all = absurd (omega (arith, within))
+all_at P (y ∷ ys) zero x within is all = subst P (sym is) all.0
+all_at P (y ∷ ys) (suc i) x within is all = all_at P ys i x (omega (arith, within)) is all.1
+
 pub turn : (config : Config) (steps : List Step) (i : ℕ) (step : Step) (before after : List Reply) (reply : Reply) (old new : Database) → i < length steps → step ≡ get_or steps i step → after ≡ before ++ reply ∷ [] →
     HasRun config (take i steps) before old → IsStepped step reply old new → HasRun config (take (i + 1) steps) after new
 turn config steps i step before after reply old new within is pushed run stepped_so =

@@ -16,7 +16,9 @@ use Rattle.metadata.specs.declared.definition.TypeRequest.{TypeRequest}
 use Rattle.metadata.specs.declared.refusal.Refusal.{Refusal}
 use Rattle.metadata.specs.declared.refusal.Refusal.TheVariants.{NullKey, UnknownType, WrongKind}
 use Rattle.metadata.specs.Cell.{all_fit, cells_at, is_null}
-use Rattle.metadata.specs.Change.{add_type, add_types, empty_schema, schema_of, type_refusal, with_type}
+use Rattle.metadata.specs.declared.index.IndexDefinition.{IndexDefinition}
+use Rattle.metadata.specs.declared.index.IndexKind.TheVariants.{Value}
+use Rattle.metadata.specs.Change.{add_type, type_refusal, with_type}
 use Rattle.metadata.specs.Record.{Record, primary_key, record_of, key_of}
 use Rattle.metadata.specs.Records.{AreOrdered, IsStorable, of_type, record_at}
 use Rattle.metadata.specs.Schema.{Schema, field_kinds, find_type}
@@ -24,7 +26,8 @@ use Rattle.metadata.proofs.SameTypes.{same_type-Decides}
 use Rattle.index_maint.proofs.RecordLists.{id, id_order, all_filter, ordered-filter}
 use Rattle.record_store.specs.Store.{Store}
 use Rattle.record_store.specs.Holds.{IsLawful}
-use Rattle.record_store.specs.Call.{Service}
+use Rattle.record_store.proofs.Plain.{removed_plain, saved_plain}
+use Rattle.record_store.specs.Call.{IsOpenAs, Opened, Service}
 use Rattle.record_store.specs.Calls.{done_with, load_call, load_service, number_of, own_record, records_call, records_service, remove_call, remove_service, save_call, save_service, schema_service, type_call}
 use Rattle.schedule.specs.declared.step.Command.{Command}
 use Rattle.schedule.specs.declared.step.Command.TheVariants.{«Type», Save, Load, Remove, Query}
@@ -35,16 +38,16 @@ use Rattle.schedule.specs.Serve.{served_by, served_save, served_load, served_rem
 use Rattle.schedule.specs.Past.{is_accepted, is_reading}
 use Rattle.schedule.specs.Query.{Allows}
 use Rattle.schedule.specs.Layout.{store_prefix}
-use Rattle.schedule.specs.Reach.{schema_written, save_writes, remove_writes, record_reach, key_reach, type_reach}
+use Rattle.schedule.specs.Reach.{schema_written, saving, removing, record_reach, key_reach, type_reach}
 use Rattle.schedule.specs.Calls.{removal_reply}
 use Rattle.schedule.proofs.Outcomes.{Meets, Refuses, Serves, at}
 
 -- a call that is done with a value, or has its own refusal
-done_meets : {K A : Type 0} (schema : Schema) (command : Command) (service : K → Service A) (told : A → Reply) (outcome : Result K Refusal) →
-    ((value : K) → outcome ≡ Ok value → Serves schema command (service value) told) → ((refusal : Refusal) → outcome ≡ Err refusal → Refuses schema command refusal) →
-    Meets schema command (done_with service outcome) told
-done_meets schema command service told (Ok value) serves refuses = serves value refl
-done_meets schema command service told (Err refusal) serves refuses = refuses refusal refl
+pub done_meets : {K A : Type 0} (opened : Opened) (command : Command) (service : K → Service A) (told : A → Reply) (outcome : Result K Refusal) →
+    ((value : K) → outcome ≡ Ok value → Serves opened command (service value) told) → ((refusal : Refusal) → outcome ≡ Err refusal → Refuses opened command refusal) →
+    Meets opened command (done_with service outcome) told
+done_meets opened command service told (Ok value) serves refuses = serves value refl
+done_meets opened command service told (Err refusal) serves refuses = refuses refusal refl
 
 -- ---- load
 
@@ -59,13 +62,13 @@ load_reads : (name : List ℕ) (cells : List Cell) (found : Option (List Cell)) 
 load_reads name cells None = refl
 load_reads name cells (Some old) = refl
 
-pub load_meets : (schema : Schema) (name : List ℕ) (cells : List Cell) → Meets schema (Load name cells) (load_call (at schema) name cells) told_load
-load_meets schema name cells = done_meets schema (Load name cells) (load_service (at schema)) told_load (key_of schema name cells) serves refuses
+pub load_meets : (opened : Opened) (name : List ℕ) (cells : List Cell) → Meets (at opened) (Load name cells) (load_call (at opened) name cells) told_load
+load_meets opened name cells = done_meets (at opened) (Load name cells) (load_service (at opened)) told_load (key_of opened.schema name cells) serves refuses
   where
-    here : {o : Result (List Item) Refusal} (store : Store) → store.schema ≡ schema → key_of schema name cells ≡ o → key_of store.schema name cells ≡ o
-    here store same is = ap (λ s. key_of s name cells) same ∙ is
+    here : {o : Result (List Item) Refusal} (store : Store) → IsOpenAs (at opened) store → key_of opened.schema name cells ≡ o → key_of store.schema name cells ≡ o
+    here store same is = ap (λ s. key_of s name cells) same.schema ∙ is
 
-    serves : (key : List Item) → key_of schema name cells ≡ Ok key → Serves schema (Load name cells) (load_service (at schema) key) told_load
+    serves : (key : List Item) → key_of opened.schema name cells ≡ Ok key → Serves (at opened) (Load name cells) (load_service (at opened) key) told_load
     serves key is = record {
       reaches = ap key_reach is;
       accepted = λ found. load_accepted (cells_in found);
@@ -73,10 +76,10 @@ load_meets schema name cells = done_meets schema (Load name cells) (load_service
       replies = λ store lawful same. sym (ap (λ o. (served_by store (served_load store) o).0) (here store same is));
       leaves = λ store same. ap (λ o. (served_by store (served_load store) o).1) (here store same is);
       wrote = λ store same. refl;
-      plain = λ store same none. none;
+      plain = λ store same plain. plain;
     }
 
-    refuses : (refusal : Refusal) → key_of schema name cells ≡ Err refusal → Refuses schema (Load name cells) refusal
+    refuses : (refusal : Refusal) → key_of opened.schema name cells ≡ Err refusal → Refuses (at opened) (Load name cells) refusal
     refuses refusal is = record { replies = λ store same. sym (ap (λ o. (served_by store (served_load store) o).0) (here store same is)); idle = λ store same. refl }
 
 -- ---- remove
@@ -93,27 +96,27 @@ removed_reply : (o : Option Record) → removal_reply (is_some o) ≡ reply_to_r
 removed_reply None = refl
 removed_reply (Some r) = refl
 
-pub remove_meets : (schema : Schema) (name : List ℕ) (cells : List Cell) → Meets schema (Remove name cells) (remove_call (at schema) name cells) removal_reply
-remove_meets schema name cells = done_meets schema (Remove name cells) (remove_service (at schema)) removal_reply (key_of schema name cells) serves refuses
+pub remove_meets : (opened : Opened) (name : List ℕ) (cells : List Cell) → Meets (at opened) (Remove name cells) (remove_call (at opened) name cells) removal_reply
+remove_meets opened name cells = done_meets (at opened) (Remove name cells) (remove_service (at opened)) removal_reply (key_of opened.schema name cells) serves refuses
   where
-    here : {o : Result (List Item) Refusal} (store : Store) → store.schema ≡ schema → key_of schema name cells ≡ o → key_of store.schema name cells ≡ o
-    here store same is = ap (λ s. key_of s name cells) same ∙ is
+    here : {o : Result (List Item) Refusal} (store : Store) → IsOpenAs (at opened) store → key_of opened.schema name cells ≡ o → key_of store.schema name cells ≡ o
+    here store same is = ap (λ s. key_of s name cells) same.schema ∙ is
 
-    serves : (key : List Item) → key_of schema name cells ≡ Ok key → Serves schema (Remove name cells) (remove_service (at schema) key) removal_reply
+    serves : (key : List Item) → key_of opened.schema name cells ≡ Ok key → Serves (at opened) (Remove name cells) (remove_service (at opened) key) removal_reply
     serves key is = record {
       reaches = ap key_reach is;
       accepted = remove_accepted;
       reading = remove_reads name cells;
       replies = λ store lawful same. removed_reply (record_at key store.records) ∙ sym (ap (λ o. (served_by store (served_remove store) o).0) (here store same is));
       leaves = λ store same. ap (λ o. (served_by store (served_remove store) o).1) (here store same is);
-      wrote = λ store same. ap (remove_writes store) (here store same is);
-      plain = λ store same none. none;
+      wrote = λ store same. ap (removing store) (here store same is);
+      plain = λ store same plain. removed_plain store key plain;
     }
 
-    refuses : (refusal : Refusal) → key_of schema name cells ≡ Err refusal → Refuses schema (Remove name cells) refusal
+    refuses : (refusal : Refusal) → key_of opened.schema name cells ≡ Err refusal → Refuses (at opened) (Remove name cells) refusal
     refuses refusal is = record {
       replies = λ store same. sym (ap (λ o. (served_by store (served_remove store) o).0) (here store same is));
-      idle = λ store same. ap (remove_writes store) (here store same is);
+      idle = λ store same. ap (removing store) (here store same is);
     }
 
 -- ---- save
@@ -172,27 +175,27 @@ own schema name cells r is =
     ap (λ n. own_record (find_type schema n) r) named ∙ ap (λ o. own_record o r) found
     ∙ ap (λ b. elim b [ true ↦ Ok r | false ↦ Err Rattle.metadata.specs.declared.refusal.Refusal.TheVariants.OtherSchema ]) ((same_type-Decides r.definition r.definition).1 refl)
 
-pub save_refuses : (schema : Schema) (name : List ℕ) (cells : List Cell) (refusal : Refusal) → record_of schema name cells ≡ Err refusal → Refuses schema (Save name cells) refusal
-save_refuses schema name cells refusal is = record {
-  replies = λ store same. sym (ap (λ o. (served_by store (served_save store) o).0) (ap (λ s. record_of s name cells) same ∙ is));
-  idle = λ store same. ap save_writes (ap (λ s. record_of s name cells) same ∙ is);
+pub save_refuses : (opened : Opened) (name : List ℕ) (cells : List Cell) (refusal : Refusal) → record_of opened.schema name cells ≡ Err refusal → Refuses (at opened) (Save name cells) refusal
+save_refuses opened name cells refusal is = record {
+  replies = λ store same. sym (ap (λ o. (served_by store (served_save store) o).0) (ap (λ s. record_of s name cells) same.schema ∙ is));
+  idle = λ store same. ap (saving store) (ap (λ s. record_of s name cells) same.schema ∙ is);
 }
 
-pub save_meets : (schema : Schema) (name : List ℕ) (cells : List Cell) (r : Record) → record_of schema name cells ≡ Ok r → Meets schema (Save name cells) (save_call (at schema) r) told_save
-save_meets schema name cells r is = subst (λ o. Meets schema (Save name cells) (done_with (save_service (at schema)) o) told_save) (sym (own schema name cells r is)) serves
+pub save_meets : (opened : Opened) (name : List ℕ) (cells : List Cell) (r : Record) → record_of opened.schema name cells ≡ Ok r → Meets (at opened) (Save name cells) (save_call (at opened) r) told_save
+save_meets opened name cells r is = subst (λ o. Meets (at opened) (Save name cells) (done_with (save_service (at opened)) o) told_save) (sym (own opened.schema name cells r is)) serves
   where
-    here : (store : Store) → store.schema ≡ schema → record_of store.schema name cells ≡ Ok r
-    here store same = ap (λ s. record_of s name cells) same ∙ is
+    here : (store : Store) → IsOpenAs (at opened) store → record_of store.schema name cells ≡ Ok r
+    here store same = ap (λ s. record_of s name cells) same.schema ∙ is
 
-    serves : Serves schema (Save name cells) (save_service (at schema) r) told_save
+    serves : Serves (at opened) (Save name cells) (save_service (at opened) r) told_save
     serves = record {
       reaches = ap record_reach is;
       accepted = λ old. save_accepted (cells_in old);
       reading = λ old. save_changes name cells (cells_in old);
       replies = λ store lawful same. sym (ap (λ o. (served_by store (served_save store) o).0) (here store same));
       leaves = λ store same. ap (λ o. (served_by store (served_save store) o).1) (here store same);
-      wrote = λ store same. ap save_writes (here store same);
-      plain = λ store same none. none;
+      wrote = λ store same. ap (saving store) (here store same);
+      plain = λ store same plain. saved_plain store r plain;
     }
 
 -- ---- type
@@ -201,33 +204,20 @@ abbrev pub told_type : Schema → Reply
 told_type schema = reply.Done
 
 -- a type that is added leaves the indexes
-pub added_plain : (schema next : Schema) (request : TypeRequest) → add_type schema request ≡ Ok next → next.indexes ≡ schema.indexes
+added_plain : (schema next : Schema) (request : TypeRequest) → add_type schema request ≡ Ok next → next.indexes ≡ schema.indexes
 added_plain schema next request is = by_refusal (type_refusal schema request) is
   where
     by_refusal : (why : Option Refusal) → ◌≡◌ {A = Result Schema Refusal} (elim why [ None ↦ Ok (with_type schema request) | Some refusal ↦ Err refusal ]) (Ok next) → next.indexes ≡ schema.indexes
     by_refusal (Some refusal) made = absurd (cc)
     by_refusal None made = let same : with_type schema request ≡ next = cc in ap (λ (s : Schema). s.indexes) (sym same)
 
--- a schema that is made of types has no index
-pub made_plain : (requests : List TypeRequest) (schema : Schema) → schema_of requests ≡ Ok schema → schema.indexes ≡ []
-made_plain requests schema made = each empty_schema requests made
+pub type_meets : (opened : Opened) (request : TypeRequest) → Meets (at opened) («Type» request) (type_call (at opened) request) told_type
+type_meets opened request = done_meets (at opened) («Type» request) (schema_service (at opened)) told_type (add_type opened.schema request) serves refuses
   where
-    each : (before : Schema) (requests : List TypeRequest) → add_types before requests ≡ Ok schema → schema.indexes ≡ before.indexes
-    each before [] is = let same : before ≡ schema = cc in ap (λ (s : Schema). s.indexes) (sym same)
-    each before (request ∷ requests) is = by_added (add_type before request) refl is (λ next. each next requests)
-      where
-        by_added : (o : Result Schema Refusal) → add_type before request ≡ o → ◌≡◌ {A = Result Schema Refusal} (elim o [ Err refusal ↦ Err refusal | Ok next ↦ add_types next requests ]) (Ok schema) →
-            ((next : Schema) → add_types next requests ≡ Ok schema → schema.indexes ≡ next.indexes) → schema.indexes ≡ before.indexes
-        by_added (Err refusal) is none rest = absurd (cc)
-        by_added (Ok next) is later rest = rest next later ∙ added_plain before next request is
+    here : {o : Result Schema Refusal} (store : Store) → IsOpenAs (at opened) store → add_type opened.schema request ≡ o → add_type store.schema request ≡ o
+    here store same is = ap (λ s. add_type s request) same.schema ∙ is
 
-pub type_meets : (schema : Schema) (request : TypeRequest) → Meets schema («Type» request) (type_call (at schema) request) told_type
-type_meets schema request = done_meets schema («Type» request) (schema_service (at schema)) told_type (add_type schema request) serves refuses
-  where
-    here : {o : Result Schema Refusal} (store : Store) → store.schema ≡ schema → add_type schema request ≡ o → add_type store.schema request ≡ o
-    here store same is = ap (λ s. add_type s request) same ∙ is
-
-    serves : (next : Schema) → add_type schema request ≡ Ok next → Serves schema («Type» request) (schema_service (at schema) next) told_type
+    serves : (next : Schema) → add_type opened.schema request ≡ Ok next → Serves (at opened) («Type» request) (schema_service (at opened) next) told_type
     serves next is = record {
       reaches = refl;
       accepted = λ answer. refl;
@@ -235,10 +225,13 @@ type_meets schema request = done_meets schema («Type» request) (schema_service
       replies = λ store lawful same. sym (ap (λ o. (served_by store (served_type store) o).0) (here store same is));
       leaves = λ store same. ap (λ o. (served_by store (served_type store) o).1) (here store same is);
       wrote = λ store same. ap schema_written (here store same is);
-      plain = λ store same none. added_plain schema next request is ∙ ap (λ (s : Schema). s.indexes) (sym same) ∙ none;
+      plain = λ store same plain. record {
+        kinds = subst (AllByRecursion (λ (index : IndexDefinition). index.kind ≡ Value)) (ap (λ (t : Schema). t.indexes) same.schema ∙ sym (added_plain opened.schema next request is)) plain.kinds;
+        listed = plain.listed;
+      };
     }
 
-    refuses : (refusal : Refusal) → add_type schema request ≡ Err refusal → Refuses schema («Type» request) refusal
+    refuses : (refusal : Refusal) → add_type opened.schema request ≡ Err refusal → Refuses (at opened) («Type» request) refusal
     refuses refusal is = record {
       replies = λ store same. sym (ap (λ o. (served_by store (served_type store) o).0) (here store same is));
       idle = λ store same. ap schema_written (here store same is);
@@ -272,8 +265,8 @@ allowed n records ordered storable = record {
   once = each_once (of_type n records) (ordered-filter (λ r. r.definition.number == n) records ordered) (all_filter IsStorable (λ r. r.definition.number == n) records storable);
 }
 
-pub query_meets : (schema : Schema) (query : asked.Query) → Meets schema (Query query) (records_call (at schema) query.record_type) told_query
-query_meets schema query = done_meets schema (Query query) (records_service (at schema)) told_query (number_of (find_type schema query.record_type)) serves refuses
+pub query_meets : (opened : Opened) (query : asked.Query) → Meets (at opened) (Query query) (records_call (at opened) query.record_type) told_query
+query_meets opened query = done_meets (at opened) (Query query) (records_service (at opened)) told_query (number_of (find_type opened.schema query.record_type)) serves refuses
   where
     reached : (number : ℕ) (type : Option TypeDefinition) → number_of type ≡ Ok number → type_reach type ≡ Rattle.record_store.specs.Layout.type_range store_prefix number ∷ []
     reached number None none = absurd (cc)
@@ -292,19 +285,19 @@ query_meets schema query = done_meets schema (Query query) (records_service (at 
     unknown refusal store None none = let same : refusal ≡ UnknownType = cc in ap reply.Refused same
     unknown refusal store (Some type) known = absurd (cc)
 
-    serves : (number : ℕ) → number_of (find_type schema query.record_type) ≡ Ok number → Serves schema (Query query) (records_service (at schema) number) told_query
+    serves : (number : ℕ) → number_of (find_type opened.schema query.record_type) ≡ Ok number → Serves (at opened) (Query query) (records_service (at opened) number) told_query
     serves number is = record {
-      reaches = reached number (find_type schema query.record_type) is;
+      reaches = reached number (find_type opened.schema query.record_type) is;
       accepted = λ rows. refl;
       reading = λ rows. refl;
-      replies = λ store lawful same. answered number store lawful (find_type store.schema query.record_type) (ap (λ s. number_of (find_type s query.record_type)) same ∙ is);
+      replies = λ store lawful same. answered number store lawful (find_type store.schema query.record_type) (ap (λ s. number_of (find_type s query.record_type)) same.schema ∙ is);
       leaves = λ store same. refl;
       wrote = λ store same. refl;
-      plain = λ store same none. none;
+      plain = λ store same plain. plain;
     }
 
-    refuses : (refusal : Refusal) → number_of (find_type schema query.record_type) ≡ Err refusal → Refuses schema (Query query) refusal
+    refuses : (refusal : Refusal) → number_of (find_type opened.schema query.record_type) ≡ Err refusal → Refuses (at opened) (Query query) refusal
     refuses refusal is = record {
-      replies = λ store same. unknown refusal store (find_type store.schema query.record_type) (ap (λ s. number_of (find_type s query.record_type)) same ∙ is);
+      replies = λ store same. unknown refusal store (find_type store.schema query.record_type) (ap (λ s. number_of (find_type s query.record_type)) same.schema ∙ is);
       idle = λ store same. refl;
     }

@@ -1,5 +1,6 @@
 pub mod Query
 pub mod Serve
+pub mod Values
 pub mod Past
 pub mod Layout
 pub mod Holds

@@ -3,7 +3,7 @@ use Rattle.std.specs.Prelude.{ℕ, Bool, true, false, not, List, [], ◌∷◌, 
 use Rattle.std.specs.List.{list_any}
 use Rattle.std.specs.Option.{option_map}
 use Rattle.schedule.specs.declared.step.Command.{Command}
-use Rattle.schedule.specs.declared.step.Command.TheVariants.{Load, Query, Remove}
+use Rattle.schedule.specs.declared.step.Command.TheVariants.{Load, Query, Remove, State}
 use Rattle.schedule.specs.declared.step.Step.{Step}
 use Rattle.schedule.specs.declared.step.Step.TheVariants.{Begin, Perform, Commit, Abandon}
 use Rattle.schedule.specs.declared.reply.Reply.{Reply}
@@ -39,6 +39,7 @@ is_reading command (Refused refusal) = true
 is_reading command (Corrupt key) = true
 is_reading (Load type cells) reply = true
 is_reading (Query query) reply = true
+is_reading (State name) reply = true
 is_reading (Remove type cells) Absent = true
 is_reading command reply = false
 

@@ -1,20 +1,24 @@
 -- What a command may read, and what it writes.
-use Rattle.std.specs.Prelude.{List, [], ◌∷◌, ◌++◌, Option, Some, None, Result, Ok, Err}
+use Rattle.std.specs.Prelude.{ℕ, List, [], ◌∷◌, ◌++◌, Option, Some, None, Result, Ok, Err}
 use Rattle.tuple_codec.specs.Item.{Item}
 use Rattle.kv_core.specs.Range.{KeyRange, point}
 use Rattle.kv_core.specs.declared.change.Mutation.{Mutation}
 use Rattle.metadata.specs.declared.definition.TypeDefinition.{TypeDefinition}
 use Rattle.metadata.specs.declared.refusal.Refusal.{Refusal}
-use Rattle.metadata.specs.Change.{add_type, schema_of}
-use Rattle.metadata.specs.Schema.{Schema, find_type}
+use Rattle.metadata.specs.declared.index.IndexDefinition.{IndexDefinition}
+use Rattle.metadata.specs.Asked.{schema_asked}
+use Rattle.metadata.specs.Change.{add_type}
+use Rattle.metadata.specs.IndexChange.{new_index}
+use Rattle.metadata.specs.Schema.{Schema, find_index, find_type}
 use Rattle.metadata.specs.Record.{Record, primary_key, record_of, key_of}
 use Rattle.schedule.specs.declared.step.Command.{Command}
-use Rattle.schedule.specs.declared.step.Command.TheVariants.{Create, «Type», Save, Load, Remove, Query}
+use Rattle.schedule.specs.declared.step.Command.TheVariants.{Create, «Type», Save, Load, Remove, Query, Index, Drop, Disable}
 use Rattle.metadata.specs.Records.{record_at}
 use Rattle.record_store.specs.Store.{Store, Serial}
 use Rattle.record_store.specs.Layout.{record_key, type_range}
 use Rattle.record_store.specs.Opening.{opening_reach}
-use Rattle.record_store.specs.Calls.{record_writes, removal, schema_writes}
+use Rattle.record_store.specs.Calls.{index_number, schema_writes}
+use Rattle.record_store.specs.IndexWrites.{disable_writes, drop_writes, index_added_writes, remove_writes, save_writes}
 use Rattle.schedule.specs.Layout.{store_prefix}
 
 -- the key of a record that is asked for, and the keys of a type's records
@@ -30,12 +34,17 @@ abbrev pub type_reach : Option TypeDefinition → List KeyRange
 type_reach (Some type) = type_range store_prefix type.number ∷ []
 type_reach None = []
 
+abbrev pub index_reach : Result IndexDefinition Refusal → List KeyRange
+index_reach (Ok index) = type_range store_prefix index.type_number ∷ []
+index_reach (Err refusal) = []
+
 -- what a command may read behind the opening of the store: the key of its record, or the records of its type
 abbrev pub own_reach : Option Schema → Command → List KeyRange
 own_reach (Some schema) (Save name cells) = record_reach (record_of schema name cells)
 own_reach (Some schema) (Load name cells) = key_reach (key_of schema name cells)
 own_reach (Some schema) (Remove name cells) = key_reach (key_of schema name cells)
 own_reach (Some schema) (Query query) = type_reach (find_type schema query.record_type)
+own_reach (Some schema) (Index request) = index_reach (new_index schema request)
 own_reach schema command = []
 
 -- what a command may read: what opening the store reads, and its own
@@ -47,20 +56,36 @@ abbrev pub schema_written : Result Schema Refusal → List Mutation
 schema_written (Ok schema) = schema_writes store_prefix schema
 schema_written (Err refusal) = []
 
--- what saving writes: the record
-abbrev pub save_writes : Result Record Refusal → List Mutation
-save_writes (Ok r) = record_writes store_prefix r
-save_writes (Err refusal) = []
+-- what saving and removing write: the record or its clearing, and what its indexes change
+abbrev pub saving : Store → Result Record Refusal → List Mutation
+saving store (Ok r) = save_writes store_prefix store r
+saving store (Err refusal) = []
 
--- what removing writes: the record's key is cleared, where the record is there
-abbrev pub remove_writes : Store → Result (List Item) Refusal → List Mutation
-remove_writes store (Ok key) = removal store_prefix key (record_at key store.records)
-remove_writes store (Err refusal) = []
+abbrev pub removing : Store → Result (List Item) Refusal → List Mutation
+removing store (Ok key) = remove_writes store_prefix store key (record_at key store.records)
+removing store (Err refusal) = []
+
+-- what adding an index writes: the schema, and its state where it isn't readable
+abbrev pub indexing : Store → Result IndexDefinition Refusal → List Mutation
+indexing store (Ok index) = index_added_writes store_prefix store index
+indexing store (Err refusal) = []
+
+-- what dropping and disabling an index write
+abbrev pub dropping : Store → Result ℕ Refusal → List Mutation
+dropping store (Ok number) = drop_writes store_prefix store number
+dropping store (Err refusal) = []
+
+abbrev pub disabling : Result ℕ Refusal → List Mutation
+disabling (Ok number) = disable_writes store_prefix number
+disabling (Err refusal) = []
 
 -- what a command writes, in order
 abbrev pub writes : Serial → Command → List Mutation
-writes None (Create request) = schema_written (schema_of request)
+writes None (Create request) = schema_written (schema_asked request)
 writes (Some store) («Type» request) = schema_written (add_type store.schema request)
-writes (Some store) (Save name cells) = save_writes (record_of store.schema name cells)
-writes (Some store) (Remove name cells) = remove_writes store (key_of store.schema name cells)
+writes (Some store) (Save name cells) = saving store (record_of store.schema name cells)
+writes (Some store) (Remove name cells) = removing store (key_of store.schema name cells)
+writes (Some store) (Index request) = indexing store (new_index store.schema request)
+writes (Some store) (Drop name) = dropping store (index_number (find_index store.schema name))
+writes (Some store) (Disable name) = disabling (index_number (find_index store.schema name))
 writes serial command = []

@@ -1,21 +1,25 @@
 -- What the serial store replies to a command, and the store after it. No key of a database and no packed byte occurs.
-use Rattle.std.specs.Prelude.{◌≡◌, List, [], ◌∷◌, Option, Some, None, Result, Ok, Err}
+use Rattle.std.specs.Prelude.{◌≡◌, ℕ, List, [], ◌∷◌, Option, Some, None, Result, Ok, Err}
 use Rattle.std.specs.Option.{option_map}
 use Rattle.tuple_codec.specs.Item.{Item}
 use Rattle.metadata.specs.declared.cells.Cell.{Cell}
 use Rattle.metadata.specs.declared.definition.TypeDefinition.{TypeDefinition}
+use Rattle.metadata.specs.declared.index.IndexDefinition.{IndexDefinition}
 use Rattle.metadata.specs.declared.refusal.Refusal.{Refusal}
 use Rattle.metadata.specs.declared.refusal.Refusal.TheVariants.{AlreadyThere, NoStore, UnknownType}
-use Rattle.metadata.specs.Schema.{Schema, find_type}
-use Rattle.metadata.specs.Change.{add_type, schema_of}
+use Rattle.metadata.specs.Schema.{Schema, find_index, find_type}
+use Rattle.metadata.specs.Asked.{schema_asked}
+use Rattle.metadata.specs.Change.{add_type}
+use Rattle.metadata.specs.IndexChange.{new_index}
 use Rattle.metadata.specs.Record.{Record, primary_key, record_of, key_of}
 use Rattle.schedule.specs.declared.step.Command.{Command}
-use Rattle.schedule.specs.declared.step.Command.TheVariants.{Create, «Type», Save, Load, Remove, Query}
+use Rattle.schedule.specs.declared.step.Command.TheVariants.{Create, «Type», Save, Load, Remove, Query, Index, Drop, Disable, State}
 use Rattle.schedule.specs.declared.reply.Reply.{Reply}
 use Rattle.schedule.specs.declared.reply.Reply.TheVariants as reply
 use Rattle.schedule.specs.declared.reply.Reply.TheVariants.{Refused}
-use Rattle.metadata.specs.Records.{record_at}
-use Rattle.record_store.specs.Store.{Store, Serial, created, extended, saved, removed}
+use Rattle.metadata.specs.Records.{of_type, record_at}
+use Rattle.record_store.specs.Store.{Store, Serial, created, disabled, dropped, extended, indexed, new_state, removed, saved, state_of}
+use Rattle.record_store.specs.Calls.{index_number}
 use Rattle.schedule.specs.Query.{AreRows}
 
 -- a reply, and what is there after it
@@ -62,6 +66,19 @@ served_remove store key = (reply_to_remove (cells_in (record_at key store.record
 abbrev pub served_type : Store → Schema → Served
 served_type store schema = (reply.Done, Some (extended store schema))
 
+-- an index is added, and its state replied; an index is dropped, and disabled; its state is asked for
+abbrev pub served_index : Store → IndexDefinition → Served
+served_index store index = (reply.State (new_state (of_type index.type_number store.records)), Some (indexed store index))
+
+abbrev pub served_drop : Store → ℕ → Served
+served_drop store number = (reply.Done, Some (dropped store number))
+
+abbrev pub served_disable : Store → ℕ → Served
+served_disable store number = (reply.Done, Some (disabled store number))
+
+abbrev pub served_state : Store → ℕ → Served
+served_state store number = (reply.State (state_of store number), Some store)
+
 -- a command on a store. A query isn't served here, since its reply is free
 abbrev pub served_in : Store → Command → Served
 served_in store (Create request) = refused (Some store) AlreadyThere
@@ -69,6 +86,10 @@ served_in store («Type» request) = served_by store (served_type store) (add_ty
 served_in store (Save type cells) = served_by store (served_save store) (record_of store.schema type cells)
 served_in store (Load type cells) = served_by store (served_load store) (key_of store.schema type cells)
 served_in store (Remove type cells) = served_by store (served_remove store) (key_of store.schema type cells)
+served_in store (Index request) = served_by store (served_index store) (new_index store.schema request)
+served_in store (Drop name) = served_by store (served_drop store) (index_number (find_index store.schema name))
+served_in store (Disable name) = served_by store (served_disable store) (index_number (find_index store.schema name))
+served_in store (State name) = served_by store (served_state store) (index_number (find_index store.schema name))
 served_in store (Query query) = (reply.Nothing, Some store)
 
 -- a store is made where there is none, once its schema is accepted
@@ -84,7 +105,7 @@ served_there (Some store) command = served_in store command
 
 -- what the serial store replies to a command, and the store after it
 abbrev pub served : Serial → Command → Served
-served serial (Create request) = served_create serial (schema_of request)
+served serial (Create request) = served_create serial (schema_asked request)
 served serial command = served_there serial command
 
 -- what is there after a command, and after commands in turn

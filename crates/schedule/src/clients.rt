@@ -1,6 +1,7 @@
 ghost use Rattle.std.specs.Prelude.{◌≡◌, ◌≤◌, IfOk};
 ghost use Rattle.schedule.specs.Past.{Past, is_accepted};
 ghost use Rattle.schedule.specs.Running.{IsPerformedBy, IsStepped, IsSubmit, Stands};
+ghost use Rattle.schedule.specs.Values.{AsksValues};
 
 use crate::database::{Database, OpenTransaction, Unreported};
 use crate::performing::perform;
@@ -28,6 +29,7 @@ impl OpenTransaction {
         command: &Command,
         cluster: &Cluster,
     ) -> Result<Reply, AllocError>
+        requires { AsksValues command.now }
         ensures { IfOk result (λ reply. IsPerformedBy cluster.now command.now reply self.old self.new) }
     {
         let reply = perform(alloc, command, &mut self.transaction, cluster)?;
@@ -65,6 +67,7 @@ impl Database {
         client: u64,
         command: &Command,
     ) -> Result<Reply, AllocError>
+        requires { AsksValues command.now }
         ensures { IfOk result (λ reply. IsStepped (Step.Perform client command.now) reply self.old self.new) }
     {
         if client >= CLIENTS as u64 {

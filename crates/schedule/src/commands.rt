@@ -1,4 +1,6 @@
-ghost use Rattle.std.specs.Prelude.{◌≡◌, [], Ok, IfOk, IfErr, map};
+ghost use Rattle.std.specs.Prelude.{◌≡◌, Ok, IfOk, IfErr, map};
+ghost use Rattle.record_store.specs.Holds.{HasPlainIndexes};
+ghost use Rattle.schedule.specs.Values.{AsksValues};
 ghost use Rattle.metadata.specs.Answers.{IsRefusedAs};
 ghost use Rattle.metadata.specs.Record.{record_of};
 ghost use Rattle.record_store.specs.Opening.{IsOpened, IsUnopened};
@@ -20,22 +22,27 @@ use txn::{Snapshot, Transaction};
 const PREFIX: [u8; 2] = [0x15, 0x01];
 
 /// Opens the store.
-fn open<S: Snapshot>(alloc: Global, tx: &mut Transaction, db: &S) -> Result<Store, StoreError>
+pub(crate) fn open<S: Snapshot>(
+    alloc: Global,
+    tx: &mut Transaction,
+    db: &S,
+) -> Result<Store, StoreError>
     ensures opened { IfOk result (λ store. IsOpened (S.map_at db.now) store tx.old tx.new) }
     ensures prefix { IfOk result (λ store. store.prefix ≡ store_prefix) }
-    ensures plain { IfOk result (λ store. store.schema.indexes ≡ []) }
+    ensures plain { IfOk result (λ store. HasPlainIndexes store.schema store.states) }
     ensures refused { IfErr result (λ error. IsUnopened (S.map_at db.now) (S.refusal db.now) store_prefix error tx.old tx.new) }
 {
     Store::open(alloc, &PREFIX, tx, db)
 }
 
-/// Makes a store of these types, where there is none.
+/// Makes a store of these types and indexes, where there is none.
 pub(crate) fn create<S: Snapshot>(
     alloc: Global,
     tx: &mut Transaction,
     db: &S,
     request: &SchemaRequest,
 ) -> Result<Reply, StoreError>
+    requires { AsksValues (Command.Create request.now) }
     ensures performed { IfOk result (λ answer. IsPerformed (S.map_at db.now) (λ range. S.refusal db.now range tx.old.read_version) (Command.Create request.now) answer tx.old tx.new) }
     ensures refused { IfErr result (λ error. IsRefused (S.map_at db.now) (S.refusal db.now) (Command.Create request.now) error tx.old tx.new) }
 {

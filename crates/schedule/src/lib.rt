@@ -9,10 +9,17 @@ ghost use Rattle.cluster_core.specs.declared.answers.ConfigError.{ConfigError as
 ghost use Rattle.schedule.specs.Contract.{AreRequestsOf, EachReply, HasRightReplies, HoldsCommitted, IsSerial, LeavesAll, past_of};
 ghost use Rattle.schedule.specs.Past.{submitted_in};
 ghost use Rattle.schedule.specs.Standing.{cluster_after, commits_of};
+ghost use Rattle.schedule.specs.Values.{StepAsksValues};
+ghost use Rattle.std.specs.List.{AllByRecursion};
 
 mod clients;
 mod commands;
 mod database;
+mod index_commands;
+#[cfg(test)]
+mod index_commands_tests;
+#[cfg(test)]
+mod index_tests;
 mod performing;
 #[cfg(test)]
 mod performing_tests;
@@ -28,6 +35,7 @@ mod step;
 #[cfg(test)]
 mod tests;
 mod transcript;
+mod values;
 
 use cluster_core::Config;
 pub use performing::perform;
@@ -37,17 +45,20 @@ use starting::laws_of;
 use std::alloc::{AllocError, Global};
 pub use step::{CLIENTS, Command, Query, Step};
 pub use transcript::{Commands, CommitEntry, Commits, Replies, ScheduleError, Transcript};
+pub use values::ask_values;
 
 /// Runs a schedule over an empty database, one step at a time.
 ///
 /// It answers what each step replied, the transactions that are committed, and the cluster after
 /// the last step. A refused step is a reply. The schedule is refused with `Config` where the
-/// configuration is, and else with `Memory` where memory runs out.
+/// configuration is, and else with `Memory` where memory runs out. The indexes that the steps ask
+/// for are all VALUE indexes.
 pub fn run_schedule(
     alloc: Global,
     config: &Config,
     steps: &[Step],
 ) -> Result<Transcript, ScheduleError>
+    requires { AllByRecursion StepAsksValues steps.now }
     ensures replies { IfOk result (λ run. HasRightReplies config.now run.cluster.pipeline.requests steps.now run.replies) }
     ensures cluster { IfOk result (λ run. run.cluster ≡ cluster_after config.now run.cluster.pipeline.requests (past_of [] steps.now run.replies)) }
     ensures commits { IfOk result (λ run. run.commits ≡ commits_of run.cluster.pipeline (submitted_in (past_of [] steps.now run.replies))) }

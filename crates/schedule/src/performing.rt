@@ -1,8 +1,10 @@
 ghost use Rattle.std.specs.Prelude.{◌≡◌, None, Some, IfOk, IfErr, OnErr};
 ghost use Rattle.schedule.specs.Performed.{IsPerformed};
+ghost use Rattle.schedule.specs.Values.{AsksValues};
 ghost use Rattle.schedule.specs.Calls.{IsRefused, read_reply, reply_of, write_reply};
 
 use crate::commands::{add_type, create, load, query, remove, save};
+use crate::index_commands::{add_index, disable_index, drop_index, index_state};
 use crate::reply::Reply;
 use crate::step::Command;
 use cluster_core::ReadError;
@@ -59,6 +61,7 @@ fn answer<S: Snapshot>(
     tx: &mut Transaction,
     db: &S,
 ) -> Result<Reply, StoreError>
+    requires { AsksValues command.now }
     ensures performed { IfOk result (λ answer. IsPerformed (S.map_at db.now) (λ range. S.refusal db.now range tx.old.read_version) command.now answer tx.old tx.new) }
     ensures refused { IfErr result (λ error. IsRefused (S.map_at db.now) (S.refusal db.now) command.now error tx.old tx.new) }
 {
@@ -69,19 +72,25 @@ fn answer<S: Snapshot>(
         Command::Load(type_name, cells) => load(alloc, tx, db, type_name, cells),
         Command::Remove(type_name, cells) => remove(alloc, tx, db, type_name, cells),
         Command::Query(asked) => query(alloc, tx, db, asked),
+        Command::Index(request) => add_index(alloc, tx, db, request),
+        Command::Drop(name) => drop_index(alloc, tx, db, name),
+        Command::Disable(name) => disable_index(alloc, tx, db, name),
+        Command::State(name) => index_state(alloc, tx, db, name),
     }
 }
 
 /// Performs a command in a transaction, whose reads are answered by the snapshot.
 ///
 /// A refusal is a reply: it keeps the ranges that were read, and writes nothing. The only error is
-/// want of memory, which writes nothing either.
+/// want of memory, which writes nothing either. The indexes that the command asks for are all
+/// VALUE indexes.
 pub fn perform<S: Snapshot>(
     alloc: Global,
     command: &Command,
     tx: &mut Transaction,
     db: &S,
 ) -> Result<Reply, AllocError>
+    requires { AsksValues command.now }
     ensures performed { IfOk result (λ answer. IsPerformed (S.map_at db.now) (λ range. S.refusal db.now range tx.old.read_version) command.now answer tx.old tx.new) }
     ensures kept { OnErr result (tx.new.mutations ≡ tx.old.mutations) }
 {

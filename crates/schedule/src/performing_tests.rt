@@ -2,13 +2,13 @@
 use super::{Command, Query, Reply, perform};
 use cluster_core::{Cluster, Config, Splits};
 use kv_core::Bytes;
-use metadata::{Cell, Cells, Field, Fields, Kind, Names, SchemaRequest, TypeRequest};
+use metadata::{Cell, Cells, Field, Fields, Kind, Names, SchemaRequest, State, TypeRequest};
 use std::alloc::{AllocError, Global};
 use std::test::Fail;
 use tuple_codec::Text;
 use txn::Transaction;
 
-fn text(alloc: Global, name: &str) -> Result<Text, AllocError> {
+pub(crate) fn text(alloc: Global, name: &str) -> Result<Text, AllocError> {
     Ok(Text::new(String::from_str(alloc, name)?))
 }
 
@@ -43,11 +43,12 @@ fn asked(
 
 /// Makes a store of this type.
 fn create_of(alloc: Global, request: TypeRequest) -> Result<Command, AllocError> {
-    Ok(Command::Create(SchemaRequest::new(vec![in alloc; request]?)))
+    let types = SchemaRequest::new(vec![in alloc; request]?, Vec::new(alloc));
+    Ok(Command::Create(types))
 }
 
 /// Makes a store of the type of this name, of whole numbers k and v, with the key k.
-fn create(alloc: Global, name: &str) -> Result<Command, AllocError> {
+pub(crate) fn create(alloc: Global, name: &str) -> Result<Command, AllocError> {
     create_of(alloc, asked(alloc, name, &["k", "v"], &["k"])?)
 }
 
@@ -73,7 +74,7 @@ fn save_in(alloc: Global, name: &str, values: &[i64]) -> Result<Command, AllocEr
     Ok(Command::Save(text(alloc, name)?, cells(alloc, values)?))
 }
 
-fn save(alloc: Global, values: &[i64]) -> Result<Command, AllocError> {
+pub(crate) fn save(alloc: Global, values: &[i64]) -> Result<Command, AllocError> {
     save_in(alloc, "t", values)
 }
 
@@ -81,11 +82,11 @@ fn load(alloc: Global, key: i64) -> Result<Command, AllocError> {
     Ok(Command::Load(text(alloc, "t")?, cells(alloc, &[key])?))
 }
 
-fn remove(alloc: Global, key: i64) -> Result<Command, AllocError> {
+pub(crate) fn remove(alloc: Global, key: i64) -> Result<Command, AllocError> {
     Ok(Command::Remove(text(alloc, "t")?, cells(alloc, &[key])?))
 }
 
-fn query(alloc: Global, name: &str) -> Result<Command, AllocError> {
+pub(crate) fn query(alloc: Global, name: &str) -> Result<Command, AllocError> {
     let record_type = text(alloc, name)?;
     Ok(Command::Query(Query { record_type }))
 }
@@ -130,6 +131,8 @@ fn told(alloc: Global, reply: &Reply) -> Result<String, AllocError> {
             }
             Ok(told)
         }
+        Reply::State(State::Readable) => String::from_str(alloc, "readable"),
+        Reply::State(State::Disabled) => String::from_str(alloc, "disabled"),
         Reply::Refused(refusal) => format!(in alloc; "refused {refusal:?}"),
         Reply::Corrupt(key) => format!(in alloc; "corrupt {:?}", key.as_slice()),
         _ => String::from_str(alloc, "another"),
@@ -141,6 +144,9 @@ fn replies(alloc: Global, tx: &mut Transaction, commands: &[Command]) -> Result<
     let cluster = cluster(alloc)?;
     let mut replies = Vec::new(alloc);
     for command in commands {
+        if !command.asks_values() {
+            return Err("an index isn't a VALUE index")?;
+        }
         let reply = perform(alloc, command, tx, &cluster)?;
         replies.push(told(alloc, &reply)?)?;
     }
@@ -148,7 +154,11 @@ fn replies(alloc: Global, tx: &mut Transaction, commands: &[Command]) -> Result<
 }
 
 /// Whether commands have these replies in one transaction.
-fn has_replies(alloc: Global, commands: &[Command], wanted: &[&str]) -> Result<bool, Fail> {
+pub(crate) fn has_replies(
+    alloc: Global,
+    commands: &[Command],
+    wanted: &[&str],
+) -> Result<bool, Fail> {
     let mut tx = Transaction::begin(alloc, 0);
     let replies = replies(alloc, &mut tx, commands)?;
     let mut pairs = replies.iter().zip(wanted);

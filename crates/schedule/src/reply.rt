@@ -1,7 +1,7 @@
 ghost use Rattle.std.specs.Prelude.{◌≡◌};
 
 use kv_core::{Bytes, KeyRange};
-use metadata::{Cells, Refusal};
+use metadata::{Cells, Refusal, State};
 use std::marker::Model;
 
 /// The cells of records, in order.
@@ -106,6 +106,8 @@ pub enum Reply {
     Removed,
     /// The rows that answer the query.
     Rows(Rows),
+    /// The state of the index.
+    State(State),
     /// The transaction is submitted at this version.
     Submitted(u64),
     /// The transaction changed nothing and has ended.

@@ -4,6 +4,8 @@ ghost use Rattle.cluster_core.specs.declared.answers.Config.{Config as Configura
 ghost use Rattle.cluster_core.specs.declared.answers.ConfigError.{ConfigError as ConfigRefusal};
 ghost use Rattle.schedule.specs.Past.{Past};
 ghost use Rattle.schedule.specs.Running.{HasRun, IsFirst, IsStepped, Stands};
+ghost use Rattle.schedule.specs.Values.{StepAsksValues};
+ghost use Rattle.std.specs.List.{AllByRecursion};
 
 use crate::database::Database;
 use crate::reply::Reply;
@@ -15,7 +17,8 @@ use std::alloc::{AllocError, Global};
 impl Database {
     // Does one step.
     fn step(&mut self, alloc: Global, step: &Step) -> Result<Reply, AllocError>
-        requires { (past : Past) × Stands past self.old }
+        requires standing { (past : Past) × Stands past self.old }
+        requires values { StepAsksValues step.now }
         ensures { IfOk result (λ reply. IsStepped step.now reply self.old self.new) }
     {
         match step {
@@ -34,7 +37,8 @@ impl Database {
 
     // Does steps one after another, and answers their replies.
     pub(crate) fn steps(&mut self, alloc: Global, steps: &[Step]) -> Result<Vec<Reply>, AllocError>
-        requires { (config : Configuration) × IsFirst config self.old }
+        requires first { (config : Configuration) × IsFirst config self.old }
+        requires values { AllByRecursion StepAsksValues steps.now }
         ensures { IfOk result (λ replies. (config : Configuration) → IsFirst config self.old → HasRun config steps.now replies.items self.new) }
     {
         let mut replies = Vec::new(alloc);

@@ -1,5 +1,5 @@
 //! Schedules run: what no clause says, that memory of an ordinary size is enough.
-use super::{Reply, ScheduleError, Step, run_schedule};
+use super::{Reply, ScheduleError, Step, ask_values, run_schedule};
 use cluster_core::{Config, ConfigError, Splits};
 use metadata::Refusal;
 use std::alloc::{AllocError, Global};
@@ -34,6 +34,9 @@ fn letter(reply: &Reply) -> char {
 /// The letters of the replies to steps, unless memory runs out.
 fn letters(alloc: Global, steps: Vec<Step>) -> Result<String, AllocError> {
     let mut letters = String::new(alloc);
+    if !ask_values(steps.as_slice()) {
+        return Ok(letters);
+    }
     if let Ok(run) = run_schedule(alloc, &config(alloc, 1), steps.as_slice()) {
         for reply in run.replies.as_slice() {
             letters.push(letter(reply))?;

@@ -1,6 +1,6 @@
 ghost use Rattle.std.specs.Prelude.{◌≡◌, IfOk};
 
-use metadata::{Cells, SchemaRequest, TypeRequest};
+use metadata::{Cells, IndexRequest, SchemaRequest, TypeRequest};
 use std::alloc::AllocError;
 use tuple_codec::Text;
 
@@ -27,7 +27,7 @@ impl Query {
 /// A command on the store, in a transaction.
 #[derive(Drop)]
 pub enum Command {
-    /// Makes the store, with these types.
+    /// Makes the store, with these types and indexes.
     Create(SchemaRequest),
     /// Adds this type to the store.
     Type(TypeRequest),
@@ -39,6 +39,14 @@ pub enum Command {
     Remove(Text, Cells),
     /// Asks for the answer to a query.
     Query(Query),
+    /// Adds this index to the store.
+    Index(IndexRequest),
+    /// Drops the index of this name.
+    Drop(Text),
+    /// Disables the index of this name.
+    Disable(Text),
+    /// Asks for the state of the index of this name.
+    State(Text),
 }
 
 impl Command {
@@ -53,6 +61,10 @@ impl Command {
             Command::Load(name, cells) => Ok(Command::Load(name.copy()?, cells.copy()?)),
             Command::Remove(name, cells) => Ok(Command::Remove(name.copy()?, cells.copy()?)),
             Command::Query(query) => Ok(Command::Query(query.copy()?)),
+            Command::Index(request) => Ok(Command::Index(request.copy()?)),
+            Command::Drop(name) => Ok(Command::Drop(name.copy()?)),
+            Command::Disable(name) => Ok(Command::Disable(name.copy()?)),
+            Command::State(name) => Ok(Command::State(name.copy()?)),
         }
     }
 }

@@ -1,5 +1,5 @@
 // Schedules run: what no clause says, that memory of an ordinary size is enough.
-use crate::{Command, Query, Reply, Report, Step, Transcript, run_schedule};
+use crate::{Command, Query, Reply, Report, Step, Transcript, ask_values, run_schedule};
 use cluster_core::{Config, Splits};
 use metadata::{Cell, Cells, Field, Fields, Kind, Names, Refusal, SchemaRequest, TypeRequest};
 use std::alloc::{AllocError, Global};
@@ -24,7 +24,7 @@ fn creation(alloc: Global) -> Result<Command, AllocError> {
         fields: Fields::new(fields),
         key: Names::new(vec![in alloc; text(alloc, "k")?]?),
     };
-    let types = SchemaRequest::new(vec![in alloc; request]?);
+    let types = SchemaRequest::new(vec![in alloc; request]?, Vec::new(alloc));
     Ok(Command::Create(types))
 }
 
@@ -64,6 +64,9 @@ fn config(alloc: Global, start: u64) -> Config {
 }
 
 fn run(alloc: Global, start: u64, steps: Vec<Step>) -> Option<Transcript> {
+    if !ask_values(steps.as_slice()) {
+        return None;
+    }
     run_schedule(alloc, &config(alloc, start), steps.as_slice()).ok()
 }
 

@@ -14,9 +14,9 @@ pub returns-in_err-add_type-clause-refused : goal.returns-in_err-add_type-clause
 returns-in_err-add_type-clause-refused g c =
     exit_with c.from_residual-in_err-add_type.result c.in_err-add_type.field-0.0 _ c.from_residual-in_err-add_type.ensures
     (refused c.in_ok-store.store («Type» c.args.request.now) (λ opened. type_call opened c.args.request.now) told_type c.in_err-add_type.field-0.0 c.in_ok-store.ensures.prefix
-    (type_meets c.in_ok-store.store.schema c.args.request.now) c.in_ok-store.ensures.opened (c.in_err-add_type.ensures.refused _ _))
+    (type_meets c.in_ok-store.store c.args.request.now) c.in_ok-store.ensures.opened (c.in_err-add_type.ensures.refused _ _))
 
 pub returns-clause-performed : goal.returns-clause-performed
 returns-clause-performed g c =
     performed c.in_ok-store.store («Type» c.args.request.now) (λ opened. type_call opened c.args.request.now) told_type c.add_type.new.self.schema c.in_ok-store.ensures.prefix
-    (type_meets c.in_ok-store.store.schema c.args.request.now) c.in_ok-store.ensures.opened (c.in_ok-add_type.ensures.added _)
+    (type_meets c.in_ok-store.store c.args.request.now) c.in_ok-store.ensures.opened (c.in_ok-add_type.ensures.added _)

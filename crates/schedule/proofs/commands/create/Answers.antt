@@ -1,7 +1,7 @@
 use Rattle.std.proofs.Common.{refl}
 use Rattle.record_store.specs.Steps.{of_metadata}
 use Rattle.schedule.proofs.Outcomes.{exit_with}
-use Rattle.schedule.proofs.Serving.{made_plain}
+use Rattle.metadata.proofs.AskedKinds.{asked_kinds}
 use Rattle.schedule.proofs.Creating.{created_now, refused_request, uncreated}
 use Rattle.schedule.proofs.commands.create.Goals as goal
 
@@ -9,8 +9,8 @@ pub returns-in_err-schema-clause-refused : goal.returns-in_err-schema-clause-ref
 returns-in_err-schema-clause-refused g c =
     exit_with c.from_residual.result (of_metadata c.in_err-schema.field-0.0) _ c.from_residual.ensures (refused_request c.args.request.now c.in_err-schema.field-0.0 c.in_err-schema.ensures.refused)
 
-pub create-requires-clause-plain : goal.create-requires-clause-plain
-create-requires-clause-plain g c = made_plain c.args.request.now c.in_ok-schema.schema c.in_ok-schema.ensures.made
+pub create-requires-clause-kinds : goal.create-requires-clause-kinds
+create-requires-clause-kinds g c = asked_kinds c.args.request.now c.in_ok-schema.schema c.requires c.in_ok-schema.ensures.made
 
 pub returns-in_err-_store-clause-refused : goal.returns-in_err-_store-clause-refused
 returns-in_err-_store-clause-refused g c =
@@ -19,4 +19,5 @@ returns-in_err-_store-clause-refused g c =
 
 pub returns-clause-performed : goal.returns-clause-performed
 returns-clause-performed g c =
-    created_now c.args.request.now c.in_ok-_store._store c.in_ok-schema.schema c.in_ok-_store.ensures.prefix c.in_ok-_store.ensures.schema c.in_ok-schema.ensures.made c.in_ok-_store.ensures.created
+    created_now c.args.request.now c.in_ok-_store._store c.in_ok-schema.schema c.in_ok-_store.ensures.prefix c.in_ok-_store.ensures.schema c.in_ok-_store.ensures.states c.in_ok-schema.ensures.made
+    (asked_kinds c.args.request.now c.in_ok-schema.schema c.requires c.in_ok-schema.ensures.made) c.in_ok-_store.ensures.created

@@ -14,10 +14,10 @@ pub returns-in_err-found-clause-refused : goal.returns-in_err-found-clause-refus
 returns-in_err-found-clause-refused g c =
     exit_with c.from_residual-in_err-found.result c.in_err-found.field-0.0 _ c.from_residual-in_err-found.ensures
     (refused c.in_ok-store.store (Load c.args.type_name.now c.args.cells.now) (λ opened. load_call opened c.args.type_name.now c.args.cells.now) told_load c.in_err-found.field-0.0 c.in_ok-store.ensures.prefix
-    (load_meets c.in_ok-store.store.schema c.args.type_name.now c.args.cells.now) c.in_ok-store.ensures.opened c.in_err-found.ensures.refused)
+    (load_meets c.in_ok-store.store c.args.type_name.now c.args.cells.now) c.in_ok-store.ensures.opened c.in_err-found.ensures.refused)
 
 pub returns-clause-performed : goal.returns-clause-performed
 returns-clause-performed g c =
     answered_as c.loaded_reply.ensures
     (performed c.in_ok-store.store (Load c.args.type_name.now c.args.cells.now) (λ opened. load_call opened c.args.type_name.now c.args.cells.now) told_load c.in_ok-found.found c.in_ok-store.ensures.prefix
-    (load_meets c.in_ok-store.store.schema c.args.type_name.now c.args.cells.now) c.in_ok-store.ensures.opened c.in_ok-found.ensures.found)
+    (load_meets c.in_ok-store.store c.args.type_name.now c.args.cells.now) c.in_ok-store.ensures.opened c.in_ok-found.ensures.found)

@@ -15,10 +15,10 @@ pub returns-in_err-was_there-clause-refused : goal.returns-in_err-was_there-clau
 returns-in_err-was_there-clause-refused g c =
     exit_with c.from_residual-in_err-was_there.result c.in_err-was_there.field-0.0 _ c.from_residual-in_err-was_there.ensures
     (refused c.in_ok-store.store (Remove c.args.type_name.now c.args.cells.now) (λ opened. remove_call opened c.args.type_name.now c.args.cells.now) removal_reply c.in_err-was_there.field-0.0 c.in_ok-store.ensures.prefix
-    (remove_meets c.in_ok-store.store.schema c.args.type_name.now c.args.cells.now) c.in_ok-store.ensures.opened c.in_err-was_there.ensures.refused)
+    (remove_meets c.in_ok-store.store c.args.type_name.now c.args.cells.now) c.in_ok-store.ensures.opened c.in_err-was_there.ensures.refused)
 
 pub returns-clause-performed : goal.returns-clause-performed
 returns-clause-performed g c =
     answered_as c.removed_reply.ensures
     (performed c.in_ok-store.store (Remove c.args.type_name.now c.args.cells.now) (λ opened. remove_call opened c.args.type_name.now c.args.cells.now) removal_reply c.in_ok-was_there.was_there c.in_ok-store.ensures.prefix
-    (remove_meets c.in_ok-store.store.schema c.args.type_name.now c.args.cells.now) c.in_ok-store.ensures.opened c.in_ok-was_there.ensures.removed)
+    (remove_meets c.in_ok-store.store c.args.type_name.now c.args.cells.now) c.in_ok-store.ensures.opened c.in_ok-was_there.ensures.removed)

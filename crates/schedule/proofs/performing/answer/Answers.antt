@@ -31,3 +31,8 @@ pub returns-in-Query-clause-performed : goal.returns-in-Query-clause-performed
 returns-in-Query-clause-performed g c =
     subst (λ command. IfOk c.query.result (λ answer. IsPerformed (g.S.Snapshot.map_at c.args.db.now) (λ range. g.S.Snapshot.refusal c.args.db.now range c.args.tx.now.read_version) command answer c.args.tx.now c.query.new.tx))
     (sym c.in-Query.is) c.query.ensures.performed
+
+pub returns-in-State-clause-performed : goal.returns-in-State-clause-performed
+returns-in-State-clause-performed g c =
+    subst (λ command. IfOk c.index_state.result (λ answer. IsPerformed (g.S.Snapshot.map_at c.args.db.now) (λ range. g.S.Snapshot.refusal c.args.db.now range c.args.tx.now.read_version) command answer c.args.tx.now c.index_state.new.tx))
+    (sym c.in-State.is) c.index_state.ensures.performed

@@ -1,4 +1,4 @@
-use Rattle.std.proofs.Common.{ap, subst₂, sym}
+use Rattle.std.proofs.Common.{[], ap, subst, subst₂, sym}
 use Rattle.kv_core.specs.declared.change.CommitRequest.{CommitRequest}
 use Rattle.record_store.specs.Opening.{IsCreated, opening_reach}
 use Rattle.record_store.specs.Steps.{of_write}
@@ -28,9 +28,10 @@ returns-in_err-write_all-clause-refused g c =
 
 pub returns-clause-created : goal.returns-clause-created
 returns-clause-created g c =
-    subst₂ (λ p s. IsCreated (g.S.Snapshot.map_at c.args.db.now) (record { prefix = p; schema = s }) c.args.tx.now c.write_all.new.self) (sym c.in_ok-own_prefix.ensures.items) (sym c.in_ok-own_schema.ensures)
+    subst (λ ss. IsCreated (g.S.Snapshot.map_at c.args.db.now) (record { prefix = c.in_ok-own_prefix.own_prefix.items; schema = c.in_ok-own_schema.own_schema; states = ss }) c.args.tx.now c.write_all.new.self) (sym c.new.ensures.items)
+    (subst₂ (λ p s. IsCreated (g.S.Snapshot.map_at c.args.db.now) (record { prefix = p; schema = s; states = [] }) c.args.tx.now c.write_all.new.self) (sym c.in_ok-own_prefix.ensures.items) (sym c.in_ok-own_schema.ensures)
     (created_now c.args.prefix.now c.args.schema.now c.in_ok-written.written c.in_ok-written.ensures.read c.in_ok-_states.ensures.read c.in_ok-mutations.mutations.items c.types-lawful.ensures.lawful
-    c.in_ok-refuse_store.ensures.none c.in_ok-mutations.ensures c.in_ok-write_all.ensures.ok c.in_ok-write_all.ensures.allowed)
+    c.in_ok-refuse_store.ensures.none c.in_ok-mutations.ensures c.in_ok-write_all.ensures.ok c.in_ok-write_all.ensures.allowed))
 
 pub returns-in_err-written-clause-refused_looked : goal.returns-in_err-written-clause-refused_looked
 returns-in_err-written-clause-refused_looked g c =

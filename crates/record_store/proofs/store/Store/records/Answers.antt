@@ -1,7 +1,6 @@
 use Rattle.std.proofs.Common.{◌∙◌, ap, subst, sym, refl}
 use Rattle.metadata.specs.Record.{Record}
 use Rattle.std.specs.Prelude.{List}
-use Rattle.metadata.proofs.StoredApart.{named_typed, number_small}
 use Rattle.record_store.specs.Call.{IsAnswered}
 use Rattle.record_store.specs.Calls.{done_with, number_of, records_call, records_service}
 use Rattle.record_store.specs.Layout.{place, type_range}
@@ -18,7 +17,6 @@ returns-in_err-records-clause-refused g c =
     (records_service c.args.self.now c.in_ok-definition.definition.now.number) c.in_err-records.field-0.0
     (ap (λ t. done_with (records_service c.args.self.now) (number_of t)) c.in_ok-definition.ensures.found)
     (rows_unread c.args.self.now c.in_ok-definition.definition.now c.prefix.ensures.lawful c.in_ok-definition.ensures.own
-    (number_small c.args.self.now.schema c.in_ok-definition.definition.now c.prefix.ensures.lawful (named_typed c.args.self.now.schema c.in_ok-definition.definition.now.name c.in_ok-definition.definition.now c.prefix.ensures.lawful c.in_ok-definition.ensures.own))
     c.in_ok-range.range c.as_slice-2.result.now c.as_slice.result.now c.in_err-records.field-0.0
     (c.in_ok-range.ensures ∙ ap (λ p. type_range p c.in_ok-definition.definition.now.number) c.prefix.ensures.prefix)
     (c.as_slice.ensures.value ∙ c.in_ok-place.ensures ∙ ap (λ p. place p 1) c.prefix-2.ensures.prefix)
@@ -31,7 +29,6 @@ returns-clause-found g c =
     (records_service c.args.self.now c.in_ok-definition.definition.now.number) c.in_ok-records.records.items
     (ap (λ t. done_with (records_service c.args.self.now) (number_of t)) c.in_ok-definition.ensures.found) refl
     (rows_read c.args.self.now c.in_ok-definition.definition.now c.prefix.ensures.lawful c.in_ok-definition.ensures.own
-    (number_small c.args.self.now.schema c.in_ok-definition.definition.now c.prefix.ensures.lawful (named_typed c.args.self.now.schema c.in_ok-definition.definition.now.name c.in_ok-definition.definition.now c.prefix.ensures.lawful c.in_ok-definition.ensures.own))
     c.in_ok-range.range c.as_slice-2.result.now c.as_slice.result.now c.in_ok-records.records.items
     (c.in_ok-range.ensures ∙ ap (λ p. type_range p c.in_ok-definition.definition.now.number) c.prefix.ensures.prefix)
     (c.as_slice.ensures.value ∙ c.in_ok-place.ensures ∙ ap (λ p. place p 1) c.prefix-2.ensures.prefix)

@@ -1,0 +1,74 @@
+// How the indexes of a store follow its records.
+ghost use Rattle.std.specs.Prelude.{◌≡◌, ◌==◌, ◌++◌, OnOk, find};
+ghost use Rattle.std.specs.Option.{option_copied};
+ghost use Rattle.record_store.specs.IndexWrites.{index_writes, is_readable, one_index_writes, store_of};
+ghost use Rattle.record_store.specs.Store.{state_in};
+
+use crate::store::Store;
+use index_maint::{Maintainer, ValueIndex};
+use kv_core::Mutation;
+use metadata::{IndexDefinition, Record, State};
+use std::alloc::AllocError;
+
+impl Store {
+    // What is listed for the index with this number.
+    fn listed(&self, number: u64) -> Option<&(u64, State)>
+        ensures { option_copied result ≡ find (λ listed. listed.0 == number) self.now.states }
+    {
+        self.states.iter().find(|listed| listed.0 == number)
+    }
+
+    // The state of the index with this number.
+    pub(crate) fn state_of(&self, number: u64) -> State
+        ensures { result ≡ state_in self.now.states number }
+    {
+        match self.listed(number) {
+            Some(listed) => listed.1,
+            None => State::Readable,
+        }
+    }
+
+    // Whether the index with this number may be read.
+    fn is_readable(&self, number: u64) -> bool
+        ensures { result ≡ is_readable (state_in self.now.states number) }
+    {
+        match self.state_of(number) {
+            State::Readable => true,
+            State::WriteOnly => false,
+            State::Disabled => false,
+        }
+    }
+
+    // Puts what one index wants written, where it is readable and of the type with this number.
+    fn push_changes_of(
+        &self,
+        index: &IndexDefinition,
+        number: u64,
+        old: Option<&Record>,
+        new: Option<&Record>,
+        mutations: &mut Vec<Mutation>,
+    ) -> Result<(), AllocError>
+        ensures { OnOk result (mutations.new.items ≡ mutations.old.items ++ one_index_writes self.now number (option_copied old.entry) (option_copied new.entry) index.now) }
+    {
+        if index.type_number == number && self.is_readable(index.number) {
+            ValueIndex::push_changes(self.alloc(), self.prefix(), index, old, new, mutations)?;
+        }
+        Ok(())
+    }
+
+    // Puts what the readable indexes of the type with this number want written where one record of it gives way to another.
+    pub(crate) fn push_index_changes(
+        &self,
+        number: u64,
+        old: Option<&Record>,
+        new: Option<&Record>,
+        mutations: &mut Vec<Mutation>,
+    ) -> Result<(), AllocError>
+        ensures { OnOk result (mutations.new.items ≡ mutations.old.items ++ index_writes self.now.prefix (store_of self.now) number (option_copied old.entry) (option_copied new.entry)) }
+    {
+        for index in self.schema().indexes() {
+            self.push_changes_of(index, number, old, new, mutations)?;
+        }
+        Ok(())
+    }
+}

@@ -1,0 +1,179 @@
+// The indexes of a store are dropped and disabled.
+ghost use Rattle.std.specs.Prelude.{◌≡◌, ◌++◌, ◌∷◌, [], ℕ, List, Ok, Err, Option, IfOk, IfErr, OnErr, OnOk};
+ghost use Rattle.kv_core.specs.Map.{Map};
+ghost use Rattle.kv_core.specs.Range.{KeyRange};
+ghost use Rattle.cluster_core.specs.declared.answers.ReadError.{ReadError};
+ghost use Rattle.metadata.specs.Schema.{find_index};
+ghost use Rattle.kv_core.specs.Range.{point};
+ghost use Rattle.kv_core.specs.declared.change.Mutation.TheVariants.{Set, ClearRange};
+ghost use Rattle.metadata.specs.Answers.{IsRefusedAs};
+ghost use Rattle.metadata.specs.IndexChange.{without_index};
+ghost use Rattle.metadata.specs.Lawful.{IsLawfulSchema};
+ghost use Rattle.metadata.specs.Written.{schema_bytes};
+ghost use Rattle.metadata.specs.declared.index.State.{State};
+ghost use Rattle.record_store.specs.IndexWrites.{disable_writes};
+ghost use Rattle.record_store.specs.Layout.{entries_range, schema_key, state_key};
+ghost use Rattle.record_store.specs.Store.{still_listed, with_state};
+ghost use Rattle.record_store.specs.Call.{IsAnswered, IsRefused};
+ghost use Rattle.record_store.specs.Calls.{disable_call, drop_call, index_number, opened_disabled, opened_without, state_named};
+
+use crate::create::schema_mutations;
+use crate::error::StoreError;
+use crate::layout::{entries_range, state_key, state_value};
+use crate::store::Store;
+use kv_core::{KeyRange, Mutation};
+use metadata::{MetadataError, Refusal, Schema, State};
+use std::alloc::{AllocError, Global};
+use tuple_codec::Text;
+use txn::Transaction;
+
+// Puts a listed state behind others, and before it, where it hasn't its place yet, that of the index with this number. Tells whether that one has its place now.
+fn push_listed(
+    listed: &(u64, State),
+    number: u64,
+    state: State,
+    is_placed: bool,
+    states: &mut Vec<(u64, State)>,
+) -> Result<bool, AllocError>
+    ensures { IfOk result (λ placed. (rest : List (ℕ × State)) → states.old.items ++ still_listed is_placed number state (listed.now ∷ rest) ≡ states.new.items ++ still_listed placed number state rest) }
+{
+    if is_placed {
+        states.push(*listed)?;
+        return Ok(true);
+    }
+    if listed.0 < number {
+        states.push(*listed)?;
+        return Ok(false);
+    }
+    states.push((number, state))?;
+    if number < listed.0 {
+        states.push(*listed)?;
+    }
+    Ok(true)
+}
+
+// These states with this one for the index with this number.
+pub(crate) fn with_state(
+    alloc: Global,
+    old: &[(u64, State)],
+    number: u64,
+    state: State,
+) -> Result<Vec<(u64, State)>, AllocError>
+    ensures { IfOk result (λ states. states.items ≡ with_state number state old.now) }
+{
+    let mut states = Vec::new(alloc);
+    let mut is_placed = false;
+    for listed in old {
+        let is_placed_now = push_listed(listed, number, state, is_placed, &mut states)?;
+        is_placed = is_placed_now;
+    }
+    if !is_placed {
+        states.push((number, state))?;
+    }
+    Ok(states)
+}
+
+impl Store {
+    // The number of the index of this name.
+    fn index_number(&self, name: &Text) -> Result<u64, MetadataError>
+        ensures found { IfOk result (λ number. index_number (find_index self.now.schema name.now) ≡ Ok number) }
+        ensures refused { IfErr result (λ error. IsRefusedAs error (index_number (find_index self.now.schema name.now))) }
+    {
+        match self.schema().index_named(name) {
+            Some(index) => Ok(index.number),
+            None => Err(MetadataError::Refused(Refusal::UnknownIndex)),
+        }
+    }
+
+    // The schema without the index of this name, which has this number.
+    fn schema_without(&self, name: &Text, number: u64) -> Result<Schema, AllocError>
+        requires { index_number (find_index self.now.schema name.now) ≡ Ok number }
+        ensures next { IfOk result (λ next. next ≡ without_index self.now.schema number) }
+        ensures lawful { IfOk result IsLawfulSchema }
+    {
+        let _prefix = self.prefix();
+        let mut next = self.schema().copy()?;
+        match next.drop_index(name) {
+            Ok(()) => Ok(next),
+            Err(_) => unreachable!(),
+        }
+    }
+
+    // What dropping the index with this number writes, where this schema is left.
+    fn drop_mutations(&self, next: &Schema, number: u64) -> Result<Vec<Mutation>, AllocError>
+        ensures { IfOk result (λ mutations. mutations.items ≡ Set (schema_key self.now.prefix) (schema_bytes next.now) ∷ ClearRange (entries_range self.now.prefix number) ∷ ClearRange (point (state_key self.now.prefix number)) ∷ []) }
+    {
+        let alloc = self.alloc();
+        let mut mutations = schema_mutations(alloc, self.prefix(), next)?;
+        let entries = entries_range(alloc, self.prefix(), number)?;
+        mutations.push(Mutation::ClearRange(entries))?;
+        let key = state_key(alloc, self.prefix(), number)?;
+        mutations.push(Mutation::ClearRange(KeyRange::point(alloc, &key)?))?;
+        Ok(mutations)
+    }
+
+    // What disabling the index with this number writes.
+    fn disable_mutations(&self, number: u64) -> Result<Vec<Mutation>, AllocError>
+        ensures { IfOk result (λ mutations. mutations.items ≡ disable_writes self.now.prefix number) }
+    {
+        let alloc = self.alloc();
+        let key = state_key(alloc, self.prefix(), number)?;
+        let value = state_value(alloc, State::Disabled)?;
+        let entries = entries_range(alloc, self.prefix(), number)?;
+        let mut mutations = Vec::new(alloc);
+        mutations.push(Mutation::Set { key, value })?;
+        mutations.push(Mutation::ClearRange(entries))?;
+        Ok(mutations)
+    }
+
+    /// The state of the index of this name. Refused with `UnknownIndex` where there is no such index. It takes no memory.
+    pub fn state(&self, name: &Text) -> Result<State, Refusal>
+        ensures found { IfOk result (λ state. state_named self.now name.now ≡ Ok state) }
+        ensures refused { IfErr result (λ refusal. state_named self.now name.now ≡ Err refusal) }
+    {
+        match self.schema().index_named(name) {
+            Some(index) => Ok(self.state_of(index.number)),
+            None => Err(Refusal::UnknownIndex),
+        }
+    }
+
+    /// Drops the index of this name: it goes from the schema, and what is kept of it goes too. It reads nothing.
+    ///
+    /// Refused with `UnknownIndex` where there is no such index, and last with the write limit that is met. After a refusal the store is as before.
+    pub fn drop_index(&mut self, tx: &mut Transaction, name: &Text) -> Result<(), StoreError>
+        ensures dropped { OnOk result ((maps : ℕ → Map) → IsAnswered maps self.old (drop_call self.old name.now) self.new.schema tx.old tx.new) }
+        ensures opened { OnOk result ((number : ℕ) → index_number (find_index self.old.schema name.now) ≡ Ok number → self.new ≡ opened_without self.old number) }
+        ensures kept { OnErr result (self.new ≡ self.old) }
+        ensures refused { IfErr result (λ error. (maps : ℕ → Map) (refuses : KeyRange → ℕ → Option ReadError) → IsRefused maps refuses self.old (drop_call self.old name.now) error tx.old tx.new) }
+    {
+        let number = self.index_number(name)?;
+        let next = self.schema_without(name, number)?;
+        let mutations = self.drop_mutations(&next, number)?;
+        tx.write_all(mutations)?;
+        self.schema = next;
+        self.states.retain(|listed| listed.0 != number);
+        Ok(())
+    }
+
+    /// Disables the index of this name: its state is written, and its entries go. It reads nothing.
+    ///
+    /// Refused with `UnknownIndex` where there is no such index, and last with the write limit that is met. After a refusal the store is as before.
+    pub fn mark_disabled(&mut self, tx: &mut Transaction, name: &Text) -> Result<(), StoreError>
+        ensures disabled { OnOk result ((maps : ℕ → Map) → IsAnswered maps self.old (disable_call self.old name.now) self.new.states tx.old tx.new) }
+        ensures opened { OnOk result ((number : ℕ) → index_number (find_index self.old.schema name.now) ≡ Ok number → self.new ≡ opened_disabled self.old number) }
+        ensures kept { OnErr result (self.new ≡ self.old) }
+        ensures refused { IfErr result (λ error. (maps : ℕ → Map) (refuses : KeyRange → ℕ → Option ReadError) → IsRefused maps refuses self.old (disable_call self.old name.now) error tx.old tx.new) }
+    {
+        let number = self.index_number(name)?;
+        let next = with_state(
+            self.alloc(),
+            self.states.as_slice(),
+            number,
+            State::Disabled,
+        )?;
+        let mutations = self.disable_mutations(number)?;
+        tx.write_all(mutations)?;
+        self.states = next;
+        Ok(())
+    }
+}

@@ -1,0 +1,105 @@
+-- Worked examples of indexes: what the serial store replies to commands on them, and what commands write where there are indexes.
+use Rattle.std.proofs.Common.{◌≡◌, ℕ, List, [], ◌∷◌, None, refl, pos}
+use Rattle.metadata.specs.declared.cells.Cell.{Cell}
+use Rattle.metadata.specs.declared.cells.Cell.TheVariants.{Null, Int}
+use Rattle.metadata.specs.declared.cells.Kind.TheVariants as kind
+use Rattle.metadata.specs.declared.definition.Field.{Field}
+use Rattle.metadata.specs.declared.index.IndexKind.TheVariants.{Value}
+use Rattle.metadata.specs.declared.index.IndexRequest.{IndexRequest}
+use Rattle.metadata.specs.declared.index.State.TheVariants.{Readable, Disabled}
+use Rattle.metadata.specs.declared.refusal.Refusal.TheVariants.{BadSchema, NameTaken, UnknownField, UnknownIndex, UnknownType}
+use Rattle.metadata.specs.Written.{schema_bytes}
+use Rattle.kv_core.specs.Range.{point}
+use Rattle.kv_core.specs.declared.change.Mutation.{Mutation}
+use Rattle.kv_core.specs.declared.change.Mutation.TheVariants.{Set, ClearRange}
+use Rattle.record_store.specs.Store.{Serial, schema_in}
+use Rattle.record_store.specs.Layout.{record_value, type_range}
+use Rattle.schedule.specs.declared.step.Command.{Command}
+use Rattle.schedule.specs.declared.step.Command.TheVariants.{Create, Save, Load, Remove, Index, Drop, Disable, State}
+use Rattle.schedule.specs.declared.reply.Reply.{Reply}
+use Rattle.schedule.specs.declared.reply.Reply.TheVariants as answers
+use Rattle.schedule.specs.declared.reply.Reply.TheVariants.{Done, SavedNew, SavedOver, Refused}
+use Rattle.schedule.specs.Layout.{store_prefix}
+use Rattle.schedule.specs.Reach.{own_reach, writes}
+use Rattle.schedule.specs.Serve.{effects, served}
+use Rattle.tuple_codec.specs.Spelling.{int_spelling, byte_count}
+
+abbrev t : List ℕ
+t = 116 ∷ []
+
+abbrev k : List ℕ
+k = 107 ∷ []
+
+abbrev a : List ℕ
+a = 97 ∷ []
+
+abbrev b : List ℕ
+b = 98 ∷ []
+
+abbrev z : List ℕ
+z = 122 ∷ []
+
+abbrev field : List ℕ → Field
+field name = record { name = name; kind = kind.Int }
+
+-- a VALUE index of this name over columns of a type
+abbrev asked : List ℕ → List ℕ → List (List ℕ) → IndexRequest
+asked name type_name columns = record { name = name; kind = Value; type_name = type_name; columns = columns; summed = None }
+
+-- the type t of whole numbers k, a, b with key k, and an index a on its field a
+abbrev create : Command
+create = Create (record { types = record { name = t; fields = field k ∷ field a ∷ field b ∷ []; key = k ∷ [] } ∷ []; indexes = asked a t (a ∷ []) ∷ [] })
+
+abbrev i : ℕ → Cell
+i n = Int (pos n)
+
+abbrev row : ℕ → ℕ → List Cell
+row key other = i key ∷ i other ∷ Null ∷ []
+
+abbrev save : ℕ → ℕ → Command
+save key other = Save t (row key other)
+
+-- the replies of the serial store to commands in turn
+abbrev replies : Serial → List Command → List Reply
+replies serial [] = []
+replies serial (command ∷ commands) = (served serial command).0 ∷ replies (served serial command).1 commands
+
+-- an index that comes with the store, or to a type without records, is readable; one that comes to a type with records is disabled
+states : replies None (create ∷ State a ∷ Index (asked z t (b ∷ [])) ∷ save 1 5 ∷ Index (asked b t (b ∷ [])) ∷ State b ∷ State z ∷ Disable a ∷ State a ∷ Drop a ∷ State a ∷ Index (asked a t (a ∷ [])) ∷ [])
+    ≡ Done ∷ answers.State Readable ∷ answers.State Readable ∷ SavedNew ∷ answers.State Disabled ∷ answers.State Disabled ∷ answers.State Readable ∷ Done ∷ answers.State Disabled ∷ Done ∷ Refused UnknownIndex ∷ answers.State Disabled ∷ []
+states = refl
+
+-- what is refused of indexes
+refusals : replies None (create ∷ Index (asked b z (a ∷ [])) ∷ Index (asked a t (a ∷ [])) ∷ Index (asked b t (z ∷ [])) ∷ Index (asked b t []) ∷ Drop b ∷ Disable b ∷ State b ∷ [])
+    ≡ Done ∷ Refused UnknownType ∷ Refused NameTaken ∷ Refused UnknownField ∷ Refused BadSchema ∷ Refused UnknownIndex ∷ Refused UnknownIndex ∷ Refused UnknownIndex ∷ []
+refusals = refl
+
+abbrev there : Serial
+there = effects None (create ∷ save 1 5 ∷ [])
+
+-- the keys of the record 1 and of its entries
+abbrev one : List ℕ
+one = 0x15 ∷ 0x01 ∷ 0x15 ∷ 0x01 ∷ 0x15 ∷ 0x01 ∷ 0x15 ∷ 0x01 ∷ []
+
+abbrev entry : ℕ → List ℕ
+entry value = 0x15 ∷ 0x01 ∷ 0x15 ∷ 0x02 ∷ 0x15 ∷ 0x01 ∷ 0x15 ∷ value ∷ 0x15 ∷ 0x01 ∷ 0x15 ∷ 0x01 ∷ []
+
+-- a save writes the record, then its old entry goes and its new one comes; where the columns are the same neither is touched
+saving : (writes there (save 1 6) ≡ Set one (record_value (row 1 6)) ∷ ClearRange (point (entry 5)) ∷ Set (entry 6) [] ∷ []) × (writes there (save 1 5) ≡ Set one (record_value (row 1 5)) ∷ [])
+unfolding int_spelling byte_count
+saving = (refl, refl)
+
+-- a removal takes out the record, then its entry
+removing : (writes there (Remove t (i 1 ∷ [])) ≡ ClearRange (point one) ∷ ClearRange (point (entry 5)) ∷ []) × (writes there (Remove t (i 2 ∷ [])) ≡ [])
+unfolding int_spelling byte_count
+removing = (refl, refl)
+
+-- a disabled index isn't written, and what disabling writes is its state and the range of its entries
+disabled : (writes (effects there (Disable a ∷ [])) (save 1 6) ≡ Set one (record_value (row 1 6)) ∷ [])
+    × (writes there (Disable a) ≡ Set (0x15 ∷ 0x01 ∷ 0x15 ∷ 0x05 ∷ 0x15 ∷ 0x01 ∷ []) (0x15 ∷ 0x02 ∷ []) ∷ ClearRange (record { begin = 0x15 ∷ 0x01 ∷ 0x15 ∷ 0x02 ∷ 0x15 ∷ 0x01 ∷ []; end = 0x15 ∷ 0x01 ∷ 0x15 ∷ 0x02 ∷ 0x15 ∷ 0x01 ∷ 0xff ∷ [] }) ∷ [])
+unfolding int_spelling byte_count
+disabled = (refl, refl)
+
+-- a new index reads the records of its type, a dropped one nothing
+reaches : (own_reach (schema_in there) (Index (asked b t (b ∷ []))) ≡ type_range store_prefix 1 ∷ []) × (own_reach (schema_in there) (Index (asked a t (b ∷ []))) ≡ []) × (own_reach (schema_in there) (Drop a) ≡ [])
+reaches = (refl, refl, refl)

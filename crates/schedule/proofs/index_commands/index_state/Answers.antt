@@ -1,0 +1,14 @@
+use Rattle.std.proofs.Common.{refl}
+use Rattle.schedule.specs.declared.step.Command.TheVariants.{State}
+use Rattle.schedule.proofs.Outcomes.{exit_with, refused_unopened}
+use Rattle.schedule.proofs.IndexServing.{state_refused}
+use Rattle.schedule.proofs.index_commands.index_state.Goals as goal
+
+pub returns-in_err-store-clause-refused : goal.returns-in_err-store-clause-refused
+returns-in_err-store-clause-refused g c =
+    exit_with c.from_residual.result c.in_err-store.field-0.0 _ c.from_residual.ensures
+    (refused_unopened (State c.args.name.now) c.in_err-store.field-0.0 refl refl c.in_err-store.ensures.refused)
+
+pub returns-clause-refused : goal.returns-clause-refused
+returns-clause-refused g c =
+    state_refused c.in_ok-store.store c.args.name.now c.in-Err.refusal c.in_ok-store.ensures.prefix c.in_ok-store.ensures.opened c.in-Err.ensures.refused

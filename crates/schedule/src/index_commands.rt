@@ -1,0 +1,77 @@
+// The commands on indexes.
+ghost use Rattle.std.specs.Prelude.{IfOk, IfErr};
+ghost use Rattle.schedule.specs.declared.step.Command.{Command};
+ghost use Rattle.schedule.specs.Calls.{IsRefused};
+ghost use Rattle.schedule.specs.Performed.{IsPerformed};
+ghost use Rattle.schedule.specs.Values.{AsksValues};
+
+use crate::commands::open;
+use crate::reply::Reply;
+use metadata::IndexRequest;
+use record_store::StoreError;
+use std::alloc::Global;
+use tuple_codec::Text;
+use txn::{Snapshot, Transaction};
+
+/// Adds an index to the store.
+pub(crate) fn add_index<S: Snapshot>(
+    alloc: Global,
+    tx: &mut Transaction,
+    db: &S,
+    request: &IndexRequest,
+) -> Result<Reply, StoreError>
+    requires { AsksValues (Command.Index request.now) }
+    ensures performed { IfOk result (λ answer. IsPerformed (S.map_at db.now) (λ range. S.refusal db.now range tx.old.read_version) (Command.Index request.now) answer tx.old tx.new) }
+    ensures refused { IfErr result (λ error. IsRefused (S.map_at db.now) (S.refusal db.now) (Command.Index request.now) error tx.old tx.new) }
+{
+    let mut store = open(alloc, tx, db)?;
+    let state = store.add_index(tx, db, request)?;
+    Ok(Reply::State(state))
+}
+
+/// Drops the index of this name.
+pub(crate) fn drop_index<S: Snapshot>(
+    alloc: Global,
+    tx: &mut Transaction,
+    db: &S,
+    name: &Text,
+) -> Result<Reply, StoreError>
+    ensures performed { IfOk result (λ answer. IsPerformed (S.map_at db.now) (λ range. S.refusal db.now range tx.old.read_version) (Command.Drop name.now) answer tx.old tx.new) }
+    ensures refused { IfErr result (λ error. IsRefused (S.map_at db.now) (S.refusal db.now) (Command.Drop name.now) error tx.old tx.new) }
+{
+    let mut store = open(alloc, tx, db)?;
+    store.drop_index(tx, name)?;
+    Ok(Reply::Done)
+}
+
+/// Disables the index of this name.
+pub(crate) fn disable_index<S: Snapshot>(
+    alloc: Global,
+    tx: &mut Transaction,
+    db: &S,
+    name: &Text,
+) -> Result<Reply, StoreError>
+    ensures performed { IfOk result (λ answer. IsPerformed (S.map_at db.now) (λ range. S.refusal db.now range tx.old.read_version) (Command.Disable name.now) answer tx.old tx.new) }
+    ensures refused { IfErr result (λ error. IsRefused (S.map_at db.now) (S.refusal db.now) (Command.Disable name.now) error tx.old tx.new) }
+{
+    let mut store = open(alloc, tx, db)?;
+    store.mark_disabled(tx, name)?;
+    Ok(Reply::Done)
+}
+
+/// Asks for the state of the index of this name.
+pub(crate) fn index_state<S: Snapshot>(
+    alloc: Global,
+    tx: &mut Transaction,
+    db: &S,
+    name: &Text,
+) -> Result<Reply, StoreError>
+    ensures performed { IfOk result (λ answer. IsPerformed (S.map_at db.now) (λ range. S.refusal db.now range tx.old.read_version) (Command.State name.now) answer tx.old tx.new) }
+    ensures refused { IfErr result (λ error. IsRefused (S.map_at db.now) (S.refusal db.now) (Command.State name.now) error tx.old tx.new) }
+{
+    let store = open(alloc, tx, db)?;
+    match store.state(name) {
+        Ok(state) => Ok(Reply::State(state)),
+        Err(refusal) => Err(StoreError::Refused(refusal)),
+    }
+}
