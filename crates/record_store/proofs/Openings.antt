@@ -60,7 +60,6 @@ pub one_covers : (range other : KeyRange) → range ≡ other → (k : List ℕ)
 one_covers range other is k h = or_left (contains other k) false (ap (λ r. contains r k) (sym is) ∙ h)
 
 -- ---- one record
-
 -- the pairs read at one key
 read_at : (m : Map) (key : List ℕ) (value : Option (List ℕ)) → get m key ≡ value → read_in m (point key ∷ []) ≡ at_key key value
 read_at m key value is = append-nil (pairs_in m (point key)) ∙ pairs_at m key value is
@@ -148,7 +147,6 @@ module _ (opened : Opened) (type : TypeDefinition) (key : List Item) (lawful : I
   }
 
 -- ---- the schema
-
 -- indexes that are told to be VALUE indexes are
 value_kind : (kind : IndexKind) → is_value kind ≡ true → kind ≡ Value
 value_kind Value is = refl
@@ -248,7 +246,6 @@ module _ (prefix : List ℕ) where
       all_disabled (one ∷ left) all = (all.0.state, all_disabled left all.1)
 
   -- ---- damage
-
   -- the pairs of a range lie in it
   kept_lie : (range : KeyRange) (es : List Pair) → AllByRecursion (λ (e : Pair). contains range e.0 ≡ true) (filter (λ (e : Pair). contains range e.0) es)
   kept_lie range [] = tt
