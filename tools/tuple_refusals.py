@@ -1,7 +1,7 @@
 #!/usr/bin/env python3
 """Works out, from the grammar of packed tuples alone, what each prefix and each single-byte change of one pack is refused for.
 
-Prints the rows of crates/tuple_codec/src/changes.rt. It shares no code with the crate: it is the other side of that test.
+Prints the rows of crates/trials/src/changes.rt. It shares no code with the crates: it is the other side of the test in tuples.rt there.
 """
 
 PACK = bytes.fromhex("02" "6100ff00" "05" "00ff" "1505" "00" "13fe" "27")

@@ -3,8 +3,6 @@
 
 mod answers;
 mod cluster;
-#[cfg(test)]
-mod cluster_tests;
 mod config;
 mod kept;
 mod laws;
@@ -13,11 +11,7 @@ mod part;
 mod pipeline;
 mod resolver;
 mod server;
-#[cfg(test)]
-mod tests;
 mod tier;
-#[cfg(test)]
-mod tier_tests;
 
 pub use answers::{Config, ConfigError, HoldError, ReadError, Reported, Splits, SubmitError, Work};
 pub use cluster::Cluster;

@@ -7,8 +7,6 @@ mod entry;
 mod laws;
 mod layout;
 mod maintainer;
-#[cfg(test)]
-mod tests;
 
 pub use laws::{entries_tell_records, places_are_apart};
 pub use layout::entries_prefix;

@@ -6,8 +6,6 @@ mod addition;
 mod bytes;
 mod change;
 mod coverage;
-#[cfg(test)]
-mod coverage_tests;
 mod kv_map;
 mod laws;
 mod limits;
@@ -16,8 +14,6 @@ mod range;
 mod range_list;
 mod removal;
 mod size;
-#[cfg(test)]
-mod tests;
 
 pub use addition::add_le;
 pub use bytes::Bytes;

@@ -8,8 +8,6 @@ mod definition;
 mod index;
 mod index_change;
 mod index_reading;
-#[cfg(test)]
-mod index_tests;
 mod lawful;
 mod names;
 mod order;
@@ -20,8 +18,6 @@ mod same;
 mod same_form;
 mod schema;
 mod stored;
-#[cfg(test)]
-mod tests;
 mod writing;
 mod written;
 

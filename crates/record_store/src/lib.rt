@@ -16,11 +16,7 @@ mod reading;
 mod remove;
 mod save;
 mod scan;
-#[cfg(test)]
-mod scenes;
 mod store;
-#[cfg(test)]
-mod tests;
 mod types;
 
 pub use error::StoreError;

@@ -7,7 +7,8 @@ use Rattle.schedule.specs.declared.step.Step.{Step}
 use Rattle.schedule.specs.declared.transcript.Transcript.{Transcript}
 use Rattle.recordctl.specs.declared.fault.Fault.{Fault}
 use Rattle.recordctl.specs.declared.fault.Fault.TheVariants.{OutOfMemory, CannotRead, BadScript, BadConfig, BadArgument, Refused}
-use Rattle.recordctl.specs.Script.{IsScript, IsTranscriptOf, explains_run, value_in}
+use Rattle.script.specs.Script.{IsScript, value_in}
+use Rattle.recordctl.specs.Run.{IsTranscriptOf, explains_run}
 
 -- no more than so many bytes are read
 pub front_is_read : (known : Option (List ℕ)) (most : ℕ) (before after : List ℕ) → before ≡ []

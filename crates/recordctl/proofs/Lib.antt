@@ -1,11 +1,1 @@
-pub mod Each
-pub mod Hex
-pub mod Forms
 pub mod Input
-pub mod Decimals
-pub mod TupleForms
-pub mod Labels
-pub mod Tables
-pub mod Keys
-pub mod BadSteps
-pub mod Values

@@ -6,7 +6,7 @@ use Rattle.tuple_codec.specs.Spelling.{Spells, spelling}
 use Rattle.tuple_codec.specs.Refusal.{Refuses}
 use Rattle.recordctl.specs.declared.fault.Fault.{Fault}
 use Rattle.recordctl.specs.declared.fault.Fault.TheVariants.{CannotRead, BadScript, BadConfig, BadArgument, Refused, OutOfMemory}
-use Rattle.recordctl.specs.TupleJson.{tuple_of_text}
+use Rattle.json_forms.specs.TupleJson.{tuple_of_text}
 
 -- the line of a text
 abbrev pub line_of : List ℕ → List ℕ

@@ -1,13 +1,12 @@
 ghost use Rattle.std.specs.Prelude.{◌≡◌, ◌≢◌, ◌≤◌, ◌⊎◌, take, IfOk, IfErr, IfSome};
 ghost use Rattle.std.specs.Process.{exit_status};
-ghost use Rattle.recordctl.specs.Script.{IsRun, IsTranscriptOf, explains_run};
+ghost use Rattle.recordctl.specs.Run.{IsRun, IsTranscriptOf, explains_run};
 ghost use Rattle.recordctl.specs.declared.run.PrintError.TheVariants.{CannotWrite, OutOfMemory};
 
 use crate::fault::Fault;
-use crate::print::make_line;
-use crate::script::{MAX_SCRIPT_BYTES, script_of};
 use cluster_core::ConfigError;
 use schedule::{Replies, ScheduleError, Transcript, run_schedule};
+use script::{MAX_SCRIPT_BYTES, ScriptError, make_line, script_of};
 use std::alloc::{AllocError, Global};
 use std::io;
 use std::io::{BufWriter, ErrorKind, Read, Write};
@@ -66,7 +65,11 @@ fn run_script(alloc: Global, text: &[u8]) -> Result<Transcript, Fault>
     ensures ok { IfOk result (IsTranscriptOf text.now) }
     ensures err { IfErr result (explains_run text.now) }
 {
-    let script = script_of(alloc, text)?;
+    let script = match script_of(alloc, text) {
+        Ok(script) => script,
+        Err(ScriptError::BadScript(step)) => return Err(Fault::BadScript(step)),
+        Err(ScriptError::OutOfMemory) => return Err(Fault::OutOfMemory),
+    };
     match run_schedule(alloc, &script.config, script.steps.as_slice()) {
         Ok(transcript) => Ok(transcript),
         Err(ScheduleError::Config(refusal)) => Err(refused(refusal)),
@@ -119,9 +122,10 @@ pub fn refuse<E: Write>(errors: &mut E, fault: Fault) -> ExitCode
     ExitCode::FAILURE
 }
 
-/// Reads a script, runs its steps over an empty database and prints a line for each on `output`. A script is read and
-/// checked whole before its first step runs; where that fails a line on `errors` says why, and nothing is printed on
-/// `output`. Answers the exit status: 0, or 1 for such a fault, for want of memory and where `output` can't be written.
+/// Reads a script, runs its steps over an empty database and prints a line for each on `output`. A
+/// script is read and checked whole before its first step runs; where that fails a line on `errors`
+/// says why, and nothing is printed on `output`. Answers the exit status: 0, or 1 for such a fault,
+/// for want of memory and where `output` can't be written.
 pub fn run<R: Read, W: Write, E: Write>(
     alloc: Global,
     input: &mut R,

@@ -2,13 +2,13 @@ ghost use Rattle.std.specs.Prelude.{◌≡◌, ◌≤◌, List, ℕ, Some, Ok, I
 ghost use Rattle.std.specs.Io.KnownBytes.{Appends};
 ghost use Rattle.std.specs.Process.{exit_status};
 ghost use Rattle.hex.specs.Hex.{decode_of};
-ghost use Rattle.recordctl.specs.TupleJson.{tuple_of_text};
+ghost use Rattle.json_forms.specs.TupleJson.{tuple_of_text};
 ghost use Rattle.recordctl.specs.TupleLines.{packed_line, IsUnpackedLine, explains_pack, explains_unpack};
 
 use crate::fault::Fault;
 use crate::run::refuse;
-use crate::tuple_json::{tuple_of, tuple_text};
 use hex::FromHexError;
+use json_forms::{PartError, tuple_of, tuple_text};
 use serde_json::Value;
 use std::alloc::Global;
 use std::io;
@@ -28,7 +28,8 @@ fn read_tuple(alloc: Global, word: &str) -> Result<Tuple, Fault>
     };
     match tuple_of(alloc, &value) {
         Ok(tuple) => Ok(tuple),
-        Err(error) => Err(error.fault(Fault::BadArgument)),
+        Err(PartError::BadForm) => Err(Fault::BadArgument),
+        Err(PartError::OutOfMemory) => Err(Fault::OutOfMemory),
     }
 }
 
@@ -100,9 +101,10 @@ fn print_line<W: Write, E: Write>(
     }
 }
 
-/// Prints the pack of the tuple that a JSON text stands for, in lower-case hexadecimal digits and a line of its own. Answers
-/// the exit status: 0, or 1 with a line on `errors` where the text stands for no tuple (`bad argument`) or memory is
-/// wanting, and 1 without one where `output` can't be written.
+/// Prints the pack of the tuple that a JSON text stands for, in lower-case hexadecimal digits and a
+/// line of its own. Answers the exit status: 0, or 1 with a line on `errors` where the text stands
+/// for no tuple (`bad argument`) or memory is wanting, and 1 without one where `output` can't be
+/// written.
 pub fn pack<W: Write, E: Write>(
     alloc: Global,
     word: &str,
@@ -116,9 +118,10 @@ pub fn pack<W: Write, E: Write>(
     print_line(output, errors, line_of_pack(alloc, word))
 }
 
-/// Prints the tuple that bytes spell, which the word writes in hexadecimal digits, as JSON on a line of its own. Answers
-/// the exit status: 0, or 1 with a line on `errors` where the word isn't of such digits (`bad argument`), the bytes are
-/// refused (`refused NAME at N`) or memory is wanting, and 1 without one where `output` can't be written.
+/// Prints the tuple that bytes spell, which the word writes in hexadecimal digits, as JSON on a
+/// line of its own. Answers the exit status: 0, or 1 with a line on `errors` where the word isn't
+/// of such digits (`bad argument`), the bytes are refused (`refused NAME at N`) or memory is
+/// wanting, and 1 without one where `output` can't be written.
 pub fn unpack<W: Write, E: Write>(
     alloc: Global,
     word: &str,

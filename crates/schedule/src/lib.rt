@@ -16,24 +16,14 @@ mod clients;
 mod commands;
 mod database;
 mod index_commands;
-#[cfg(test)]
-mod index_commands_tests;
-#[cfg(test)]
-mod index_tests;
 mod performing;
-#[cfg(test)]
-mod performing_tests;
 mod reply;
 mod reporting;
 mod roles;
 mod running;
-#[cfg(test)]
-mod running_tests;
 mod settle;
 mod starting;
 mod step;
-#[cfg(test)]
-mod tests;
 mod transcript;
 mod values;
 

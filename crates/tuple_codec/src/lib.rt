@@ -7,15 +7,11 @@ ghost use Rattle.tuple_codec.specs.Item.{magnitude};
 ghost use Rattle.tuple_codec.specs.Writing.{IsSigned};
 ghost use Rattle.tuple_codec.specs.Reading.{signed};
 
-#[cfg(test)]
-mod changes;
 mod keys;
 mod nest;
 mod order;
 mod read;
 mod room;
-#[cfg(test)]
-mod tests;
 mod unpacking;
 mod write;
 

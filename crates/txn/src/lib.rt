@@ -2,22 +2,14 @@
 #![tactic(auto)]
 
 mod commit;
-#[cfg(test)]
-mod commit_tests;
 mod laws;
 mod merge;
 mod own;
 mod read;
 mod retry;
-#[cfg(test)]
-mod retry_tests;
 mod snapshot;
-#[cfg(test)]
-mod snapshot_tests;
 mod sum;
 mod transaction;
-#[cfg(test)]
-mod transaction_tests;
 
 pub use commit::Commit;
 pub use laws::reads_decide;

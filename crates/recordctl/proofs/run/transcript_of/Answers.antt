@@ -1,5 +1,5 @@
 use Rattle.std.proofs.Common.{IfSome, rules}
-use Rattle.recordctl.specs.Script.{explains_run}
+use Rattle.recordctl.specs.Run.{explains_run}
 use Rattle.recordctl.proofs.Input.{explained_of_front, transcript_of_front}
 use Rattle.recordctl.proofs.run.transcript_of.Goals as goal
 

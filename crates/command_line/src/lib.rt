@@ -1,0 +1,6 @@
+//! The command line of `recordctl`: what its words ask for.
+#![tactic(auto)]
+
+mod request;
+
+pub use request::{CommandLineError, Request, request_of};

@@ -1,0 +1,109 @@
+use clap::error::ErrorKind;
+use clap::{Arg, ArgMatches, Command, Error};
+use std::alloc::{AllocError, Global};
+
+/// What a command line asks for.
+#[derive(Debug, Drop)]
+pub enum Request {
+    /// To run the script in this file, or without one that on standard input.
+    Run(Option<String>),
+    /// To print the pack of the tuple that this text stands for.
+    Pack(String),
+    /// To print the tuple that the bytes of these hexadecimal digits spell.
+    Unpack(String),
+}
+
+/// Why a command line asks for nothing.
+#[derive(Debug, Drop)]
+pub enum CommandLineError {
+    /// The words aren't taken, which the text says, or they ask for help, which the text is.
+    NotTaken(String),
+    /// Memory is wanting.
+    OutOfMemory,
+}
+
+impl From<AllocError> for CommandLineError {
+    fn from(_error: AllocError) -> CommandLineError {
+        CommandLineError::OutOfMemory
+    }
+}
+
+fn run_command<'a>(alloc: Global) -> Result<Command<'a>, AllocError> {
+    let file = Arg::new(alloc, "FILE").help("The script; without it standard input is read");
+    Command::new(alloc, "run")
+        .about("Runs the steps of a script and prints what each replies")
+        .arg(file)
+}
+
+fn pack_command<'a>(alloc: Global) -> Result<Command<'a>, AllocError> {
+    let json = Arg::new(alloc, "JSON")
+        .help("The tuple, as a list")
+        .required(true);
+    Command::new(alloc, "pack")
+        .about("Prints the pack of a tuple in hexadecimal digits")
+        .arg(json)
+}
+
+fn unpack_command<'a>(alloc: Global) -> Result<Command<'a>, AllocError> {
+    let hex = Arg::new(alloc, "HEX")
+        .help("The bytes, in hexadecimal digits")
+        .required(true);
+    Command::new(alloc, "unpack")
+        .about("Prints the tuple that bytes spell")
+        .arg(hex)
+}
+
+// What the command line may be.
+fn command_line<'a>(alloc: Global) -> Result<Command<'a>, AllocError> {
+    Command::new(alloc, "recordctl")
+        .about("Runs scripts over a record store, and packs and unpacks tuples")
+        .subcommand_required(true)
+        .subcommand(run_command(alloc)?)?
+        .subcommand(pack_command(alloc)?)?
+        .subcommand(unpack_command(alloc)?)
+}
+
+// What the words of the command line match.
+fn matches_of<'a>(alloc: Global, words: &'a [String]) -> Result<ArgMatches<'a>, Error> {
+    command_line(alloc)?.try_get_matches_from(words)
+}
+
+// Why the words aren't taken.
+fn not_taken(alloc: Global, error: &Error) -> CommandLineError {
+    if error.kind() == ErrorKind::OutOfMemory {
+        return CommandLineError::OutOfMemory;
+    }
+    match format!(in alloc; "{error}") {
+        Ok(text) => CommandLineError::NotTaken(text),
+        Err(_) => CommandLineError::OutOfMemory,
+    }
+}
+
+// What the words that match ask for.
+fn request_in(alloc: Global, matches: &ArgMatches) -> Result<Request, AllocError> {
+    let pack_words = matches.subcommand_matches("pack");
+    if let Some(word) = pack_words.and_then(|words| words.get_str("JSON")) {
+        return Ok(Request::Pack(String::from_str(alloc, word)?));
+    }
+    let unpack_words = matches.subcommand_matches("unpack");
+    if let Some(word) = unpack_words.and_then(|words| words.get_str("HEX")) {
+        return Ok(Request::Unpack(String::from_str(alloc, word)?));
+    }
+    let run_words = matches.subcommand_matches("run");
+    match run_words.and_then(|words| words.get_str("FILE")) {
+        Some(path) => Ok(Request::Run(Some(String::from_str(alloc, path)?))),
+        None => Ok(Request::Run(None)),
+    }
+}
+
+/// What the words of a command line ask for, the program's name first. It answers `NotTaken` where
+/// they aren't taken or ask for help, and `OutOfMemory` where memory is wanting. No contract says
+/// which words ask for what.
+pub fn request_of(alloc: Global, words: &[String]) -> Result<Request, CommandLineError> {
+    let matches = match matches_of(alloc, words) {
+        Ok(matches) => matches,
+        Err(error) => return Err(not_taken(alloc, &error)),
+    };
+    let request = request_in(alloc, &matches)?;
+    Ok(request)
+}

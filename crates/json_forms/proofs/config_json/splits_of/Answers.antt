@@ -1,0 +1,16 @@
+use Rattle.std.proofs.Common.{◌≡◌, None, rules}
+use Rattle.json_forms.specs.Json.{hex_in}
+use Rattle.serde_json.specs.View.{view}
+use Rattle.json_forms.specs.Config.{splits_in}
+use Rattle.json_forms.specs.declared.error.PartError.TheVariants.{BadForm}
+use Rattle.json_forms.proofs.Each.{each_more, each_none}
+use Rattle.json_forms.proofs.config_json.splits_of.Goals as goal
+
+pub returns-in_err-hex_of-clause-err : goal.returns-in_err-hex_of-clause-err
+returns-in_err-hex_of-clause-err c =
+    let none : c.in_err-hex_of.field-0.0 ≡ BadForm → splits_in (view c.args.value.now) ≡ None =
+    λ e. rw c.in_ok-item-items.ensures.ok (each_none hex_in c.in_ok-item-items.item-items.now c.loop-item.item-index c.item-item.result c.loop-item-test.true c.item-item.is (c.in_err-hex_of.ensures.err e)) in
+    search (rules, none)
+
+pub loop-item-preserved : goal.loop-item-preserved
+loop-item-preserved c = rw (c.in_ok-push.ensures.items, c.new-split.ensures) (each_more hex_in c.in_ok-item-items.item-items.now c.loop-item.item-index c.item-item.result _ _ c.loop-item-test.true c.item-item.is c.in_ok-hex_of.ensures.ok c.loop-item.invariant)

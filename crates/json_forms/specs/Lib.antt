@@ -1,0 +1,5 @@
+pub mod Json
+pub mod CellJson
+pub mod TupleJson
+pub mod Config
+pub mod SchemaJson

@@ -1,0 +1,90 @@
+-- The schema that JSON asks for.
+use Rattle.std.specs.Prelude.{ℕ, List, [], ◌∷◌, codes, Option, Some, None, if◌then◌else◌, option_map, option_and_then}
+use Rattle.std.specs.Option.{option_map_or}
+use Rattle.metadata.specs.declared.cells.Kind.{Kind}
+use Rattle.metadata.specs.declared.cells.Kind.TheVariants.{Int, Text, Bytes}
+use Rattle.metadata.specs.declared.definition.Field.{Field}
+use Rattle.metadata.specs.declared.definition.TypeRequest.{TypeRequest}
+use Rattle.metadata.specs.declared.index.IndexKind.{IndexKind}
+use Rattle.metadata.specs.declared.index.IndexKind.TheVariants.{Value}
+use Rattle.metadata.specs.declared.index.IndexRequest.{IndexRequest}
+use Rattle.metadata.specs.Asked.{SchemaRequest}
+use Rattle.serde_json.specs.Data.{Data}
+use Rattle.serde_json.specs.Find.{as_str, get}
+use Rattle.json_forms.specs.Json.{all_in, has_only, list_in, member_in, named}
+
+-- the kind of this name
+abbrev pub kind_named : List ℕ → Option Kind
+kind_named name = named ((codes "int", Int) ∷ (codes "text", Text) ∷ (codes "bytes", Bytes) ∷ []) name
+
+-- the field that a name and the name of a kind stand for
+abbrev pub field_of : List Data → Option Field
+field_of (name ∷ kind ∷ []) = option_and_then (λ k. option_map (λ text. record { name = text; kind = k }) (as_str name)) (option_and_then kind_named (as_str kind))
+field_of parts = None
+
+-- the field that a list stands for
+abbrev pub field_in : Data → Option Field
+field_in d = option_and_then field_of (list_in d)
+
+-- the fields that a list stands for
+abbrev pub fields_in : Data → Option (List Field)
+fields_in d = all_in field_in d
+
+-- the names in a list
+abbrev pub names_in : Data → Option (List (List ℕ))
+names_in d = all_in as_str d
+
+-- the keys that a type has
+abbrev pub type_keys : List (List ℕ)
+type_keys = codes "name" ∷ codes "fields" ∷ codes "key" ∷ []
+
+-- the type that an object asks for: its name, its fields and the names of its key fields
+abbrev pub type_in : Data → Option TypeRequest
+type_in d =
+    if has_only type_keys d then
+    option_and_then (λ name. option_and_then (λ fields. option_map (λ key. record { name = name; fields = fields; key = key })
+    (member_in names_in (codes "key") d)) (member_in fields_in (codes "fields") d)) (member_in as_str (codes "name") d)
+    else None
+
+-- the kind of index of this name: VALUE indexes are the only ones that are kept so far
+abbrev pub index_kind_named : List ℕ → Option IndexKind
+index_kind_named name = named ((codes "value", Value) ∷ []) name
+
+-- the kind of index that a text names
+abbrev pub index_kind_in : Data → Option IndexKind
+index_kind_in d = option_and_then index_kind_named (as_str d)
+
+-- the keys that an index has
+abbrev pub index_keys : List (List ℕ)
+index_keys = codes "name" ∷ codes "kind" ∷ codes "type" ∷ codes "columns" ∷ []
+
+-- the index that an object asks for: its name, its kind, the name of its type and those of its columns
+abbrev pub index_in : Data → Option IndexRequest
+index_in d =
+    if has_only index_keys d then
+    option_and_then (λ name. option_and_then (λ kind. option_and_then (λ type_name. option_map
+    (λ columns. record { name = name; kind = kind; type_name = type_name; columns = columns; summed = None })
+    (member_in names_in (codes "columns") d)) (member_in as_str (codes "type") d)) (member_in index_kind_in (codes "kind") d)) (member_in as_str (codes "name") d)
+    else None
+
+-- the types and the indexes in a list
+abbrev pub types_in : Data → Option (List TypeRequest)
+types_in d = all_in type_in d
+
+abbrev pub indexes_in : Data → Option (List IndexRequest)
+indexes_in d = all_in index_in d
+
+-- the indexes of a schema, none where it has no list of them
+abbrev pub indexes_of : Data → Option (List IndexRequest)
+indexes_of d = option_map_or indexes_in (get (codes "indexes") d) (Some [])
+
+-- the keys that a schema may have
+abbrev pub schema_keys : List (List ℕ)
+schema_keys = codes "types" ∷ codes "indexes" ∷ []
+
+-- the schema that an object asks for: a list of types, and perhaps one of indexes
+abbrev pub schema_in : Data → Option SchemaRequest
+schema_in d =
+    if has_only schema_keys d then
+    option_and_then (λ types. option_map (λ indexes. record { types = types; indexes = indexes }) (indexes_of d)) (member_in types_in (codes "types") d)
+    else None

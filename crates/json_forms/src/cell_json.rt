@@ -1,0 +1,109 @@
+ghost use Rattle.std.specs.Prelude.{◌≡◌, ◌≤◌, Some, None, IfOk, IfErr, string_bytes};
+ghost use Rattle.serde_json.specs.Data.{depth};
+ghost use Rattle.serde_json.specs.View.{view};
+ghost use Rattle.json_forms.specs.CellJson.{IsTextOfCells, IsTextOfRows, bytes_in, cell_in, cells_in, rows_in};
+
+use crate::error::PartError;
+use crate::form::{hex_of, labelled, list_of, only_member, text_of};
+use metadata::{Cell, Cells};
+use serde_json::Value;
+use std::alloc::{AllocError, Global};
+use tuple_codec::ByteString;
+
+// The bytes that `{"hex":".."}` stands for.
+fn bytes_of(alloc: Global, value: &Value) -> Result<ByteString, PartError>
+    ensures ok { IfOk result (λ bytes. bytes_in (view value.now) ≡ Some bytes) }
+    ensures err { IfErr result (λ error. error ≡ PartError.BadForm → bytes_in (view value.now) ≡ None) }
+{
+    let bytes = hex_of(alloc, only_member(value, "hex")?)?;
+    Ok(ByteString::new(bytes))
+}
+
+// The cell that a value stands for.
+fn cell_of(alloc: Global, value: &Value) -> Result<Cell, PartError>
+    ensures ok { IfOk result (λ cell. cell_in (view value.now) ≡ Some cell) }
+    ensures err { IfErr result (λ error. error ≡ PartError.BadForm → cell_in (view value.now) ≡ None) }
+{
+    match value {
+        Value::Null => Ok(Cell::Null),
+        Value::Number(number) => match number.as_i64() {
+            Some(whole) => Ok(Cell::Int(whole)),
+            None => Err(PartError::BadForm),
+        },
+        Value::String(_) => Ok(Cell::Text(text_of(alloc, value)?)),
+        Value::Object(_) => Ok(Cell::Bytes(bytes_of(alloc, value)?)),
+        Value::Bool(_) | Value::Array(_) => Err(PartError::BadForm),
+    }
+}
+
+/// The cells that a list stands for: `null`, whole numbers of 64 bits with a sign, texts, and bytes
+/// as `{"hex":".."}`. `BadForm` where the value is no such list.
+pub fn cells_of(alloc: Global, value: &Value) -> Result<Cells, PartError>
+    ensures ok { IfOk result (λ cells. cells_in (view value.now) ≡ Some cells) }
+    ensures err { IfErr result (λ error. error ≡ PartError.BadForm → cells_in (view value.now) ≡ None) }
+{
+    let mut cells = Vec::new(alloc);
+    for item in list_of(value)? {
+        cells.push(cell_of(alloc, item)?)?;
+    }
+    Ok(Cells::new(cells))
+}
+
+// What stands for bytes: `{"hex":".."}`.
+fn hex_value(alloc: Global, bytes: &[u8]) -> Result<Value, AllocError>
+    ensures read { IfOk result (λ value. cell_in (view value) ≡ Some (Cell.Bytes bytes.now)) }
+    ensures depth { IfOk result (λ value. depth (view value) ≤ 1) }
+{
+    labelled(alloc, "hex", hex::encode(alloc, bytes)?)
+}
+
+// What stands for a cell.
+fn cell_value(alloc: Global, cell: &Cell) -> Result<Value, AllocError>
+    ensures read { IfOk result (λ value. cell_in (view value) ≡ Some cell.now) }
+    ensures depth { IfOk result (λ value. depth (view value) ≤ 1) }
+{
+    match cell {
+        Cell::Null => Ok(Value::Null),
+        Cell::Int(whole) => Ok(Value::from(*whole)),
+        Cell::Text(text) => Value::try_from_str(alloc, text.as_str()),
+        Cell::Bytes(bytes) => hex_value(alloc, bytes.as_slice()),
+    }
+}
+
+// The list that stands for cells.
+fn cells_value(alloc: Global, cells: &Cells) -> Result<Value, AllocError>
+    ensures read { IfOk result (λ value. cells_in (view value) ≡ Some cells.now) }
+    ensures depth { IfOk result (λ value. depth (view value) ≤ 2) }
+{
+    let mut items = Vec::new(alloc);
+    for cell in cells.as_slice() {
+        items.push(cell_value(alloc, cell)?)?;
+    }
+    Ok(Value::Array(items))
+}
+
+// The list that stands for rows.
+fn rows_value(alloc: Global, rows: &[Cells]) -> Result<Value, AllocError>
+    ensures read { IfOk result (λ value. rows_in (view value) ≡ Some rows.now) }
+    ensures depth { IfOk result (λ value. depth (view value) ≤ 3) }
+{
+    let mut items = Vec::new(alloc);
+    for cells in rows {
+        items.push(cells_value(alloc, cells)?)?;
+    }
+    Ok(Value::Array(items))
+}
+
+/// The text of cells, a list of JSON, which stands for these cells and no other.
+pub fn cells_text(alloc: Global, cells: &Cells) -> Result<String, AllocError>
+    ensures { IfOk result (λ text. IsTextOfCells (string_bytes text) cells.now) }
+{
+    cells_value(alloc, cells)?.to_string(alloc)
+}
+
+/// The text of rows, a list of lists of cells, which stands for these rows and no other.
+pub fn rows_text(alloc: Global, rows: &[Cells]) -> Result<String, AllocError>
+    ensures { IfOk result (λ text. IsTextOfRows (string_bytes text) rows.now) }
+{
+    rows_value(alloc, rows)?.to_string(alloc)
+}

@@ -1,0 +1,182 @@
+ghost use Rattle.std.specs.Prelude.{◌≡◌, Some, None, IfOk, IfErr};
+ghost use Rattle.std.specs.List.{AllByRecursion};
+ghost use Rattle.metadata.specs.declared.index.IndexKind.TheVariants.{Value as OfValues};
+ghost use Rattle.serde_json.specs.View.{view};
+ghost use Rattle.json_forms.specs.SchemaJson.{field_in, fields_in, index_in, index_kind_in, index_kind_named, indexes_in, indexes_of, kind_named, names_in, schema_in, type_in, types_in};
+
+use crate::error::PartError;
+use crate::form::{has_only, list_of, member, str_of, text_of};
+use metadata::{Field, Fields, IndexKind, IndexRequest, Kind, Names, SchemaRequest, TypeRequest};
+use serde_json::Value;
+use std::alloc::Global;
+
+// The kind of this name.
+fn kind_of(name: &str) -> Result<Kind, PartError>
+    ensures ok { IfOk result (λ read. kind_named name.now ≡ Some read) }
+    ensures err { IfErr result (λ error. error ≡ PartError.BadForm → kind_named name.now ≡ None) }
+{
+    match name {
+        "int" => Ok(Kind::Int),
+        "text" => Ok(Kind::Text),
+        "bytes" => Ok(Kind::Bytes),
+        _ => Err(PartError::BadForm),
+    }
+}
+
+// A field: its name and the name of its kind.
+fn field_of(alloc: Global, value: &Value) -> Result<Field, PartError>
+    ensures ok { IfOk result (λ read. field_in (view value.now) ≡ Some read) }
+    ensures err { IfErr result (λ error. error ≡ PartError.BadForm → field_in (view value.now) ≡ None) }
+{
+    let [name, kind] = list_of(value)? else {
+        return Err(PartError::BadForm);
+    };
+    let kind = kind_of(str_of(kind)?)?;
+    let name = text_of(alloc, name)?;
+    Ok(Field { name, kind })
+}
+
+// A list of fields.
+fn fields_of(alloc: Global, value: &Value) -> Result<Fields, PartError>
+    ensures ok { IfOk result (λ read. fields_in (view value.now) ≡ Some read) }
+    ensures err { IfErr result (λ error. error ≡ PartError.BadForm → fields_in (view value.now) ≡ None) }
+{
+    let mut fields = Vec::new(alloc);
+    for item in list_of(value)? {
+        fields.push(field_of(alloc, item)?)?;
+    }
+    Ok(Fields::new(fields))
+}
+
+// A list of names.
+fn names_of(alloc: Global, value: &Value) -> Result<Names, PartError>
+    ensures ok { IfOk result (λ read. names_in (view value.now) ≡ Some read) }
+    ensures err { IfErr result (λ error. error ≡ PartError.BadForm → names_in (view value.now) ≡ None) }
+{
+    let mut names = Vec::new(alloc);
+    for item in list_of(value)? {
+        names.push(text_of(alloc, item)?)?;
+    }
+    Ok(Names::new(names))
+}
+
+// The keys that a type has.
+const TYPE_KEYS: [&str; 3] = ["name", "fields", "key"];
+
+/// The type that an object with just the keys `name`, `fields` and `key` asks for: its name, its
+/// fields, each a list of its name and its kind, and the names of its key fields. `BadForm` of
+/// another value.
+pub fn type_of(alloc: Global, value: &Value) -> Result<TypeRequest, PartError>
+    ensures ok { IfOk result (λ read. type_in (view value.now) ≡ Some read) }
+    ensures err { IfErr result (λ error. error ≡ PartError.BadForm → type_in (view value.now) ≡ None) }
+{
+    if !has_only(value, &TYPE_KEYS) {
+        return Err(PartError::BadForm);
+    }
+    let name = text_of(alloc, member(value, "name")?)?;
+    let fields = fields_of(alloc, member(value, "fields")?)?;
+    let key = names_of(alloc, member(value, "key")?)?;
+    Ok(TypeRequest { name, fields, key })
+}
+
+// A list of types.
+fn types_of(alloc: Global, value: &Value) -> Result<Vec<TypeRequest>, PartError>
+    ensures ok { IfOk result (λ read. types_in (view value.now) ≡ Some read.items) }
+    ensures err { IfErr result (λ error. error ≡ PartError.BadForm → types_in (view value.now) ≡ None) }
+{
+    let mut types = Vec::new(alloc);
+    for item in list_of(value)? {
+        types.push(type_of(alloc, item)?)?;
+    }
+    Ok(types)
+}
+
+// The kind of index of this name. VALUE indexes are the only ones that are kept so far.
+fn index_kind_of(name: &str) -> Result<IndexKind, PartError>
+    ensures ok { IfOk result (λ read. index_kind_named name.now ≡ Some read) }
+    ensures value { IfOk result (λ read. read ≡ OfValues) }
+    ensures err { IfErr result (λ error. error ≡ PartError.BadForm → index_kind_named name.now ≡ None) }
+{
+    match name {
+        "value" => Ok(IndexKind::Value),
+        _ => Err(PartError::BadForm),
+    }
+}
+
+// The kind of index that a text names.
+fn index_kind_in(value: &Value) -> Result<IndexKind, PartError>
+    ensures ok { IfOk result (λ read. index_kind_in (view value.now) ≡ Some read) }
+    ensures value { IfOk result (λ read. read ≡ OfValues) }
+    ensures err { IfErr result (λ error. error ≡ PartError.BadForm → index_kind_in (view value.now) ≡ None) }
+{
+    index_kind_of(str_of(value)?)
+}
+
+// The keys that an index has.
+const INDEX_KEYS: [&str; 4] = ["name", "kind", "type", "columns"];
+
+/// The index that an object with just the keys `name`, `kind`, `type` and `columns` asks for: its
+/// name, its kind, the name of its type and those of its columns. `BadForm` of another value.
+pub fn index_of(alloc: Global, value: &Value) -> Result<IndexRequest, PartError>
+    ensures ok { IfOk result (λ read. index_in (view value.now) ≡ Some read) }
+    ensures value { IfOk result (λ read. read.kind ≡ OfValues) }
+    ensures err { IfErr result (λ error. error ≡ PartError.BadForm → index_in (view value.now) ≡ None) }
+{
+    if !has_only(value, &INDEX_KEYS) {
+        return Err(PartError::BadForm);
+    }
+    let name = text_of(alloc, member(value, "name")?)?;
+    let kind = index_kind_in(member(value, "kind")?)?;
+    let type_name = text_of(alloc, member(value, "type")?)?;
+    let columns = names_of(alloc, member(value, "columns")?)?;
+    Ok(IndexRequest {
+        name,
+        kind,
+        type_name,
+        columns,
+        summed: None,
+    })
+}
+
+// A list of indexes.
+fn indexes_in(alloc: Global, value: &Value) -> Result<Vec<IndexRequest>, PartError>
+    ensures ok { IfOk result (λ read. indexes_in (view value.now) ≡ Some read.items) }
+    ensures values { IfOk result (λ read. AllByRecursion (λ index. index.kind ≡ OfValues) read.items) }
+    ensures err { IfErr result (λ error. error ≡ PartError.BadForm → indexes_in (view value.now) ≡ None) }
+{
+    let mut indexes = Vec::new(alloc);
+    for item in list_of(value)? {
+        indexes.push(index_of(alloc, item)?)?;
+    }
+    Ok(indexes)
+}
+
+// The indexes of a schema, none where it has no list of them.
+fn indexes_of(alloc: Global, value: &Value) -> Result<Vec<IndexRequest>, PartError>
+    ensures ok { IfOk result (λ read. indexes_of (view value.now) ≡ Some read.items) }
+    ensures values { IfOk result (λ read. AllByRecursion (λ index. index.kind ≡ OfValues) read.items) }
+    ensures err { IfErr result (λ error. error ≡ PartError.BadForm → indexes_of (view value.now) ≡ None) }
+{
+    match value.get("indexes") {
+        Some(indexes) => indexes_in(alloc, indexes),
+        None => Ok(Vec::new(alloc)),
+    }
+}
+
+// The keys that a schema may have.
+const SCHEMA_KEYS: [&str; 2] = ["types", "indexes"];
+
+/// The schema that an object asks for: at `types` a list of types, and perhaps one of indexes at
+/// `indexes`, with no other key. `BadForm` of another value.
+pub fn schema_of(alloc: Global, value: &Value) -> Result<SchemaRequest, PartError>
+    ensures ok { IfOk result (λ read. schema_in (view value.now) ≡ Some read) }
+    ensures values { IfOk result (λ read. AllByRecursion (λ index. index.kind ≡ OfValues) read.indexes) }
+    ensures err { IfErr result (λ error. error ≡ PartError.BadForm → schema_in (view value.now) ≡ None) }
+{
+    if !has_only(value, &SCHEMA_KEYS) {
+        return Err(PartError::BadForm);
+    }
+    let types = types_of(alloc, member(value, "types")?)?;
+    let indexes = indexes_of(alloc, value)?;
+    Ok(SchemaRequest::new(types, indexes))
+}

@@ -1,0 +1,38 @@
+-- Names in tables.
+use Rattle.std.proofs.Common.{◌≡◌, ◌≤◌, ℕ, List, [], ◌∷◌, codes, length, map, Bool, true, false, None, refl, sym, arith}
+use Rattle.std.proofs.lemmas.Slice.Eq.{bytes_eq-Decides}
+use Rattle.std.specs.Str.{bytes_eq}
+use Rattle.std.proofs.lemmas.List.{length-map}
+use Rattle.serde_json.specs.Data.{Data}
+use Rattle.serde_json.specs.View.{view}
+use Rattle.serde_json.specs.declared.value.Value.{Value}
+use Rattle.script.specs.Steps.{command_with, numbered_step, step_of_number}
+
+differs : (word name : List ℕ) → (name ≡ word → ⊥) → bytes_eq word name ≡ false
+differs word name other = by (bytes_eq word name) refl
+  where
+    by : (b : Bool) → bytes_eq word name ≡ b → bytes_eq word name ≡ false
+    by true is = absurd (other (sym ((bytes_eq-Decides word name).0 is)))
+    by false is = is
+
+-- a name that no step of a number has
+pub no_step_of_number : (name : List ℕ) (number : ℕ) → (name ≡ codes "begin" → ⊥) → (name ≡ codes "commit" → ⊥) → (name ≡ codes "abandon" → ⊥)
+    → (name ≡ codes "resolve" → ⊥) → (name ≡ codes "log" → ⊥) → (name ≡ codes "pull" → ⊥) → step_of_number name number ≡ None
+no_step_of_number name number n1 n2 n3 n4 n5 n6 =
+    rw (differs _ name n1, differs _ name n2, differs _ name n3, differs _ name n4, differs _ name n5, differs _ name n6)
+
+-- a name that no command with one part has
+pub no_command_with : (name : List ℕ) (part : Data) → (name ≡ codes "create" → ⊥) → (name ≡ codes "type" → ⊥) → (name ≡ codes "query" → ⊥) → (name ≡ codes "index" → ⊥)
+    → (name ≡ codes "drop" → ⊥) → (name ≡ codes "disable" → ⊥) → (name ≡ codes "state" → ⊥) → command_with name part ≡ None
+no_command_with name part n1 n2 n3 n4 n5 n6 n7 =
+    rw (differs _ name n1, differs _ name n2, differs _ name n3, differs _ name n4, differs _ name n5, differs _ name n6, differs _ name n7)
+
+-- no step has three parts behind its number
+three_parts : (name : List ℕ) (number : ℕ) (parts : List Data) → 3 ≤ length parts → numbered_step name number parts ≡ None
+three_parts name number [] many = absurd (omega (arith, many))
+three_parts name number (a ∷ []) many = absurd (omega (arith, many))
+three_parts name number (a ∷ b ∷ []) many = absurd (omega (arith, many))
+three_parts name number (a ∷ b ∷ c ∷ parts) many = refl
+
+pub no_numbered_step : (name : List ℕ) (number : ℕ) (parts : List Value) → 3 ≤ length parts → numbered_step name number (map view parts) ≡ None
+no_numbered_step name number parts many = three_parts name number (map view parts) (rw (length-map) many)

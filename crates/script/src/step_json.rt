@@ -1,0 +1,125 @@
+ghost use Rattle.std.specs.Prelude.{◌≡◌, Some, None, IfOk, IfErr, map};
+ghost use Rattle.serde_json.specs.View.{view};
+ghost use Rattle.script.specs.Steps.{command_on, command_with, common_step, numbered_step, query_in, step_in, step_of_number};
+ghost use Rattle.schedule.specs.Values.{AsksValues, StepAsksValues};
+
+use json_forms::{
+    PartError, cells_of, index_of, list_of, number_of, only_member, schema_of, str_of, text_of,
+    type_of,
+};
+use schedule::{Command, Query, Step};
+use serde_json::Value;
+use std::alloc::Global;
+
+// A query: all records of a type.
+fn query_of(alloc: Global, value: &Value) -> Result<Query, PartError>
+    ensures ok { IfOk result (λ query. query_in (view value.now) ≡ Some query) }
+    ensures err { IfErr result (λ error. error ≡ PartError.BadForm → query_in (view value.now) ≡ None) }
+{
+    let record_type = text_of(alloc, only_member(value, "type")?)?;
+    Ok(Query { record_type })
+}
+
+// A command with one part behind the client.
+fn command_of_one(alloc: Global, name: &str, part: &Value) -> Result<Command, PartError>
+    ensures ok { IfOk result (λ command. command_with name.now (view part.now) ≡ Some command) }
+    ensures values { IfOk result AsksValues }
+    ensures err { IfErr result (λ error. error ≡ PartError.BadForm → command_with name.now (view part.now) ≡ None) }
+{
+    match name {
+        "create" => Ok(Command::Create(schema_of(alloc, part)?)),
+        "type" => Ok(Command::Type(type_of(alloc, part)?)),
+        "query" => Ok(Command::Query(query_of(alloc, part)?)),
+        "index" => Ok(Command::Index(index_of(alloc, part)?)),
+        "drop" => Ok(Command::Drop(text_of(alloc, part)?)),
+        "disable" => Ok(Command::Disable(text_of(alloc, part)?)),
+        "state" => Ok(Command::State(text_of(alloc, part)?)),
+        _ => Err(PartError::BadForm),
+    }
+}
+
+// A command with the name of a type and cells behind the client.
+fn command_on_type(
+    alloc: Global,
+    name: &str,
+    type_name: &Value,
+    cells: &Value,
+) -> Result<Command, PartError>
+    ensures ok { IfOk result (λ command. command_on name.now (view type_name.now) (view cells.now) ≡ Some command) }
+    ensures values { IfOk result AsksValues }
+    ensures err { IfErr result (λ error. error ≡ PartError.BadForm
+        → command_on name.now (view type_name.now) (view cells.now) ≡ None) }
+{
+    let type_name = text_of(alloc, type_name)?;
+    let cells = cells_of(alloc, cells)?;
+    match name {
+        "save" => Ok(Command::Save(type_name, cells)),
+        "load" => Ok(Command::Load(type_name, cells)),
+        "remove" => Ok(Command::Remove(type_name, cells)),
+        _ => Err(PartError::BadForm),
+    }
+}
+
+// A step with just the number of a client or of a role.
+fn step_of_number(name: &str, number: u64) -> Result<Step, PartError>
+    ensures ok { IfOk result (λ step. step_of_number name.now number ≡ Some step) }
+    ensures values { IfOk result StepAsksValues }
+    ensures err { IfErr result (λ error. error ≡ PartError.BadForm → step_of_number name.now number ≡ None) }
+{
+    match name {
+        "begin" => Ok(Step::Begin(number)),
+        "commit" => Ok(Step::Commit(number)),
+        "abandon" => Ok(Step::Abandon(number)),
+        "resolve" => Ok(Step::Resolve(number)),
+        "log" => Ok(Step::Log(number)),
+        "pull" => Ok(Step::Pull(number)),
+        _ => Err(PartError::BadForm),
+    }
+}
+
+// A step with a number, and what stands behind it.
+fn numbered_step(alloc: Global, name: &str, number: u64, parts: &[Value]) -> Result<Step, PartError>
+    ensures ok { IfOk result (λ step. numbered_step name.now number (map view parts.now) ≡ Some step) }
+    ensures values { IfOk result StepAsksValues }
+    ensures err { IfErr result (λ error. error ≡ PartError.BadForm
+        → numbered_step name.now number (map view parts.now) ≡ None) }
+{
+    match parts {
+        [] => step_of_number(name, number),
+        [part] => Ok(Step::Perform(number, command_of_one(alloc, name, part)?)),
+        [type_name, cells] => {
+            let command = command_on_type(alloc, name, type_name, cells)?;
+            Ok(Step::Perform(number, command))
+        }
+        _ => Err(PartError::BadForm),
+    }
+}
+
+// A step that is a name alone.
+fn common_step(name: &str) -> Result<Step, PartError>
+    ensures ok { IfOk result (λ step. common_step name.now ≡ Some step) }
+    ensures values { IfOk result StepAsksValues }
+    ensures err { IfErr result (λ error. error ≡ PartError.BadForm → common_step name.now ≡ None) }
+{
+    match name {
+        "report" => Ok(Step::Report),
+        "lost" => Ok(Step::Lost),
+        "settle" => Ok(Step::Settle),
+        _ => Err(PartError::BadForm),
+    }
+}
+
+// A step: a list of its name and its parts.
+pub(crate) fn step_of(alloc: Global, value: &Value) -> Result<Step, PartError>
+    ensures ok { IfOk result (λ step. step_in (view value.now) ≡ Some step) }
+    ensures values { IfOk result StepAsksValues }
+    ensures err { IfErr result (λ error. error ≡ PartError.BadForm → step_in (view value.now) ≡ None) }
+{
+    match list_of(value)? {
+        [] => Err(PartError::BadForm),
+        [name] => common_step(str_of(name)?),
+        [name, number, parts @ ..] => {
+            numbered_step(alloc, str_of(name)?, number_of(number)?, parts)
+        }
+    }
+}

@@ -1,0 +1,68 @@
+#!/usr/bin/env python3
+"""Proves, builds and tests everything: the test command of the repository. It is run at the top of the repository.
+
+1. The tools' own tests.
+2. `rt ci`: every proof from nothing, the tests, the programs as two compilers build them, and the edits of must-fail/.
+3. Beside it, with what processors are left: the wrong bodies, each of which the prover must refuse (tools/wrong_bodies).
+4. The cases of cases/, the examples and the program's edge, against both built programs (tools/program_tests).
+
+The last line is 'N passed, M failed', and the status is 0 where M is 0.
+"""
+import os
+import re
+import subprocess
+import sys
+import tempfile
+
+PROGRAMS = ["crates/recordctl/out/recordctl", "crates/recordctl/out/recordctl.by-rattle"]
+COUNTED = re.compile(r"(\d+) (?:passed|refused), (\d+) (?:failed|not)")
+TESTED = re.compile(r"Ran (\d+) tests?.*?(?:FAILED \((.*)\)|OK)", re.S)
+
+
+def counts(text):
+    """How many passed and failed by the last line of a command, (0, 1) where it ended without one."""
+    last = (text.rstrip("\n").split("\n") or [""])[-1]
+    found = COUNTED.fullmatch(last)
+    return (int(found[1]), int(found[2])) if found else (0, 1)
+
+
+def tool_counts(text):
+    """How many tests of a tool passed and failed, by what unittest prints."""
+    found = TESTED.search(text)
+    failed = sum(map(int, re.findall(r"=(\d+)", found[2] or ""))) if found else 1
+    return (int(found[1]) - failed, failed) if found else (0, 1)
+
+
+def run(title, words, count):
+    """Runs a command, prints what it prints, and answers its counts."""
+    print(f"== {title}", flush=True)
+    with tempfile.TemporaryFile("w+", errors="replace") as log:
+        ran = subprocess.run(words, stdin=subprocess.DEVNULL, stdout=log, stderr=subprocess.STDOUT, check=False)
+        log.seek(0)
+        text = log.read()
+    print(text, end="", flush=True)
+    passed, failed = count(text)
+    return passed, failed or (1 if ran.returncode else 0)
+
+
+def main():
+    python, tests = sys.executable, []
+    with tempfile.TemporaryFile("w+", errors="replace") as log:
+        words = ["nice", "-n", "10", python, "tools/wrong_bodies", "--from-nothing"]
+        wrong = subprocess.Popen(words, stdin=subprocess.DEVNULL, stdout=log, stderr=subprocess.STDOUT)
+        tests.append(run("rt ci", ["rt", "ci"], counts))
+        tests.append(run("the program", [python, "tools/program_tests", *filter(os.path.isfile, PROGRAMS)], counts))
+        tests.append(run("the tools", [python, "tools/wrong_bodies/tests.py"], tool_counts))
+        print("== wrong bodies", flush=True)
+        wrong.wait()
+        log.seek(0)
+        text = log.read()
+        print(text, end="", flush=True)
+        tests.append(counts(text))
+    passed, failed = (sum(them) for them in zip(*tests))
+    print(f"{passed} passed, {failed} failed")
+    return 1 if failed else 0
+
+
+if __name__ == "__main__":
+    sys.exit(main())

@@ -1,0 +1,70 @@
+"""Tests a built program `recordctl`: the cases of cases/, the examples beside their output, and the program's edge.
+
+    program_tests PROGRAM..
+
+Prints a line for each case that fails. The last line is 'N passed, M failed', and the status is 0 where M is 0.
+"""
+import os
+import subprocess
+import sys
+import tempfile
+from cases import cases_in, example_cases
+from edges import SETTLE, byte_cases, command_line_cases, long_cases
+
+SECONDS = 60
+
+
+def first_difference(wanted, found):
+    """The number of the first line in which two texts differ, and what each has there."""
+    pairs = zip(wanted.split(b"\n") + [b""], found.split(b"\n") + [b""])
+    number, (one, other) = next((it for it in enumerate(pairs, 1) if it[1][0] != it[1][1]), (0, (wanted, found)))
+    return f"line {number}: {other[:200]!r}, wanted {one[:200]!r}"
+
+
+def fault_of(program, case):
+    """What is wrong with what the program does for a case, or None."""
+    try:
+        done = subprocess.run(
+            [program, *case.words], input=case.given, capture_output=True, timeout=SECONDS, check=False)
+    except subprocess.TimeoutExpired:
+        return f"no end after {SECONDS} seconds"
+    if done.stdout != case.output:
+        return "output: " + first_difference(case.output, done.stdout)
+    if case.errors is None and not done.stderr:
+        return "nothing on standard error"
+    if case.errors is not None and done.stderr != case.errors:
+        return "errors: " + first_difference(case.errors, done.stderr)
+    return None if done.returncode == case.status else f"status {done.returncode}, wanted {case.status}"
+
+
+def closed_output_fault(program, words, given):
+    """What is wrong where the output can't be written: status 1 is wanted, and nothing on standard error."""
+    with open("/dev/full", "wb") as full:
+        done = subprocess.run(
+            [program, *words], input=given, stdout=full, stderr=subprocess.PIPE, timeout=SECONDS, check=False)
+    return None if (done.returncode, done.stderr) == (1, b"") else f"status {done.returncode}: {done.stderr[:200]!r}"
+
+
+def faults(program, folder):
+    """What each case shows, and what is wrong with it, or None."""
+    cases = [*cases_in("cases"), *example_cases("examples"), *long_cases(), *byte_cases(), *command_line_cases(folder)]
+    for case in cases:
+        yield case.shows, fault_of(program, case)
+    for words, given in ([["run"], SETTLE.encode()], [["pack", "[1]"], b""], [["unpack", "14"], b""]):
+        yield f"output that can't be written: {words[0]}", closed_output_fault(program, words, given)
+
+
+def main(programs):
+    passed = failed = 0
+    for program in programs:
+        with tempfile.TemporaryDirectory(prefix="program-tests-") as folder:
+            for shows, fault in faults(os.path.abspath(program), folder):
+                passed, failed = passed + (fault is None), failed + (fault is not None)
+                if fault:
+                    print(f"{program}: {shows}: {fault}")
+    print(f"{passed} passed, {failed} failed")
+    return 1 if failed or not passed else 0
+
+
+if __name__ == "__main__":
+    sys.exit(main(sys.argv[1:]))

@@ -1,0 +1,80 @@
+"""Cases of the program's edge that need more than a line: long and broken input, files, help, statuses."""
+from cases import Case
+
+BEGIN = '["begin",0]'
+SETTLE = '{"steps":[["settle"]]}'
+
+
+def run_case(shows, given, output):
+    return Case(shows, ["run"], given, 0, output, b"")
+
+
+def fault_case(shows, given, line=b"bad script at step 0\n"):
+    return Case(shows, ["run"], given, 1, b"", line)
+
+
+def created(type_definition, indexes="[]"):
+    """The first two steps of a script that creates a store of one type."""
+    return f'{BEGIN},["create",0,{{"types":[{type_definition}],"indexes":{indexes}}}]'
+
+
+def text_case(letters, line):
+    """A record with a text of so many letters is saved: a value has 100,000 bytes at most, four of them beside the text."""
+    steps = created('{"name":"v","fields":[["k","int"],["s","text"]],"key":["k"]}')
+    script = f'{{"steps":[{steps},["save",0,"v",[1,"{"n" * letters}"]]]}}'
+    return run_case(f"a text of {letters} letters", script.encode(), b"1 begun 0\n2 ok\n3 " + line + b"\n")
+
+
+def indexed_case(letters, lines):
+    """The same under an index over the text: an entry's key has 10,000 bytes at most, twelve of them beside the text."""
+    indexes = ",".join(
+        f'{{"name":"by_{column}","kind":"value","type":"u","columns":["{column}"]}}' for column in "sy")
+    steps = created('{"name":"u","fields":[["k","int"],["s","text"],["y","bytes"]],"key":["k"]}', f"[{indexes}]")
+    script = f'{{"steps":[{steps},["save",0,"u",[1,"{"n" * letters}",null]],["remove",0,"u",[1]]]}}'
+    return run_case(f"an indexed text of {letters} letters", script.encode(), b"1 begun 0\n2 ok\n" + lines)
+
+
+def long_cases():
+    """Scripts of the most bytes and of one more, of many steps, and packs of many bytes."""
+    whole = b'{"steps":[]}'
+    steps = b'{"steps":[' + b",".join([b'["settle"]'] * 2_000) + b"]}"
+    return [
+        run_case("a script of 4,000,000 bytes", whole.ljust(4_000_000), b""),
+        fault_case("a script of 4,000,001 bytes", whole.ljust(4_000_001)),
+        run_case("2,000 steps and their lines", steps, b"".join(b"%d nothing\n" % it for it in range(1, 2_001))),
+        fault_case("100,000 brackets", b"[" * 100_000),
+        text_case(99_996, b"saved new"),
+        text_case(99_997, b"refused ValueTooLarge"),
+        indexed_case(9_988, b"3 saved new\n4 removed\n"),
+        indexed_case(9_989, b"3 refused KeyTooLarge\n4 none\n"),
+        Case("10,000 nested tuples", ["unpack", "05" * 10_000], b"", 1, b"", b"refused TooDeep at 16\n"),
+        Case("5,000 escapes without an end", ["unpack", "01" + "00ff" * 5_000], b"", 1, b"", b"refused Truncated at 0\n"),
+        Case("a word of 100,000 brackets", ["pack", "[" * 100_000], b"", 1, b"", b"bad argument\n"),
+    ]
+
+
+def byte_cases():
+    """Input that isn't UTF-8, has a zero byte, or is laid out in another way."""
+    return [
+        fault_case("bytes that are no text", b"\xff\xfe\x80\x00\x01"),
+        fault_case("a text that isn't UTF-8", b'{"steps":["\xc3("]}'),
+        fault_case("a zero byte", b"\0"),
+        run_case("blanks and lines between", b' {\n"steps" : [ [ "settle" ] ] } \n', b"1 nothing\n"),
+        run_case("the last of two keys counts", b'{"steps":[[]],"steps":[]}', b""),
+    ]
+
+
+def command_line_cases(folder):
+    """What the words of the command line are taken for: FILE or standard input, and status 2 where they aren't taken."""
+    script = f"{folder}/script.json"
+    with open(script, "w", encoding="utf-8") as file:
+        file.write(SETTLE)
+    refused = [[], ["walk"], ["pack"], ["unpack"], ["pack", "[]", "[]"], ["run", script, script], ["--frobnicate"]]
+    return [
+        Case("a script in a file", ["run", script], b"not this", 0, b"1 nothing\n", b""),
+        Case("no such file", ["run", f"{folder}/absent.json"], SETTLE.encode(), 1, b"", b"cannot read input\n"),
+        Case("a folder for a file", ["run", folder], SETTLE.encode(), 1, b"", b"cannot read input\n"),
+        *[Case(f"a command line that isn't taken: {it}", it, b"", 2, b"", None) for it in refused],
+        Case("help goes to standard error", ["--help"], b"", 2, b"", None),
+        Case("help of a command", ["run", "--help"], b"", 2, b"", None),
+    ]

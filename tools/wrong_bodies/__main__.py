@@ -1,0 +1,41 @@
+"""Tries wrong bodies: edits that the prover must refuse.
+
+A function is proved from the contracts of what it calls, and never from their bodies. So one check of a crate carries
+one edit for each of many functions, and says of each function by itself whether it is still proved. Edits are dealt
+into rounds so that no function has two in a round. What a round says nothing of, since the function's goals wait for
+another one that isn't proved there, is tried in a further round and then alone; so is an edit of anything else than
+bodies. Crates are proved and tried side by side, lowest first, in copies below a folder of the system's.
+
+An edit is a file crates/NAME/wrong-bodies/*.edit or crates/NAME/must-fail/*.edit with a line 'file: PATH', and then
+pairs of lines 'old: TEXT' and 'new: TEXT'; each old text stands once in that file.
+
+A line is printed for each crate, for each round and for each edit that isn't refused, or is refused only because a proof file
+names what it took away. The last line is 'N refused, M not', and the status is 0 where M is 0.
+"""
+import argparse
+import os
+import sys
+import tempfile
+from crews import Crew
+
+FOLDERS = ("wrong-bodies", "must-fail")
+
+
+def main():
+    parser = argparse.ArgumentParser(description=__doc__, formatter_class=argparse.RawDescriptionHelpFormatter)
+    parser.add_argument("crates", nargs="*", help="the crates whose edits are tried; without any, all of them")
+    parser.add_argument("--only", default="", help="a part of the names of the edits that are tried")
+    parser.add_argument("--jobs", type=int, default=len(os.sched_getaffinity(0)), help="checks at a time")
+    parser.add_argument("--from-nothing", action="store_true", help="take nothing from what earlier checks kept")
+    parser.add_argument("--work", help="an existing folder for the copies, for what is left to be looked at")
+    parser.add_argument("--verbose", action="store_true", help="print what refuses each edit too")
+    options = parser.parse_args()
+    with tempfile.TemporaryDirectory(prefix="wrong-bodies-", dir=options.work) as room:
+        crew = Crew(os.getcwd(), room, FOLDERS, options)
+        refused, others = crew.work()
+    print(f"{refused} refused, {others} not")
+    return 1 if others or not refused else 0
+
+
+if __name__ == "__main__":
+    sys.exit(main())
