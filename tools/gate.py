@@ -3,7 +3,7 @@
 
 1. The tools' own tests.
 2. `rt ci`: every proof from nothing, the tests, the programs as two compilers build them, and the edits of must-fail/.
-3. Beside it, with what processors are left: the wrong bodies, each of which the prover must refuse (tools/wrong_bodies).
+3. Beside it, with what processors are left: the wrong bodies, which the prover must refuse (tools/wrong_bodies).
 4. The cases of cases/, the examples and the program's edge, against both built programs (tools/program_tests).
 
 The last line is 'N passed, M failed', and the status is 0 where M is 0.

@@ -1,7 +1,7 @@
 """The case files of the folder cases/: what is given to the program, and what it must print.
 
-A file NAME.steps has scripts. A line '# TEXT' begins one and says what it shows; 'config JSON' gives its configuration; each
-other line is 'STEP => REPLY', the JSON of a step and what is printed for it behind its number. A line 'define NAME
+A file NAME.steps has scripts. A line '# TEXT' begins one and says what it shows; 'config JSON' gives its configuration;
+each other line is 'STEP => REPLY', the JSON of a step and what is printed for it behind its number. A line 'define NAME
 JSON' at the head of a file names a text that is put in place of '$NAME' in its steps.
 
 A file NAME.words has lines 'KIND `TEXT` => LINE'. The text is given to the program as a word of the command line (kinds

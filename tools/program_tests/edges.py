@@ -19,14 +19,14 @@ def created(type_definition, indexes="[]"):
 
 
 def text_case(letters, line):
-    """A record with a text of so many letters is saved: a value has 100,000 bytes at most, four of them beside the text."""
+    """A record with a text of so many letters: a value has 100,000 bytes at most, four of them beside the text."""
     steps = created('{"name":"v","fields":[["k","int"],["s","text"]],"key":["k"]}')
     script = f'{{"steps":[{steps},["save",0,"v",[1,"{"n" * letters}"]]]}}'
     return run_case(f"a text of {letters} letters", script.encode(), b"1 begun 0\n2 ok\n3 " + line + b"\n")
 
 
 def indexed_case(letters, lines):
-    """The same under an index over the text: an entry's key has 10,000 bytes at most, twelve of them beside the text."""
+    """The same under an index over the text: a key has 10,000 bytes at most, an entry's twelve beside the text."""
     indexes = ",".join(
         f'{{"name":"by_{column}","kind":"value","type":"u","columns":["{column}"]}}' for column in "sy")
     steps = created('{"name":"u","fields":[["k","int"],["s","text"],["y","bytes"]],"key":["k"]}', f"[{indexes}]")
@@ -48,7 +48,7 @@ def long_cases():
         indexed_case(9_988, b"3 saved new\n4 removed\n"),
         indexed_case(9_989, b"3 refused KeyTooLarge\n4 none\n"),
         Case("10,000 nested tuples", ["unpack", "05" * 10_000], b"", 1, b"", b"refused TooDeep at 16\n"),
-        Case("5,000 escapes without an end", ["unpack", "01" + "00ff" * 5_000], b"", 1, b"", b"refused Truncated at 0\n"),
+        Case("5,000 escapes, no end", ["unpack", "01" + "00ff" * 5_000], b"", 1, b"", b"refused Truncated at 0\n"),
         Case("a word of 100,000 brackets", ["pack", "[" * 100_000], b"", 1, b"", b"bad argument\n"),
     ]
 
@@ -65,7 +65,7 @@ def byte_cases():
 
 
 def command_line_cases(folder):
-    """What the words of the command line are taken for: FILE or standard input, and status 2 where they aren't taken."""
+    """What the words of the command line are taken for: FILE or standard input, or nothing, with status 2."""
     script = f"{folder}/script.json"
     with open(script, "w", encoding="utf-8") as file:
         file.write(SETTLE)

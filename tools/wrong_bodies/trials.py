@@ -56,8 +56,9 @@ class Workshop:
         with open(os.path.join(home, "crates.txt"), "w", encoding="utf-8") as listed:
             listed.writelines(f"{it}: {' '.join(self.uses[it])}\n" for it in [*stands_on, name])
         for it in stands_on:
+            proved = os.path.join(self.folder, it, "crates", it)
             for part in (*PARTS, "out/rlib"):
-                place(os.path.join(self.folder, it, "crates", it, part), os.path.join(home, "crates", it, part), os.link)
+                place(os.path.join(proved, part), os.path.join(home, "crates", it, part), os.link)
         for part in (*PARTS, *kept):
             place(os.path.join(source, part), os.path.join(home, "crates", name, part), shutil.copy2)
 
