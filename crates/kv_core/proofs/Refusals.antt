@@ -5,7 +5,6 @@ use Rattle.std.specs.Option.{option_or}
 use Rattle.kv_core.specs.declared.change.WriteError.{WriteError}
 use Rattle.kv_core.specs.declared.change.WriteError.TheVariants.{TransactionTooLarge}
 use Rattle.kv_core.specs.MapLaws.{RefusalsBySize}
-use Rattle.kv_core.specs.declared.limits.TheConstants.{MAX_TRANSACTION_BYTES}
 use Rattle.kv_core.specs.Limits.{own_refusal, size_of, size_of_all, write_all_refusal, refusal_after}
 
 joined : (o : Option WriteError) (t : Bool) (x : WriteError) (r : Option WriteError) →
@@ -21,5 +20,5 @@ write_all-by_size before (m ∷ more) =
     let one : size_of_all (m ∷ []) ≡ size_of m = omega arith in
     let rest : write_all_refusal (before ++ m ∷ []) more ≡ refusal_after (size_of_all before + size_of m) more =
     write_all-by_size (before ++ m ∷ []) more ∙ ap (λ n. refusal_after n more) (sum_by-append size_of before (m ∷ []) ∙ ap (λ n. size_of_all before + n) one) in
-    joined (own_refusal m) (nat_le (size_of_all before + size_of m) MAX_TRANSACTION_BYTES) TransactionTooLarge (write_all_refusal (before ++ m ∷ []) more)
-    ∙ ap (λ r. option_or (own_refusal m) (cond (nat_le (size_of_all before + size_of m) MAX_TRANSACTION_BYTES) r (Some TransactionTooLarge))) rest
+    joined (own_refusal m) (nat_le (size_of_all before + size_of m) 10_000_000) TransactionTooLarge (write_all_refusal (before ++ m ∷ []) more)
+    ∙ ap (λ r. option_or (own_refusal m) (cond (nat_le (size_of_all before + size_of m) 10_000_000) r (Some TransactionTooLarge))) rest

@@ -5,7 +5,6 @@ use Rattle.kv_core.specs.Bytes.{key_lt, end_of_keys}
 use Rattle.kv_core.specs.declared.change.Mutation.{Mutation}
 use Rattle.kv_core.specs.declared.change.Mutation.TheVariants.{Set, ClearRange, Add}
 use Rattle.kv_core.specs.declared.change.WriteError.{WriteError}
-use Rattle.kv_core.specs.declared.limits.TheConstants.{MAX_KEY_BYTES, MAX_RANGE_END_BYTES, MAX_TRANSACTION_BYTES, MAX_VALUE_BYTES}
 use Rattle.kv_core.specs.declared.change.WriteError.TheVariants.{KeyOutside, KeyTooLarge, ValueTooLarge, TransactionTooLarge}
 
 -- the bytes that a mutation counts: key and value, or begin and end
@@ -18,25 +17,25 @@ size_of (ClearRange range) = length range.begin + length range.end
 abbrev pub size_of_all : List Mutation → ℕ
 size_of_all mutations = sum_by size_of mutations
 
--- why a key with a value or an operand is refused: it lies outside the keys, or one of them is too large
+-- why a key with a value or an operand is refused: the key lies outside the keys or has over 10,000 bytes, or the other has over 100,000
 abbrev pub pair_refusal : List ℕ → List ℕ → Option WriteError
 pair_refusal key value =
     if not (key_lt key end_of_keys) then Some KeyOutside
-    else (if not (nat_le (length key) MAX_KEY_BYTES) then Some KeyTooLarge
-    else (if not (nat_le (length value) MAX_VALUE_BYTES) then Some ValueTooLarge else None))
+    else (if not (nat_le (length key) 10_000) then Some KeyTooLarge
+    else (if not (nat_le (length value) 100_000) then Some ValueTooLarge else None))
 
--- why a mutation is refused by itself: by its key and its value or operand, or since an end of its range is too large
+-- why a mutation is refused by itself: by its key and its value or operand, or since its range begins after 10,000 bytes or ends after 10,001
 abbrev pub own_refusal : Mutation → Option WriteError
 own_refusal (Set key value) = pair_refusal key value
 own_refusal (Add key operand) = pair_refusal key operand
 own_refusal (ClearRange range) =
-    if not (nat_le (length range.begin) MAX_KEY_BYTES) then Some KeyTooLarge
-    else (if not (nat_le (length range.end) MAX_RANGE_END_BYTES) then Some KeyTooLarge else None)
+    if not (nat_le (length range.begin) 10_000) then Some KeyTooLarge
+    else (if not (nat_le (length range.end) 10_001) then Some KeyTooLarge else None)
 
--- why a mutation is refused after these: by itself, or since the transaction would be too large
+-- why a mutation is refused after these: by itself, or since the transaction would have over 10,000,000 bytes
 abbrev pub write_refusal : List Mutation → Mutation → Option WriteError
 write_refusal mutations mutation =
-    option_or (own_refusal mutation) (if not (nat_le (size_of_all mutations + size_of mutation) MAX_TRANSACTION_BYTES) then Some TransactionTooLarge else None)
+    option_or (own_refusal mutation) (if not (nat_le (size_of_all mutations + size_of mutation) 10_000_000) then Some TransactionTooLarge else None)
 
 -- why a list of mutations is refused after these: the refusal of the first of them that is refused after those before it
 abbrev pub write_all_refusal : List Mutation → List Mutation → Option WriteError
@@ -47,4 +46,4 @@ write_all_refusal mutations (mutation ∷ more) = option_or (write_refusal mutat
 abbrev pub refusal_after : ℕ → List Mutation → Option WriteError
 refusal_after size [] = None
 refusal_after size (mutation ∷ more) =
-    option_or (own_refusal mutation) (if nat_le (size + size_of mutation) MAX_TRANSACTION_BYTES then refusal_after (size + size_of mutation) more else Some TransactionTooLarge)
+    option_or (own_refusal mutation) (if nat_le (size + size_of mutation) 10_000_000 then refusal_after (size + size_of mutation) more else Some TransactionTooLarge)

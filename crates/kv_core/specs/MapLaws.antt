@@ -1,4 +1,4 @@
--- What maps after mutations, their pairs, sums and refusals come to.
+-- What maps after mutations, their pairs, sums, limits and refusals come to.
 use Rattle.std.specs.Prelude.{◌≡◌, ◌+◌, ◌%◌, ◌^◌, ◌≤◌, ℕ, IsTrue, if◌then◌else◌, Option, None, Some, unwrap_or, List, [], length}
 use Rattle.std.specs.FinMap.{get}
 use Rattle.std.specs.FinMap.Entries.{find, is_sorted}
@@ -8,6 +8,7 @@ use Rattle.kv_core.specs.Limits.{refusal_after, size_of_all, write_all_refusal}
 use Rattle.kv_core.specs.Map.{Map, after_all, pairs_in, value_after_all}
 use Rattle.kv_core.specs.Range.{KeyRange, contains}
 use Rattle.kv_core.specs.declared.change.Mutation.{Mutation}
+use Rattle.kv_core.specs.declared.limits.TheConstants.{MAX_KEY_BYTES, MAX_RANGE_END_BYTES, MAX_TRANSACTION_BYTES, MAX_VALUE_BYTES}
 
 -- after mutations a map has at each key what they make of the value that it had there
 abbrev pub ValuesByKey : Type 0
@@ -32,6 +33,11 @@ abbrev pub SumsJoin : Type 0
 SumsJoin =
     (stored : Option (List ℕ)) (first second : List ℕ) → length second ≤ length first →
     added (Some (added stored first)) second ≡ added stored (added (Some first) second)
+
+-- the limits in bytes: of a key, of the end of a range, of a value and of a transaction
+abbrev pub LimitsInBytes : Type 0
+LimitsInBytes =
+    (MAX_KEY_BYTES ≡ 10_000) × (MAX_RANGE_END_BYTES ≡ 10_001) × (MAX_VALUE_BYTES ≡ 100_000) × (MAX_TRANSACTION_BYTES ≡ 10_000_000)
 
 -- of the mutations before a list only their bytes matter to its refusal
 abbrev pub RefusalsBySize : Type 0

@@ -1,4 +1,4 @@
-ghost use Rattle.kv_core.specs.MapLaws.{PairsByKey, RefusalsBySize, SumsJoin, SumsWrap, ValuesByKey};
+ghost use Rattle.kv_core.specs.MapLaws.{LimitsInBytes, PairsByKey, RefusalsBySize, SumsJoin, SumsWrap, ValuesByKey};
 ghost use Rattle.kv_core.specs.RangeLaws.{AddedCovers, AgreeByPairs, MeetsInAKey, PartsByKey};
 
 /// Two ranges meet exactly where some key lies in both, and a list with a range added covers just
@@ -23,6 +23,12 @@ pub fn maps_by_their_keys()
 pub fn sums_wrap()
     ensures wrap { SumsWrap }
     ensures join { SumsJoin }
+{}
+
+/// A key has at most 10,000 bytes, the end of a range 10,001, a value 100,000, and the mutations
+/// of a transaction 10,000,000.
+pub fn limits_in_bytes()
+    ensures { LimitsInBytes }
 {}
 
 /// Whether mutations are refused depends on those before them by their bytes alone.

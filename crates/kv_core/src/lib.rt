@@ -20,7 +20,9 @@ pub use bytes::Bytes;
 pub use change::{CommitRequest, Mutation, Mutations, WriteError};
 pub use coverage::Coverage;
 pub use kv_map::KvMap;
-pub use laws::{maps_by_their_keys, ranges_by_their_keys, refusals_by_size, sums_wrap};
+pub use laws::{
+    limits_in_bytes, maps_by_their_keys, ranges_by_their_keys, refusals_by_size, sums_wrap,
+};
 pub use limits::{MAX_KEY_BYTES, MAX_RANGE_END_BYTES, MAX_TRANSACTION_BYTES, MAX_VALUE_BYTES};
 pub use pair::Pair;
 pub use range::KeyRange;
