@@ -4,6 +4,7 @@ pub mod Ownership
 pub mod Legality
 pub mod Composition
 pub mod Causes
+pub mod ExactCauses
 pub mod StorageMaps
 pub mod LogMaps
 pub mod Growth

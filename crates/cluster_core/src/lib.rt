@@ -17,7 +17,7 @@ pub use answers::{Config, ConfigError, HoldError, ReadError, Reported, Splits, S
 pub use cluster::Cluster;
 pub use laws::{
     agreement_by_versions, cause_is_exact, history_is_legal, history_only_grows,
-    servers_follow_logs,
+    keys_have_one_owner, servers_follow_logs,
 };
 pub use pipeline::{Pipeline, Ticket};
 pub use tier::Tier;
