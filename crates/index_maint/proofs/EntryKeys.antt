@@ -1,8 +1,8 @@
 -- The keys of entries: those of records with different primary keys differ.
 use Rattle.std.proofs.Common.{◌≡◌, ℕ, true, List, [], ◌∷◌, ◌++◌, length, refl, sym, ap, ◌∙◌}
-use Rattle.std.specs.Prelude.{drop, suc}
-use Rattle.std.proofs.Math.Seq.{drop-append_seam}
-use Rattle.std.proofs.lemmas.Bool.{and_parts}
+use Rattle.std.specs.Prelude.{drop, suc, take}
+use Rattle.std.proofs.Math.Seq.{drop-append_seam, take-append_seam}
+use Rattle.std.proofs.lemmas.Bool.{and_from, and_parts}
 use Rattle.std.proofs.lemmas.Cmp.{tied_itself, nat_list_cmp_total}
 use Rattle.std.specs.Ordering.{is_eq}
 use Rattle.tuple_codec.specs.Item.{Item, AreItems}
@@ -20,7 +20,7 @@ use Rattle.metadata.specs.Records.{IsStorable}
 use Rattle.metadata.proofs.CellItems.{all-cells_at, are_items-items_of, items_of-injective}
 use Rattle.index_maint.specs.Entries.{Entry, entry_items, entry_of, same_entry}
 use Rattle.index_maint.specs.Layout.{entries_prefix, entry_key}
-use Rattle.index_maint.proofs.Replaced.{tied_tuples}
+use Rattle.index_maint.proofs.Replaced.{tied_tuples, ties}
 
 are_items-append : (t u : List Item) → AreItems (item.items_of t) → AreItems (item.items_of u) → AreItems (item.items_of (t ++ u))
 are_items-append [] u h g = g
@@ -41,6 +41,9 @@ same_items t u h g same =
 same_ends : (front other xs ys : List Item) → length front ≡ length other → front ++ xs ≡ other ++ ys → xs ≡ ys
 same_ends front other xs ys long same = sym (drop-append_seam front xs) ∙ (λ i. drop (long i) (same i)) ∙ drop-append_seam other ys
 
+same_fronts : (front other xs ys : List Item) → length front ≡ length other → front ++ xs ≡ other ++ ys → front ≡ other
+same_fronts front other xs ys long same = sym (take-append_seam front xs) ∙ (λ i. take (long i) (same i)) ∙ take-append_seam other ys
+
 -- an entry has as many items in front of the primary key as the index has columns
 count : (cells : List Cell) (places : List ℕ) → length (items_of (cells_at cells places)) ≡ length places
 count cells [] = refl
@@ -54,6 +57,23 @@ entries_apart prefix number index r s h k same =
     (count r.cells index.columns ∙ sym (count s.cells index.columns))
     (same_items (entry_items (entry_of index r)) (entry_items (entry_of index s)) (entry_are_items index r h) (entry_are_items index s k)
     (cancel (entries_prefix prefix number) (spelling (entry_items (entry_of index r))) (spelling (entry_items (entry_of index s))) same))
+
+-- a tuple of items ties with itself
+tuple_ties : (t : List Item) → AreItems (item.items_of t) → is_eq (tuple_cmp t t) ≡ true
+tuple_ties t h = ap is_eq (sym (tuple_order t t h h) ∙ tied_itself nat_list_cmp_total (spelling t))
+
+-- ONE KEY: entries with one key are the same
+pub same_key : (prefix : List ℕ) (number : ℕ) (index : IndexDefinition) (r s : Record) → IsStorable r → IsStorable s →
+    entry_key prefix number (entry_of index r) ≡ entry_key prefix number (entry_of index s) → same_entry (entry_of index r) (entry_of index s) ≡ true
+same_key prefix number index r s h k same =
+    let a = items_of (cells_at r.cells index.columns) in
+    let b = items_of (cells_at s.cells index.columns) in
+    let items = same_items (entry_items (entry_of index r)) (entry_items (entry_of index s)) (entry_are_items index r h) (entry_are_items index s k)
+    (cancel (entries_prefix prefix number) (spelling (entry_items (entry_of index r))) (spelling (entry_items (entry_of index s))) same) in
+    let columns = same_fronts a b (primary_key r) (primary_key s) (count r.cells index.columns ∙ sym (count s.cells index.columns)) items in
+    and_from (is_eq (tuple_cmp a b)) (is_eq (tuple_cmp (primary_key r) (primary_key s)))
+    (ap (λ u. is_eq (tuple_cmp a u)) (sym columns) ∙ tuple_ties a (are_items-items_of (cells_at r.cells index.columns) (all-cells_at r.cells index.columns h.cells)))
+    (ap (λ u. is_eq (tuple_cmp (primary_key r) u)) (sym (entries_apart prefix number index r s h k same)) ∙ ties r h)
 
 -- entries that are the same by the test are equal
 pub same_entry-equal : (a b : Entry) → same_entry a b ≡ true → a ≡ b

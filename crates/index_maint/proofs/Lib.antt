@@ -6,5 +6,6 @@ pub mod KeyBounds
 pub mod Places
 pub mod Lookups
 pub mod ValueLaw
+pub mod OnlyChanges
 pub mod Several
 pub mod RecordIndexes

@@ -113,11 +113,11 @@ put true false rest is = refl
 put false e rest is = cc
 
 -- no other record has the entry of this one, if there is one
-abbrev IsAlone : List ℕ → IndexDefinition → List ℕ → Option Record → Bool → Type 0
+abbrev pub IsAlone : List ℕ → IndexDefinition → List ℕ → Option Record → Bool → Type 0
 IsAlone prefix index key None rest = Unit {0}
 IsAlone prefix index key (Some old) rest = is_entry_key prefix index.number key (entry_of index old) ≡ true → rest ≡ false
 
-changed : (prefix : List ℕ) (index : IndexDefinition) (key : List ℕ) (old new : Option Record) (rest : Bool) → IsIndexed index old → IsIndexed index new → IsAlone prefix index key old rest →
+pub changed : (prefix : List ℕ) (index : IndexDefinition) (key : List ℕ) (old new : Option Record) (rest : Bool) → IsIndexed index old → IsIndexed index new → IsAlone prefix index key old rest →
     value_after_all (value_changes prefix index old new) key (there (holds_of (has_entry prefix index key) old || rest)) ≡ there (holds_of (has_entry prefix index key) new || rest)
 changed prefix index key None None rest a b alone = refl
 changed prefix index key None (Some new) rest a b alone = put (is_indexed index new) (is_entry_key prefix index.number key (entry_of index new)) rest b
@@ -143,7 +143,7 @@ pub held_entries : (prefix : List ℕ) (index : IndexDefinition) (records : List
 held_entries prefix index records m bytes has =
     has bytes ∙ get-stored (entry_pairs prefix index records) (entries_prefix prefix index.number ++ bytes) ∙ entries_looked_up prefix index (entries_prefix prefix index.number ++ bytes) records
 
-alone_there : (prefix : List ℕ) (index : IndexDefinition) (bytes : List ℕ) (key : List Item) (old new : Option Record) (records : List Record) → IsReplacement key old new records →
+pub alone_there : (prefix : List ℕ) (index : IndexDefinition) (bytes : List ℕ) (key : List Item) (old new : Option Record) (records : List Record) → IsReplacement key old new records →
     IsAlone prefix index bytes old (list_any (has_entry prefix index bytes) (without_record key records))
 alone_there prefix index bytes key None new records given = tt
 alone_there prefix index bytes key (Some old) new records given = λ is.

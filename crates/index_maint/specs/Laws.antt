@@ -1,10 +1,12 @@
 -- What is asked of what a maintainer keeps and writes.
-use Rattle.std.specs.Prelude.{◌≡◌, ℕ, true, false, List, ◌++◌, Option, Some, None}
+use Rattle.std.specs.Prelude.{◌≡◌, ℕ, true, false, IsTrue, List, ◌++◌, Option, Some, None}
 use Rattle.std.specs.List.{AllByRecursion}
 use Rattle.std.specs.FinMap.{get}
 use Rattle.tuple_codec.specs.Item.{Item, IsTuple}
 use Rattle.tuple_codec.specs.Subspace.{BeginsWith}
+use Rattle.kv_core.specs.Change.{write_ranges}
 use Rattle.kv_core.specs.Map.{Map, after_all}
+use Rattle.kv_core.specs.Range.{covers}
 use Rattle.kv_core.specs.declared.change.Mutation.{Mutation}
 use Rattle.metadata.specs.declared.index.IndexDefinition.{IndexDefinition}
 use Rattle.metadata.specs.Record.{Record, primary_key}
@@ -53,6 +55,14 @@ Follows Has writes =
     (prefix : List ℕ) (index : IndexDefinition) (key : List Item) (old new : Option Record) (records : List Record) (m : Map) →
     IsReplacement key old new records → IsIndexed index old → IsIndexed index new →
     Has prefix index records m → Has prefix index (replaced key new records) (after_all (writes prefix index old new) m)
+
+-- only what changes is written: a key that the writes cover has another value after them than before, or none before and after
+abbrev pub OnlyChanges : Keeping → Writing → Type 0
+OnlyChanges Has writes =
+    (prefix : List ℕ) (index : IndexDefinition) (key : List Item) (old new : Option Record) (records : List Record) (m : Map) (at : List ℕ) →
+    IsReplacement key old new records → IsIndexed index old → IsIndexed index new → Has prefix index records m →
+    IsTrue (covers (write_ranges (writes prefix index old new)) at) →
+    get (after_all (writes prefix index old new) m) at ≡ get m at → get m at ≡ None
 
 -- a record of another type changes nothing of what is to be had
 abbrev pub IgnoresOthers : Keeping → Type 0

@@ -3,7 +3,7 @@ ghost use Rattle.std.specs.Option.{option_copied, option_map};
 ghost use Rattle.kv_core.specs.Bytes.{end_of_keys, key_lt};
 ghost use Rattle.index_maint.specs.Changes.{HasEntries, entry_changes, value_changes};
 ghost use Rattle.index_maint.specs.Entries.{entry_of};
-ghost use Rattle.index_maint.specs.Laws.{Follows, HasWithin, IgnoresOthers, Keeping, WritesWithin, Writing};
+ghost use Rattle.index_maint.specs.Laws.{Follows, HasWithin, IgnoresOthers, Keeping, OnlyChanges, WritesWithin, Writing};
 
 use crate::entry::Entry;
 use kv_core::Mutation;
@@ -22,11 +22,12 @@ pub trait Maintainer {
     /// Does nothing: its clauses are what holds of what is had and written.
     ///
     /// Where the index was had over the records, it is had over those with the new record once
-    /// that is written. A record of another type needs no writes. The writes leave each key that
-    /// doesn't begin with the index's prefix as it was, and what a map has at such keys doesn't
-    /// matter.
+    /// that is written, and only what changes is written. A record of another type needs no writes.
+    /// The writes leave each key that doesn't begin with the index's prefix as it was, and what a
+    /// map has at such keys doesn't matter.
     fn laws()
         ensures follows { Follows Has writes }
+        ensures only_changes { OnlyChanges Has writes }
         ensures ignores_others { IgnoresOthers Has }
         ensures writes_within { WritesWithin writes }
         ensures has_within { HasWithin Has };
