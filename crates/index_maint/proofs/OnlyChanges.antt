@@ -1,12 +1,15 @@
 -- A VALUE index is written only where it changes.
 use Rattle.std.proofs.Common.{◌≡◌, ℕ, Bool, true, false, not, cond, ◌||◌, List, [], ◌∷◌, ◌++◌, Option, Some, None, inl, inr, refl, sym, ap, subst, ◌∙◌}
-use Rattle.std.proofs.lemmas.Bool.{and_from, and_parts, or_cases, true≢false}
+use Rattle.std.proofs.lemmas.Bool.{and_from, and_parts, or_cases, or_left, true≢false}
+use Rattle.std.proofs.lemmas.Cmp.{tied_itself, nat_list_cmp_total}
 use Rattle.std.specs.FinMap.{get}
 use Rattle.std.specs.List.{list_any}
+use Rattle.std.specs.Ordering.{is_eq}
 use Rattle.tuple_codec.specs.Item.{Item}
 use Rattle.tuple_codec.specs.Spelling.{spelling}
 use Rattle.kv_core.specs.Change.{write_ranges}
-use Rattle.kv_core.specs.Map.{Map, after_all, value_after_all}
+use Rattle.kv_core.specs.Map.{Map, after_all, value_after, value_after_all}
+use Rattle.kv_core.specs.declared.change.Mutation.{Mutation}
 use Rattle.kv_core.specs.Range.{contains, covers, point}
 use Rattle.kv_core.proofs.Changes.{get-after_all-value}
 use Rattle.kv_core.proofs.Order.{tied_keys, tied_swap}
@@ -163,3 +166,26 @@ keeps_none prefix index key (Some old) (Some new) records m at given before afte
 pub value_only_changes : OnlyChanges HasEntries value_changes
 value_only_changes prefix index key old new records m at given before after has covers_at same =
     absurd (keeps_none prefix index key old new records m at given before after has covers_at same)
+
+-- ---- what the law refuses
+
+-- an entry that stays is taken out and put in again
+abbrev rewriting : List ℕ → IndexDefinition → Option Record → Option Record → List Mutation
+rewriting prefix index old new = value_changes prefix index old None ++ value_changes prefix index None new
+
+-- that isn't lawful, wherever a record gives way to itself
+pub rewriting_refused : (prefix : List ℕ) (index : IndexDefinition) (key : List Item) (r : Record) (records : List Record) (m : Map) →
+    IsReplacement key (Some r) (Some r) records → is_indexed index r ≡ true → HasEntries prefix index records m → OnlyChanges HasEntries rewriting → ⊥
+rewriting_refused prefix index key r records m given indexed has law =
+    let at = entry_key prefix index.number (entry_of index r) in
+    let is : is_entry_key prefix index.number at (entry_of index r) ≡ true = ap is_eq (tied_itself nat_list_cmp_total at) in
+    let stands : get m at ≡ Some [] =
+    before_at prefix index key (Some r) (Some r) records m given indexed indexed has (bytes_of index r)
+    ∙ ap (λ b. there (b || list_any (has_entry prefix index at) (without_record key records))) (and_from (is_indexed index r) (is_entry_key prefix index.number at (entry_of index r)) indexed is) in
+    let again : get (after_all (rewriting prefix index (Some r) (Some r)) m) at ≡ Some [] =
+    get-after_all-value (rewriting prefix index (Some r) (Some r)) m at
+    ∙ ap (λ b. cond b (Some []) (value_after (clear_entry prefix index.number (entry_of index r)) at (get m at))) is in
+    let none : get m at ≡ None =
+    law prefix index key (Some r) (Some r) records m at given indexed indexed has
+    (or_left _ _ (point_covers prefix index.number at (entry_of index r) ∙ is)) (again ∙ sym stands) in
+    cc
