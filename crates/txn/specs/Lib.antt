@@ -1,6 +1,7 @@
 pub mod Parts
 pub mod Holds
 pub mod Attempts
+pub mod Refusing
 pub mod Narrowing
 pub mod Own
 pub mod Reading

@@ -1,5 +1,5 @@
--- Where servers answer for a range, they answer for each part of it.
-use Rattle.std.proofs.Common.{◌≡◌, ℕ, Bool, true, false, Option, None, Some, List, [], ◌∷◌, cond, refl, sym}
+-- Where servers refuse a part of a range, they refuse the range.
+use Rattle.std.proofs.Common.{◌≡◌, ℕ, Bool, true, false, Option, None, Some, List, [], ◌∷◌, ◌⊎◌, inr, cond, refl, sym}
 use Rattle.std.proofs.lemmas.Bool.{true≢false}
 use Rattle.std.specs.Option.{option_or}
 use Rattle.kv_core.proofs.Order.{contains-begin}
@@ -11,6 +11,7 @@ use Rattle.cluster_core.specs.Decision.{Owned, cut, owners}
 use Rattle.cluster_core.specs.Tier.{ServerState, TierState, first_refusal, refusal, refusal_of}
 use Rattle.cluster_core.specs.declared.answers.ReadError.{ReadError}
 use Rattle.txn.specs.Parts.{IsPart}
+use Rattle.txn.specs.Refusing.{MayRefuse, MustRefuse}
 
 -- who has keys of a part has keys of the whole
 reaches : (owner : Owned) (whole part : KeyRange) → IsPart part whole → has_keys (cut owner part) ≡ true → has_keys (cut owner whole) ≡ true
@@ -38,9 +39,15 @@ first-narrows window version whole part inside (owner ∷ others) (server ∷ se
     (first_refusal window part version others servers) (first_refusal window whole version others servers)
     (reaches owner whole part inside) (first-narrows window version whole part inside others servers) allowed
 
-pub tier-narrows : (tier : TierState) (whole part : KeyRange) (version : ℕ) → IsPart part whole → refusal tier whole version ≡ None → refusal tier part version ≡ None
-tier-narrows tier whole part version inside = first-narrows tier.window version whole part inside (owners tier.splits) tier.servers
+-- a part isn't refused where the whole isn't
+part-narrows : (tier : TierState) (whole part : KeyRange) (version : ℕ) → IsPart part whole → refusal tier whole version ≡ None → refusal tier part version ≡ None
+part-narrows tier whole part version inside = first-narrows tier.window version whole part inside (owners tier.splits) tier.servers
 
-pub cluster-narrows : (cluster : ClusterState) (whole part : KeyRange) (version : ℕ) → IsPart part whole →
-    refusal (tier_of cluster) whole version ≡ None → refusal (tier_of cluster) part version ≡ None
+-- so where a part is refused, the whole is
+pub tier-narrows : (tier : TierState) (whole part : KeyRange) (version : ℕ) (error : ReadError) → IsPart part whole →
+    MayRefuse tier part version error → MayRefuse tier whole version error ⊎ MustRefuse tier whole version
+tier-narrows tier whole part version error inside refused = inr (λ allowed. let none = part-narrows tier whole part version inside allowed in cc)
+
+pub cluster-narrows : (cluster : ClusterState) (whole part : KeyRange) (version : ℕ) (error : ReadError) → IsPart part whole →
+    MayRefuse (tier_of cluster) part version error → MayRefuse (tier_of cluster) whole version error ⊎ MustRefuse (tier_of cluster) whole version
 cluster-narrows cluster whole part version = tier-narrows (tier_of cluster) whole part version

@@ -1,4 +1,4 @@
-ghost use Rattle.std.specs.Prelude.{◌≡◌, ◌⊎◌, ◌≤◌, ℕ, List, None, Some, IsNone, IsTrue, IfOk, IfErr, OnOk, if◌then◌else◌, length, nat_lt, ◌&&◌};
+ghost use Rattle.std.specs.Prelude.{◌≡◌, ◌⊎◌, ◌≤◌, ℕ, List, None, Some, IsTrue, IfOk, IfErr, OnOk, if◌then◌else◌, length, nat_lt, ◌&&◌};
 ghost use Rattle.kv_core.specs.Map.{Map};
 ghost use Rattle.kv_core.specs.Range.{contains, has_keys, part_before, part_from};
 ghost use Rattle.kv_core.specs.Read.{last_key, range_read, read_of};
@@ -131,8 +131,8 @@ fn read_round<S: Snapshot>(
     requires asked { 1 ≤ asked }
     ensures left { IfOk result (λ round. IsLeft (S.map_at db.now version) range.now limit round.pairs.items round.rest) }
     ensures gives { IfOk result (λ round. (m : Map) → IsUnder (state_of own.now) (S.map_at db.now version) m → Gives m range.now limit reverse round.pairs.items round.rest) }
-    ensures allowed { OnOk result (IsNone (S.refusal db.now range.now version)) }
-    ensures refused { IfErr result (λ error. (error ≡ ReadError.Memory) ⊎ (S.refusal db.now range.now version ≡ Some error)) }
+    ensures allowed { OnOk result (S.must_refuse db.now range.now version → ⊥) }
+    ensures refused { IfErr result (λ error. (error ≡ ReadError.Memory) ⊎ S.may_refuse db.now range.now version error) }
 {
     let stored = db.read(range, version, asked, reverse)?;
     if stored.len() < asked {
@@ -159,8 +159,8 @@ pub(crate) fn read_under<S: Snapshot>(
 ) -> Result<Vec<Pair>, ReadError>
     requires { 1 ≤ limit }
     ensures pairs { IfOk result (λ pairs. (m : Map) → IsUnder (state_of own.now) (S.map_at db.now version) m → pairs.items ≡ read_of m range.now limit reverse) }
-    ensures allowed { OnOk result (IsNone (S.refusal db.now range.now version)) }
-    ensures refused { IfErr result (λ error. (error ≡ ReadError.Memory) ⊎ (S.refusal db.now range.now version ≡ Some error)) }
+    ensures allowed { OnOk result (S.must_refuse db.now range.now version → ⊥) }
+    ensures refused { IfErr result (λ error. (error ≡ ReadError.Memory) ⊎ S.may_refuse db.now range.now version error) }
 {
     let first = read_round(db, own, version, range, limit, limit, reverse)?;
     let mut pairs = first.pairs;

@@ -81,9 +81,9 @@ impl Transaction {
         ensures answer { IfOk result (λ value. (m : Map) →
             Agree self.new.reads (S.map_at db.now self.old.read_version) m → value ≡ value_at (seen self.old m) key.now) }
         ensures reads { OnOk result (self.new ≡ has_read (point key.now) self.old) }
-        ensures allowed { OnOk result (IsNone (S.refusal db.now (point key.now) self.old.read_version)) }
+        ensures allowed { OnOk result (S.must_refuse db.now (point key.now) self.old.read_version → ⊥) }
         ensures kept { OnErr result (self.new ≡ self.old) }
-        ensures refused { IfErr result (λ error. (error ≡ ReadError.Memory) ⊎ (S.refusal db.now (point key.now) self.old.read_version ≡ Some error)) }
+        ensures refused { IfErr result (λ error. (error ≡ ReadError.Memory) ⊎ S.may_refuse db.now (point key.now) self.old.read_version error) }
     {
         let range = KeyRange::point(self.own.alloc, key)?;
         let found = db.read(&range, self.request.read_version, 1, false)?;
@@ -105,8 +105,8 @@ impl Transaction {
         requires { 1 ≤ limit }
         ensures pairs { IfOk result (λ pairs. pairs.items ≡ read_of (seen self.old (S.map_at db.now self.old.read_version)) range.now limit reverse) }
         ensures kept { self.new ≡ self.old }
-        ensures allowed { OnOk result (IsNone (S.refusal db.now range.now self.old.read_version)) }
-        ensures refused { IfErr result (λ error. (error ≡ ReadError.Memory) ⊎ (S.refusal db.now range.now self.old.read_version ≡ Some error)) }
+        ensures allowed { OnOk result (S.must_refuse db.now range.now self.old.read_version → ⊥) }
+        ensures refused { IfErr result (λ error. (error ≡ ReadError.Memory) ⊎ S.may_refuse db.now range.now self.old.read_version error) }
     {
         let version = self.request.read_version;
         if self.request.mutations.is_empty() {
@@ -135,9 +135,9 @@ impl Transaction {
         ensures answer { IfOk result (λ pairs. (m : Map) →
             Agree self.new.reads (S.map_at db.now self.old.read_version) m → pairs.items ≡ read_of (seen self.old m) range.now limit reverse) }
         ensures reads { IfOk result (λ pairs. self.new ≡ has_read (range_read range.now limit reverse pairs.items) self.old) }
-        ensures allowed { OnOk result (IsNone (S.refusal db.now range.now self.old.read_version)) }
+        ensures allowed { OnOk result (S.must_refuse db.now range.now self.old.read_version → ⊥) }
         ensures kept { OnErr result (self.new ≡ self.old) }
-        ensures refused { IfErr result (λ error. (error ≡ ReadError.Memory) ⊎ (S.refusal db.now range.now self.old.read_version ≡ Some error)) }
+        ensures refused { IfErr result (λ error. (error ≡ ReadError.Memory) ⊎ S.may_refuse db.now range.now self.old.read_version error) }
     {
         let pairs = self.seen_pairs(db, range, limit, reverse)?;
         let read = range_read(range, limit, reverse, pairs.as_slice())?;
@@ -153,9 +153,9 @@ impl Transaction {
         ensures answer { IfOk result (λ pairs. (m : Map) →
             Agree self.new.reads (S.map_at db.now self.old.read_version) m → pairs.items ≡ pairs_in (seen self.old m) range.now) }
         ensures reads { OnOk result (self.new ≡ has_read range.now self.old) }
-        ensures allowed { OnOk result (IsNone (S.refusal db.now range.now self.old.read_version)) }
+        ensures allowed { OnOk result (S.must_refuse db.now range.now self.old.read_version → ⊥) }
         ensures kept { OnErr result (self.new ≡ self.old) }
-        ensures refused { IfErr result (λ error. (error ≡ ReadError.Memory) ⊎ (S.refusal db.now range.now self.old.read_version ≡ Some error)) }
+        ensures refused { IfErr result (λ error. (error ≡ ReadError.Memory) ⊎ S.may_refuse db.now range.now self.old.read_version error) }
     {
         let pairs = self.get_range(db, range, usize::MAX, false)?;
         Ok(pairs)

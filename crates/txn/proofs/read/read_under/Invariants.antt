@@ -1,4 +1,4 @@
-use Rattle.std.proofs.Common.{◌≡◌, ◌≤◌, None}
+use Rattle.std.proofs.Common.{◌≤◌}
 use Rattle.kv_core.specs.Map.{Map}
 use Rattle.txn.specs.Own.{IsUnder, state_of}
 use Rattle.txn.specs.Reading.{Gives, IsLeft, left_count}
@@ -10,7 +10,7 @@ invariant-loop-rest g l =
     let base = g.S.Snapshot.map_at l.db l.version in
     (l.limit ≤ l.asked) × IsLeft base l.range l.limit l.pairs.items l.rest
     × ((m : Map) → IsUnder (state_of l.own) base m → Gives m l.range l.limit l.reverse l.pairs.items l.rest)
-    × (g.S.Snapshot.refusal l.db l.range l.version ≡ None)
+    × (g.S.Snapshot.must_refuse l.db l.range l.version → ⊥)
 
 abbrev pub decreases-loop-rest : goal.decreases-loop-rest
 decreases-loop-rest g l = left_count (g.S.Snapshot.map_at l.db l.version) l.rest
