@@ -86,7 +86,7 @@ index_served opened index state list wrote made m store holds same is =
           (indexed_holds opened.prefix m store index (subst (λ s. IsLawfulSchema (with_index s index)) (sym same.schema) made) holds);
     }
 
-module _ (maps : ℕ → Map) (refuses : KeyRange → ℕ → Option ReadError) (opened : Opened) (request : IndexRequest) (index : IndexDefinition) (type : TypeDefinition)
+module _ (maps : ℕ → Map) (refuses : KeyRange → ℕ → ReadError → Type 0) (opened : Opened) (request : IndexRequest) (index : IndexDefinition) (type : TypeDefinition)
     (made : new_index opened.schema request ≡ Ok index) (found : find_type opened.schema request.type_name ≡ Some type) where
   same_number : type.number ≡ index.type_number
   same_number = sym (type_number_is opened.schema request index type made found)

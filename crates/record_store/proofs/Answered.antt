@@ -32,6 +32,7 @@ use Rattle.record_store.specs.declared.error.StoreError.TheVariants.{Memory, Rea
 use Rattle.record_store.specs.Store.{Store}
 use Rattle.record_store.specs.Holds.{Holds, IsOfSchema}
 use Rattle.record_store.specs.Form.{IsRecordPair}
+use Rattle.txn.specs.Refusing.{NeverRefuses}
 use Rattle.record_store.specs.Call.{AtStore, Call, IsAnswered, IsFailure, IsOpenAs, IsRefused, IsUnread, Opened, Service}
 use Rattle.record_store.specs.Calls.{done_with, own_record}
 use Rattle.record_store.specs.Reading.{HasNotFound, IsKeyOf}
@@ -99,7 +100,20 @@ pub record IsServed {A : Type 0} (opened : Opened) (service : Service A) (answer
   pub wrote : list ≡ service.writes store
   pub holds : Holds opened.prefix (after_all list m) (Some (service.after store))
 
-module _ {A : Type 0} (maps : ℕ → Map) (refuses : KeyRange → ℕ → Option ReadError) (opened : Opened) where
+-- ANYWAY: a call is refused so whatever reads may be refused, where it is so and none may
+pub refused_anyway : {A : Type 0} (maps : ℕ → Map) (refuses : KeyRange → ℕ → ReadError → Type 0) (opened : Opened) (call : Call A) (error : StoreError) (old new : CommitRequest) →
+    IsRefused maps NeverRefuses opened call error old new → IsRefused maps refuses opened call error old new
+refused_anyway maps refuses opened (Err refusal) error old new is = is
+refused_anyway maps refuses opened (Ok service) error old new is = ran_because is (λ m says. by_error error m says)
+  where
+    by_error : (e : StoreError) (m : Map) → IsFailure (λ range. NeverRefuses range old.read_version) opened service e old.mutations m → IsFailure (λ range. refuses range old.read_version) opened service e old.mutations m
+    by_error Memory m says = says
+    by_error (Read error) m says = absurd says.refused
+    by_error (Write error) m says = says
+    by_error (Corrupt key) m says = says
+    by_error (Refused refusal) m says = says
+
+module _ {A : Type 0} (maps : ℕ → Map) (refuses : KeyRange → ℕ → ReadError → Type 0) (opened : Opened) where
   -- OWN REFUSAL: the call's own, before it read anything
   pub refused_own : {K : Type 0} {old new : CommitRequest} (service : K → Service A) (outcome : Result K Refusal) (error : MetadataError) → IsRefusedAs error outcome → new ≡ old →
       IsRefused maps refuses opened (done_with service outcome) (of_metadata error) old new
@@ -109,7 +123,7 @@ module _ {A : Type 0} (maps : ℕ → Map) (refuses : KeyRange → ℕ → Optio
   refused_own service (Err refusal) (meta.Refused other) is same = (inr (let one : refusal ≡ other = cc in ap Refused (sym one)), same)
 
   -- UNREAD: its reads weren't answered
-  failure_of : (refused : KeyRange → Option ReadError) (service : Service A) (error : StoreError) (before : List Mutation) (m : Map) → IsUnread refused opened service.reach service.reads error m → IsFailure refused opened service error before m
+  failure_of : (refused : KeyRange → ReadError → Type 0) (service : Service A) (error : StoreError) (before : List Mutation) (m : Map) → IsUnread refused opened service.reach service.reads error m → IsFailure refused opened service error before m
   failure_of refused service Memory before m says = says
   failure_of refused service (Read error) before m says = says
   failure_of refused service (Corrupt key) before m says = says

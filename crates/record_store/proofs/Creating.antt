@@ -51,7 +51,7 @@ module _ (prefix : List ℕ) (schema : Schema) where
   abbrev made : Opened
   made = record { prefix = prefix; schema = schema; states = [] }
 
-  create_error : (refuses : KeyRange → Option ReadError) (near : List KeyRange) → ((k : List ℕ) → covers near k ≡ true → covers (opening_reach prefix) k ≡ true) →
+  create_error : (refuses : KeyRange → ReadError → Type 0) (near : List KeyRange) → ((k : List ℕ) → covers near k ≡ true → covers (opening_reach prefix) k ≡ true) →
       (error : StoreError) (before : List Mutation) (m : Map) → IsReadError refuses near error → IsCreateFailure refuses made error before m
   create_error refuses near wider Memory before m says = tt
   create_error refuses near wider (Read error) before m says = record { range = says.range; inside = λ k h. wider k (says.inside k h); refused = says.refused }
@@ -60,12 +60,12 @@ module _ (prefix : List ℕ) (schema : Schema) where
   create_error refuses near wider (Refused refusal) before m says = absurd says
 
   -- FIRST READ, SECOND READ: it came to an error
-  pub uncreated_first : {maps : ℕ → Map} {refuses : KeyRange → ℕ → Option ReadError} {old new : CommitRequest} (error : StoreError) → HasNotRead maps refuses (point (schema_key prefix) ∷ []) error old new → IsUncreated maps refuses made error old new
+  pub uncreated_first : {maps : ℕ → Map} {refuses : KeyRange → ℕ → ReadError → Type 0} {old new : CommitRequest} (error : StoreError) → HasNotRead maps refuses (point (schema_key prefix) ∷ []) error old new → IsUncreated maps refuses made error old new
   uncreated_first {refuses = refuses} {old = old} error is = record {
     ran = ran_wider (ran_because is.ran (λ m says. create_error (λ range. refuses range old.read_version) (point (schema_key prefix) ∷ []) (first_within prefix) error old.mutations m says)) (first_within prefix);
   }
 
-  pub uncreated_then : {maps : ℕ → Map} {refuses : KeyRange → ℕ → Option ReadError} {old mid new : CommitRequest} {F : Map → Type 0} (error : StoreError) →
+  pub uncreated_then : {maps : ℕ → Map} {refuses : KeyRange → ℕ → ReadError → Type 0} {old mid new : CommitRequest} {F : Map → Type 0} (error : StoreError) →
       DidRead maps (point (schema_key prefix) ∷ []) old mid F → HasNotRead maps refuses (states_range prefix ∷ []) error mid new → IsUncreated maps refuses made error old new
   uncreated_then {refuses = refuses} {old = old} error one is = record {
     ran = ran_because (both_read prefix one is.ran) (λ m says.
@@ -75,11 +75,11 @@ module _ (prefix : List ℕ) (schema : Schema) where
 
   module _ {maps : ℕ → Map} {old mid new : CommitRequest} {G : Map → Type 0} (written : Option (List ℕ)) (one : DidRead maps (point (schema_key prefix) ∷ []) old mid (λ m. written ≡ get m (schema_key prefix))) (two : DidRead maps (states_range prefix ∷ []) mid new G) where
     -- MEMORY: it is wanting after both reads
-    pub uncreated_memory : {refuses : KeyRange → ℕ → Option ReadError} → IsUncreated maps refuses made Memory old new
+    pub uncreated_memory : {refuses : KeyRange → ℕ → ReadError → Type 0} → IsUncreated maps refuses made Memory old new
     uncreated_memory = record { ran = ran_because (both_read prefix one two) (λ m found. tt) }
 
     -- THERE: a pair stands where a schema does
-    pub uncreated_there : {refuses : KeyRange → ℕ → Option ReadError} (error : StoreError) → IsThere written error → IsUncreated maps refuses made error old new
+    pub uncreated_there : {refuses : KeyRange → ℕ → ReadError → Type 0} (error : StoreError) → IsThere written error → IsUncreated maps refuses made error old new
     uncreated_there {refuses = refuses} error says =
         subst (λ e. IsUncreated maps refuses made e old new) (sym says.0) (record {
           ran = ran_because (both_read prefix one two) (λ m found. (
@@ -90,7 +90,7 @@ module _ (prefix : List ℕ) (schema : Schema) where
         })
 
     -- LIMIT: the write of the schema was refused
-    pub uncreated_limit : {last : CommitRequest} {refuses : KeyRange → ℕ → Option ReadError} (list : List Mutation) (error : WriteError) → written ≡ None → list ≡ schema_writes prefix schema → last ≡ new →
+    pub uncreated_limit : {last : CommitRequest} {refuses : KeyRange → ℕ → ReadError → Type 0} (list : List Mutation) (error : WriteError) → written ≡ None → list ≡ schema_writes prefix schema → last ≡ new →
         (error ≡ write.Memory) ⊎ (write_all_refusal new.mutations list ≡ Some error) → IsUncreated maps refuses made (of_write error) old last
     uncreated_limit {last = last} {refuses = refuses} list error none wrote same says =
         subst (λ n. IsUncreated maps refuses made (of_write error) old n) (sym same) (record {
@@ -147,7 +147,7 @@ pub still_whole : (ranges : List KeyRange) (old new : CommitRequest) → ReadsAl
 still_whole ranges old new whole same key h = ap (λ reads. covers reads key) same ∙ whole key h
 
 -- an error of a read says nothing of what was looked at
-pub looked_error : {maps : ℕ → Map} {refuses : KeyRange → ℕ → Option ReadError} {within : List KeyRange} {old new : CommitRequest} (prefix : List ℕ) (error : StoreError) (last : CommitRequest) → HasNotRead maps refuses within error old new → HasLooked prefix error last
+pub looked_error : {maps : ℕ → Map} {refuses : KeyRange → ℕ → ReadError → Type 0} {within : List KeyRange} {old new : CommitRequest} (prefix : List ℕ) (error : StoreError) (last : CommitRequest) → HasNotRead maps refuses within error old new → HasLooked prefix error last
 looked_error {maps = maps} {refuses = refuses} {within = within} {old = old} prefix error last is = by_error error (is.ran.over (maps old.read_version) (λ key h. refl))
   where
     by_error : (e : StoreError) → IsReadError (λ range. refuses range old.read_version) within e → HasLooked prefix e last

@@ -94,7 +94,7 @@ module _ (opened : Opened) (type : TypeDefinition) (key : List Item) (lawful : I
   )
 
   -- UNREAD: what was found is none of the type's
-  unread_there : (refuses : KeyRange → Option ReadError) (m : Map) (value : Option (List ℕ)) (error : StoreError) → get m (record_key opened.prefix key) ≡ value →
+  unread_there : (refuses : KeyRange → ReadError → Type 0) (m : Map) (value : Option (List ℕ)) (error : StoreError) → get m (record_key opened.prefix key) ≡ value →
       IsNotFound type (spelling key) (record_key opened.prefix key) value error → IsUnread refuses opened (point (record_key opened.prefix key) ∷ []) (λ n. read_in n (point (record_key opened.prefix key) ∷ [])) error m
   unread_there refuses m value Memory is says = tt
   unread_there refuses m None (Read error) is says = absurd says
@@ -136,7 +136,7 @@ module _ (opened : Opened) (type : TypeDefinition) (key : List Item) (lawful : I
       ran_read (point k) read (one_covers (point k) (point (record_key opened.prefix key)) (ap point is))
       (λ m agree. read_there (seen old m) value found (sym (answer m agree ∙ ap (get (seen old m)) is)) (subst (λ p. IsFound type p value found) pack says))
 
-  pub record_unread : {maps : ℕ → Map} {refuses : KeyRange → ℕ → Option ReadError} {old new : CommitRequest} (k packed : List ℕ) (value : Option (List ℕ)) (error : StoreError) → k ≡ record_key opened.prefix key → packed ≡ spelling key →
+  pub record_unread : {maps : ℕ → Map} {refuses : KeyRange → ℕ → ReadError → Type 0} {old new : CommitRequest} (k packed : List ℕ) (value : Option (List ℕ)) (error : StoreError) → k ≡ record_key opened.prefix key → packed ≡ spelling key →
       new ≡ has_read (point k) old → ((m : Map) → Agree new.reads (maps old.read_version) m → value ≡ get (seen old m) k) → IsNotFound type packed k value error →
       HasNotFound maps refuses opened (point (record_key opened.prefix key) ∷ []) (λ m. read_in m (point (record_key opened.prefix key) ∷ [])) error old new
   record_unread {refuses = refuses} {old = old} k packed value error is pack read answer says = record {
@@ -185,7 +185,7 @@ module _ (prefix : List ℕ) where
   both_read one two = ran_then (ran_wider one first_within) (ran_wider two then_within) (λ m f g. (f, g))
 
   -- an error of a read within the opening's is one of the opening
-  open_error : (refuses : KeyRange → Option ReadError) (near : List KeyRange) → ((k : List ℕ) → covers near k ≡ true → covers (opening_reach prefix) k ≡ true) →
+  open_error : (refuses : KeyRange → ReadError → Type 0) (near : List KeyRange) → ((k : List ℕ) → covers near k ≡ true → covers (opening_reach prefix) k ≡ true) →
       (error : StoreError) (m : Map) → IsReadError refuses near error → IsOpenFailure refuses prefix error m
   open_error refuses near wider Memory m says = tt
   open_error refuses near wider (Read error) m says = record { range = says.range; inside = λ k h. wider k (says.inside k h); refused = says.refused }
@@ -194,12 +194,12 @@ module _ (prefix : List ℕ) where
   open_error refuses near wider (Refused refusal) m says = absurd says
 
   -- UNOPENED: the first read came to an error, or the second did
-  pub unopened_first : {maps : ℕ → Map} {refuses : KeyRange → ℕ → Option ReadError} {old new : CommitRequest} (error : StoreError) → HasNotRead maps refuses (point (schema_key prefix) ∷ []) error old new → IsUnopened maps refuses prefix error old new
+  pub unopened_first : {maps : ℕ → Map} {refuses : KeyRange → ℕ → ReadError → Type 0} {old new : CommitRequest} (error : StoreError) → HasNotRead maps refuses (point (schema_key prefix) ∷ []) error old new → IsUnopened maps refuses prefix error old new
   unopened_first {refuses = refuses} {old = old} error is = record {
     ran = ran_wider (ran_because is.ran (λ m says. open_error (λ range. refuses range old.read_version) (point (schema_key prefix) ∷ []) first_within error m says)) first_within;
   }
 
-  pub unopened_then : {maps : ℕ → Map} {refuses : KeyRange → ℕ → Option ReadError} {old mid new : CommitRequest} {F : Map → Type 0} (error : StoreError) →
+  pub unopened_then : {maps : ℕ → Map} {refuses : KeyRange → ℕ → ReadError → Type 0} {old mid new : CommitRequest} {F : Map → Type 0} (error : StoreError) →
       DidRead maps (point (schema_key prefix) ∷ []) old mid F → HasNotRead maps refuses (states_range prefix ∷ []) error mid new → IsUnopened maps refuses prefix error old new
   unopened_then {refuses = refuses} {old = old} error one is = record {
     ran = ran_because (both_read one is.ran) (λ m says.
@@ -292,10 +292,10 @@ module _ (prefix : List ℕ) where
       )
 
   -- a damaged opening
-  damaged : (refuses : KeyRange → Option ReadError) (m : Map) (key : List ℕ) → IsFirstBad (IsOpeningPair prefix m) (read_in m (opening_reach prefix)) key → IsOpenFailure refuses prefix (Corrupt key) m
+  damaged : (refuses : KeyRange → ReadError → Type 0) (m : Map) (key : List ℕ) → IsFirstBad (IsOpeningPair prefix m) (read_in m (opening_reach prefix)) key → IsOpenFailure refuses prefix (Corrupt key) m
   damaged refuses m key bad = (bad, λ serial holds plain. none_bad (read_in m (opening_reach prefix)) key (opening_form m serial plain holds) bad)
 
-  bad_schema : (refuses : KeyRange → Option ReadError) (m : Map) (bytes : List ℕ) (pairs : List Pair) (error : StoreError) → Some bytes ≡ get m (schema_key prefix) → pairs ≡ pairs_in m (states_range prefix) →
+  bad_schema : (refuses : KeyRange → ReadError → Type 0) (m : Map) (bytes : List ℕ) (pairs : List Pair) (error : StoreError) → Some bytes ≡ get m (schema_key prefix) → pairs ≡ pairs_in m (states_range prefix) →
       IsBadSchema prefix bytes error → IsOpenFailure refuses prefix error m
   bad_schema refuses m bytes pairs Memory found listed says = tt
   bad_schema refuses m bytes pairs (Read error) found listed says = absurd says
@@ -351,7 +351,7 @@ module _ (prefix : List ℕ) where
             let same : schema_bytes state.schema ≡ schema_bytes schema = cc in
             says.1 (subst (λ (s : Schema). IsStatePair prefix s.indexes among.bad) (written_once state.schema schema state.made is.made same) state.is)
 
-    states_failure : (refuses : KeyRange → Option ReadError) (error : StoreError) → HaveNoStates prefix schema.indexes pairs error → IsOpenFailure refuses prefix error m
+    states_failure : (refuses : KeyRange → ReadError → Type 0) (error : StoreError) → HaveNoStates prefix schema.indexes pairs error → IsOpenFailure refuses prefix error m
     states_failure refuses error (inl memory) = subst (λ e. IsOpenFailure refuses prefix e m) (sym memory) tt
     states_failure refuses error (inr among) = by_error error among.none
       where
@@ -368,18 +368,18 @@ module _ (prefix : List ℕ) where
   nothing_there m (Some store) found holds =
       let some : ◌≡◌ {A = Option (List ℕ)} None (Some (schema_bytes store.schema)) = found ∙ schema_held prefix m store holds in absurd (cc)
 
-  schema_failure : (refuses : KeyRange → Option ReadError) (m : Map) (written : Option (List ℕ)) (pairs : List Pair) (error : StoreError) → written ≡ get m (schema_key prefix) → pairs ≡ pairs_in m (states_range prefix) →
+  schema_failure : (refuses : KeyRange → ReadError → Type 0) (m : Map) (written : Option (List ℕ)) (pairs : List Pair) (error : StoreError) → written ≡ get m (schema_key prefix) → pairs ≡ pairs_in m (states_range prefix) →
       IsNoSchema prefix written error → IsOpenFailure refuses prefix error m
   schema_failure refuses m None pairs error found listed says =
       subst (λ e. IsOpenFailure refuses prefix e m) (sym says) (refl, sym found, λ serial holds. nothing_there m serial found holds)
   schema_failure refuses m (Some bytes) pairs error found listed bad = bad_schema refuses m bytes pairs error found listed bad
 
-  all_failure : (refuses : KeyRange → Option ReadError) (m : Map) (written : Option (List ℕ)) (pairs : List Pair) (schema : Schema) (error : StoreError) → IsSchema written schema → written ≡ get m (schema_key prefix) → pairs ≡ pairs_in m (states_range prefix) →
+  all_failure : (refuses : KeyRange → ReadError → Type 0) (m : Map) (written : Option (List ℕ)) (pairs : List Pair) (schema : Schema) (error : StoreError) → IsSchema written schema → written ≡ get m (schema_key prefix) → pairs ≡ pairs_in m (states_range prefix) →
       HaveNoStates prefix schema.indexes pairs error → IsOpenFailure refuses prefix error m
   all_failure refuses m None pairs schema error is found listed says = let some : ◌≡◌ {A = Option (List ℕ)} None (Some (schema_bytes schema)) = is.bytes in absurd (cc)
   all_failure refuses m (Some bytes) pairs schema error is found listed says = states_failure m bytes pairs schema is found listed refuses error says
 
-  module _ {maps : ℕ → Map} {refuses : KeyRange → ℕ → Option ReadError} {old mid new : CommitRequest} (written : Option (List ℕ)) (pairs : List Pair)
+  module _ {maps : ℕ → Map} {refuses : KeyRange → ℕ → ReadError → Type 0} {old mid new : CommitRequest} (written : Option (List ℕ)) (pairs : List Pair)
       (one : DidRead maps (point (schema_key prefix) ∷ []) old mid (λ m. written ≡ get m (schema_key prefix))) (two : DidRead maps (states_range prefix ∷ []) mid new (λ m. pairs ≡ pairs_in m (states_range prefix))) where
     pub unopened_schema : (error : StoreError) → IsNoSchema prefix written error → IsUnopened maps refuses prefix error old new
     unopened_schema error says = record {

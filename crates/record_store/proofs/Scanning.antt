@@ -157,7 +157,7 @@ module _ (opened : Opened) (type : TypeDefinition) (lawful : IsLawfulSchema open
       in_middle [] all = all.0
       in_middle (pair ∷ before) all = in_middle before all.1
 
-  unread_there : (refuses : KeyRange → Option ReadError) (reads : Map → List Pair) (m : Map) (limit : ℕ) (pairs : List Pair) (error : StoreError) → pairs ≡ take limit (pairs_in m here) → reads m ≡ pairs →
+  unread_there : (refuses : KeyRange → ReadError → Type 0) (reads : Map → List Pair) (m : Map) (limit : ℕ) (pairs : List Pair) (error : StoreError) → pairs ≡ take limit (pairs_in m here) → reads m ≡ pairs →
       HaveNoRecords (place opened.prefix 1) type pairs error → IsUnread refuses opened (here ∷ []) reads error m
   unread_there refuses reads m limit pairs error is read (inl memory) = subst (λ e. IsUnread refuses opened (here ∷ []) reads e m) (sym memory) tt
   unread_there refuses reads m limit pairs error is read (inr among) = by_error error among.none
@@ -210,7 +210,7 @@ module _ (opened : Opened) (type : TypeDefinition) (lawful : IsLawfulSchema open
       let good = subst (λ p. ArePairsOf p type pairs rows) at found in
       (subst (AllByRecursion (IsRecordPair opened.prefix opened.schema)) (all ∙ sym (read_pairs (seen old m))) (good_form pairs rows good), whole_rows (seen old m) pairs rows all good))
 
-  pub rows_unread : {maps : ℕ → Map} {refuses : KeyRange → ℕ → Option ReadError} {old new : CommitRequest} (range : KeyRange) (pairs : List Pair) (records_place : List ℕ) (error : StoreError) → range ≡ here → records_place ≡ place opened.prefix 1 →
+  pub rows_unread : {maps : ℕ → Map} {refuses : KeyRange → ℕ → ReadError → Type 0} {old new : CommitRequest} (range : KeyRange) (pairs : List Pair) (records_place : List ℕ) (error : StoreError) → range ≡ here → records_place ≡ place opened.prefix 1 →
       new ≡ has_read range old → ((m : Map) → Agree new.reads (maps old.read_version) m → pairs ≡ pairs_in (seen old m) range) → HaveNoRecords records_place type pairs error →
       HasNotFound maps refuses opened (here ∷ []) (λ m. read_in m (here ∷ [])) error old new
   rows_unread {refuses = refuses} {old = old} range pairs records_place error is at read answer none = record {
@@ -246,7 +246,7 @@ module _ (opened : Opened) (type : TypeDefinition) (lawful : IsLawfulSchema open
       let there = rows_there (seen old m) 1 pairs rows some (subst (λ p. ArePairsOf p type pairs rows) at found) in
       (subst (AllByRecursion (IsRecordPair opened.prefix opened.schema)) some there.0, λ store holds same. ap new_state (there.1 store holds same) ∙ state_first (of_type type.number store.records)))
 
-  pub state_unread : {maps : ℕ → Map} {refuses : KeyRange → ℕ → Option ReadError} {old new : CommitRequest} (range : KeyRange) (pairs : List Pair) (records_place : List ℕ) (error : StoreError) → range ≡ here → records_place ≡ place opened.prefix 1 →
+  pub state_unread : {maps : ℕ → Map} {refuses : KeyRange → ℕ → ReadError → Type 0} {old new : CommitRequest} (range : KeyRange) (pairs : List Pair) (records_place : List ℕ) (error : StoreError) → range ≡ here → records_place ≡ place opened.prefix 1 →
       new ≡ has_read (range_read range 1 false pairs) old → ((m : Map) → Agree new.reads (maps old.read_version) m → pairs ≡ read_of (seen old m) range 1 false) → HaveNoRecords records_place type pairs error →
       HasNotFound maps refuses opened (here ∷ []) (λ m. read_of m here 1 false) error old new
   state_unread {maps = maps} {refuses = refuses} {old = old} {new = new} range pairs records_place error is at read answer none = record {

@@ -64,13 +64,13 @@ pub record IsAnswered {A : Type 0} (maps : ℕ → Map) (opened : Opened) (call 
       × AtStore opened m (IsDone opened service answer old.mutations written m))
 
 -- a read of a range within the reach is refused so
-pub record IsReadRefusedAs (refuses : KeyRange → Option ReadError) (within : List KeyRange) (error : ReadError) : Type 0 where
+pub record IsReadRefusedAs (refuses : KeyRange → ReadError → Type 0) (within : List KeyRange) (error : ReadError) : Type 0 where
   pub range : KeyRange
   pub inside : (key : List ℕ) → IsTrue (contains range key) → IsTrue (covers within key)
-  pub refused : refuses range ≡ Some error
+  pub refused : refuses range error
 
 -- why reads aren't answered: memory is wanting, or a read is refused, or the first pair read that isn't of the written form has this key, which no store has
-abbrev pub IsUnread : (KeyRange → Option ReadError) → Opened → List KeyRange → (Map → List (List ℕ × List ℕ)) → StoreError → Map → Type 0
+abbrev pub IsUnread : (KeyRange → ReadError → Type 0) → Opened → List KeyRange → (Map → List (List ℕ × List ℕ)) → StoreError → Map → Type 0
 IsUnread refuses opened within reads Memory m = Unit {0}
 IsUnread refuses opened within reads (Read error) m = IsReadRefusedAs refuses within error
 IsUnread refuses opened within reads (Corrupt key) m =
@@ -78,13 +78,13 @@ IsUnread refuses opened within reads (Corrupt key) m =
 IsUnread refuses opened within reads error m = ⊥
 
 -- why a service isn't done: its reads aren't answered, or all that was read is of the written form and a limit refuses what is to be written
-abbrev pub IsFailure : {A : Type 0} → (KeyRange → Option ReadError) → Opened → Service A → StoreError → List Mutation → Map → Type 0
+abbrev pub IsFailure : {A : Type 0} → (KeyRange → ReadError → Type 0) → Opened → Service A → StoreError → List Mutation → Map → Type 0
 IsFailure refuses opened service (Write error) before m =
     AllByRecursion (IsRecordPair opened.prefix opened.schema) (service.reads m) × AtStore opened m (λ store. write_all_refusal before (service.writes store) ≡ Some error)
 IsFailure refuses opened service error before m = IsUnread refuses opened service.reach service.reads error m
 
 -- why a call wasn't answered: its own refusal, before it read anything; or it failed, having read within its reach and written nothing. Want of memory can come anywhere
-abbrev pub IsRefused : {A : Type 0} → (ℕ → Map) → (KeyRange → ℕ → Option ReadError) → Opened → Call A → StoreError → CommitRequest → CommitRequest → Type 0
+abbrev pub IsRefused : {A : Type 0} → (ℕ → Map) → (KeyRange → ℕ → ReadError → Type 0) → Opened → Call A → StoreError → CommitRequest → CommitRequest → Type 0
 IsRefused maps refuses opened (Err refusal) error old new = ((error ≡ Memory) ⊎ (error ≡ Refused refusal)) × (new ≡ old)
 IsRefused maps refuses opened (Ok service) error old new =
     DidRead maps service.reach old new (IsFailure (λ range. refuses range old.read_version) opened service error old.mutations)

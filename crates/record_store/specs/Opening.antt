@@ -49,7 +49,7 @@ pub record IsOpened (maps : ℕ → Map) (opened : Opened) (old new : CommitRequ
   pub ran : DidRead maps (opening_reach opened.prefix) old new (λ m. HasSchema opened m × AtSerials opened.prefix m (IsThereAs opened))
 
 -- why no store is opened: memory is wanting, a read is refused, no schema stands there, or the first pair read that isn't of the written form has this key, which no store has whose indexes are VALUE indexes, each readable or disabled
-abbrev pub IsOpenFailure : (KeyRange → Option ReadError) → List ℕ → StoreError → Map → Type 0
+abbrev pub IsOpenFailure : (KeyRange → ReadError → Type 0) → List ℕ → StoreError → Map → Type 0
 IsOpenFailure refuses prefix Memory m = Unit {0}
 IsOpenFailure refuses prefix (Read error) m = IsReadRefusedAs refuses (opening_reach prefix) error
 IsOpenFailure refuses prefix (Refused refusal) m = (refusal ≡ NoStore) × (get m (schema_key prefix) ≡ None) × AtSerials prefix m (λ serial. serial ≡ None)
@@ -58,7 +58,7 @@ IsOpenFailure refuses prefix (Corrupt key) m =
 IsOpenFailure refuses prefix (Write error) m = ⊥
 
 -- a store wasn't opened: nothing was written
-pub record IsUnopened (maps : ℕ → Map) (refuses : KeyRange → ℕ → Option ReadError) (prefix : List ℕ) (error : StoreError) (old new : CommitRequest) : Type 0 where
+pub record IsUnopened (maps : ℕ → Map) (refuses : KeyRange → ℕ → ReadError → Type 0) (prefix : List ℕ) (error : StoreError) (old new : CommitRequest) : Type 0 where
   pub ran : DidRead maps (opening_reach prefix) old new (IsOpenFailure (λ range. refuses range old.read_version) prefix error)
 
 -- a store was made: no schema stood there and nothing was there, its schema is all that was written, within the limits, and a map that holds a new store of it is what comes of that
@@ -69,7 +69,7 @@ pub record IsCreated (maps : ℕ → Map) (opened : Opened) (old new : CommitReq
       × AtSerials opened.prefix m (λ serial. (serial ≡ None) × Holds opened.prefix (after_all (schema_writes opened.prefix opened.schema) m) (Some (created opened.schema))))
 
 -- why no store is made: memory is wanting, a read is refused, a pair stands where a schema does, or a limit refuses the schema
-abbrev pub IsCreateFailure : (KeyRange → Option ReadError) → Opened → StoreError → List Mutation → Map → Type 0
+abbrev pub IsCreateFailure : (KeyRange → ReadError → Type 0) → Opened → StoreError → List Mutation → Map → Type 0
 IsCreateFailure refuses opened Memory before m = Unit {0}
 IsCreateFailure refuses opened (Read error) before m = IsReadRefusedAs refuses (opening_reach opened.prefix) error
 IsCreateFailure refuses opened (Refused refusal) before m =
@@ -79,7 +79,7 @@ IsCreateFailure refuses opened (Write error) before m =
 IsCreateFailure refuses opened (Corrupt key) before m = ⊥
 
 -- a store wasn't made: nothing was written
-pub record IsUncreated (maps : ℕ → Map) (refuses : KeyRange → ℕ → Option ReadError) (opened : Opened) (error : StoreError) (old new : CommitRequest) : Type 0 where
+pub record IsUncreated (maps : ℕ → Map) (refuses : KeyRange → ℕ → ReadError → Type 0) (opened : Opened) (error : StoreError) (old new : CommitRequest) : Type 0 where
   pub ran : DidRead maps (opening_reach opened.prefix) old new (IsCreateFailure (λ range. refuses range old.read_version) opened error old.mutations)
 
 -- a store that isn't made for what was read, or for a limit, was looked for as an opening does: all was read that it reads

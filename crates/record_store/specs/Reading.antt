@@ -31,13 +31,13 @@ use Rattle.record_store.specs.Store.{new_state}
 use Rattle.record_store.specs.Steps.{DidRead}
 
 -- the error of reads within these ranges: memory is wanting, or a read of a range in them is refused so
-abbrev pub IsReadError : (KeyRange → Option ReadError) → List KeyRange → StoreError → Type 0
+abbrev pub IsReadError : (KeyRange → ReadError → Type 0) → List KeyRange → StoreError → Type 0
 IsReadError refuses within Memory = Unit {0}
 IsReadError refuses within (Read error) = IsReadRefusedAs refuses within error
 IsReadError refuses within error = ⊥
 
 -- a read within these ranges came to an error
-pub record HasNotRead (maps : ℕ → Map) (refuses : KeyRange → ℕ → Option ReadError) (within : List KeyRange) (error : StoreError) (old new : CommitRequest) : Type 0 where
+pub record HasNotRead (maps : ℕ → Map) (refuses : KeyRange → ℕ → ReadError → Type 0) (within : List KeyRange) (error : StoreError) (old new : CommitRequest) : Type 0 where
   pub ran : DidRead maps within old new (λ m. IsReadError (λ range. refuses range old.read_version) within error)
 
 -- the kind is that of a VALUE index
@@ -131,7 +131,7 @@ IsStateRead opened number state m =
     × AtStore opened m (λ store. state ≡ new_state (of_type number store.records))
 
 -- reads within these ranges of an open store weren't answered
-pub record HasNotFound (maps : ℕ → Map) (refuses : KeyRange → ℕ → Option ReadError) (opened : Opened) (within : List KeyRange) (reads : Map → List (List ℕ × List ℕ)) (error : StoreError) (old new : CommitRequest) : Type 0 where
+pub record HasNotFound (maps : ℕ → Map) (refuses : KeyRange → ℕ → ReadError → Type 0) (opened : Opened) (within : List KeyRange) (reads : Map → List (List ℕ × List ℕ)) (error : StoreError) (old new : CommitRequest) : Type 0 where
   pub ran : DidRead maps within old new (IsUnread (λ range. refuses range old.read_version) opened within reads error)
 
 -- a pair has the key of a record of the type behind the place of records, and its value

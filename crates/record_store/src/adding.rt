@@ -77,7 +77,7 @@ impl Store {
     ) -> Result<State, StoreError>
         requires { find_type self.now.schema definition.now.name ≡ Some definition.now }
         ensures found { IfOk result (λ state. DidRead (S.map_at db.now) (type_range self.now.prefix definition.now.number ∷ []) tx.old tx.new (IsStateRead self.now definition.now.number state)) }
-        ensures refused { IfErr result (λ error. HasNotFound (S.map_at db.now) (S.refusal db.now) self.now (type_range self.now.prefix definition.now.number ∷ []) (λ m. read_of m (type_range self.now.prefix definition.now.number) 1 false) error tx.old tx.new) }
+        ensures refused { IfErr result (λ error. HasNotFound (S.map_at db.now) (S.may_refuse db.now) self.now (type_range self.now.prefix definition.now.number ∷ []) (λ m. read_of m (type_range self.now.prefix definition.now.number) 1 false) error tx.old tx.new) }
     {
         let alloc = self.alloc();
         let range = type_range(alloc, self.prefix(), definition.number)?;
@@ -120,7 +120,7 @@ impl Store {
         ensures added { IfOk result (λ state. IsAnswered (S.map_at db.now) self.old (index_call self.old request.now) state tx.old tx.new) }
         ensures opened { IfOk result (λ state. IsIndexedAs self.old self.new request.now state) }
         ensures kept { OnErr result (self.new ≡ self.old) }
-        ensures refused { IfErr result (λ error. IsRefused (S.map_at db.now) (S.refusal db.now) self.old (index_call self.old request.now) error tx.old tx.new) }
+        ensures refused { IfErr result (λ error. IsRefused (S.map_at db.now) (S.may_refuse db.now) self.old (index_call self.old request.now) error tx.old tx.new) }
     {
         let index = self.schema().new_index(request)?;
         let next = self.with_index(request)?;

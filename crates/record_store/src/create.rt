@@ -61,7 +61,7 @@ impl Store {
         ensures prefix { IfOk result (λ store. store.prefix ≡ prefix.now) }
         ensures schema { IfOk result (λ store. store.schema ≡ schema.now) }
         ensures states { IfOk result (λ store. store.states ≡ []) }
-        ensures refused { IfErr result (λ error. IsUncreated (S.map_at db.now) (S.refusal db.now) (record { prefix = prefix.now; schema = schema.now; states = [] }) error tx.old tx.new) }
+        ensures refused { IfErr result (λ error. IsUncreated (S.map_at db.now) (S.may_refuse db.now) (record { prefix = prefix.now; schema = schema.now; states = [] }) error tx.old tx.new) }
         ensures refused_looked { IfErr result (λ error. HasLooked prefix.now error tx.new) }
     {
         let _lawful = schema.types();

@@ -1,8 +1,6 @@
 // The indexes of a store are dropped and disabled.
 ghost use Rattle.std.specs.Prelude.{◌≡◌, ◌++◌, ◌∷◌, [], ℕ, List, Ok, Err, Option, IfOk, IfErr, OnErr, OnOk};
 ghost use Rattle.kv_core.specs.Map.{Map};
-ghost use Rattle.kv_core.specs.Range.{KeyRange};
-ghost use Rattle.cluster_core.specs.declared.answers.ReadError.{ReadError};
 ghost use Rattle.metadata.specs.Schema.{find_index};
 ghost use Rattle.kv_core.specs.Range.{point};
 ghost use Rattle.kv_core.specs.declared.change.Mutation.TheVariants.{Set, ClearRange};
@@ -14,6 +12,7 @@ ghost use Rattle.metadata.specs.declared.index.State.{State};
 ghost use Rattle.record_store.specs.IndexWrites.{disable_writes};
 ghost use Rattle.record_store.specs.Layout.{entries_range, schema_key, state_key};
 ghost use Rattle.record_store.specs.Store.{still_listed, with_state};
+ghost use Rattle.txn.specs.Refusing.{NeverRefuses};
 ghost use Rattle.record_store.specs.Call.{IsAnswered, IsRefused};
 ghost use Rattle.record_store.specs.Calls.{disable_call, drop_call, index_number, opened_disabled, opened_without, state_named};
 
@@ -144,7 +143,7 @@ impl Store {
         ensures dropped { OnOk result ((maps : ℕ → Map) → IsAnswered maps self.old (drop_call self.old name.now) self.new.schema tx.old tx.new) }
         ensures opened { OnOk result ((number : ℕ) → index_number (find_index self.old.schema name.now) ≡ Ok number → self.new ≡ opened_without self.old number) }
         ensures kept { OnErr result (self.new ≡ self.old) }
-        ensures refused { IfErr result (λ error. (maps : ℕ → Map) (refuses : KeyRange → ℕ → Option ReadError) → IsRefused maps refuses self.old (drop_call self.old name.now) error tx.old tx.new) }
+        ensures refused { IfErr result (λ error. (maps : ℕ → Map) → IsRefused maps NeverRefuses self.old (drop_call self.old name.now) error tx.old tx.new) }
     {
         let number = self.index_number(name)?;
         let next = self.schema_without(name, number)?;
@@ -162,7 +161,7 @@ impl Store {
         ensures disabled { OnOk result ((maps : ℕ → Map) → IsAnswered maps self.old (disable_call self.old name.now) self.new.states tx.old tx.new) }
         ensures opened { OnOk result ((number : ℕ) → index_number (find_index self.old.schema name.now) ≡ Ok number → self.new ≡ opened_disabled self.old number) }
         ensures kept { OnErr result (self.new ≡ self.old) }
-        ensures refused { IfErr result (λ error. (maps : ℕ → Map) (refuses : KeyRange → ℕ → Option ReadError) → IsRefused maps refuses self.old (disable_call self.old name.now) error tx.old tx.new) }
+        ensures refused { IfErr result (λ error. (maps : ℕ → Map) → IsRefused maps NeverRefuses self.old (disable_call self.old name.now) error tx.old tx.new) }
     {
         let number = self.index_number(name)?;
         let next = with_state(

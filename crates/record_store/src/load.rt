@@ -20,7 +20,7 @@ impl Store {
         key: &Cells,
     ) -> Result<Option<Record>, StoreError>
         ensures found { IfOk result (λ found. IsAnswered (S.map_at db.now) self.now (load_call self.now type_name.now key.now) found tx.old tx.new) }
-        ensures refused { IfErr result (λ error. IsRefused (S.map_at db.now) (S.refusal db.now) self.now (load_call self.now type_name.now key.now) error tx.old tx.new) }
+        ensures refused { IfErr result (λ error. IsRefused (S.map_at db.now) (S.may_refuse db.now) self.now (load_call self.now type_name.now key.now) error tx.old tx.new) }
     {
         let definition = self.definition(type_name)?;
         let primary_key = key_of(self.alloc(), self.schema(), type_name, key)?;

@@ -32,7 +32,7 @@ pub(crate) fn read_schema<S: Snapshot>(
     requires { IsTrue (key_lt prefix.now end_of_keys) }
     ensures read { IfOk result (λ written. DidRead (S.map_at db.now) (point (schema_key prefix.now) ∷ []) tx.old tx.new (λ m. written ≡ value_at m (schema_key prefix.now))) }
     ensures whole { OnOk result (ReadsAll (point (schema_key prefix.now) ∷ []) tx.new) }
-    ensures refused { IfErr result (λ error. HasNotRead (S.map_at db.now) (S.refusal db.now) (point (schema_key prefix.now) ∷ []) error tx.old tx.new) }
+    ensures refused { IfErr result (λ error. HasNotRead (S.map_at db.now) (S.may_refuse db.now) (point (schema_key prefix.now) ∷ []) error tx.old tx.new) }
 {
     let key = schema_key(alloc, prefix)?;
     let written = tx.get(db, &key)?;
@@ -49,7 +49,7 @@ pub(crate) fn read_states<S: Snapshot>(
     requires { IsTrue (key_lt prefix.now end_of_keys) }
     ensures read { IfOk result (λ states. DidRead (S.map_at db.now) (states_range prefix.now ∷ []) tx.old tx.new (λ m. states.items ≡ pairs_in m (states_range prefix.now))) }
     ensures whole { OnOk result (ReadsAll (states_range prefix.now ∷ []) tx.new) }
-    ensures refused { IfErr result (λ error. HasNotRead (S.map_at db.now) (S.refusal db.now) (states_range prefix.now ∷ []) error tx.old tx.new) }
+    ensures refused { IfErr result (λ error. HasNotRead (S.map_at db.now) (S.may_refuse db.now) (states_range prefix.now ∷ []) error tx.old tx.new) }
 {
     let range = states_range(alloc, prefix)?;
     let states = tx.get_all(db, &range)?;
@@ -175,7 +175,7 @@ impl Store {
         ensures opened { IfOk result (λ store. IsOpened (S.map_at db.now) store tx.old tx.new) }
         ensures prefix { IfOk result (λ store. store.prefix ≡ prefix.now) }
         ensures plain { IfOk result (λ store. HasPlainIndexes store.schema store.states) }
-        ensures refused { IfErr result (λ error. IsUnopened (S.map_at db.now) (S.refusal db.now) prefix.now error tx.old tx.new) }
+        ensures refused { IfErr result (λ error. IsUnopened (S.map_at db.now) (S.may_refuse db.now) prefix.now error tx.old tx.new) }
     {
         let written = read_schema(alloc, prefix, tx, db)?;
         let pairs = read_states(alloc, prefix, tx, db)?;

@@ -46,7 +46,7 @@ impl Store {
     ) -> Result<bool, StoreError>
         requires { HasPlainIndexes self.now.schema self.now.states }
         ensures removed { IfOk result (λ was_there. IsAnswered (S.map_at db.now) self.now (remove_call self.now type_name.now key.now) was_there tx.old tx.new) }
-        ensures refused { IfErr result (λ error. IsRefused (S.map_at db.now) (S.refusal db.now) self.now (remove_call self.now type_name.now key.now) error tx.old tx.new) }
+        ensures refused { IfErr result (λ error. IsRefused (S.map_at db.now) (S.may_refuse db.now) self.now (remove_call self.now type_name.now key.now) error tx.old tx.new) }
     {
         let definition = self.definition(type_name)?;
         let primary_key = key_of(self.alloc(), self.schema(), type_name, key)?;

@@ -72,7 +72,7 @@ impl Store {
     ) -> Result<Option<Record>, StoreError>
         requires { HasPlainIndexes self.now.schema self.now.states }
         ensures saved { IfOk result (λ old. IsAnswered (S.map_at db.now) self.now (save_call self.now new.now) old tx.old tx.new) }
-        ensures refused { IfErr result (λ error. IsRefused (S.map_at db.now) (S.refusal db.now) self.now (save_call self.now new.now) error tx.old tx.new) }
+        ensures refused { IfErr result (λ error. IsRefused (S.map_at db.now) (S.may_refuse db.now) self.now (save_call self.now new.now) error tx.old tx.new) }
     {
         self.check_type(new)?;
         let primary_key = new.primary_key(self.alloc())?;

@@ -109,7 +109,7 @@ impl Store {
         type_name: &Text,
     ) -> Result<Records, StoreError>
         ensures found { IfOk result (λ rows. IsAnswered (S.map_at db.now) self.now (records_call self.now type_name.now) rows tx.old tx.new) }
-        ensures refused { IfErr result (λ error. IsRefused (S.map_at db.now) (S.refusal db.now) self.now (records_call self.now type_name.now) error tx.old tx.new) }
+        ensures refused { IfErr result (λ error. IsRefused (S.map_at db.now) (S.may_refuse db.now) self.now (records_call self.now type_name.now) error tx.old tx.new) }
     {
         let definition = self.definition(type_name)?;
         let range = type_range(self.alloc(), self.prefix(), definition.number)?;

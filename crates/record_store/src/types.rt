@@ -1,10 +1,9 @@
 ghost use Rattle.std.specs.Prelude.{◌≡◌, ℕ, Ok, Option, IfOk, IfErr, OnErr, OnOk};
 ghost use Rattle.kv_core.specs.Map.{Map};
-ghost use Rattle.kv_core.specs.Range.{KeyRange};
-ghost use Rattle.cluster_core.specs.declared.answers.ReadError.{ReadError};
 ghost use Rattle.metadata.specs.Answers.{IsRefusedAs};
 ghost use Rattle.metadata.specs.Change.{add_type};
 ghost use Rattle.metadata.specs.Lawful.{IsLawfulSchema};
+ghost use Rattle.txn.specs.Refusing.{NeverRefuses};
 ghost use Rattle.record_store.specs.Call.{IsAnswered, IsRefused};
 ghost use Rattle.record_store.specs.Calls.{type_call};
 
@@ -39,7 +38,7 @@ impl Store {
         ensures prefix { OnOk result (self.new.prefix ≡ self.old.prefix) }
         ensures schema { OnOk result (add_type self.old.schema request.now ≡ Ok self.new.schema) }
         ensures kept { OnErr result (self.new ≡ self.old) }
-        ensures refused { IfErr result (λ error. (maps : ℕ → Map) (refuses : KeyRange → ℕ → Option ReadError) → IsRefused maps refuses self.old (type_call self.old request.now) error tx.old tx.new) }
+        ensures refused { IfErr result (λ error. (maps : ℕ → Map) → IsRefused maps NeverRefuses self.old (type_call self.old request.now) error tx.old tx.new) }
     {
         let next = self.with_type(request)?;
         let mutations = schema_mutations(self.alloc(), self.prefix(), &next)?;

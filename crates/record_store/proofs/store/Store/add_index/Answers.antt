@@ -14,32 +14,32 @@ returns-in_err-definition-clause-refused g c =
 pub returns-in_err-state-clause-refused : goal.returns-in_err-state-clause-refused
 returns-in_err-state-clause-refused g c =
     exit_with c.from_residual-in_err-state.result c.in_err-state.field-0.0 _ c.from_residual-in_err-state.ensures
-    (index_unread (g.S.Snapshot.map_at c.args.db.now) (g.S.Snapshot.refusal c.args.db.now) c.args.self.now c.args.request.now c.in_ok-index.index c.in_ok-definition.definition.now
+    (index_unread (g.S.Snapshot.map_at c.args.db.now) (g.S.Snapshot.may_refuse c.args.db.now) c.args.self.now c.args.request.now c.in_ok-index.index c.in_ok-definition.definition.now
     (ap (λ s. new_index s c.args.request.now) (sym c.schema.ensures) ∙ c.in_ok-index.ensures.made) c.in_ok-definition.ensures.found c.in_err-state.field-0.0 c.in_err-state.ensures.refused)
 
 pub returns-in_err-mutations-clause-refused : goal.returns-in_err-mutations-clause-refused
 returns-in_err-mutations-clause-refused g c =
     exit_with c.from_residual-in_err-mutations.result no_memory _ c.from_residual-in_err-mutations.ensures
-    (index_memory (g.S.Snapshot.map_at c.args.db.now) (g.S.Snapshot.refusal c.args.db.now) c.args.self.now c.args.request.now c.in_ok-index.index c.in_ok-definition.definition.now
+    (index_memory (g.S.Snapshot.map_at c.args.db.now) (g.S.Snapshot.may_refuse c.args.db.now) c.args.self.now c.args.request.now c.in_ok-index.index c.in_ok-definition.definition.now
     (ap (λ s. new_index s c.args.request.now) (sym c.schema.ensures) ∙ c.in_ok-index.ensures.made) c.in_ok-definition.ensures.found c.in_ok-state.state c.in_ok-state.ensures.found)
 
 pub returns-in_err-states-clause-refused : goal.returns-in_err-states-clause-refused
 returns-in_err-states-clause-refused g c =
     exit_with c.from_residual-in_err-states.result no_memory _ c.from_residual-in_err-states.ensures
-    (index_memory (g.S.Snapshot.map_at c.args.db.now) (g.S.Snapshot.refusal c.args.db.now) c.args.self.now c.args.request.now c.in_ok-index.index c.in_ok-definition.definition.now
+    (index_memory (g.S.Snapshot.map_at c.args.db.now) (g.S.Snapshot.may_refuse c.args.db.now) c.args.self.now c.args.request.now c.in_ok-index.index c.in_ok-definition.definition.now
     (ap (λ s. new_index s c.args.request.now) (sym c.schema.ensures) ∙ c.in_ok-index.ensures.made) c.in_ok-definition.ensures.found c.in_ok-state.state c.in_ok-state.ensures.found)
 
 pub returns-in_err-write_all-clause-refused : goal.returns-in_err-write_all-clause-refused
 returns-in_err-write_all-clause-refused g c =
     exit_with c.from_residual-in_err-write_all.result (of_write c.in_err-write_all.field-0.0) _ c.from_residual-in_err-write_all.ensures
-    (index_limited (g.S.Snapshot.map_at c.args.db.now) (g.S.Snapshot.refusal c.args.db.now) c.args.self.now c.args.request.now c.in_ok-index.index c.in_ok-definition.definition.now
+    (index_limited (g.S.Snapshot.map_at c.args.db.now) (g.S.Snapshot.may_refuse c.args.db.now) c.args.self.now c.args.request.now c.in_ok-index.index c.in_ok-definition.definition.now
     (ap (λ s. new_index s c.args.request.now) (sym c.schema.ensures) ∙ c.in_ok-index.ensures.made) c.in_ok-definition.ensures.found c.in_ok-state.state c.in_ok-state.ensures.found
     c.in_ok-next.next c.in_ok-mutations.mutations.items c.in_ok-next.ensures.added c.in_ok-mutations.ensures
     c.in_err-write_all.field-0.0 c.in_err-write_all.ensures.kept c.in_err-write_all.ensures.refused)
 
 pub returns-clause-added : goal.returns-clause-added
 returns-clause-added g c =
-    index_answered (g.S.Snapshot.map_at c.args.db.now) (g.S.Snapshot.refusal c.args.db.now) c.args.self.now c.args.request.now c.in_ok-index.index c.in_ok-definition.definition.now
+    index_answered (g.S.Snapshot.map_at c.args.db.now) (g.S.Snapshot.may_refuse c.args.db.now) c.args.self.now c.args.request.now c.in_ok-index.index c.in_ok-definition.definition.now
     (ap (λ s. new_index s c.args.request.now) (sym c.schema.ensures) ∙ c.in_ok-index.ensures.made) c.in_ok-definition.ensures.found c.in_ok-state.state c.in_ok-state.ensures.found
     c.in_ok-next.next c.in_ok-mutations.mutations.items c.in_ok-next.ensures.added c.in_ok-mutations.ensures
     c.in_ok-next.ensures.lawful c.in_ok-write_all.ensures.ok c.in_ok-write_all.ensures.allowed

@@ -1,5 +1,6 @@
-use Rattle.std.proofs.Common.{◌∙◌, ◌==◌, ap, length, None}
+use Rattle.std.proofs.Common.{◌∙◌, ◌==◌, ap, length}
 use Rattle.record_store.specs.Calls.{done_with, schema_service, schema_writes, type_call}
+use Rattle.txn.specs.Refusing.{NeverRefuses}
 use Rattle.record_store.specs.Steps.{of_write}
 use Rattle.record_store.proofs.Answered.{answered, refused_limit}
 use Rattle.record_store.proofs.Openings.{exit_with}
@@ -8,14 +9,14 @@ use Rattle.record_store.proofs.store.Store.add_type.Goals as goal
 
 pub returns-in_err-write_all-clause-refused : goal.returns-in_err-write_all-clause-refused
 returns-in_err-write_all-clause-refused c =
-    exit_with c.from_residual-in_err-write_all.result (of_write c.in_err-write_all.field-0.0) _ c.from_residual-in_err-write_all.ensures (λ maps refuses.
-    refused_limit maps refuses c.args.self.now (type_call c.args.self.now c.args.request.now) (schema_service c.args.self.now c.in_ok-next.next) c.in_ok-mutations.mutations.items c.in_err-write_all.field-0.0
+    exit_with c.from_residual-in_err-write_all.result (of_write c.in_err-write_all.field-0.0) _ c.from_residual-in_err-write_all.ensures (λ maps.
+    refused_limit maps NeverRefuses c.args.self.now (type_call c.args.self.now c.args.request.now) (schema_service c.args.self.now c.in_ok-next.next) c.in_ok-mutations.mutations.items c.in_err-write_all.field-0.0
     (ap (done_with (schema_service c.args.self.now)) c.in_ok-next.ensures.added) (nothing_read maps c.args.self.now)
     (λ m store holds same empty. c.in_ok-mutations.ensures ∙ ap (λ p. schema_writes p c.in_ok-next.next) c.prefix.ensures.prefix) c.in_err-write_all.ensures.kept c.in_err-write_all.ensures.refused)
 
 pub returns-clause-added : goal.returns-clause-added
 returns-clause-added c = λ maps.
-    answered maps (λ range version. None) c.args.self.now (type_call c.args.self.now c.args.request.now) (schema_service c.args.self.now c.in_ok-next.next) c.in_ok-next.next c.in_ok-mutations.mutations.items
+    answered maps NeverRefuses c.args.self.now (type_call c.args.self.now c.args.request.now) (schema_service c.args.self.now c.in_ok-next.next) c.in_ok-next.next c.in_ok-mutations.mutations.items
     (ap (done_with (schema_service c.args.self.now)) c.in_ok-next.ensures.added) (ap (λ ms. length ms == 0) c.in_ok-mutations.ensures) (nothing_read maps c.args.self.now)
     c.in_ok-write_all.ensures.ok c.in_ok-write_all.ensures.allowed
     (λ m store holds same empty. type_served c.args.self.now c.in_ok-next.next c.args.request.now c.in_ok-mutations.mutations.items (c.in_ok-mutations.ensures ∙ ap (λ p. schema_writes p c.in_ok-next.next) c.prefix.ensures.prefix)

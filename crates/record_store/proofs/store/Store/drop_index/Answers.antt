@@ -1,9 +1,10 @@
-use Rattle.std.proofs.Common.{rules, ◌∙◌, ◌==◌, ap, length, None, not}
+use Rattle.std.proofs.Common.{rules, ◌∙◌, ◌==◌, ap, length, not}
 use Rattle.std.proofs.lemmas.Fn.{filter_same}
 use Rattle.metadata.specs.Schema.{find_index}
 use Rattle.record_store.specs.Call.{Opened}
 use Rattle.record_store.specs.Store.{without_state}
 use Rattle.record_store.specs.Calls.{done_with, drop_call, drop_service, index_number}
+use Rattle.txn.specs.Refusing.{NeverRefuses}
 use Rattle.record_store.specs.Steps.{of_write}
 use Rattle.record_store.proofs.Answered.{answered, refused_limit}
 use Rattle.record_store.proofs.Openings.{exit_with}
@@ -13,15 +14,15 @@ use Rattle.record_store.proofs.store.Store.drop_index.Goals as goal
 
 pub returns-in_err-write_all-clause-refused : goal.returns-in_err-write_all-clause-refused
 returns-in_err-write_all-clause-refused c =
-    exit_with c.from_residual-in_err-write_all.result (of_write c.in_err-write_all.field-0.0) _ c.from_residual-in_err-write_all.ensures (λ maps refuses.
-    refused_limit maps refuses c.args.self.now (drop_call c.args.self.now c.args.name.now) (drop_service c.args.self.now c.in_ok-number.number) c.in_ok-mutations.mutations.items c.in_err-write_all.field-0.0
+    exit_with c.from_residual-in_err-write_all.result (of_write c.in_err-write_all.field-0.0) _ c.from_residual-in_err-write_all.ensures (λ maps.
+    refused_limit maps NeverRefuses c.args.self.now (drop_call c.args.self.now c.args.name.now) (drop_service c.args.self.now c.in_ok-number.number) c.in_ok-mutations.mutations.items c.in_err-write_all.field-0.0
     (ap (done_with (drop_service c.args.self.now)) c.in_ok-number.ensures.found) (nothing_read maps c.args.self.now)
     (λ m store holds same empty. drop_wrote c.args.self.now c.in_ok-number.number c.in_ok-next.next c.in_ok-mutations.mutations.items c.in_ok-mutations.ensures c.in_ok-next.ensures.next store same)
     c.in_err-write_all.ensures.kept c.in_err-write_all.ensures.refused)
 
 pub returns-clause-dropped : goal.returns-clause-dropped
 returns-clause-dropped c = λ maps.
-    answered maps (λ range version. None) c.args.self.now (drop_call c.args.self.now c.args.name.now) (drop_service c.args.self.now c.in_ok-number.number) c.in_ok-next.next c.in_ok-mutations.mutations.items
+    answered maps NeverRefuses c.args.self.now (drop_call c.args.self.now c.args.name.now) (drop_service c.args.self.now c.in_ok-number.number) c.in_ok-next.next c.in_ok-mutations.mutations.items
     (ap (done_with (drop_service c.args.self.now)) c.in_ok-number.ensures.found) (ap (λ ms. length ms == 0) c.in_ok-mutations.ensures) (nothing_read maps c.args.self.now)
     c.in_ok-write_all.ensures.ok c.in_ok-write_all.ensures.allowed
     (λ m store holds same empty. drop_served c.args.self.now c.in_ok-number.number c.in_ok-next.next c.in_ok-mutations.mutations.items c.in_ok-mutations.ensures c.in_ok-next.ensures.next

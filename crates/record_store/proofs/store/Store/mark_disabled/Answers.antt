@@ -1,8 +1,9 @@
-use Rattle.std.proofs.Common.{◌∙◌, ◌==◌, ap, length, None}
+use Rattle.std.proofs.Common.{◌∙◌, ◌==◌, ap, length}
 use Rattle.record_store.specs.Calls.{disable_call, disable_service, done_with}
 use Rattle.metadata.specs.declared.index.State.TheVariants.{Disabled}
 use Rattle.record_store.specs.Call.{Opened}
 use Rattle.record_store.specs.Store.{with_state}
+use Rattle.txn.specs.Refusing.{NeverRefuses}
 use Rattle.record_store.specs.Steps.{of_write}
 use Rattle.record_store.proofs.Answered.{answered, refused_limit}
 use Rattle.record_store.proofs.Openings.{exit_with}
@@ -12,15 +13,15 @@ use Rattle.record_store.proofs.store.Store.mark_disabled.Goals as goal
 
 pub returns-in_err-write_all-clause-refused : goal.returns-in_err-write_all-clause-refused
 returns-in_err-write_all-clause-refused c =
-    exit_with c.from_residual-in_err-write_all.result (of_write c.in_err-write_all.field-0.0) _ c.from_residual-in_err-write_all.ensures (λ maps refuses.
-    refused_limit maps refuses c.args.self.now (disable_call c.args.self.now c.args.name.now) (disable_service c.args.self.now c.in_ok-number.number) c.in_ok-mutations.mutations.items c.in_err-write_all.field-0.0
+    exit_with c.from_residual-in_err-write_all.result (of_write c.in_err-write_all.field-0.0) _ c.from_residual-in_err-write_all.ensures (λ maps.
+    refused_limit maps NeverRefuses c.args.self.now (disable_call c.args.self.now c.args.name.now) (disable_service c.args.self.now c.in_ok-number.number) c.in_ok-mutations.mutations.items c.in_err-write_all.field-0.0
     (ap (done_with (disable_service c.args.self.now)) c.in_ok-number.ensures.found) (nothing_read maps c.args.self.now)
     (λ m store holds same empty. c.in_ok-mutations.ensures)
     c.in_err-write_all.ensures.kept c.in_err-write_all.ensures.refused)
 
 pub returns-clause-disabled : goal.returns-clause-disabled
 returns-clause-disabled c = λ maps.
-    answered maps (λ range version. None) c.args.self.now (disable_call c.args.self.now c.args.name.now) (disable_service c.args.self.now c.in_ok-number.number) c.in_ok-next.next.items c.in_ok-mutations.mutations.items
+    answered maps NeverRefuses c.args.self.now (disable_call c.args.self.now c.args.name.now) (disable_service c.args.self.now c.in_ok-number.number) c.in_ok-next.next.items c.in_ok-mutations.mutations.items
     (ap (done_with (disable_service c.args.self.now)) c.in_ok-number.ensures.found) (ap (λ ms. length ms == 0) c.in_ok-mutations.ensures) (nothing_read maps c.args.self.now)
     c.in_ok-write_all.ensures.ok c.in_ok-write_all.ensures.allowed
     (λ m store holds same empty. disable_served c.args.self.now c.in_ok-number.number c.in_ok-next.next.items c.in_ok-mutations.mutations.items c.in_ok-mutations.ensures

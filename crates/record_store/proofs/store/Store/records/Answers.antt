@@ -13,7 +13,7 @@ use Rattle.record_store.proofs.store.Store.records.Goals as goal
 pub returns-in_err-records-clause-refused : goal.returns-in_err-records-clause-refused
 returns-in_err-records-clause-refused g c =
     exit_with c.from_residual-in_err-records.result c.in_err-records.field-0.0 _ c.from_residual-in_err-records.ensures
-    (refused_unread (g.S.Snapshot.map_at c.args.db.now) (g.S.Snapshot.refusal c.args.db.now) c.args.self.now (records_call c.args.self.now c.args.type_name.now)
+    (refused_unread (g.S.Snapshot.map_at c.args.db.now) (g.S.Snapshot.may_refuse c.args.db.now) c.args.self.now (records_call c.args.self.now c.args.type_name.now)
     (records_service c.args.self.now c.in_ok-definition.definition.now.number) c.in_err-records.field-0.0
     (ap (λ t. done_with (records_service c.args.self.now) (number_of t)) c.in_ok-definition.ensures.found)
     (rows_unread c.args.self.now c.in_ok-definition.definition.now c.prefix.ensures.lawful c.in_ok-definition.ensures.own
@@ -25,7 +25,7 @@ returns-in_err-records-clause-refused g c =
 pub returns-clause-found : goal.returns-clause-found
 returns-clause-found g c =
     subst (λ (rows : List Record). IsAnswered (g.S.Snapshot.map_at c.args.db.now) c.args.self.now (records_call c.args.self.now c.args.type_name.now) rows c.args.tx.now c.get_all.new.self) (sym c.new.ensures)
-    (answered_reading (g.S.Snapshot.map_at c.args.db.now) (g.S.Snapshot.refusal c.args.db.now) c.args.self.now (records_call c.args.self.now c.args.type_name.now)
+    (answered_reading (g.S.Snapshot.map_at c.args.db.now) (g.S.Snapshot.may_refuse c.args.db.now) c.args.self.now (records_call c.args.self.now c.args.type_name.now)
     (records_service c.args.self.now c.in_ok-definition.definition.now.number) c.in_ok-records.records.items
     (ap (λ t. done_with (records_service c.args.self.now) (number_of t)) c.in_ok-definition.ensures.found) refl
     (rows_read c.args.self.now c.in_ok-definition.definition.now c.prefix.ensures.lawful c.in_ok-definition.ensures.own

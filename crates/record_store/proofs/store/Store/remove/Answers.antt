@@ -9,7 +9,7 @@ use Rattle.record_store.proofs.store.Store.remove.Goals as goal
 
 pub returns-clause-removed : goal.returns-clause-removed
 returns-clause-removed g c =
-    answered (g.S.Snapshot.map_at c.args.db.now) (g.S.Snapshot.refusal c.args.db.now) c.args.self.now (remove_call c.args.self.now c.args.type_name.now c.args.key.now) (remove_service c.args.self.now c.in_ok-primary_key.primary_key)
+    answered (g.S.Snapshot.map_at c.args.db.now) (g.S.Snapshot.may_refuse c.args.db.now) c.args.self.now (remove_call c.args.self.now c.args.type_name.now c.args.key.now) (remove_service c.args.self.now c.in_ok-primary_key.primary_key)
     c.is_some.result c.in_ok-mutations.mutations.items
     (ap (done_with (remove_service c.args.self.now)) (ap (λ s. key_of s c.args.type_name.now c.args.key.now) (sym c.schema.ensures) ∙ c.in_ok-primary_key.ensures.key))
     (removal_changes c.args.self.now c.in_ok-primary_key.primary_key c.in_ok-old.old c.is_some.result c.in_ok-mutations.mutations.items c.in_ok-mutations.ensures c.is_some.ensures)
@@ -19,7 +19,7 @@ returns-clause-removed g c =
 pub returns-in_err-write_all-clause-refused : goal.returns-in_err-write_all-clause-refused
 returns-in_err-write_all-clause-refused g c =
     exit_with c.from_residual-in_err-write_all.result (of_write c.in_err-write_all.field-0.0) _ c.from_residual-in_err-write_all.ensures
-    (refused_limit (g.S.Snapshot.map_at c.args.db.now) (g.S.Snapshot.refusal c.args.db.now) c.args.self.now (remove_call c.args.self.now c.args.type_name.now c.args.key.now) (remove_service c.args.self.now c.in_ok-primary_key.primary_key)
+    (refused_limit (g.S.Snapshot.map_at c.args.db.now) (g.S.Snapshot.may_refuse c.args.db.now) c.args.self.now (remove_call c.args.self.now c.args.type_name.now c.args.key.now) (remove_service c.args.self.now c.in_ok-primary_key.primary_key)
     c.in_ok-mutations.mutations.items c.in_err-write_all.field-0.0
     (ap (done_with (remove_service c.args.self.now)) (ap (λ s. key_of s c.args.type_name.now c.args.key.now) (sym c.schema.ensures) ∙ c.in_ok-primary_key.ensures.key))
     c.in_ok-old.ensures.found

@@ -14,7 +14,7 @@ read_record-requires-clause-own g c =
 
 pub returns-clause-saved : goal.returns-clause-saved
 returns-clause-saved g c =
-    answered (g.S.Snapshot.map_at c.args.db.now) (g.S.Snapshot.refusal c.args.db.now) c.args.self.now (save_call c.args.self.now c.args.new.now) (save_service c.args.self.now c.args.new.now) c.in_ok-old.old c.in_ok-mutations.mutations.items
+    answered (g.S.Snapshot.map_at c.args.db.now) (g.S.Snapshot.may_refuse c.args.db.now) c.args.self.now (save_call c.args.self.now c.args.new.now) (save_service c.args.self.now c.args.new.now) c.in_ok-old.old c.in_ok-mutations.mutations.items
     (save_accepted c.args.self.now c.args.new.now c.in_ok-check_type.ensures.own) (save_changes c.args.self.now c.args.new.now c.in_ok-old.old c.in_ok-mutations.mutations.items wrote)
     (save_read c.args.self.now c.args.new.now c.in_ok-primary_key.primary_key c.in_ok-old.old c.in_ok-primary_key.ensures.key c.in_ok-old.ensures.found)
     c.in_ok-write_all.ensures.ok c.in_ok-write_all.ensures.allowed
@@ -27,7 +27,7 @@ returns-clause-saved g c =
 pub returns-in_err-write_all-clause-refused : goal.returns-in_err-write_all-clause-refused
 returns-in_err-write_all-clause-refused g c =
     exit_with c.from_residual-in_err-write_all.result (of_write c.in_err-write_all.field-0.0) _ c.from_residual-in_err-write_all.ensures
-    (refused_limit (g.S.Snapshot.map_at c.args.db.now) (g.S.Snapshot.refusal c.args.db.now) c.args.self.now (save_call c.args.self.now c.args.new.now) (save_service c.args.self.now c.args.new.now) c.in_ok-mutations.mutations.items c.in_err-write_all.field-0.0
+    (refused_limit (g.S.Snapshot.map_at c.args.db.now) (g.S.Snapshot.may_refuse c.args.db.now) c.args.self.now (save_call c.args.self.now c.args.new.now) (save_service c.args.self.now c.args.new.now) c.in_ok-mutations.mutations.items c.in_err-write_all.field-0.0
     (save_accepted c.args.self.now c.args.new.now c.in_ok-check_type.ensures.own)
     (save_read c.args.self.now c.args.new.now c.in_ok-primary_key.primary_key c.in_ok-old.old c.in_ok-primary_key.ensures.key c.in_ok-old.ensures.found)
     (λ m store holds same is. save_wrote c.args.self.now c.args.new.now c.in_ok-old.old c.in_ok-mutations.mutations.items wrote store same is)
