@@ -16,7 +16,7 @@ use Rattle.cluster_core.specs.History.{Entry, map_at, IsRising, IsLegal}
 use Rattle.cluster_core.specs.Decision.{numbered, cause, is_committed, committed as committed_entries}
 use Rattle.cluster_core.specs.Roles.{PipelineState, entries, history, outcome, told, told_of}
 use Rattle.cluster_core.specs.Serial.{after_commands, AllReplied, Replays, state_at}
-use Rattle.cluster_core.specs.Tier.{refusal}
+use Rattle.txn.specs.Refusing.{MayRefuse}
 use Rattle.cluster_core.proofs.Causes.{cause_decides}
 use Rattle.cluster_core.proofs.Composition.{holds_at, replied_at}
 use Rattle.cluster_core.proofs.Versions.{rising-filter, rising-numbered}
@@ -287,7 +287,7 @@ module _ (p : PipelineState) (subs : List Submission) where
     requests_all = requests_each p.start subs p.requests are
 
     -- a reply that was right over every map is right by what the transaction sees
-    pub performed_right : (open_now : Open) (request new : CommitRequest) (refuses : ℕ → KeyRange → Option Rattle.cluster_core.specs.declared.answers.ReadError.ReadError) (command : Command) (answer : Reply) →
+    pub performed_right : (open_now : Open) (request new : CommitRequest) (refuses : ℕ → KeyRange → Rattle.cluster_core.specs.declared.answers.ReadError.ReadError → Type 0) (command : Command) (answer : Reply) →
         IsOpenAs maps p.reported open_now request → IsPerformed maps (refuses request.read_version) command answer request new →
         IsServed (written (committed (commits_of p subs) open_now.read_version) (accepted open_now.attempts)) (view (commits_of p subs) open_now) command answer
         ⊎ IsReadRefusal (refuses open_now.read_version) (reach (schema_in (view (commits_of p subs) open_now)) command) answer
@@ -303,10 +303,10 @@ module _ (p : PipelineState) (subs : List Submission) where
 
 pub command_right : (c : ClusterState) (subs : List Submission) (open_now : Open) (request new : CommitRequest) (command : Command) (answer : Reply) →
     IsLegal (history c.pipeline) → AreSubmitted (database_at c) c.pipeline.reported c.pipeline.start subs c.pipeline.requests → IsOpenAs (database_at c) c.pipeline.reported open_now request →
-    IsPerformed (database_at c) (λ range. refusal (tier_of c) range request.read_version) command answer request new →
+    IsPerformed (database_at c) (λ range. MayRefuse (tier_of c) range request.read_version) command answer request new →
     IsCommandReply c (commits_of c.pipeline subs) open_now command answer
 command_right c subs open_now request new command answer legal are is performed =
-    performed_right c.pipeline subs legal are open_now request new (λ version range. refusal (tier_of c) range version) command answer is performed
+    performed_right c.pipeline subs legal are open_now request new (λ version range. MayRefuse (tier_of c) range version) command answer is performed
 
 pub holds_all : (c : ClusterState) (subs : List Submission) → IsLegal (history c.pipeline) → AreSubmitted (database_at c) c.pipeline.reported c.pipeline.start subs c.pipeline.requests →
     HoldsCommitted c (commits_of c.pipeline subs)

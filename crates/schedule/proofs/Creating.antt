@@ -44,7 +44,7 @@ refusal_replies : (request : SchemaRequest) (serial : Serial) (refusal : Refusal
 refusal_replies request None refusal is = (sym (ap (λ o. (served_create None o).0) is), ap schema_written is)
 refusal_replies request (Some store) refusal is = (sym (ap (λ o. (served_create (Some store) o).0) is), refl)
 
-pub refused_request : {maps : ℕ → Map} {refuses : KeyRange → ℕ → Option ReadError} {old : CommitRequest} (request : SchemaRequest) (error : MetadataError) → IsRefusedAs error (schema_asked request) → IsRefused maps refuses (Create request) (of_metadata error) old old
+pub refused_request : {maps : ℕ → Map} {refuses : KeyRange → ℕ → ReadError → Type 0} {old : CommitRequest} (request : SchemaRequest) (error : MetadataError) → IsRefusedAs error (schema_asked request) → IsRefused maps refuses (Create request) (of_metadata error) old old
 refused_request request meta.Memory is = refused_memory (Create request) refl
 refused_request {refuses = refuses} {old = old} request (meta.Refused refusal) is =
     refused_by (Create request) None (Refused refusal) (ran_still refl (λ m serial stands.
@@ -56,7 +56,7 @@ writes_none : (request : SchemaRequest) (schema : Schema) → schema_asked reque
 writes_none request schema is = ap schema_written is
 
 -- NOT MADE
-uncreated_at : {maps : ℕ → Map} {refuses : KeyRange → ℕ → Option ReadError} {old new : CommitRequest} (request : SchemaRequest) (schema : Schema) (error : StoreError) → schema_asked request ≡ Ok schema →
+uncreated_at : {maps : ℕ → Map} {refuses : KeyRange → ℕ → ReadError → Type 0} {old new : CommitRequest} (request : SchemaRequest) (schema : Schema) (error : StoreError) → schema_asked request ≡ Ok schema →
     IsUncreated maps refuses (fresh_at schema) error old new → IsRefused maps refuses (Create request) error old new
 uncreated_at {refuses = refuses} {old = old} request schema error made is =
     refused_by (Create request) None error (ran_wider (ran_because is.ran (λ m says serial stands. right error m says serial stands)) (opening_within None (Create request)))
@@ -80,13 +80,13 @@ uncreated_at {refuses = refuses} {old = old} request schema error made is =
         limit_right (λ range. refuses range old.read_version) None (Create request) old.mutations reason None (wider None) (ap (write_all_refusal old.mutations) (writes_none request schema made) ∙ says.1)
     right (Write reason) m says (Some store) stands = let none : ◌≡◌ {A = Option Store} (Some store) None = says.2 (Some store) stands.held in absurd (cc)
 
-pub uncreated : {maps : ℕ → Map} {refuses : KeyRange → ℕ → Option ReadError} {old new : CommitRequest} (request : SchemaRequest) (prefix : List ℕ) (schema : Schema) (error : StoreError) → prefix ≡ store_prefix → schema_asked request ≡ Ok schema →
+pub uncreated : {maps : ℕ → Map} {refuses : KeyRange → ℕ → ReadError → Type 0} {old new : CommitRequest} (request : SchemaRequest) (prefix : List ℕ) (schema : Schema) (error : StoreError) → prefix ≡ store_prefix → schema_asked request ≡ Ok schema →
     IsUncreated maps refuses (record { prefix = prefix; schema = schema; states = [] }) error old new → IsRefused maps refuses (Create request) error old new
 uncreated {maps = maps} {refuses = refuses} {old = old} {new = new} request prefix schema error here made is =
     uncreated_at request schema error made (subst (λ p. IsUncreated maps refuses (record { prefix = p; schema = schema; states = [] }) error old new) here is)
 
 -- MADE
-created_at : {maps : ℕ → Map} {refuses : KeyRange → Option ReadError} {old new : CommitRequest} (request : SchemaRequest) (schema : Schema) → schema_asked request ≡ Ok schema → AllByRecursion (λ (index : IndexDefinition). index.kind ≡ Value) schema.indexes → IsCreated maps (fresh_at schema) old new → IsPerformed maps refuses (Create request) reply.Done old new
+created_at : {maps : ℕ → Map} {refuses : KeyRange → ReadError → Type 0} {old new : CommitRequest} (request : SchemaRequest) (schema : Schema) → schema_asked request ≡ Ok schema → AllByRecursion (λ (index : IndexDefinition). index.kind ≡ Value) schema.indexes → IsCreated maps (fresh_at schema) old new → IsPerformed maps refuses (Create request) reply.Done old new
 created_at {refuses = refuses} {old = old} request schema made kinds is = record {
   schema = None;
   written = schema_writes store_prefix schema;
@@ -104,7 +104,7 @@ created_at {refuses = refuses} {old = old} request schema made kinds is = record
       opened = λ k h. h;
     }
 
-pub created_now : {maps : ℕ → Map} {refuses : KeyRange → Option ReadError} {old new : CommitRequest} (request : SchemaRequest) (opened : Opened) (schema : Schema) → opened.prefix ≡ store_prefix → opened.schema ≡ schema → opened.states ≡ [] →
+pub created_now : {maps : ℕ → Map} {refuses : KeyRange → ReadError → Type 0} {old new : CommitRequest} (request : SchemaRequest) (opened : Opened) (schema : Schema) → opened.prefix ≡ store_prefix → opened.schema ≡ schema → opened.states ≡ [] →
     schema_asked request ≡ Ok schema → AllByRecursion (λ (index : IndexDefinition). index.kind ≡ Value) schema.indexes → IsCreated maps opened old new → IsPerformed maps refuses (Create request) reply.Done old new
 created_now {maps = maps} {old = old} {new = new} request opened schema here same none made kinds is =
     created_at request schema made kinds (subst (λ o. IsCreated maps o old new) (λ i. record { prefix = here i; schema = same i; states = none i }) is)

@@ -167,12 +167,12 @@ state_answered opened name state is =
     }
 
 -- STATE: the state that the opened store has of the index is the reply
-pub state_performed : {maps : ℕ → Map} {refuses : KeyRange → Option ReadError} {old new : CommitRequest} (opened : Opened) (name : List ℕ) (state : states.State) → opened.prefix ≡ store_prefix → IsOpened maps opened old new →
+pub state_performed : {maps : ℕ → Map} {refuses : KeyRange → ReadError → Type 0} {old new : CommitRequest} (opened : Opened) (name : List ℕ) (state : states.State) → opened.prefix ≡ store_prefix → IsOpened maps opened old new →
     state_named opened name ≡ Ok state → IsPerformed maps refuses (State name) (reply.State state) old new
 state_performed opened name state here is_opened is =
     performed opened (State name) (λ o. state_call o name) told_index state here (state_meets opened name) is_opened (state_answered opened name state is)
 
-pub state_refused : {maps : ℕ → Map} {refuses : KeyRange → ℕ → Option ReadError} {old new : CommitRequest} (opened : Opened) (name : List ℕ) (refusal : Refusal) → opened.prefix ≡ store_prefix → IsOpened maps opened old new →
+pub state_refused : {maps : ℕ → Map} {refuses : KeyRange → ℕ → ReadError → Type 0} {old new : CommitRequest} (opened : Opened) (name : List ℕ) (refusal : Refusal) → opened.prefix ≡ store_prefix → IsOpened maps opened old new →
     state_named opened name ≡ Err refusal → IsRefused maps refuses (State name) (Refused refusal) old new
 state_refused {maps = maps} {old = old} {new = new} opened name refusal here is_opened is =
     refused_own opened (State name) refusal (state_refuses opened name refusal (state_unknown opened.states (find_index opened.schema name) refusal is))

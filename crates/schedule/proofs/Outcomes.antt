@@ -133,13 +133,13 @@ error_refuses command (Corrupt key) answer is =
 error_refuses command (Refused refusal) answer is = refusing command refusal answer is
 
 -- why the reply of an error is right at what is there
-abbrev pub IsRight : (KeyRange → Option ReadError) → Option Schema → Command → List Mutation → StoreError → Serial → Type 0
+abbrev pub IsRight : (KeyRange → ReadError → Type 0) → Option Schema → Command → List Mutation → StoreError → Serial → Type 0
 IsRight refuses schema command before error serial =
     ((answer : Reply) → reply_of error ≡ Some answer → IsServed before serial command answer ⊎ IsReadRefusal refuses (reach (schema_in serial) command) answer)
     × ((k : List ℕ) → covers (reach schema command) k ≡ true → covers (reach (schema_in serial) command) k ≡ true)
 
 -- REFUSED: reads, and then an error that is right at all that may be there
-pub refused_by : {maps : ℕ → Map} {refuses : KeyRange → ℕ → Option ReadError} {old new : CommitRequest} (command : Command) (schema : Option Schema) (error : StoreError) →
+pub refused_by : {maps : ℕ → Map} {refuses : KeyRange → ℕ → ReadError → Type 0} {old new : CommitRequest} (command : Command) (schema : Option Schema) (error : StoreError) →
     Ran maps (λ k. IsTrue (covers (reach schema command) k)) old new [] (λ m. (serial : Serial) → Stands m serial → IsRight (λ range. refuses range old.read_version) schema command old.mutations error serial) →
     IsRefused maps refuses command error old new
 refused_by {refuses = refuses} {old = old} {new = new} command schema error ran = record {
@@ -160,11 +160,11 @@ refused_by {refuses = refuses} {old = old} {new = new} command schema error ran 
 }
 
 -- MEMORY: want of memory is no reply
-pub refused_memory : {maps : ℕ → Map} {refuses : KeyRange → ℕ → Option ReadError} {old new : CommitRequest} (command : Command) → new.mutations ≡ old.mutations → IsRefused maps refuses command Memory old new
+pub refused_memory : {maps : ℕ → Map} {refuses : KeyRange → ℕ → ReadError → Type 0} {old new : CommitRequest} (command : Command) → new.mutations ≡ old.mutations → IsRefused maps refuses command Memory old new
 refused_memory command kept = record { kept = kept; replied = λ answer is. absurd (cc) }
 
 -- a refused read within the reach
-pub read_right : (refuses : KeyRange → Option ReadError) (near far : List KeyRange) → ((k : List ℕ) → covers near k ≡ true → covers far k ≡ true) →
+pub read_right : (refuses : KeyRange → ReadError → Type 0) (near far : List KeyRange) → ((k : List ℕ) → covers near k ≡ true → covers far k ≡ true) →
     (error : ReadError) (answer : Reply) → reply_of (Read error) ≡ Some answer → IsReadRefusedAs refuses near error → IsReadRefusal refuses far answer
 read_right refuses near far wider read.FutureVersion answer is says =
     let same : reply.Refused FutureVersion ≡ answer = cc in
@@ -179,7 +179,7 @@ served_idle : (before : List Mutation) (serial : Serial) (command : Command) (an
 served_idle before serial command answer none is = subst (λ ms. IsLimited (write_all_refusal before ms) serial command answer) (sym none) is
 
 -- a refusal of the command's own, where it writes nothing
-pub own_right : (refuses : KeyRange → Option ReadError) (schema : Option Schema) (command : Command) (before : List Mutation) (refusal : Refusal) (serial : Serial) →
+pub own_right : (refuses : KeyRange → ReadError → Type 0) (schema : Option Schema) (command : Command) (before : List Mutation) (refusal : Refusal) (serial : Serial) →
     ((k : List ℕ) → covers (reach schema command) k ≡ true → covers (reach (schema_in serial) command) k ≡ true) → IsReply serial command (reply.Refused refusal) → writes serial command ≡ [] →
     IsRight refuses schema command before (Refused refusal) serial
 own_right refuses schema command before refusal serial wider is none = (
@@ -196,13 +196,13 @@ limit_is write.TransactionTooLarge answer is = let same : reply.Refused _ ≡ an
 limit_is write.Memory answer is = absurd (cc)
 
 -- a limit that what the command writes meets
-pub limit_right : (refuses : KeyRange → Option ReadError) (schema : Option Schema) (command : Command) (before : List Mutation) (error : WriteError) (serial : Serial) →
+pub limit_right : (refuses : KeyRange → ReadError → Type 0) (schema : Option Schema) (command : Command) (before : List Mutation) (error : WriteError) (serial : Serial) →
     ((k : List ℕ) → covers (reach schema command) k ≡ true → covers (reach (schema_in serial) command) k ≡ true) → write_all_refusal before (writes serial command) ≡ Some error →
     IsRight refuses schema command before (Write error) serial
 limit_right refuses schema command before error serial wider meets = (λ answer is. inl (subst (λ o. IsLimited o serial command answer) (sym meets) (limit_is error answer is)), wider)
 
 -- UNOPENED: no store was opened
-pub refused_unopened : {maps : ℕ → Map} {refuses : KeyRange → ℕ → Option ReadError} {old new : CommitRequest} (command : Command) (error : StoreError) → IsReply None command (reply.Refused NoStore) → writes None command ≡ [] →
+pub refused_unopened : {maps : ℕ → Map} {refuses : KeyRange → ℕ → ReadError → Type 0} {old new : CommitRequest} (command : Command) (error : StoreError) → IsReply None command (reply.Refused NoStore) → writes None command ≡ [] →
     IsUnopened maps refuses store_prefix error old new → IsRefused maps refuses command error old new
 refused_unopened {refuses = refuses} {old = old} command error is none unopened =
     refused_by command None error (ran_wider (ran_because unopened.ran (λ m says serial stands. right error m says serial stands)) (opening_within None command))
@@ -258,7 +258,7 @@ unwritten : {maps : ℕ → Map} {old new : CommitRequest} (opened : Opened) →
 unwritten {old = old} opened is = is.ran.wrote ∙ append-nil old.mutations
 
 -- OWN: a store was opened, and the command is refused by its schema
-pub refused_own : {maps : ℕ → Map} {refuses : KeyRange → ℕ → Option ReadError} {old mid : CommitRequest} (opened : Opened) (command : Command) (refusal : Refusal) →
+pub refused_own : {maps : ℕ → Map} {refuses : KeyRange → ℕ → ReadError → Type 0} {old mid : CommitRequest} (opened : Opened) (command : Command) (refusal : Refusal) →
     Refuses (at opened) command refusal → IsOpened maps (at opened) old mid → IsRefused maps refuses command (Refused refusal) old mid
 refused_own {refuses = refuses} {old = old} opened command refusal so is =
     refused_by command (Some opened.schema) (Refused refusal) (ran_wider (ran_because is.ran (λ m has serial stands. right serial (has.1 serial stands.held))) (opening_within (Some opened.schema) command))
@@ -269,7 +269,7 @@ refused_own {refuses = refuses} {old = old} opened command refusal so is =
         own_right (λ range. refuses range old.read_version) (Some opened.schema) command old.mutations refusal (Some store) (has_within (at opened) command (Some store) has) (so.replies store has) (so.idle store has)
 
 -- ANSWERED: a store was opened, and a call on it was answered
-performed_at : {maps : ℕ → Map} {refuses : KeyRange → Option ReadError} {old mid new : CommitRequest} {A : Type 0} (opened : Opened) (command : Command) (asked : Call A) (told : A → Reply) (answer : A) →
+performed_at : {maps : ℕ → Map} {refuses : KeyRange → ReadError → Type 0} {old mid new : CommitRequest} {A : Type 0} (opened : Opened) (command : Command) (asked : Call A) (told : A → Reply) (answer : A) →
     Meets (at opened) command asked told → IsOpened maps (at opened) old mid → IsAnswered maps (at opened) asked answer mid new → IsPerformed maps refuses command (told answer) old new
 performed_at {refuses = refuses} {old = old} {mid = mid} {A = A} opened command asked told answer meets is_opened is = record {
   schema = Some opened.schema;
@@ -297,7 +297,7 @@ performed_at {refuses = refuses} {old = old} {mid = mid} {A = A} opened command 
         }
 
 -- NOT ANSWERED: a store was opened, and a call on it was refused
-refused_at : {maps : ℕ → Map} {refuses : KeyRange → ℕ → Option ReadError} {old mid new : CommitRequest} {A : Type 0} (opened : Opened) (command : Command) (asked : Call A) (told : A → Reply) (error : StoreError) →
+refused_at : {maps : ℕ → Map} {refuses : KeyRange → ℕ → ReadError → Type 0} {old mid new : CommitRequest} {A : Type 0} (opened : Opened) (command : Command) (asked : Call A) (told : A → Reply) (error : StoreError) →
     Meets (at opened) command asked told → IsOpened maps (at opened) old mid → call.IsRefused maps refuses (at opened) asked error mid new → IsRefused maps refuses command error old new
 refused_at {maps = maps} {refuses = refuses} {old = old} {mid = mid} {new = new} opened command (Err refusal) told error meets is_opened is =
     subst (λ (t : CommitRequest). IsRefused maps refuses command error old t) (sym is.1) (elim is.0 [
@@ -330,32 +330,32 @@ pub located : (opened : Opened) → opened.prefix ≡ store_prefix → opened �
 located opened is = λ i. record { prefix = is i; schema = opened.schema; states = opened.states }
 
 -- ANSWERED
-pub performed : {maps : ℕ → Map} {refuses : KeyRange → Option ReadError} {old mid new : CommitRequest} {A : Type 0} (opened : Opened) (command : Command) (asked : Opened → Call A) (told : A → Reply) (answer : A) → opened.prefix ≡ store_prefix →
+pub performed : {maps : ℕ → Map} {refuses : KeyRange → ReadError → Type 0} {old mid new : CommitRequest} {A : Type 0} (opened : Opened) (command : Command) (asked : Opened → Call A) (told : A → Reply) (answer : A) → opened.prefix ≡ store_prefix →
     Meets (at opened) command (asked (at opened)) told → IsOpened maps opened old mid → IsAnswered maps opened (asked opened) answer mid new → IsPerformed maps refuses command (told answer) old new
 performed {maps = maps} {old = old} {mid = mid} {new = new} opened command asked told answer here meets is_opened is =
     performed_at opened command (asked (at opened)) told answer meets (subst (λ o. IsOpened maps o old mid) (located opened here) is_opened)
     (subst (λ o. IsAnswered maps o (asked o) answer mid new) (located opened here) is)
 
 -- NOT ANSWERED
-pub refused : {maps : ℕ → Map} {refuses : KeyRange → ℕ → Option ReadError} {old mid new : CommitRequest} {A : Type 0} (opened : Opened) (command : Command) (asked : Opened → Call A) (told : A → Reply) (error : StoreError) → opened.prefix ≡ store_prefix →
+pub refused : {maps : ℕ → Map} {refuses : KeyRange → ℕ → ReadError → Type 0} {old mid new : CommitRequest} {A : Type 0} (opened : Opened) (command : Command) (asked : Opened → Call A) (told : A → Reply) (error : StoreError) → opened.prefix ≡ store_prefix →
     Meets (at opened) command (asked (at opened)) told → IsOpened maps opened old mid → call.IsRefused maps refuses opened (asked opened) error mid new → IsRefused maps refuses command error old new
 refused {maps = maps} {refuses = refuses} {old = old} {mid = mid} {new = new} opened command asked told error here meets is_opened is =
     refused_at opened command (asked (at opened)) told error meets (subst (λ o. IsOpened maps o old mid) (located opened here) is_opened)
     (subst (λ o. call.IsRefused maps refuses o (asked o) error mid new) (located opened here) is)
 
 -- OWN REFUSAL: what the command asks for is refused by the schema, before a call is made
-pub refused_asked : {maps : ℕ → Map} {refuses : KeyRange → ℕ → Option ReadError} {old mid : CommitRequest} {A : Type 0} (opened : Opened) (command : Command) (outcome : Result A Refusal) (error : MetadataError) → opened.prefix ≡ store_prefix →
+pub refused_asked : {maps : ℕ → Map} {refuses : KeyRange → ℕ → ReadError → Type 0} {old mid : CommitRequest} {A : Type 0} (opened : Opened) (command : Command) (outcome : Result A Refusal) (error : MetadataError) → opened.prefix ≡ store_prefix →
     ((refusal : Refusal) → outcome ≡ Err refusal → Refuses (at opened) command refusal) → IsOpened maps opened old mid → IsRefusedAs error outcome → IsRefused maps refuses command (of_metadata error) old mid
 refused_asked {old = old} {mid = mid} opened command outcome meta.Memory here so is_opened is = refused_memory command (is_opened.ran.wrote ∙ append-nil old.mutations)
 refused_asked {maps = maps} {old = old} {mid = mid} opened command outcome (meta.Refused refusal) here so is_opened is =
     refused_own opened command refusal (so refusal is) (subst (λ o. IsOpened maps o old mid) (located opened here) is_opened)
 
 -- MEMORY: it is wanting after a call that changed nothing
-pub refused_behind : {maps : ℕ → Map} {refuses : KeyRange → ℕ → Option ReadError} {old mid new : CommitRequest} {A : Type 0} (opened : Opened) (command : Command) (asked : Opened → Call A) (told : A → Reply) (answer : A) → opened.prefix ≡ store_prefix →
+pub refused_behind : {maps : ℕ → Map} {refuses : KeyRange → ℕ → ReadError → Type 0} {old mid new : CommitRequest} {A : Type 0} (opened : Opened) (command : Command) (asked : Opened → Call A) (told : A → Reply) (answer : A) → opened.prefix ≡ store_prefix →
     Meets (at opened) command (asked (at opened)) told → is_reading command (told answer) ≡ true → IsOpened maps opened old mid → IsAnswered maps opened (asked opened) answer mid new →
     IsRefused maps refuses command Memory old new
 refused_behind {maps = maps} {old = old} opened command asked told answer here meets reads is_opened is =
-    let so : IsPerformed maps (λ range. None) command (told answer) old _ = performed opened command asked told answer here meets is_opened is in
+    let so : IsPerformed maps (λ range error. ⊥) command (told answer) old _ = performed opened command asked told answer here meets is_opened is in
     refused_memory command (so.ran.wrote ∙ ap (λ ms. old.mutations ++ ms) (nothing so.written (so.changes ∙ reads)) ∙ append-nil old.mutations)
   where
     nothing : (ms : List Mutation) → (length ms == 0) ≡ true → ms ≡ []
@@ -363,5 +363,5 @@ refused_behind {maps = maps} {old = old} opened command asked told answer here m
     nothing (one ∷ ms) is = absurd (omega (arith, eqb-true (length (one ∷ ms)) 0 is))
 
 -- AS: the reply is an equal one
-pub answered_as : {maps : ℕ → Map} {refuses : KeyRange → Option ReadError} {command : Command} {answer made : Reply} {old new : CommitRequest} → answer ≡ made → IsPerformed maps refuses command made old new → IsPerformed maps refuses command answer old new
+pub answered_as : {maps : ℕ → Map} {refuses : KeyRange → ReadError → Type 0} {command : Command} {answer made : Reply} {old new : CommitRequest} → answer ≡ made → IsPerformed maps refuses command made old new → IsPerformed maps refuses command answer old new
 answered_as {maps = maps} {refuses = refuses} {command = command} {old = old} {new = new} same so = subst (λ a. IsPerformed maps refuses command a old new) (sym same) so

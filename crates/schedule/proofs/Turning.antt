@@ -36,7 +36,7 @@ limit_refuses limits.ValueTooLarge answer is = ap is_accepted is
 limit_refuses limits.TransactionTooLarge answer is = ap is_accepted is
 limit_refuses limits.Memory answer is = absurd is
 
-read_refuses : (refuses : KeyRange → Option ReadError) (within : List KeyRange) (answer : Reply) → IsReadRefusal refuses within answer → is_accepted answer ≡ false
+read_refuses : (refuses : KeyRange → ReadError → Type 0) (within : List KeyRange) (answer : Reply) → IsReadRefusal refuses within answer → is_accepted answer ≡ false
 read_refuses refuses within (Refused refusal) is = refl
 read_refuses refuses within (Corrupt key) is = refl
 read_refuses refuses within (Begun version) is = absurd is
@@ -58,7 +58,7 @@ replied_of : (limit : Option WriteError) (serial : Serial) (command : Command) (
 replied_of None serial command answer is yes_accepted = is
 replied_of (Some error) serial command answer is yes_accepted = absurd (true≢false (sym yes_accepted ∙ limit_refuses error answer is))
 
-did_at : {refuses : KeyRange → Option ReadError} {before : List Mutation} (schema : Option Rattle.metadata.specs.Schema.Schema) (command : Command) (answer : Reply) (written : List Mutation) (m : Map) (serial : Serial) →
+did_at : {refuses : KeyRange → ReadError → Type 0} {before : List Mutation} (schema : Option Rattle.metadata.specs.Schema.Schema) (command : Command) (answer : Reply) (written : List Mutation) (m : Map) (serial : Serial) →
     IsPerformedAt refuses schema command answer before written m serial → DidAt schema (record { command = command; reply = answer }) written m serial
 did_at {refuses = refuses} {before = before} schema command answer written m serial performed = record {
   replied = λ yes_accepted. elim performed.right [
@@ -71,7 +71,7 @@ did_at {refuses = refuses} {before = before} schema command answer written m ser
 }
 
 -- a command that was performed is an attempt that was made
-pub performed_did : (maps : ℕ → Map) (refuses : KeyRange → Option ReadError) (command : Command) (answer : Reply) (old new : CommitRequest) →
+pub performed_did : (maps : ℕ → Map) (refuses : KeyRange → ReadError → Type 0) (command : Command) (answer : Reply) (old new : CommitRequest) →
     IsPerformed maps refuses command answer old new → Did maps (record { command = command; reply = answer }) old new
 performed_did maps refuses command answer old new performed = record {
   schema = performed.schema;
@@ -221,7 +221,7 @@ done_reads maps (attempt ∷ attempts) old new (mid, did, rest) m serial agree h
 pub open_fresh : (maps : ℕ → Map) (reported version : ℕ) → version ≤ reported → IsOpenAs maps reported (record { read_version = version; attempts = [] }) (fresh version)
 open_fresh maps reported version below = record { at = refl; seen = below; done = refl }
 
-pub open_grown : (maps : ℕ → Map) (reported : ℕ) (open_now : Open) (request new : CommitRequest) (refuses : KeyRange → Option ReadError) (command : Command) (answer : Reply) →
+pub open_grown : (maps : ℕ → Map) (reported : ℕ) (open_now : Open) (request new : CommitRequest) (refuses : KeyRange → ReadError → Type 0) (command : Command) (answer : Reply) →
     IsOpenAs maps reported open_now request → IsPerformed maps refuses command answer request new →
     IsOpenAs maps reported (record { read_version = open_now.read_version; attempts = open_now.attempts ++ (record { command = command; reply = answer }) ∷ [] }) new
 open_grown maps reported open_now request new refuses command answer is performed = record {

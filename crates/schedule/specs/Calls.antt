@@ -43,6 +43,6 @@ removal_reply true = reply.Removed
 removal_reply false = reply.Absent
 
 -- why a command was refused: it wrote nothing, and where the error is a reply it was performed with this reply
-pub record IsRefused (maps : ℕ → Map) (refuses : KeyRange → ℕ → Option ReadError) (command : Command) (error : StoreError) (old new : CommitRequest) : Type 0 where
+pub record IsRefused (maps : ℕ → Map) (refuses : KeyRange → ℕ → ReadError → Type 0) (command : Command) (error : StoreError) (old new : CommitRequest) : Type 0 where
   pub kept : new.mutations ≡ old.mutations
   pub replied : (answer : Reply) → reply_of error ≡ Some answer → IsPerformed maps (λ range. refuses range old.read_version) command answer old new

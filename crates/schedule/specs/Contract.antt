@@ -12,7 +12,7 @@ use Rattle.cluster_core.specs.declared.answers.SubmitError.{SubmitError}
 use Rattle.cluster_core.specs.declared.answers.SubmitError.TheVariants as submitting
 use Rattle.cluster_core.specs.Cluster.{ClusterState, database_at, may_pull, tier_of}
 use Rattle.cluster_core.specs.Roles.{PipelineState, may_append, may_report, may_resolve, outcome, submit_refusal, submitted}
-use Rattle.cluster_core.specs.Tier.{refusal}
+use Rattle.txn.specs.Refusing.{MayRefuse}
 use Rattle.metadata.specs.declared.refusal.Refusal.TheVariants.{NoSuchClient, NoSuchRole, Busy, NoTransaction, TooOld, VersionsExhausted}
 use Rattle.schedule.specs.declared.step.Command.{Command}
 use Rattle.schedule.specs.declared.step.Step.{Step}
@@ -70,7 +70,7 @@ abbrev pub IsCommandReply : ClusterState → List CommitEntry → Open → Comma
 IsCommandReply c commits open_now command reply =
     let seen = view commits open_now in
     IsServed (written (committed commits open_now.read_version) (accepted open_now.attempts)) seen command reply
-    ⊎ IsReadRefusal (λ range. refusal (tier_of c) range open_now.read_version) (reach (schema_in seen) command) reply
+    ⊎ IsReadRefusal (λ range. MayRefuse (tier_of c) range open_now.read_version) (reach (schema_in seen) command) reply
 
 -- the reply to `commit`: there was nothing to submit, or no version was left, or the transaction read too long ago, or the next version
 abbrev pub submit_reply : PipelineState → Option SubmitError → Reply

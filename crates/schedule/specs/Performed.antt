@@ -40,20 +40,20 @@ abbrev pub IsServed : List Mutation → Serial → Command → Reply → Type 0
 IsServed before serial command answer = IsLimited (write_all_refusal before (writes serial command)) serial command answer
 
 -- the reply is that of a refused read within the reach
-abbrev pub IsReadRefusal : (KeyRange → Option ReadError) → List KeyRange → Reply → Type 0
+abbrev pub IsReadRefusal : (KeyRange → ReadError → Type 0) → List KeyRange → Reply → Type 0
 IsReadRefusal refuses within (Refused FutureVersion) = IsReadRefusedAs refuses within reads.FutureVersion
 IsReadRefusal refuses within (Refused TooOld) = IsReadRefusedAs refuses within reads.TooOld
 IsReadRefusal refuses within answer = ⊥
 
 -- a command has this reply to what is there, which the map seen before it holds; what it wrote is what the command writes there, and leads to a map that holds what is there after it; and the schema by which it read is that of what is there, as far as it read by it
-pub record IsPerformedAt (refuses : KeyRange → Option ReadError) (schema : Option Schema) (command : Command) (answer : Reply) (before written : List Mutation) (m : Map) (serial : Serial) : Type 0 where
+pub record IsPerformedAt (refuses : KeyRange → ReadError → Type 0) (schema : Option Schema) (command : Command) (answer : Reply) (before written : List Mutation) (m : Map) (serial : Serial) : Type 0 where
   pub right : IsServed before serial command answer ⊎ IsReadRefusal refuses (reach (schema_in serial) command) answer
   pub wrote : written ≡ (if is_accepted answer then writes serial command else [])
   pub holds : Stands (after_all written m) (if is_accepted answer then effect serial command else serial)
   pub opened : (key : List ℕ) → IsTrue (covers (reach schema command) key) → IsTrue (covers (reach (schema_in serial) command) key)
 
 -- a command was performed: over every map that agrees with what was read, it was so for all that this map holds; what it read lies in its reach, and it wrote something exactly where the command with this reply changes something
-pub record IsPerformed (maps : ℕ → Map) (refuses : KeyRange → Option ReadError) (command : Command) (answer : Reply) (old new : CommitRequest) : Type 0 where
+pub record IsPerformed (maps : ℕ → Map) (refuses : KeyRange → ReadError → Type 0) (command : Command) (answer : Reply) (old new : CommitRequest) : Type 0 where
   pub schema : Option Schema
   pub written : List Mutation
   pub changes : (length written == 0) ≡ is_reading command answer

@@ -9,7 +9,7 @@ use Rattle.cluster_core.specs.declared.answers.Work.TheVariants as works
 use Rattle.cluster_core.specs.Cluster.{ClusterState, database_at, tier_of, with_pipeline}
 use Rattle.cluster_core.specs.Configuration.{first_cluster}
 use Rattle.cluster_core.specs.Roles.{may_report, outcome, report, submitted}
-use Rattle.cluster_core.specs.Tier.{refusal}
+use Rattle.txn.specs.Refusing.{MayRefuse}
 use Rattle.schedule.specs.declared.step.Command.{Command}
 use Rattle.schedule.specs.declared.step.Step.{Step}
 use Rattle.schedule.specs.declared.step.Step.TheVariants.{Commit}
@@ -86,7 +86,7 @@ IsStepped step reply old new = (past : Past) → Stands past old → Steps past 
 
 -- a command was performed in an open transaction, which keeps it where it is accepted
 pub record IsPerformedBy (c : ClusterState) (command : Command) (reply : Reply) (old new : OpenTransaction) : Type 0 where
-  pub performed : IsPerformed (database_at c) (λ range. refusal (tier_of c) range old.transaction.read_version) command reply old.transaction new.transaction
+  pub performed : IsPerformed (database_at c) (λ range. MayRefuse (tier_of c) range old.transaction.read_version) command reply old.transaction new.transaction
   pub commands : new.commands.items ≡ old.commands.items ++ (if is_accepted reply then command ∷ [] else [])
 
 -- what was submitted, after a commit with this reply

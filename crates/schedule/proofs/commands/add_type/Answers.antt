@@ -1,4 +1,5 @@
 use Rattle.std.proofs.Common.{refl}
+use Rattle.record_store.proofs.Answered.{refused_anyway}
 use Rattle.record_store.specs.Calls.{type_call}
 use Rattle.schedule.specs.declared.step.Command.TheVariants.{«Type»}
 use Rattle.schedule.proofs.Outcomes.{exit_with, performed, refused, refused_unopened}
@@ -14,7 +15,7 @@ pub returns-in_err-add_type-clause-refused : goal.returns-in_err-add_type-clause
 returns-in_err-add_type-clause-refused g c =
     exit_with c.from_residual-in_err-add_type.result c.in_err-add_type.field-0.0 _ c.from_residual-in_err-add_type.ensures
     (refused c.in_ok-store.store («Type» c.args.request.now) (λ opened. type_call opened c.args.request.now) told_type c.in_err-add_type.field-0.0 c.in_ok-store.ensures.prefix
-    (type_meets c.in_ok-store.store c.args.request.now) c.in_ok-store.ensures.opened (c.in_err-add_type.ensures.refused _ _))
+    (type_meets c.in_ok-store.store c.args.request.now) c.in_ok-store.ensures.opened (refused_anyway _ _ _ _ _ _ _ (c.in_err-add_type.ensures.refused _)))
 
 pub returns-clause-performed : goal.returns-clause-performed
 returns-clause-performed g c =

@@ -4,35 +4,35 @@ use Rattle.schedule.proofs.performing.answer.Goals as goal
 
 pub returns-in-Create-clause-performed : goal.returns-in-Create-clause-performed
 returns-in-Create-clause-performed g c =
-    subst (λ command. IfOk c.create.result (λ answer. IsPerformed (g.S.Snapshot.map_at c.args.db.now) (λ range. g.S.Snapshot.refusal c.args.db.now range c.args.tx.now.read_version) command answer c.args.tx.now c.create.new.tx))
+    subst (λ command. IfOk c.create.result (λ answer. IsPerformed (g.S.Snapshot.map_at c.args.db.now) (λ range. g.S.Snapshot.may_refuse c.args.db.now range c.args.tx.now.read_version) command answer c.args.tx.now c.create.new.tx))
     (sym c.in-Create.is) c.create.ensures.performed
 
 pub returns-in-Type-clause-performed : goal.returns-in-Type-clause-performed
 returns-in-Type-clause-performed g c =
-    subst (λ command. IfOk c.add_type.result (λ answer. IsPerformed (g.S.Snapshot.map_at c.args.db.now) (λ range. g.S.Snapshot.refusal c.args.db.now range c.args.tx.now.read_version) command answer c.args.tx.now c.add_type.new.tx))
+    subst (λ command. IfOk c.add_type.result (λ answer. IsPerformed (g.S.Snapshot.map_at c.args.db.now) (λ range. g.S.Snapshot.may_refuse c.args.db.now range c.args.tx.now.read_version) command answer c.args.tx.now c.add_type.new.tx))
     (sym c.in-Type.is) c.add_type.ensures.performed
 
 pub returns-in-Save-clause-performed : goal.returns-in-Save-clause-performed
 returns-in-Save-clause-performed g c =
-    subst (λ command. IfOk c.save.result (λ answer. IsPerformed (g.S.Snapshot.map_at c.args.db.now) (λ range. g.S.Snapshot.refusal c.args.db.now range c.args.tx.now.read_version) command answer c.args.tx.now c.save.new.tx))
+    subst (λ command. IfOk c.save.result (λ answer. IsPerformed (g.S.Snapshot.map_at c.args.db.now) (λ range. g.S.Snapshot.may_refuse c.args.db.now range c.args.tx.now.read_version) command answer c.args.tx.now c.save.new.tx))
     (sym c.in-Save.is) c.save.ensures.performed
 
 pub returns-in-Load-clause-performed : goal.returns-in-Load-clause-performed
 returns-in-Load-clause-performed g c =
-    subst (λ command. IfOk c.load.result (λ answer. IsPerformed (g.S.Snapshot.map_at c.args.db.now) (λ range. g.S.Snapshot.refusal c.args.db.now range c.args.tx.now.read_version) command answer c.args.tx.now c.load.new.tx))
+    subst (λ command. IfOk c.load.result (λ answer. IsPerformed (g.S.Snapshot.map_at c.args.db.now) (λ range. g.S.Snapshot.may_refuse c.args.db.now range c.args.tx.now.read_version) command answer c.args.tx.now c.load.new.tx))
     (sym c.in-Load.is) c.load.ensures.performed
 
 pub returns-in-Remove-clause-performed : goal.returns-in-Remove-clause-performed
 returns-in-Remove-clause-performed g c =
-    subst (λ command. IfOk c.remove.result (λ answer. IsPerformed (g.S.Snapshot.map_at c.args.db.now) (λ range. g.S.Snapshot.refusal c.args.db.now range c.args.tx.now.read_version) command answer c.args.tx.now c.remove.new.tx))
+    subst (λ command. IfOk c.remove.result (λ answer. IsPerformed (g.S.Snapshot.map_at c.args.db.now) (λ range. g.S.Snapshot.may_refuse c.args.db.now range c.args.tx.now.read_version) command answer c.args.tx.now c.remove.new.tx))
     (sym c.in-Remove.is) c.remove.ensures.performed
 
 pub returns-in-Query-clause-performed : goal.returns-in-Query-clause-performed
 returns-in-Query-clause-performed g c =
-    subst (λ command. IfOk c.query.result (λ answer. IsPerformed (g.S.Snapshot.map_at c.args.db.now) (λ range. g.S.Snapshot.refusal c.args.db.now range c.args.tx.now.read_version) command answer c.args.tx.now c.query.new.tx))
+    subst (λ command. IfOk c.query.result (λ answer. IsPerformed (g.S.Snapshot.map_at c.args.db.now) (λ range. g.S.Snapshot.may_refuse c.args.db.now range c.args.tx.now.read_version) command answer c.args.tx.now c.query.new.tx))
     (sym c.in-Query.is) c.query.ensures.performed
 
 pub returns-in-State-clause-performed : goal.returns-in-State-clause-performed
 returns-in-State-clause-performed g c =
-    subst (λ command. IfOk c.index_state.result (λ answer. IsPerformed (g.S.Snapshot.map_at c.args.db.now) (λ range. g.S.Snapshot.refusal c.args.db.now range c.args.tx.now.read_version) command answer c.args.tx.now c.index_state.new.tx))
+    subst (λ command. IfOk c.index_state.result (λ answer. IsPerformed (g.S.Snapshot.map_at c.args.db.now) (λ range. g.S.Snapshot.may_refuse c.args.db.now range c.args.tx.now.read_version) command answer c.args.tx.now c.index_state.new.tx))
     (sym c.in-State.is) c.index_state.ensures.performed
