@@ -1,5 +1,5 @@
 // Transactions with many own writes: each set is followed by a get of an earlier key and a read of ten pairs.
-ghost use Rattle.std.specs.Prelude.{None};
+ghost use Rattle.txn.specs.Refusing.{NeverRefuses};
 
 use crate::keys::key;
 use cluster_core::ReadError;
@@ -25,9 +25,11 @@ struct Stored {
 impl Snapshot for Stored {
     ghost map_at = { λ stored version. stored.map };
 
-    ghost refusal = { λ stored range version. None };
+    ghost may_refuse = { λ stored. NeverRefuses };
 
-    ghost narrows = { λ stored whole part version inside allowed. allowed };
+    ghost must_refuse = { λ stored range version. ⊥ };
+
+    ghost narrows = { λ stored whole part version error inside refused. absurd refused };
 
     fn read(
         &self,

@@ -16,6 +16,8 @@ mod commits;
 #[cfg(test)]
 mod configs;
 #[cfg(test)]
+mod failing;
+#[cfg(test)]
 mod lines;
 #[cfg(test)]
 mod maintenance;

@@ -1,6 +1,7 @@
 // A store over a map, in a transaction, and what its calls tell in words.
-ghost use Rattle.std.specs.Prelude.{None, IfOk};
+ghost use Rattle.std.specs.Prelude.{IfOk};
 ghost use Rattle.record_store.specs.Holds.{HasPlainIndexes};
+ghost use Rattle.txn.specs.Refusing.{NeverRefuses};
 
 use crate::asking::{cells_asked, name_of, schema_asked, words_of};
 use crate::telling::{cells_told, done, mutations_told, refusal_told};
@@ -28,9 +29,11 @@ struct Still {
 impl Snapshot for Still {
     ghost map_at = { λ still version. still.map };
 
-    ghost refusal = { λ still range version. None };
+    ghost may_refuse = { λ still. NeverRefuses };
 
-    ghost narrows = { λ still whole part version inside allowed. allowed };
+    ghost must_refuse = { λ still range version. ⊥ };
+
+    ghost narrows = { λ still whole part version error inside refused. absurd refused };
 
     fn read(
         &self,

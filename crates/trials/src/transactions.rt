@@ -1,5 +1,5 @@
 // Steps of transactions over one map.
-ghost use Rattle.std.specs.Prelude.{None};
+ghost use Rattle.txn.specs.Refusing.{NeverRefuses};
 
 use crate::parts::{
     digits_or_none, halves, mutations_of, mutations_text, pairs_text, range_of, ranges_text, same,
@@ -24,9 +24,11 @@ struct Counted {
 impl Snapshot for Counted {
     ghost map_at = { λ counted version. counted.map };
 
-    ghost refusal = { λ counted range version. None };
+    ghost may_refuse = { λ counted. NeverRefuses };
 
-    ghost narrows = { λ counted whole part version inside allowed. allowed };
+    ghost must_refuse = { λ counted range version. ⊥ };
+
+    ghost narrows = { λ counted whole part version error inside refused. absurd refused };
 
     fn read(
         &self,

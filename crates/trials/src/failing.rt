@@ -1,0 +1,95 @@
+// Reads of a snapshot that refuses one of them, whatever was read before.
+ghost use Rattle.std.specs.Prelude.{◌≡◌};
+ghost use Rattle.std.proofs.Common.{inl};
+ghost use Rattle.cluster_core.specs.declared.answers.ReadError.TheVariants.{TooOld};
+
+use crate::parts::{mutations_of, pairs_text, range_of, ranges_text, same, shown};
+use cluster_core::ReadError;
+use kv_core::{KeyRange, KvMap, Pair};
+use std::alloc::Global;
+use std::cell::Cell;
+use std::test::Fail;
+use txn::{Snapshot, Transaction};
+
+/// One map that stands at each version. So many reads are answered, and the one after them is refused.
+#[derive(Drop)]
+struct Failing {
+    map: KvMap,
+    answered: Cell<u64>,
+}
+
+impl Snapshot for Failing {
+    ghost map_at = { λ failing version. failing.map };
+
+    ghost may_refuse = { λ failing range version error. error ≡ TooOld };
+
+    ghost must_refuse = { λ failing range version. ⊥ };
+
+    ghost narrows = { λ failing whole part version error inside refused. inl refused };
+
+    fn read(
+        &self,
+        range: &KeyRange,
+        _version: u64,
+        limit: usize,
+        reverse: bool,
+    ) -> Result<Vec<Pair>, ReadError> {
+        let answered = self.answered.get();
+        self.answered.set(answered.wrapping_sub(1));
+        if answered == 0 {
+            return Err(ReadError::TooOld);
+        }
+        let pairs = self.map.range(range, limit, reverse)?;
+        Ok(pairs)
+    }
+}
+
+/// How many reads are answered, and what two reads of the first pair tell. Each takes two reads of the snapshot.
+static ROWS: [(u64, &str, &str); 5] = [
+    (0, "TooOld", "68=08"),
+    (1, "TooOld", "68=08"),
+    (2, "68=08", "TooOld"),
+    (3, "68=08", "TooOld"),
+    (4, "68=08", "68=08"),
+];
+
+/// What a read of the first pair tells.
+fn first_told(alloc: Global, db: &Failing, transaction: &mut Transaction) -> Result<String, Fail> {
+    let range = range_of(alloc, "61-70")?;
+    match transaction.get_range(db, &range, 1, false) {
+        Ok(pairs) => pairs_text(alloc, pairs.as_slice()),
+        Err(error) => shown(alloc, &error),
+    }
+}
+
+/// The keys of the first pairs are cleared, so that the snapshot is read once more behind them. A refused read
+/// leaves the transaction as it was.
+fn reads_told(alloc: Global, row: &(u64, &str, &str)) -> Result<(), Fail> {
+    let (answered, first, second) = row;
+    let stored = mutations_of(alloc, "61=01 62=02 68=08 69=09")?;
+    let db = Failing {
+        map: KvMap::new(alloc).with_all(stored.as_slice())?,
+        answered: Cell::new(*answered),
+    };
+    let mut transaction = Transaction::begin(alloc, 0);
+    transaction.write_all(mutations_of(alloc, "61-68 6b=00")?)?;
+    same(first_told(alloc, &db, &mut transaction)?.as_str(), first)?;
+    same(first_told(alloc, &db, &mut transaction)?.as_str(), second)?;
+    let request = transaction.into_request();
+    same(
+        ranges_text(alloc, request.reads.as_slice())?.as_str(),
+        "61-6800",
+    )?;
+    same(
+        shown(alloc, &request.mutations.as_slice().len())?.as_str(),
+        "2",
+    )
+}
+
+#[test]
+fn refused_reads_leave_transactions(rt: HostRuntime) -> Result<(), Fail> {
+    for row in &ROWS {
+        reads_told(rt.alloc(), row)?;
+    }
+    Ok(())
+}
