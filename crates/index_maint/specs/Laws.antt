@@ -56,10 +56,11 @@ Follows Has writes =
     IsReplacement key old new records → IsIndexed index old → IsIndexed index new →
     Has prefix index records m → Has prefix index (replaced key new records) (after_all (writes prefix index old new) m)
 
--- only what changes is written: a key that the writes cover has another value after them than before, or none before and after
+-- only what changes is written: a key that the writes cover has another value after them, or none before and after
 abbrev pub OnlyChanges : Keeping → Writing → Type 0
 OnlyChanges Has writes =
-    (prefix : List ℕ) (index : IndexDefinition) (key : List Item) (old new : Option Record) (records : List Record) (m : Map) (at : List ℕ) →
+    (prefix : List ℕ) (index : IndexDefinition) (key : List Item) (old new : Option Record) (records : List Record)
+    (m : Map) (at : List ℕ) →
     IsReplacement key old new records → IsIndexed index old → IsIndexed index new → Has prefix index records m →
     IsTrue (covers (write_ranges (writes prefix index old new)) at) →
     get (after_all (writes prefix index old new) m) at ≡ get m at → get m at ≡ None

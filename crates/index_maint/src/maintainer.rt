@@ -3,7 +3,8 @@ ghost use Rattle.std.specs.Option.{option_copied, option_map};
 ghost use Rattle.kv_core.specs.Bytes.{end_of_keys, key_lt};
 ghost use Rattle.index_maint.specs.Changes.{HasEntries, entry_changes, value_changes};
 ghost use Rattle.index_maint.specs.Entries.{entry_of};
-ghost use Rattle.index_maint.specs.Laws.{Follows, HasWithin, IgnoresOthers, Keeping, OnlyChanges, WritesWithin, Writing};
+ghost use Rattle.index_maint.specs.Laws.{Follows, HasWithin, IgnoresOthers, Keeping};
+ghost use Rattle.index_maint.specs.Laws.{OnlyChanges, WritesWithin, Writing};
 
 use crate::entry::Entry;
 use kv_core::Mutation;

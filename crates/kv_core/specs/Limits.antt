@@ -17,14 +17,14 @@ size_of (ClearRange range) = length range.begin + length range.end
 abbrev pub size_of_all : List Mutation → ℕ
 size_of_all mutations = sum_by size_of mutations
 
--- why a key with a value or an operand is refused: the key lies outside the keys or has over 10,000 bytes, or the other has over 100,000
+-- why a key with a value or operand is refused: it is no key, or has over 10,000 bytes, or the other over 100,000
 abbrev pub pair_refusal : List ℕ → List ℕ → Option WriteError
 pair_refusal key value =
     if not (key_lt key end_of_keys) then Some KeyOutside
     else (if not (nat_le (length key) 10_000) then Some KeyTooLarge
     else (if not (nat_le (length value) 100_000) then Some ValueTooLarge else None))
 
--- why a mutation is refused by itself: by its key and its value or operand, or since its range begins after 10,000 bytes or ends after 10,001
+-- why a mutation is refused by itself: by these, or since its range has a begin over 10,000 bytes or an end over 10,001
 abbrev pub own_refusal : Mutation → Option WriteError
 own_refusal (Set key value) = pair_refusal key value
 own_refusal (Add key operand) = pair_refusal key operand

@@ -8,7 +8,8 @@ use Rattle.kv_core.specs.Limits.{refusal_after, size_of_all, write_all_refusal}
 use Rattle.kv_core.specs.Map.{Map, after_all, pairs_in, value_after_all}
 use Rattle.kv_core.specs.Range.{KeyRange, contains}
 use Rattle.kv_core.specs.declared.change.Mutation.{Mutation}
-use Rattle.kv_core.specs.declared.limits.TheConstants.{MAX_KEY_BYTES, MAX_RANGE_END_BYTES, MAX_TRANSACTION_BYTES, MAX_VALUE_BYTES}
+use Rattle.kv_core.specs.declared.limits.TheConstants.{MAX_KEY_BYTES, MAX_RANGE_END_BYTES}
+use Rattle.kv_core.specs.declared.limits.TheConstants.{MAX_TRANSACTION_BYTES, MAX_VALUE_BYTES}
 
 -- after mutations a map has at each key what they make of the value that it had there
 abbrev pub ValuesByKey : Type 0
@@ -37,7 +38,8 @@ SumsJoin =
 -- the limits in bytes: of a key, of the end of a range, of a value and of a transaction
 abbrev pub LimitsInBytes : Type 0
 LimitsInBytes =
-    (MAX_KEY_BYTES ≡ 10_000) × (MAX_RANGE_END_BYTES ≡ 10_001) × (MAX_VALUE_BYTES ≡ 100_000) × (MAX_TRANSACTION_BYTES ≡ 10_000_000)
+    (MAX_KEY_BYTES ≡ 10_000) × (MAX_RANGE_END_BYTES ≡ 10_001)
+    × (MAX_VALUE_BYTES ≡ 100_000) × (MAX_TRANSACTION_BYTES ≡ 10_000_000)
 
 -- of the mutations before a list only their bytes matter to its refusal
 abbrev pub RefusalsBySize : Type 0
