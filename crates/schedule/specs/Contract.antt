@@ -17,7 +17,6 @@ use Rattle.metadata.specs.declared.refusal.Refusal.TheVariants.{NoSuchClient, No
 use Rattle.schedule.specs.declared.step.Command.{Command}
 use Rattle.schedule.specs.declared.step.Step.{Step}
 use Rattle.schedule.specs.declared.step.Step.TheVariants.{Begin, Perform, Commit, Abandon, Resolve, Log, Pull, Report, Lost, Settle}
-use Rattle.schedule.specs.declared.step.TheConstants.{CLIENTS}
 use Rattle.schedule.specs.declared.reply.Reply.{Reply}
 use Rattle.schedule.specs.declared.reply.Reply.TheVariants.{Begun, Done, ReadOnly, Submitted, Nothing, Refused}
 use Rattle.schedule.specs.declared.reply.Reply.TheVariants as answers
@@ -46,9 +45,9 @@ abbrev pub past_of : Past → List Step → List Reply → Past
 past_of past (step ∷ steps) (reply ∷ replies) = past_of ((step, reply) ∷ past) steps replies
 past_of past steps replies = past
 
--- a step of a client that there isn't is refused
+-- a step of a client that there isn't is refused: there are sixteen, from 0
 abbrev pub OfClient : ℕ → Reply → Type 0 → Type 0
-OfClient client reply IsRight = (nat_lt client CLIENTS ≡ true → IsRight) × (nat_lt client CLIENTS ≡ Bool.false → reply ≡ Refused NoSuchClient)
+OfClient client reply IsRight = (nat_lt client 16 ≡ true → IsRight) × (nat_lt client 16 ≡ Bool.false → reply ≡ Refused NoSuchClient)
 
 -- a step of a client wants an open transaction
 abbrev pub InTransaction : Option Open → (Open → Type 0) → Reply → Type 0
