@@ -11,7 +11,7 @@ use std::cell::Cell;
 use std::test::Fail;
 use txn::{Snapshot, Transaction};
 
-/// One map that stands at each version. So many reads are answered, and the one after them is refused.
+/// One map that stands at each version. So many reads are answered, and the next one is refused.
 #[derive(Drop)]
 struct Failing {
     map: KvMap,
@@ -44,7 +44,8 @@ impl Snapshot for Failing {
     }
 }
 
-/// How many reads are answered, and what two reads of the first pair tell. Each takes two reads of the snapshot.
+/// How many reads are answered, and what two reads of the first pair tell, each by two reads of the
+/// snapshot.
 static ROWS: [(u64, &str, &str); 5] = [
     (0, "TooOld", "68=08"),
     (1, "TooOld", "68=08"),
@@ -62,8 +63,8 @@ fn first_told(alloc: Global, db: &Failing, transaction: &mut Transaction) -> Res
     }
 }
 
-/// The keys of the first pairs are cleared, so that the snapshot is read once more behind them. A refused read
-/// leaves the transaction as it was.
+/// The keys of the first pairs are cleared, so that the snapshot is read once more behind them. A
+/// refused read leaves the transaction as it was.
 fn reads_told(alloc: Global, row: &(u64, &str, &str)) -> Result<(), Fail> {
     let (answered, first, second) = row;
     let stored = mutations_of(alloc, "61=01 62=02 68=08 69=09")?;

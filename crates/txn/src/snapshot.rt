@@ -43,7 +43,7 @@ pub trait Snapshot {
         ensures refused { IfErr result (λ error.
             (error ≡ ReadError.Memory) ⊎ may_refuse self.now range.now version error) };
 
-    /// With what a part of a range may be refused the whole may be too, unless it always is refused.
+    /// With what a part of a range may be refused the whole may be too, unless it always is.
     ghost narrows: { (snapshot : Self) (whole part : Range) (version : ℕ) (error : Refused) →
         IsPart part whole → may_refuse snapshot part version error →
         may_refuse snapshot whole version error ⊎ must_refuse snapshot whole version };
