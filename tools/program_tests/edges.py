@@ -34,10 +34,27 @@ def indexed_case(letters, lines):
     return run_case(f"an indexed text of {letters} letters", script.encode(), b"1 begun 0\n2 ok\n" + lines)
 
 
+def bytes_case(count, line):
+    """The same of a byte string: what is refused isn't there afterwards."""
+    steps = created('{"name":"v","fields":[["k","int"],["y","bytes"]],"key":["k"]}')
+    script = f'{{"steps":[{steps},["save",0,"v",[1,{{"hex":"{"61" * count}"}}]],["save",0,"v",[1,null]]]}}'
+    return run_case(f"a byte string of {count} bytes", script.encode(), b"1 begun 0\n2 ok\n" + line)
+
+
+def split_cases():
+    """Splits of the most bytes and of one more, between resolvers and between servers."""
+    for key in ("resolver_splits", "storage_splits"):
+        script = f'{{"config":{{"{key}":["{"15" * 10_000}%s"]}},"steps":[["settle"]]}}'
+        yield run_case(f"10,000 bytes: {key}", (script % "").encode(), b"1 nothing\n")
+        yield fault_case(f"10,001 bytes: {key}", (script % "15").encode(), b"bad config BadSplits\n")
+
+
 def long_cases():
     """Scripts of the most bytes and of one more, of many steps, and packs of many bytes."""
     whole = b'{"steps":[]}'
     steps = b'{"steps":[' + b",".join([b'["settle"]'] * 2_000) + b"]}"
+    zeros = b'[{"hex":"%s"}]\n' % (b"00" * 5_000)
+    saved_over = b'4 saved over [1,{"hex":"%s"}]\n' % (b"61" * 99_996)
     return [
         run_case("a script of 4,000,000 bytes", whole.ljust(4_000_000), b""),
         fault_case("a script of 4,000,001 bytes", whole.ljust(4_000_001)),
@@ -45,10 +62,14 @@ def long_cases():
         fault_case("100,000 brackets", b"[" * 100_000),
         text_case(99_996, b"saved new"),
         text_case(99_997, b"refused ValueTooLarge"),
+        bytes_case(99_996, b"3 saved new\n" + saved_over),
+        bytes_case(99_997, b"3 refused ValueTooLarge\n4 saved new\n"),
+        *split_cases(),
         indexed_case(9_988, b"3 saved new\n4 removed\n"),
         indexed_case(9_989, b"3 refused KeyTooLarge\n4 none\n"),
         Case("10,000 nested tuples", ["unpack", "05" * 10_000], b"", 1, b"", b"refused TooDeep at 16\n"),
         Case("5,000 escapes, no end", ["unpack", "01" + "00ff" * 5_000], b"", 1, b"", b"refused Truncated at 0\n"),
+        Case("5,000 escapes and the end", ["unpack", "01" + "00ff" * 5_000 + "00"], b"", 0, zeros, b""),
         Case("a word of 100,000 brackets", ["pack", "[" * 100_000], b"", 1, b"", b"bad argument\n"),
     ]
 

@@ -1,10 +1,10 @@
 -- What adding an index comes to at a store that is there.
-use Rattle.std.proofs.Common.{◌≡◌, ◌⊎◌, ◌==◌, ℕ, false, List, [], ◌∷◌, refl, sym, ap, subst, ◌∙◌, length, Option, Some, None, Ok, Err, Result}
+use Rattle.std.proofs.Common.{◌≡◌, ◌⊎◌, ◌==◌, ◌<◌, ◌^◌, ℕ, List, [], ◌∷◌, refl, sym, ap, subst, ◌∙◌, length, Option, Some, None, Ok, Err, Result}
 use Rattle.std.specs.Prelude.{IsNone}
+use Rattle.std.specs.List.{AllByRecursion}
 use Rattle.kv_core.specs.Range.{KeyRange}
 use Rattle.kv_core.specs.Map.{Map, after_all}
 use Rattle.kv_core.specs.Limits.{write_all_refusal}
-use Rattle.kv_core.specs.Read.{read_of}
 use Rattle.kv_core.specs.declared.change.CommitRequest.{CommitRequest}
 use Rattle.kv_core.specs.declared.change.Mutation.{Mutation}
 use Rattle.kv_core.specs.declared.change.Mutation.TheVariants.{Set}
@@ -20,18 +20,20 @@ use Rattle.metadata.specs.declared.refusal.Refusal.{Refusal}
 use Rattle.metadata.specs.declared.refusal.Refusal.TheVariants.{UnknownType}
 use Rattle.metadata.specs.IndexChange.{add_index, index_asked, index_over, name_refusal, new_index, over_refusal, with_index}
 use Rattle.metadata.specs.Lawful.{IsLawfulSchema}
-use Rattle.metadata.specs.Record.{Record}
 use Rattle.metadata.specs.Records.{of_type}
 use Rattle.metadata.specs.Schema.{Schema, find_type}
 use Rattle.metadata.specs.Written.{schema_bytes}
+use Rattle.metadata.proofs.StoredApart.{named_typed, number_small}
 use Rattle.record_store.specs.Store.{Store, indexed, listed_as, new_state}
 use Rattle.record_store.specs.declared.error.StoreError.{StoreError}
 use Rattle.record_store.specs.declared.error.StoreError.TheVariants.{Memory}
 use Rattle.record_store.specs.Layout.{schema_key, type_range}
 use Rattle.record_store.specs.Holds.{Holds}
-use Rattle.record_store.specs.Call.{IsAnswered, IsOpenAs, IsRefused, Opened}
+use Rattle.record_store.specs.Call.{AtStore, IsAnswered, IsOpenAs, IsRefused, Opened, first_of}
+use Rattle.record_store.specs.Form.{IsRecordPair}
+use Rattle.txn.proofs.Running.{ran_because}
 use Rattle.record_store.specs.Calls.{IsIndexedAs, done_with, index_call, index_service}
-use Rattle.record_store.specs.Reading.{HasNotFound, IsStateRead}
+use Rattle.record_store.specs.Reading.{HasNotFound, HasRead}
 use Rattle.record_store.specs.Steps.{DidRead, of_write}
 use Rattle.record_store.specs.IndexWrites.{index_added_writes, state_writes}
 use Rattle.record_store.proofs.Answered.{IsServed, answered, refused_limit, refused_memory, refused_unread}
@@ -65,6 +67,15 @@ type_number_is schema request index type is found =
     by_refusal None made = let same : index_asked schema type request ≡ index = cc in ap (λ (i : IndexDefinition). i.type_number) (sym same)
     by_refusal (Some refusal) made = absurd (cc)
 
+-- the number of its type is small
+pub index_type_small : (schema : Schema) (request : IndexRequest) (index : IndexDefinition) → IsLawfulSchema schema → new_index schema request ≡ Ok index → index.type_number < 2 ^ 64
+index_type_small schema request index lawful is = by_type (find_type schema request.type_name) refl
+  where
+    by_type : (o : Option TypeDefinition) → find_type schema request.type_name ≡ o → index.type_number < 2 ^ 64
+    by_type None none = absurd (type_there schema request index is none)
+    by_type (Some type) found =
+        subst (λ n. n < 2 ^ 64) (sym (type_number_is schema request index type is found)) (number_small schema type lawful (named_typed schema request.type_name type lawful found))
+
 -- ---- the call
 
 pub index_wrote : (opened : Opened) (index : IndexDefinition) (state : State) (list : List Mutation) → list ≡ Set (schema_key opened.prefix) (schema_bytes (with_index opened.schema index)) ∷ state_writes opened.prefix index.number state →
@@ -96,15 +107,19 @@ module _ (maps : ℕ → Map) (refuses : KeyRange → ℕ → ReadError → Type
 
   -- UNREAD: the first record wasn't read
   pub index_unread : {old new : CommitRequest} (error : StoreError) →
-      HasNotFound maps refuses opened (type_range opened.prefix type.number ∷ []) (λ m. read_of m (type_range opened.prefix type.number) 1 false) error old new →
+      HasNotFound maps refuses opened (first_of (type_range opened.prefix type.number)) error old new →
       IsRefused maps refuses opened (index_call opened request) error old new
   index_unread {old = old} {new = new} error unread =
       refused_unread maps refuses opened (index_call opened request) (index_service opened index) error accepted
-      (subst (λ (n : ℕ). HasNotFound maps refuses opened (type_range opened.prefix n ∷ []) (λ m. read_of m (type_range opened.prefix n) 1 false) error old new) same_number unread)
+      (subst (λ (n : ℕ). HasNotFound maps refuses opened (first_of (type_range opened.prefix n)) error old new) same_number unread)
 
-  module _ {old mid : CommitRequest} (state : State) (ran : DidRead maps (type_range opened.prefix type.number ∷ []) old mid (IsStateRead opened type.number state)) where
-    read : DidRead maps (type_range opened.prefix index.type_number ∷ []) old mid (IsStateRead opened index.type_number state)
-    read = subst (λ (n : ℕ). DidRead maps (type_range opened.prefix n ∷ []) old mid (IsStateRead opened n state)) same_number ran
+  module _ {old mid : CommitRequest} (state : State) (first : HasRead maps opened type.number state old mid) where
+    own : HasRead maps opened index.type_number state old mid
+    own = subst (λ (n : ℕ). HasRead maps opened n state old mid) same_number first
+
+    read : DidRead maps (own.added ∷ []) old mid (λ m. (own.added ∷ [] ≡ (index_service opened index).reading.added m)
+        × (AllByRecursion (IsRecordPair opened.prefix opened.schema) ((index_service opened index).reading.pairs m) × AtStore opened m (λ store. state ≡ new_state (of_type index.type_number store.records))))
+    read = ran_because own.ran (λ m found. (ap (λ range. range ∷ []) found.0, (found.1, found.2)))
 
     -- MEMORY: it was wanting after the read
     pub index_memory : IsRefused maps refuses opened (index_call opened request) Memory old mid

@@ -14,7 +14,8 @@ use Rattle.kv_core.specs.declared.change.WriteError.{WriteError}
 use Rattle.kv_core.specs.declared.change.WriteError.TheVariants as write
 use Rattle.cluster_core.specs.declared.answers.ReadError.{ReadError}
 use Rattle.txn.specs.Reads.{with_mutations}
-use Rattle.txn.proofs.Running.{ran_because, ran_still, ran_then, ran_write}
+use Rattle.txn.specs.Refusing.{NeverRefuses}
+use Rattle.txn.proofs.Running.{ran_added, ran_because, ran_still, ran_then, ran_write}
 use Rattle.metadata.specs.declared.cells.Cell.{Cell}
 use Rattle.metadata.specs.declared.definition.TypeDefinition.{TypeDefinition}
 use Rattle.metadata.specs.declared.refusal.MetadataError.{MetadataError}
@@ -32,11 +33,11 @@ use Rattle.record_store.specs.declared.error.StoreError.TheVariants.{Memory, Rea
 use Rattle.record_store.specs.Store.{Store}
 use Rattle.record_store.specs.Holds.{Holds, IsOfSchema}
 use Rattle.record_store.specs.Form.{IsRecordPair}
-use Rattle.txn.specs.Refusing.{NeverRefuses}
-use Rattle.record_store.specs.Call.{AtStore, Call, IsAnswered, IsFailure, IsOpenAs, IsRefused, IsUnread, Opened, Service}
+use Rattle.record_store.specs.Call.{AtStore, Call, IsAnswered, IsFailure, IsOpenAs, IsRefused, IsUndone, IsUnread, Opened, Service}
 use Rattle.record_store.specs.Calls.{done_with, own_record}
 use Rattle.record_store.specs.Reading.{HasNotFound, IsKeyOf}
-use Rattle.record_store.specs.Steps.{DidRead, of_metadata, of_write}
+use Rattle.record_store.specs.Steps.{DidRead, IsBeginning, no_memory, of_metadata, of_write}
+use Rattle.record_store.proofs.Stopping.{all_begin, none_begin}
 use Rattle.record_store.proofs.Creating.{is_none, of_limit}
 
 -- ---- names and keys
@@ -104,51 +105,63 @@ pub record IsServed {A : Type 0} (opened : Opened) (service : Service A) (answer
 pub refused_anyway : {A : Type 0} (maps : ℕ → Map) (refuses : KeyRange → ℕ → ReadError → Type 0) (opened : Opened) (call : Call A) (error : StoreError) (old new : CommitRequest) →
     IsRefused maps NeverRefuses opened call error old new → IsRefused maps refuses opened call error old new
 refused_anyway maps refuses opened (Err refusal) error old new is = is
-refused_anyway maps refuses opened (Ok service) error old new is = ran_because is (λ m says. by_error error m says)
+refused_anyway maps refuses opened (Ok service) error old new is = record { added = is.added; ran = ran_because is.ran (λ m says. by_error error is.added m says) }
   where
-    by_error : (e : StoreError) (m : Map) → IsFailure (λ range. NeverRefuses range old.read_version) opened service e old.mutations m → IsFailure (λ range. refuses range old.read_version) opened service e old.mutations m
-    by_error Memory m says = says
-    by_error (Read error) m says = absurd says.refused
-    by_error (Write error) m says = says
-    by_error (Corrupt key) m says = says
-    by_error (Refused refusal) m says = says
+    by_error : (e : StoreError) (ranges : List KeyRange) (m : Map) → IsFailure (λ range. NeverRefuses range old.read_version) opened service e old.mutations ranges m →
+        IsFailure (λ range. refuses range old.read_version) opened service e old.mutations ranges m
+    by_error Memory ranges m says = says
+    by_error (Read error) ranges m says = absurd says.1.refused
+    by_error (Write error) ranges m says = says
+    by_error (Corrupt key) ranges m says = says
+    by_error (Refused refusal) ranges m says = says
 
 module _ {A : Type 0} (maps : ℕ → Map) (refuses : KeyRange → ℕ → ReadError → Type 0) (opened : Opened) where
   -- OWN REFUSAL: the call's own, before it read anything
   pub refused_own : {K : Type 0} {old new : CommitRequest} (service : K → Service A) (outcome : Result K Refusal) (error : MetadataError) → IsRefusedAs error outcome → new ≡ old →
       IsRefused maps refuses opened (done_with service outcome) (of_metadata error) old new
-  refused_own service (Ok value) meta.Memory is same = ran_still same (λ m. tt)
+  refused_own service (Ok value) meta.Memory is same = record { added = []; ran = ran_still same (λ m. none_begin ((service value).reading.added m)) }
   refused_own service (Ok value) (meta.Refused refusal) is same = absurd (cc)
   refused_own service (Err refusal) meta.Memory is same = (inl refl, same)
   refused_own service (Err refusal) (meta.Refused other) is same = (inr (let one : refusal ≡ other = cc in ap Refused (sym one)), same)
 
   -- UNREAD: its reads weren't answered
-  failure_of : (refused : KeyRange → ReadError → Type 0) (service : Service A) (error : StoreError) (before : List Mutation) (m : Map) → IsUnread refused opened service.reach service.reads error m → IsFailure refused opened service error before m
-  failure_of refused service Memory before m says = says
-  failure_of refused service (Read error) before m says = says
-  failure_of refused service (Corrupt key) before m says = says
-  failure_of refused service (Write error) before m says = absurd says
-  failure_of refused service (Refused refusal) before m says = absurd says
+  failure_of : (refused : KeyRange → ReadError → Type 0) (service : Service A) (error : StoreError) (before : List Mutation) (added : List KeyRange) (m : Map) → IsUnread refused opened service.reading error added m → IsFailure refused opened service error before added m
+  failure_of refused service Memory before added m says = says
+  failure_of refused service (Read error) before added m says = says
+  failure_of refused service (Corrupt key) before added m says = says
+  failure_of refused service (Write error) before added m says = absurd says
+  failure_of refused service (Refused refusal) before added m says = absurd says
 
-  pub refused_unread : {old new : CommitRequest} (call : Call A) (service : Service A) (error : StoreError) → call ≡ Ok service → HasNotFound maps refuses opened service.reach service.reads error old new →
+  pub refused_unread : {old new : CommitRequest} (call : Call A) (service : Service A) (error : StoreError) → call ≡ Ok service → HasNotFound maps refuses opened service.reading error old new →
       IsRefused maps refuses opened call error old new
   refused_unread {old = old} {new = new} call service error accepted unread =
       subst (λ c. IsRefused maps refuses opened c error old new) (sym accepted)
-      (ran_because unread.ran (λ m says. failure_of (λ range. refuses range old.read_version) service error old.mutations m says))
+      (record { added = unread.added; ran = ran_because unread.ran (λ m says. failure_of (λ range. refuses range old.read_version) service error old.mutations unread.added m says) })
 
   -- MEMORY: it was wanting after the reads
-  pub refused_memory : {old new : CommitRequest} {F : Map → Type 0} (call : Call A) (service : Service A) → call ≡ Ok service → DidRead maps service.reach old new F → IsRefused maps refuses opened call Memory old new
-  refused_memory {old = old} {new = new} call service accepted ran =
-      subst (λ c. IsRefused maps refuses opened c Memory old new) (sym accepted) (ran_because ran (λ m says. tt))
+  pub refused_memory : {added : List KeyRange} {old new : CommitRequest} {F : Map → Type 0} (call : Call A) (service : Service A) → call ≡ Ok service → DidRead maps added old new (λ m. (added ≡ service.reading.added m) × F m) →
+      IsRefused maps refuses opened call Memory old new
+  refused_memory {added = added} {old = old} {new = new} call service accepted ran =
+      subst (λ c. IsRefused maps refuses opened c Memory old new) (sym accepted)
+      (record { added = added; ran = ran_because ran (λ m says. subst (IsBeginning added) says.0 (all_begin added)) })
+
+  -- MEMORY: it was wanting before anything was read
+  pub memory_still : {old new : CommitRequest} (call : Call A) → new ≡ old → IsRefused maps refuses opened call no_memory old new
+  memory_still (Err refusal) same = (inl refl, same)
+  memory_still (Ok service) same = record { added = []; ran = ran_still same (λ m. none_begin (service.reading.added m)) }
 
   -- LIMIT: what the call writes was refused
-  pub refused_limit : {old mid new : CommitRequest} {F : Store → Type 0} (call : Call A) (service : Service A) (list : List Mutation) (error : WriteError) → call ≡ Ok service →
-      DidRead maps service.reach old mid (λ m. AllByRecursion (IsRecordPair opened.prefix opened.schema) (service.reads m) × AtStore opened m F) → ((m : Map) (store : Store) → Holds opened.prefix m (Some store) → IsOpenAs opened store → F store → list ≡ service.writes store) → new ≡ mid →
+  pub refused_limit : {added : List KeyRange} {old mid new : CommitRequest} {F : Store → Type 0} (call : Call A) (service : Service A) (list : List Mutation) (error : WriteError) → call ≡ Ok service →
+      DidRead maps added old mid (λ m. (added ≡ service.reading.added m) × (AllByRecursion (IsRecordPair opened.prefix opened.schema) (service.reading.pairs m) × AtStore opened m F)) → ((m : Map) (store : Store) → Holds opened.prefix m (Some store) → IsOpenAs opened store → F store → list ≡ service.writes store) → new ≡ mid →
       (error ≡ write.Memory) ⊎ (write_all_refusal mid.mutations list ≡ Some error) → IsRefused maps refuses opened call (of_write error) old new
-  refused_limit {old = old} {mid = mid} {new = new} {F = F} call service list error accepted ran wrote same says =
+  refused_limit {added = added} {old = old} {mid = mid} {new = new} {F = F} call service list error accepted ran wrote same says =
       subst (λ c. IsRefused maps refuses opened c (of_write error) old new) (sym accepted)
-      (subst (λ n. DidRead maps service.reach old n (IsFailure (λ range. refuses range old.read_version) opened service (of_write error) old.mutations)) (sym same)
-      (ran_because ran (λ m found. of_limit (λ e. IsFailure (λ range. refuses range old.read_version) opened service e old.mutations m) error says tt (λ e is. (found.0, limit e m found.1 is)))))
+      (subst (λ n. IsUndone maps refuses opened service (of_write error) old n) (sym same) (record {
+        added = added;
+        ran =
+            ran_because ran
+            (λ m found. of_limit (λ e. IsFailure (λ range. refuses range old.read_version) opened service e old.mutations added m) error says (subst (IsBeginning added) found.0 (all_begin added)) (λ e is. (found.0, found.1.0, limit e m found.1.1 is)));
+      }))
     where
       limit : (e : WriteError) (m : Map) → AtStore opened m F → write_all_refusal mid.mutations list ≡ Some e → AtStore opened m (λ store. write_all_refusal old.mutations (service.writes store) ≡ Some e)
       limit e m found is store holds schema =
@@ -156,41 +169,50 @@ module _ {A : Type 0} (maps : ℕ → Map) (refuses : KeyRange → ℕ → ReadE
           ∙ ap (write_all_refusal mid.mutations) (sym (wrote m store holds schema (found store holds schema))) ∙ is
 
   -- ANSWERED: reads, and then writes that no limit refuses
-  pub answered : {old mid new : CommitRequest} {F : Store → Type 0} (call : Call A) (service : Service A) (answer : A) (list : List Mutation) → call ≡ Ok service → (length list == 0) ≡ not (service.changes answer) →
-      DidRead maps service.reach old mid (λ m. AllByRecursion (IsRecordPair opened.prefix opened.schema) (service.reads m) × AtStore opened m F) →
+  pub answered : {added : List KeyRange} {old mid new : CommitRequest} {F : Store → Type 0} (call : Call A) (service : Service A) (answer : A) (list : List Mutation) → call ≡ Ok service → (length list == 0) ≡ not (service.changes answer) →
+      DidRead maps added old mid (λ m. (added ≡ service.reading.added m) × (AllByRecursion (IsRecordPair opened.prefix opened.schema) (service.reading.pairs m) × AtStore opened m F)) →
       new ≡ with_mutations list mid → IsNone (write_all_refusal mid.mutations list) →
       ((m : Map) (store : Store) → Holds opened.prefix m (Some store) → IsOpenAs opened store → F store → IsServed opened service answer list m store) → IsAnswered maps opened call answer old new
-  answered {old = old} {mid = mid} call service answer list accepted changes ran is allowed serves = record {
+  answered {added = added} {old = old} {mid = mid} call service answer list accepted changes ran is allowed serves = record {
     service = service;
     accepted = accepted;
+    added = added;
     written = list;
     changes = changes;
     ran =
-        ran_then ran (ran_write {Fact = λ m. Unit {0}} list is (λ m. tt {0}))
+        ran_added (append-nil added)
+        (ran_then ran (ran_write {Fact = λ m. Unit {0}} list is (λ m. tt {0}))
         (λ m found empty. (
           found.0,
+          found.1.0,
           λ store holds schema.
-              let served = serves m store holds schema (found.1 store holds schema) in record {
+              let served = serves m store holds schema (found.1.1 store holds schema) in record {
                 answers = served.answers;
                 wrote = served.wrote;
                 allowed = ap (λ ms. write_all_refusal ms list) (sym (ran.wrote ∙ append-nil old.mutations)) ∙ is_none (write_all_refusal mid.mutations list) allowed;
                 holds = served.holds;
               },
-        ));
+        )));
   }
 
   -- ANSWERED: reads alone
-  pub answered_reading : {old new : CommitRequest} {F : Store → Type 0} (call : Call A) (service : Service A) (answer : A) → call ≡ Ok service → true ≡ not (service.changes answer) →
-      DidRead maps service.reach old new (λ m. AllByRecursion (IsRecordPair opened.prefix opened.schema) (service.reads m) × AtStore opened m F) →
+  pub answered_reading : {added : List KeyRange} {old new : CommitRequest} {F : Store → Type 0} (call : Call A) (service : Service A) (answer : A) → call ≡ Ok service → true ≡ not (service.changes answer) →
+      DidRead maps added old new (λ m. (added ≡ service.reading.added m) × (AllByRecursion (IsRecordPair opened.prefix opened.schema) (service.reading.pairs m) × AtStore opened m F)) →
       ((m : Map) (store : Store) → Holds opened.prefix m (Some store) → IsOpenAs opened store → F store → IsServed opened service answer [] m store) → IsAnswered maps opened call answer old new
-  answered_reading {old = old} call service answer accepted changes ran serves = record {
+  answered_reading {added = added} {old = old} call service answer accepted changes ran serves = record {
     service = service;
     accepted = accepted;
+    added = added;
     written = [];
     changes = changes;
     ran = ran_because ran (λ m found. (
       found.0,
+      found.1.0,
       λ store holds schema.
-          let served = serves m store holds schema (found.1 store holds schema) in record { answers = served.answers; wrote = served.wrote; allowed = refl; holds = served.holds },
+          let served = serves m store holds schema (found.1.1 store holds schema) in record { answers = served.answers; wrote = served.wrote; allowed = refl; holds = served.holds },
     ));
   }
+
+-- what reads all of some ranges adds just these
+pub as_added : {maps : ℕ → Map} {added : List KeyRange} {old new : CommitRequest} {F : Map → Type 0} → DidRead maps added old new F → DidRead maps added old new (λ m. (added ≡ added) × F m)
+as_added ran = ran_because ran (λ m found. (refl, found))

@@ -3,6 +3,7 @@ pub mod Held
 pub mod Kept
 pub mod Changed
 pub mod RecordPairs
+pub mod Stopping
 pub mod Openings
 pub mod Creating
 pub mod Answered

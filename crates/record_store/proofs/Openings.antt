@@ -1,20 +1,20 @@
 -- What reading a record and opening a store establish.
-use Rattle.std.proofs.Common.{◌≡◌, inl, inr, ℕ, Bool, true, false, ◌||◌, cond, List, [], ◌∷◌, ◌++◌, refl, sym, ap, subst, subst₂, ◌∙◌, Option, Some, None, Result, append-nil, map, pos, ◌&&◌}
+use Rattle.std.proofs.Common.{◌≡◌, inl, inr, ℕ, Bool, true, false, cond, List, [], ◌∷◌, ◌++◌, refl, sym, ap, subst, subst₂, ◌∙◌, Option, Some, None, Result, append-nil, map, pos, ◌&&◌}
 use Rattle.std.specs.Prelude.{IfErr}
 use Rattle.std.specs.Result.{IsErr, IsErrAnd}
 use Rattle.std.proofs.lemmas.Result.{err_from_is_err_and}
-use Rattle.std.proofs.lemmas.Bool.{and_parts, or_left, or_right}
+use Rattle.std.proofs.lemmas.Bool.{and_parts}
 use Rattle.std.specs.List.{AllByRecursion, filter, list_all}
 use Rattle.std.specs.FinMap.{entries, get}
 use Rattle.tuple_codec.specs.Item.{Item, IsTuple, int}
 use Rattle.tuple_codec.specs.Spelling.{int_spelling, spelling}
-use Rattle.kv_core.specs.Range.{KeyRange, contains, covers, point}
+use Rattle.kv_core.specs.Range.{KeyRange, contains, point}
 use Rattle.kv_core.specs.Map.{Map, Agree, pairs_in}
 use Rattle.kv_core.specs.declared.change.CommitRequest.{CommitRequest}
 use Rattle.kv_core.proofs.Pairs.{entries-kept}
 use Rattle.cluster_core.specs.declared.answers.ReadError.{ReadError}
 use Rattle.txn.specs.Reads.{seen, has_read}
-use Rattle.txn.proofs.Running.{ran_because, ran_wider, ran_then, ran_read}
+use Rattle.txn.proofs.Running.{ran_added, ran_because, ran_then, ran_read}
 use Rattle.metadata.specs.declared.definition.TypeDefinition.{TypeDefinition}
 use Rattle.metadata.specs.declared.index.IndexDefinition.{IndexDefinition}
 use Rattle.metadata.specs.declared.index.IndexKind.{IndexKind}
@@ -35,10 +35,11 @@ use Rattle.record_store.specs.Store.{Serial}
 use Rattle.record_store.specs.Layout.{record_key, schema_key, state_pair, states_range}
 use Rattle.record_store.specs.Holds.{HasPlainIndexes, Holds, IsListed, IsPlain}
 use Rattle.record_store.specs.Form.{IsDisabledOf, IsFirstBad, IsOpeningPair, IsRecordPair, IsSchemaPair, IsStatePair, read_in}
-use Rattle.record_store.specs.Call.{IsUnread, Opened}
+use Rattle.record_store.specs.Call.{IsUnread, Opened, whole}
 use Rattle.record_store.specs.Opening.{HasSchema, IsOpenFailure, IsOpened, IsThereAs, IsUnopened, opening_reach}
+use Rattle.record_store.proofs.Stopping.{all_begin, error_behind, error_more}
 use Rattle.record_store.specs.Reading.{AreOfNoSchema, AreStates, HasNotFound, HasNotRead, HaveNoStates, IsBadSchema, IsBadStateAmong, IsFound, IsKeyOf, IsNoSchema, IsNoState, IsNotFound, IsRead, IsReadError, IsSchema, is_value}
-use Rattle.record_store.specs.Steps.{DidRead}
+use Rattle.record_store.specs.Steps.{DidRead, no_memory}
 use Rattle.record_store.proofs.Held.{no_schema_held, no_schema_state, no_states, schema_held}
 use Rattle.record_store.proofs.IndexChanges.{not_readable}
 use Rattle.record_store.proofs.Kept.{itself, other_place}
@@ -54,10 +55,6 @@ pub exit_with : {T : Type 0} (r : Result T StoreError) (error : StoreError) (P :
 exit_with r error P says p =
     let (made, is, same) = err_from_is_err_and r says.1 in
     subst (λ x. IfErr x P) (sym is) (subst P (sym same) p)
-
--- a key of a range is one of the list of that range alone
-pub one_covers : (range other : KeyRange) → range ≡ other → (k : List ℕ) → contains range k ≡ true → covers (other ∷ []) k ≡ true
-one_covers range other is k h = or_left (contains other k) false (ap (λ r. contains r k) (sym is) ∙ h)
 
 -- ---- one record
 -- the pairs read at one key
@@ -95,8 +92,8 @@ module _ (opened : Opened) (type : TypeDefinition) (key : List Item) (lawful : I
 
   -- UNREAD: what was found is none of the type's
   unread_there : (refuses : KeyRange → ReadError → Type 0) (m : Map) (value : Option (List ℕ)) (error : StoreError) → get m (record_key opened.prefix key) ≡ value →
-      IsNotFound type (spelling key) (record_key opened.prefix key) value error → IsUnread refuses opened (point (record_key opened.prefix key) ∷ []) (λ n. read_in n (point (record_key opened.prefix key) ∷ [])) error m
-  unread_there refuses m value Memory is says = tt
+      IsNotFound type (spelling key) (record_key opened.prefix key) value error → IsUnread refuses opened (whole (point (record_key opened.prefix key) ∷ [])) error (point (record_key opened.prefix key) ∷ []) m
+  unread_there refuses m value Memory is says = all_begin (point (record_key opened.prefix key) ∷ [])
   unread_there refuses m None (Read error) is says = absurd says
   unread_there refuses m None (Write error) is says = absurd says
   unread_there refuses m None (Refused refusal) is says = absurd says
@@ -105,6 +102,7 @@ module _ (opened : Opened) (type : TypeDefinition) (key : List Item) (lawful : I
   unread_there refuses m (Some value) (Write error) is says = absurd says
   unread_there refuses m (Some value) (Refused refusal) is says = absurd says
   unread_there refuses m (Some value) (Corrupt at) is says = (
+    refl,
     bad,
     λ store holds same.
         none_bad (read_in m (point (record_key opened.prefix key) ∷ [])) at
@@ -133,17 +131,18 @@ module _ (opened : Opened) (type : TypeDefinition) (key : List Item) (lawful : I
       new ≡ has_read (point k) old → ((m : Map) → Agree new.reads (maps old.read_version) m → value ≡ get (seen old m) k) → IsFound type packed value found →
       DidRead maps (point (record_key opened.prefix key) ∷ []) old new (IsRead opened key found)
   record_read {old = old} k packed value found is pack read answer says =
-      ran_read (point k) read (one_covers (point k) (point (record_key opened.prefix key)) (ap point is))
-      (λ m agree. read_there (seen old m) value found (sym (answer m agree ∙ ap (get (seen old m)) is)) (subst (λ p. IsFound type p value found) pack says))
+      ran_added (ap (λ at. point at ∷ []) is)
+      (ran_read (point k) read (λ m agree. read_there (seen old m) value found (sym (answer m agree ∙ ap (get (seen old m)) is)) (subst (λ p. IsFound type p value found) pack says)))
 
   pub record_unread : {maps : ℕ → Map} {refuses : KeyRange → ℕ → ReadError → Type 0} {old new : CommitRequest} (k packed : List ℕ) (value : Option (List ℕ)) (error : StoreError) → k ≡ record_key opened.prefix key → packed ≡ spelling key →
       new ≡ has_read (point k) old → ((m : Map) → Agree new.reads (maps old.read_version) m → value ≡ get (seen old m) k) → IsNotFound type packed k value error →
-      HasNotFound maps refuses opened (point (record_key opened.prefix key) ∷ []) (λ m. read_in m (point (record_key opened.prefix key) ∷ [])) error old new
+      HasNotFound maps refuses opened (whole (point (record_key opened.prefix key) ∷ [])) error old new
   record_unread {refuses = refuses} {old = old} k packed value error is pack read answer says = record {
+    added = point (record_key opened.prefix key) ∷ [];
     ran =
-        ran_read (point k) read (one_covers (point k) (point (record_key opened.prefix key)) (ap point is))
-        (λ m agree. unread_there (λ range. refuses range old.read_version) (seen old m) value error (sym (answer m agree ∙ ap (get (seen old m)) is))
-        (subst (λ p. IsNotFound type p (record_key opened.prefix key) value error) pack (subst (λ j. IsNotFound type packed j value error) is says)));
+        ran_added (ap (λ at. point at ∷ []) is)
+        (ran_read (point k) read (λ m agree. unread_there (λ range. refuses range old.read_version) (seen old m) value error (sym (answer m agree ∙ ap (get (seen old m)) is))
+        (subst (λ p. IsNotFound type p (record_key opened.prefix key) value error) pack (subst (λ j. IsNotFound type packed j value error) is says))));
   }
 
 -- ---- the schema
@@ -169,43 +168,39 @@ of_no_schema bytes schema made is some other made_other kinds same =
     let both : false ≡ true = sym some ∙ ap (λ (s : Schema). list_all (λ (index : IndexDefinition). is_value index.kind) s.indexes) one ∙ values_all other.indexes kinds in cc
 
 module _ (prefix : List ℕ) where
-  -- the two reads of an opening lie in its reach
-  pub first_within : (k : List ℕ) → covers (point (schema_key prefix) ∷ []) k ≡ true → covers (opening_reach prefix) k ≡ true
-  first_within k h = by (contains (point (schema_key prefix)) k) (contains (states_range prefix) k) h
-    where
-      by : (a b : Bool) → (a || false) ≡ true → (a || (b || false)) ≡ true
-      by true b h = refl
-      by false b h = absurd (cc)
-
-  pub then_within : (k : List ℕ) → covers (states_range prefix ∷ []) k ≡ true → covers (opening_reach prefix) k ≡ true
-  then_within k h = or_right (contains (point (schema_key prefix)) k) (covers (states_range prefix ∷ []) k) h
-
   pub both_read : {maps : ℕ → Map} {old mid new : CommitRequest} {F G : Map → Type 0} → DidRead maps (point (schema_key prefix) ∷ []) old mid F → DidRead maps (states_range prefix ∷ []) mid new G →
       DidRead maps (opening_reach prefix) old new (λ m. F m × G m)
-  both_read one two = ran_then (ran_wider one first_within) (ran_wider two then_within) (λ m f g. (f, g))
+  both_read one two = ran_then one two (λ m f g. (f, g))
 
-  -- an error of a read within the opening's is one of the opening
-  open_error : (refuses : KeyRange → ReadError → Type 0) (near : List KeyRange) → ((k : List ℕ) → covers near k ≡ true → covers (opening_reach prefix) k ≡ true) →
-      (error : StoreError) (m : Map) → IsReadError refuses near error → IsOpenFailure refuses prefix error m
-  open_error refuses near wider Memory m says = tt
-  open_error refuses near wider (Read error) m says = record { range = says.range; inside = λ k h. wider k (says.inside k h); refused = says.refused }
-  open_error refuses near wider (Write error) m says = absurd says
-  open_error refuses near wider (Corrupt key) m says = absurd says
-  open_error refuses near wider (Refused refusal) m says = absurd says
+  -- an error of the opening's reads is one of the opening
+  open_error : (refuses : KeyRange → ReadError → Type 0) (added : List KeyRange) (error : StoreError) (m : Map) → IsReadError refuses (opening_reach prefix) added error → IsOpenFailure refuses prefix error added m
+  open_error refuses added Memory m says = says
+  open_error refuses added (Read error) m says = says
+  open_error refuses added (Write error) m says = absurd says
+  open_error refuses added (Corrupt key) m says = absurd says
+  open_error refuses added (Refused refusal) m says = absurd says
 
-  -- UNOPENED: the first read came to an error, or the second did
-  pub unopened_first : {maps : ℕ → Map} {refuses : KeyRange → ℕ → ReadError → Type 0} {old new : CommitRequest} (error : StoreError) → HasNotRead maps refuses (point (schema_key prefix) ∷ []) error old new → IsUnopened maps refuses prefix error old new
-  unopened_first {refuses = refuses} {old = old} error is = record {
-    ran = ran_wider (ran_because is.ran (λ m says. open_error (λ range. refuses range old.read_version) (point (schema_key prefix) ∷ []) first_within error m says)) first_within;
+  -- the first read of an opening came to an error, or the second did
+  pub first_failed : {maps : ℕ → Map} {refuses : KeyRange → ℕ → ReadError → Type 0} {old new : CommitRequest} (error : StoreError) → HasNotRead maps refuses (point (schema_key prefix) ∷ []) error old new →
+      HasNotRead maps refuses (opening_reach prefix) error old new
+  first_failed {refuses = refuses} {old = old} error is = record {
+    added = is.added;
+    ran = ran_because is.ran (λ m says. error_more (λ range. refuses range old.read_version) (point (schema_key prefix) ∷ []) is.added (states_range prefix ∷ []) error says);
   }
 
-  pub unopened_then : {maps : ℕ → Map} {refuses : KeyRange → ℕ → ReadError → Type 0} {old mid new : CommitRequest} {F : Map → Type 0} (error : StoreError) →
-      DidRead maps (point (schema_key prefix) ∷ []) old mid F → HasNotRead maps refuses (states_range prefix ∷ []) error mid new → IsUnopened maps refuses prefix error old new
-  unopened_then {refuses = refuses} {old = old} error one is = record {
-    ran = ran_because (both_read one is.ran) (λ m says.
-        open_error (λ range. refuses range old.read_version) (states_range prefix ∷ []) then_within error m
-        (subst (λ v. IsReadError (λ range. refuses range v) (states_range prefix ∷ []) error) one.version says.1));
+  pub then_failed : {maps : ℕ → Map} {refuses : KeyRange → ℕ → ReadError → Type 0} {old mid new : CommitRequest} {F : Map → Type 0} (error : StoreError) →
+      DidRead maps (point (schema_key prefix) ∷ []) old mid F → HasNotRead maps refuses (states_range prefix ∷ []) error mid new → HasNotRead maps refuses (opening_reach prefix) error old new
+  then_failed {refuses = refuses} {old = old} error one is = record {
+    added = point (schema_key prefix) ∷ is.added;
+    ran = ran_then one is.ran (λ m found says.
+        error_behind (λ range. refuses range old.read_version) (point (schema_key prefix) ∷ []) (states_range prefix ∷ []) is.added error
+        (subst (λ v. IsReadError (λ range. refuses range v) (states_range prefix ∷ []) is.added error) one.version says));
   }
+
+  -- UNOPENED: a read came to an error
+  pub unopened : {maps : ℕ → Map} {refuses : KeyRange → ℕ → ReadError → Type 0} {old new : CommitRequest} (error : StoreError) → HasNotRead maps refuses (opening_reach prefix) error old new → IsUnopened maps refuses prefix error old new
+  unopened {refuses = refuses} {old = old} error is =
+      record { added = is.added; ran = ran_because is.ran (λ m says. open_error (λ range. refuses range old.read_version) is.added error m says) }
 
   -- OPENED: the map has the schema and the states that were read, and all that it holds is a store with them
   has_schema : (m : Map) (schema : Schema) (states : List (ℕ × State)) (written : Option (List ℕ)) (pairs : List Pair) → IsSchema written schema → AreStates prefix schema.indexes pairs states →
@@ -292,17 +287,18 @@ module _ (prefix : List ℕ) where
       )
 
   -- a damaged opening
-  damaged : (refuses : KeyRange → ReadError → Type 0) (m : Map) (key : List ℕ) → IsFirstBad (IsOpeningPair prefix m) (read_in m (opening_reach prefix)) key → IsOpenFailure refuses prefix (Corrupt key) m
-  damaged refuses m key bad = (bad, λ serial holds plain. none_bad (read_in m (opening_reach prefix)) key (opening_form m serial plain holds) bad)
+  damaged : (refuses : KeyRange → ReadError → Type 0) (m : Map) (bytes key : List ℕ) → Some bytes ≡ get m (schema_key prefix) → IsFirstBad (IsOpeningPair prefix m) (read_in m (opening_reach prefix)) key →
+      IsOpenFailure refuses prefix (Corrupt key) (opening_reach prefix) m
+  damaged refuses m bytes key found bad = (refl, λ none. let some : ◌≡◌ {A = Option (List ℕ)} (Some bytes) None = found ∙ none in absurd (cc), bad, λ serial holds plain. none_bad (read_in m (opening_reach prefix)) key (opening_form m serial plain holds) bad)
 
   bad_schema : (refuses : KeyRange → ReadError → Type 0) (m : Map) (bytes : List ℕ) (pairs : List Pair) (error : StoreError) → Some bytes ≡ get m (schema_key prefix) → pairs ≡ pairs_in m (states_range prefix) →
-      IsBadSchema prefix bytes error → IsOpenFailure refuses prefix error m
-  bad_schema refuses m bytes pairs Memory found listed says = tt
+      IsBadSchema prefix bytes error → IsOpenFailure refuses prefix error (opening_reach prefix) m
+  bad_schema refuses m bytes pairs Memory found listed says = all_begin (opening_reach prefix)
   bad_schema refuses m bytes pairs (Read error) found listed says = absurd says
   bad_schema refuses m bytes pairs (Write error) found listed says = absurd says
   bad_schema refuses m bytes pairs (Refused refusal) found listed says = absurd says
   bad_schema refuses m bytes pairs (Corrupt key) found listed says =
-      damaged refuses m key (record {
+      damaged refuses m bytes key found (record {
         before = [];
         bad = (schema_key prefix, bytes);
         behind = pairs;
@@ -351,16 +347,16 @@ module _ (prefix : List ℕ) where
             let same : schema_bytes state.schema ≡ schema_bytes schema = cc in
             says.1 (subst (λ (s : Schema). IsStatePair prefix s.indexes among.bad) (written_once state.schema schema state.made is.made same) state.is)
 
-    states_failure : (refuses : KeyRange → ReadError → Type 0) (error : StoreError) → HaveNoStates prefix schema.indexes pairs error → IsOpenFailure refuses prefix error m
-    states_failure refuses error (inl memory) = subst (λ e. IsOpenFailure refuses prefix e m) (sym memory) tt
+    states_failure : (refuses : KeyRange → ReadError → Type 0) (error : StoreError) → HaveNoStates prefix schema.indexes pairs error → IsOpenFailure refuses prefix error (opening_reach prefix) m
+    states_failure refuses error (inl memory) = subst (λ e. IsOpenFailure refuses prefix e (opening_reach prefix) m) (sym memory) (all_begin (opening_reach prefix))
     states_failure refuses error (inr among) = by_error error among.none
       where
-        by_error : (e : StoreError) → IsNoState prefix schema.indexes among.bad e → IsOpenFailure refuses prefix e m
-        by_error Memory says = tt
+        by_error : (e : StoreError) → IsNoState prefix schema.indexes among.bad e → IsOpenFailure refuses prefix e (opening_reach prefix) m
+        by_error Memory says = all_begin (opening_reach prefix)
         by_error (Read reason) says = absurd says
         by_error (Write reason) says = absurd says
         by_error (Refused refusal) says = absurd says
-        by_error (Corrupt key) says = damaged refuses m key (bad_state error key among says)
+        by_error (Corrupt key) says = damaged refuses m bytes key found (bad_state error key among says)
 
   -- nothing is there
   pub nothing_there : (m : Map) (serial : Serial) → None ≡ get m (schema_key prefix) → Holds prefix m serial → serial ≡ None
@@ -369,25 +365,31 @@ module _ (prefix : List ℕ) where
       let some : ◌≡◌ {A = Option (List ℕ)} None (Some (schema_bytes store.schema)) = found ∙ schema_held prefix m store holds in absurd (cc)
 
   schema_failure : (refuses : KeyRange → ReadError → Type 0) (m : Map) (written : Option (List ℕ)) (pairs : List Pair) (error : StoreError) → written ≡ get m (schema_key prefix) → pairs ≡ pairs_in m (states_range prefix) →
-      IsNoSchema prefix written error → IsOpenFailure refuses prefix error m
+      IsNoSchema prefix written error → IsOpenFailure refuses prefix error (opening_reach prefix) m
   schema_failure refuses m None pairs error found listed says =
-      subst (λ e. IsOpenFailure refuses prefix e m) (sym says) (refl, sym found, λ serial holds. nothing_there m serial found holds)
+      subst (λ e. IsOpenFailure refuses prefix e (opening_reach prefix) m) (sym says) (refl, refl, sym found, λ serial holds. nothing_there m serial found holds)
   schema_failure refuses m (Some bytes) pairs error found listed bad = bad_schema refuses m bytes pairs error found listed bad
 
   all_failure : (refuses : KeyRange → ReadError → Type 0) (m : Map) (written : Option (List ℕ)) (pairs : List Pair) (schema : Schema) (error : StoreError) → IsSchema written schema → written ≡ get m (schema_key prefix) → pairs ≡ pairs_in m (states_range prefix) →
-      HaveNoStates prefix schema.indexes pairs error → IsOpenFailure refuses prefix error m
+      HaveNoStates prefix schema.indexes pairs error → IsOpenFailure refuses prefix error (opening_reach prefix) m
   all_failure refuses m None pairs schema error is found listed says = let some : ◌≡◌ {A = Option (List ℕ)} None (Some (schema_bytes schema)) = is.bytes in absurd (cc)
   all_failure refuses m (Some bytes) pairs schema error is found listed says = states_failure m bytes pairs schema is found listed refuses error says
 
   module _ {maps : ℕ → Map} {refuses : KeyRange → ℕ → ReadError → Type 0} {old mid new : CommitRequest} (written : Option (List ℕ)) (pairs : List Pair)
       (one : DidRead maps (point (schema_key prefix) ∷ []) old mid (λ m. written ≡ get m (schema_key prefix))) (two : DidRead maps (states_range prefix ∷ []) mid new (λ m. pairs ≡ pairs_in m (states_range prefix))) where
+    -- MEMORY: it is wanting after both reads
+    pub opened_memory : IsUnopened maps refuses prefix no_memory old new
+    opened_memory = record { added = opening_reach prefix; ran = ran_because (both_read one two) (λ m found. all_begin (opening_reach prefix)) }
+
     pub unopened_schema : (error : StoreError) → IsNoSchema prefix written error → IsUnopened maps refuses prefix error old new
     unopened_schema error says = record {
+      added = opening_reach prefix;
       ran = ran_because (both_read one two) (λ m found. schema_failure (λ range. refuses range old.read_version) m written pairs error found.0 found.1 says);
     }
 
     pub unopened_states : (schema : Schema) (error : StoreError) → IsSchema written schema → HaveNoStates prefix schema.indexes pairs error → IsUnopened maps refuses prefix error old new
     unopened_states schema error is says = record {
+      added = opening_reach prefix;
       ran = ran_because (both_read one two) (λ m found. all_failure (λ range. refuses range old.read_version) m written pairs schema error is found.0 found.1 says);
     }
 

@@ -18,10 +18,10 @@ use Rattle.metadata.specs.Records.{IsStorable, of_type, record_at}
 use Rattle.metadata.specs.Schema.{Schema, find_type}
 use Rattle.record_store.specs.Store.{Store, saved, removed, extended}
 use Rattle.record_store.specs.Holds.{Holds, IsOfSchema}
-use Rattle.record_store.specs.Call.{AtStore, IsOpenAs, Opened}
+use Rattle.record_store.specs.Call.{AtStore, IsOpenAs, Opened, whole}
 use Rattle.record_store.specs.Calls.{load_service, records_service, remove_service, save_service, schema_service, schema_writes, own_record, save_call, done_with}
 use Rattle.record_store.specs.Reading.{IsRead}
-use Rattle.record_store.proofs.Answered.{IsServed, own_typed}
+use Rattle.record_store.proofs.Answered.{IsServed, as_added, own_typed}
 use Rattle.record_store.proofs.Changed.{extended_holds}
 use Rattle.record_store.proofs.IndexedRecords.{removed_holds_all, saved_holds_all}
 use Rattle.record_store.specs.IndexWrites.{index_writes, remove_writes, save_writes, store_of}
@@ -137,7 +137,7 @@ all_typed schema next request [] lawful added typed = tt
 all_typed schema next request (r ∷ records) lawful added typed = (still_typed schema next request r lawful added typed.0, all_typed schema next request records lawful added typed.1)
 
 -- a type more leaves the indexes
-same_indexes : (schema next : Schema) (request : TypeRequest) → add_type schema request ≡ Ok next → next.indexes ≡ schema.indexes
+pub same_indexes : (schema next : Schema) (request : TypeRequest) → add_type schema request ≡ Ok next → next.indexes ≡ schema.indexes
 same_indexes schema next request added = made (type_refusal schema request) added
   where
     made : (o : Option Refusal) → ◌≡◌ {A = Result Schema Refusal} (elim o [ None ↦ Ok (with_type schema request) | Some refusal ↦ Err refusal ]) (Ok next) → next.indexes ≡ schema.indexes
@@ -156,17 +156,17 @@ type_served opened next request list wrote lawful added m store holds same = rec
 
 -- a call that reads nothing
 pub nothing_read : (maps : ℕ → Map) (opened : Opened) {old : CommitRequest} → DidRead maps [] old old (λ m.
-    AllByRecursion (IsRecordPair opened.prefix opened.schema) [] × AtStore opened m (λ store. Unit {0}))
-nothing_read maps opened = ran_still refl (λ m. (tt, λ store holds same. tt))
+    ([] ≡ (whole []).added m) × (AllByRecursion (IsRecordPair opened.prefix opened.schema) [] × AtStore opened m (λ store. Unit {0})))
+nothing_read maps opened = ran_still refl (λ m. (refl, (tt, λ store holds same. tt)))
 
 -- ---- saves and scans, by their parts
 
 -- the read of a save
 pub save_read : (opened : Opened) (new : Record) (key : List Item) (old : Option Record) {maps : ℕ → Map} {before after : CommitRequest} → key ≡ primary_key new →
     DidRead maps (point (record_key opened.prefix key) ∷ []) before after (IsRead opened key old) →
-    DidRead maps (point (record_key opened.prefix (primary_key new)) ∷ []) before after (IsRead opened (primary_key new) old)
+    DidRead maps (point (record_key opened.prefix (primary_key new)) ∷ []) before after (λ m. (point (record_key opened.prefix (primary_key new)) ∷ [] ≡ (save_service opened new).reading.added m) × IsRead opened (primary_key new) old m)
 save_read opened new key old {maps = maps} {before = before} {after = now} same ran =
-    subst (λ k. DidRead maps (point (record_key opened.prefix k) ∷ []) before now (IsRead opened k old)) same ran
+    as_added (subst (λ k. DidRead maps (point (record_key opened.prefix k) ∷ []) before now (IsRead opened k old)) same ran)
 
 pub save_serves : (opened : Opened) (new : Record) (old : Option Record) (list : List Mutation) (key : List Item) → list ≡ replacement opened new old →
     own_record (find_type opened.schema new.definition.name) new ≡ Ok new → record_in new.definition new.cells ≡ Ok new → key ≡ primary_key new → IsTuple key →

@@ -3,15 +3,14 @@ use Rattle.std.proofs.Common.{◌≡◌, inl, inr, ℕ, Bool, true, false, cond,
 use Rattle.std.specs.Prelude.{get_or, zero, suc}
 use Rattle.std.specs.List.{AllByRecursion}
 use Rattle.tuple_codec.specs.Spelling.{spelling}
-use Rattle.kv_core.specs.Range.{KeyRange, contains, covers}
+use Rattle.kv_core.specs.Range.{KeyRange, contains}
 use Rattle.kv_core.specs.Map.{Map, Agree, pairs_in}
 use Rattle.kv_core.specs.Read.{range_read, read_of}
 use Rattle.kv_core.specs.declared.change.CommitRequest.{CommitRequest}
 use Rattle.kv_core.proofs.Lists.{All-take}
-use Rattle.kv_core.proofs.Pairs.{inside_read}
 use Rattle.cluster_core.specs.declared.answers.ReadError.{ReadError}
 use Rattle.txn.specs.Reads.{has_read, seen}
-use Rattle.txn.proofs.Running.{ran_read}
+use Rattle.txn.proofs.Running.{ran_added, ran_read}
 use Rattle.metadata.specs.declared.definition.TypeDefinition.{TypeDefinition}
 use Rattle.metadata.specs.Cell.{items_of}
 use Rattle.metadata.specs.Lawful.{IsLawfulSchema}
@@ -27,13 +26,14 @@ use Rattle.record_store.specs.Layout.{place, record_key, record_pair, record_val
 use Rattle.record_store.specs.Store.{Store}
 use Rattle.record_store.specs.Holds.{Holds, IsOfSchema}
 use Rattle.record_store.specs.Form.{IsFirstBad, IsRecordPair, read_in}
-use Rattle.record_store.specs.Call.{AtStore, IsOpenAs, IsUnread, Opened}
+use Rattle.record_store.specs.Call.{AtStore, IsOpenAs, IsUnread, Opened, Reading, first_of, whole}
 use Rattle.record_store.specs.Store.{new_state}
-use Rattle.record_store.specs.Reading.{ArePairsOf, HasNotFound, HaveNoRecords, IsPairOf, IsPairOfNone, IsStateRead}
-use Rattle.record_store.specs.Steps.{DidRead}
+use Rattle.record_store.specs.Reading.{ArePairsOf, HasNotFound, HasRead, HaveNoRecords, IsPairOf, IsPairOfNone}
+use Rattle.record_store.specs.Steps.{DidRead, IsBeginning}
+use Rattle.record_store.proofs.Stopping.{all_begin}
 use Rattle.record_store.proofs.Held.{type_held}
 use Rattle.record_store.proofs.Keys.{in_type_range, record_key_is}
-use Rattle.record_store.proofs.Openings.{one_covers, pairs_lie}
+use Rattle.record_store.proofs.Openings.{pairs_lie}
 use Rattle.record_store.proofs.RecordPairs.{none_bad, of_stored, stored_as, type_form, key_bytes}
 use Rattle.std.proofs.lemmas.Bool.{eqb-true}
 use Rattle.std.specs.Option.{IfNone}
@@ -157,12 +157,12 @@ module _ (opened : Opened) (type : TypeDefinition) (lawful : IsLawfulSchema open
       in_middle [] all = all.0
       in_middle (pair ∷ before) all = in_middle before all.1
 
-  unread_there : (refuses : KeyRange → ReadError → Type 0) (reads : Map → List Pair) (m : Map) (limit : ℕ) (pairs : List Pair) (error : StoreError) → pairs ≡ take limit (pairs_in m here) → reads m ≡ pairs →
-      HaveNoRecords (place opened.prefix 1) type pairs error → IsUnread refuses opened (here ∷ []) reads error m
-  unread_there refuses reads m limit pairs error is read (inl memory) = subst (λ e. IsUnread refuses opened (here ∷ []) reads e m) (sym memory) tt
-  unread_there refuses reads m limit pairs error is read (inr among) = by_error error among.none
+  unread_there : (refuses : KeyRange → ReadError → Type 0) (reading : Reading) (added : List KeyRange) (m : Map) (limit : ℕ) (pairs : List Pair) (error : StoreError) → pairs ≡ take limit (pairs_in m here) → added ≡ reading.added m → reading.pairs m ≡ pairs →
+      HaveNoRecords (place opened.prefix 1) type pairs error → IsUnread refuses opened reading error added m
+  unread_there refuses reading added m limit pairs error is all read (inl memory) = subst (λ e. IsUnread refuses opened reading e added m) (sym memory) (subst (IsBeginning added) all (all_begin added))
+  unread_there refuses reading added m limit pairs error is all read (inr among) = by_error error among.none
     where
-      first : (key : List ℕ) → IsPairOfNone (place opened.prefix 1) type among.bad (Corrupt key) → IsFirstBad (IsRecordPair opened.prefix opened.schema) (reads m) key
+      first : (key : List ℕ) → IsPairOfNone (place opened.prefix 1) type among.bad (Corrupt key) → IsFirstBad (IsRecordPair opened.prefix opened.schema) (reading.pairs m) key
       first key says = record {
         before = among.before;
         bad = among.bad;
@@ -173,17 +173,17 @@ module _ (opened : Opened) (type : TypeDefinition) (lawful : IsLawfulSchema open
         at = says.0;
       }
 
-      all_good : (store : Store) → Holds opened.prefix m (Some store) → IsOpenAs opened store → AllByRecursion (IsRecordPair opened.prefix opened.schema) (reads m)
+      all_good : (store : Store) → Holds opened.prefix m (Some store) → IsOpenAs opened store → AllByRecursion (IsRecordPair opened.prefix opened.schema) (reading.pairs m)
       all_good store holds same =
           subst (AllByRecursion (IsRecordPair opened.prefix opened.schema)) (sym (read ∙ is))
           (All-take (IsRecordPair opened.prefix opened.schema) limit (pairs_in m here) (subst (λ s. AllByRecursion (IsRecordPair opened.prefix s) (pairs_in m here)) same.schema (type_form opened.prefix m store holds type.number small)))
 
-      by_error : (e : StoreError) → IsPairOfNone (place opened.prefix 1) type among.bad e → IsUnread refuses opened (here ∷ []) reads e m
-      by_error Memory says = tt
+      by_error : (e : StoreError) → IsPairOfNone (place opened.prefix 1) type among.bad e → IsUnread refuses opened reading e added m
+      by_error Memory says = subst (IsBeginning added) all (all_begin added)
       by_error (Read reason) says = absurd says
       by_error (Write reason) says = absurd says
       by_error (Refused refusal) says = absurd says
-      by_error (Corrupt key) says = (first key says, λ store holds same. none_bad (reads m) key (all_good store holds same) (first key says))
+      by_error (Corrupt key) says = (all, first key says, λ store holds same. none_bad (reading.pairs m) key (all_good store holds same) (first key says))
 
   -- ---- all of them
 
@@ -204,57 +204,59 @@ module _ (opened : Opened) (type : TypeDefinition) (lawful : IsLawfulSchema open
       new ≡ has_read range old → ((m : Map) → Agree new.reads (maps old.read_version) m → pairs ≡ pairs_in (seen old m) range) → ArePairsOf records_place type pairs rows →
       DidRead maps (here ∷ []) old new (λ m. AllByRecursion (IsRecordPair opened.prefix opened.schema) (read_in m (here ∷ [])) × AtStore opened m (λ store. rows ≡ of_type type.number store.records))
   rows_read {old = old} range pairs records_place rows is at read answer found =
-      ran_read range read (one_covers range here is)
-      (λ m agree.
+      ran_added (ap (λ r. r ∷ []) is)
+      (ran_read range read (λ m agree.
       let all : pairs ≡ pairs_in (seen old m) here = answer m agree ∙ ap (pairs_in (seen old m)) is in
       let good = subst (λ p. ArePairsOf p type pairs rows) at found in
-      (subst (AllByRecursion (IsRecordPair opened.prefix opened.schema)) (all ∙ sym (read_pairs (seen old m))) (good_form pairs rows good), whole_rows (seen old m) pairs rows all good))
+      (subst (AllByRecursion (IsRecordPair opened.prefix opened.schema)) (all ∙ sym (read_pairs (seen old m))) (good_form pairs rows good), whole_rows (seen old m) pairs rows all good)))
 
   pub rows_unread : {maps : ℕ → Map} {refuses : KeyRange → ℕ → ReadError → Type 0} {old new : CommitRequest} (range : KeyRange) (pairs : List Pair) (records_place : List ℕ) (error : StoreError) → range ≡ here → records_place ≡ place opened.prefix 1 →
       new ≡ has_read range old → ((m : Map) → Agree new.reads (maps old.read_version) m → pairs ≡ pairs_in (seen old m) range) → HaveNoRecords records_place type pairs error →
-      HasNotFound maps refuses opened (here ∷ []) (λ m. read_in m (here ∷ [])) error old new
+      HasNotFound maps refuses opened (whole (here ∷ [])) error old new
   rows_unread {refuses = refuses} {old = old} range pairs records_place error is at read answer none = record {
+    added = here ∷ [];
     ran =
-        ran_read range read (one_covers range here is)
-        (λ m agree.
+        ran_added (ap (λ r. r ∷ []) is)
+        (ran_read range read (λ m agree.
         let all : pairs ≡ pairs_in (seen old m) here = answer m agree ∙ ap (pairs_in (seen old m)) is in
-        unread_there (λ r. refuses r old.read_version) (λ n. read_in n (here ∷ [])) (seen old m) (length pairs) pairs error (whole_pairs (seen old m) pairs all) (read_pairs (seen old m) ∙ sym all)
-        (subst (λ p. HaveNoRecords p type pairs error) at none));
+        unread_there (λ r. refuses r old.read_version) (whole (here ∷ [])) (here ∷ []) (seen old m) (length pairs) pairs error (whole_pairs (seen old m) pairs all) refl (read_pairs (seen old m) ∙ sym all)
+        (subst (λ p. HaveNoRecords p type pairs error) at none)));
   }
 
   -- ---- the first one
-
-  -- what decides a read up to a limit lies in the range
-  part_inside : (maps : ℕ → Map) (old new : CommitRequest) (range : KeyRange) (pairs : List Pair) → range ≡ here → ((m : Map) → Agree new.reads (maps old.read_version) m → pairs ≡ read_of (seen old m) range 1 false) →
-      (k : List ℕ) → contains (range_read range 1 false pairs) k ≡ true → covers (here ∷ []) k ≡ true
-  part_inside maps old new range pairs is answer k inside =
-      one_covers range here is k
-      (inside_read (seen old (maps old.read_version)) range 1 false (omega arith) k (subst (λ ps. contains (range_read range 1 false ps) k ≡ true) (answer (maps old.read_version) (λ key h. refl)) inside))
 
   -- a new index over the first record is as one over all
   state_first : (records : List Record) → new_state (take 1 records) ≡ new_state records
   state_first [] = refl
   state_first (r ∷ records) = refl
 
+  -- the range that is added is that of the first pair
+  first_added : (m : Map) (range : KeyRange) (pairs : List Pair) → range ≡ here → pairs ≡ read_of m range 1 false → range_read range 1 false pairs ≡ range_read here 1 false (read_of m here 1 false)
+  first_added m range pairs is read = ap (range_read range 1 false) read ∙ ap (λ r. range_read r 1 false (read_of m r 1 false)) is
+
   pub state_read : {maps : ℕ → Map} {old new : CommitRequest} (range : KeyRange) (pairs : List Pair) (records_place : List ℕ) (rows : List Record) → range ≡ here → records_place ≡ place opened.prefix 1 →
       new ≡ has_read (range_read range 1 false pairs) old → ((m : Map) → Agree new.reads (maps old.read_version) m → pairs ≡ read_of (seen old m) range 1 false) → ArePairsOf records_place type pairs rows →
-      DidRead maps (here ∷ []) old new (IsStateRead opened type.number (new_state rows))
-  state_read {maps = maps} {old = old} {new = new} range pairs records_place rows is at read answer found =
-      ran_read (range_read range 1 false pairs) read (part_inside maps old new range pairs is answer)
-      (λ m agree.
-      let some : pairs ≡ take 1 (pairs_in (seen old m) here) = answer m agree ∙ ap (λ r. take 1 (pairs_in (seen old m) r)) is in
-      let there = rows_there (seen old m) 1 pairs rows some (subst (λ p. ArePairsOf p type pairs rows) at found) in
-      (subst (AllByRecursion (IsRecordPair opened.prefix opened.schema)) some there.0, λ store holds same. ap new_state (there.1 store holds same) ∙ state_first (of_type type.number store.records)))
+      HasRead maps opened type.number (new_state rows) old new
+  state_read {old = old} range pairs records_place rows is at read answer found = record {
+    added = range_read range 1 false pairs;
+    ran = ran_read (range_read range 1 false pairs) read (λ m agree.
+        let some : pairs ≡ take 1 (pairs_in (seen old m) here) = answer m agree ∙ ap (λ r. take 1 (pairs_in (seen old m) r)) is in
+        let there = rows_there (seen old m) 1 pairs rows some (subst (λ p. ArePairsOf p type pairs rows) at found) in (
+          first_added (seen old m) range pairs is (answer m agree),
+          subst (AllByRecursion (IsRecordPair opened.prefix opened.schema)) some there.0,
+          λ store holds same. ap new_state (there.1 store holds same) ∙ state_first (of_type type.number store.records),
+        ));
+  }
 
   pub state_unread : {maps : ℕ → Map} {refuses : KeyRange → ℕ → ReadError → Type 0} {old new : CommitRequest} (range : KeyRange) (pairs : List Pair) (records_place : List ℕ) (error : StoreError) → range ≡ here → records_place ≡ place opened.prefix 1 →
       new ≡ has_read (range_read range 1 false pairs) old → ((m : Map) → Agree new.reads (maps old.read_version) m → pairs ≡ read_of (seen old m) range 1 false) → HaveNoRecords records_place type pairs error →
-      HasNotFound maps refuses opened (here ∷ []) (λ m. read_of m here 1 false) error old new
-  state_unread {maps = maps} {refuses = refuses} {old = old} {new = new} range pairs records_place error is at read answer none = record {
-    ran =
-        ran_read (range_read range 1 false pairs) read (part_inside maps old new range pairs is answer)
-        (λ m agree.
+      HasNotFound maps refuses opened (first_of here) error old new
+  state_unread {refuses = refuses} {old = old} range pairs records_place error is at read answer none = record {
+    added = range_read range 1 false pairs ∷ [];
+    ran = ran_read (range_read range 1 false pairs) read (λ m agree.
         let some : pairs ≡ take 1 (pairs_in (seen old m) here) = answer m agree ∙ ap (λ r. take 1 (pairs_in (seen old m) r)) is in
-        unread_there (λ r. refuses r old.read_version) (λ n. read_of n here 1 false) (seen old m) 1 pairs error some (sym some) (subst (λ p. HaveNoRecords p type pairs error) at none));
+        unread_there (λ r. refuses r old.read_version) (first_of here) (range_read range 1 false pairs ∷ []) (seen old m) 1 pairs error some (ap (λ r. r ∷ []) (first_added (seen old m) range pairs is (answer m agree))) (sym some)
+        (subst (λ p. HaveNoRecords p type pairs error) at none));
   }
 
 -- ---- one pair

@@ -1,8 +1,9 @@
 -- What a call on an open store establishes, whatever map the snapshot turns out to have.
-use Rattle.std.specs.Prelude.{◌≡◌, ◌⊎◌, ℕ, Bool, not, List, Option, Some, None, IsTrue, Result, Ok, Err, length, ◌==◌}
+use Rattle.std.specs.Prelude.{◌≡◌, ◌⊎◌, ℕ, Bool, false, not, List, [], ◌∷◌, Some, None, Result, Ok, Err, length, ◌==◌}
 use Rattle.std.specs.List.{AllByRecursion}
-use Rattle.kv_core.specs.Range.{KeyRange, contains, covers}
+use Rattle.kv_core.specs.Range.{KeyRange}
 use Rattle.kv_core.specs.Map.{Map, after_all}
+use Rattle.kv_core.specs.Read.{range_read, read_of}
 use Rattle.kv_core.specs.Limits.{write_all_refusal}
 use Rattle.kv_core.specs.declared.change.CommitRequest.{CommitRequest}
 use Rattle.kv_core.specs.declared.change.Mutation.{Mutation}
@@ -15,8 +16,8 @@ use Rattle.record_store.specs.declared.error.StoreError.{StoreError}
 use Rattle.record_store.specs.declared.error.StoreError.TheVariants.{Memory, Read, Write, Corrupt, Refused}
 use Rattle.record_store.specs.Store.{Store}
 use Rattle.record_store.specs.Holds.{Holds}
-use Rattle.record_store.specs.Form.{IsFirstBad, IsRecordPair}
-use Rattle.record_store.specs.Steps.{DidRead}
+use Rattle.record_store.specs.Form.{IsFirstBad, IsRecordPair, read_in}
+use Rattle.record_store.specs.Steps.{DidRead, IsBeginning, IsNextRefused}
 
 -- a store that was opened: the prefix of its keys, and the schema and the states of indexes that were found there
 pub record Opened : Type 0 where
@@ -29,10 +30,23 @@ pub record IsOpenAs (opened : Opened) (store : Store) : Type 0 where
   pub schema : store.schema ≡ opened.schema
   pub states : store.states ≡ opened.states
 
--- what a call does that isn't refused: the ranges that it may read, the pairs of a map that it reads, in reading order, and by the store that is there what it answers, the store after it, and exactly what it writes; and whether an answer tells that something was written
+-- what a call reads of a map, in reading order: the ranges that it asks for, those that it adds to the ranges read, and the pairs
+pub record Reading : Type 0 where
+  pub asked : List KeyRange
+  pub added : Map → List KeyRange
+  pub pairs : Map → List (List ℕ × List ℕ)
+
+-- all pairs of some ranges are read
+abbrev pub whole : List KeyRange → Reading
+whole ranges = record { asked = ranges; added = λ m. ranges; pairs = λ m. read_in m ranges }
+
+-- the first pair of a range is read, if there is one
+abbrev pub first_of : KeyRange → Reading
+first_of range = record { asked = range ∷ []; added = λ m. range_read range 1 false (read_of m range 1 false) ∷ []; pairs = λ m. read_of m range 1 false }
+
+-- what a call does that isn't refused: what it reads, and by the store that is there what it answers, the store after it, and exactly what it writes; and whether an answer tells that something was written
 pub record Service (A : Type 0) : Type 0 where
-  pub reach : List KeyRange
-  pub reads : Map → List (List ℕ × List ℕ)
+  pub reading : Reading
   pub answer : Store → A
   pub after : Store → Store
   pub writes : Store → List Mutation
@@ -53,38 +67,38 @@ pub record IsDone {A : Type 0} (opened : Opened) (service : Service A) (answer :
   pub allowed : write_all_refusal before written ≡ None
   pub holds : Holds opened.prefix (after_all written m) (Some (service.after store))
 
--- a call was answered: it read within its reach, what it read is of the written form, and the rest is so at each store that is there
+-- a call was answered: it added to the ranges read those that it reads, in their order, the pairs read are of the written form, and the rest is so at each store that is there
 pub record IsAnswered {A : Type 0} (maps : ℕ → Map) (opened : Opened) (call : Call A) (answer : A) (old new : CommitRequest) : Type 0 where
   pub service : Service A
   pub accepted : call ≡ Ok service
+  pub added : List KeyRange
   pub written : List Mutation
   pub changes : (length written == 0) ≡ not (service.changes answer)
-  pub ran : Ran maps (λ key. IsTrue (covers service.reach key)) old new written
-      (λ m. AllByRecursion (IsRecordPair opened.prefix opened.schema) (service.reads m)
+  pub ran : Ran maps added old new written (λ m. (added ≡ service.reading.added m)
+      × AllByRecursion (IsRecordPair opened.prefix opened.schema) (service.reading.pairs m)
       × AtStore opened m (IsDone opened service answer old.mutations written m))
 
--- a read of a range within the reach is refused so
-pub record IsReadRefusedAs (refuses : KeyRange → ReadError → Type 0) (within : List KeyRange) (error : ReadError) : Type 0 where
-  pub range : KeyRange
-  pub inside : (key : List ℕ) → IsTrue (contains range key) → IsTrue (covers within key)
-  pub refused : refuses range error
+-- why reads aren't answered: memory is wanting, or a read is refused, in either case behind the first ones; or all were answered, and the first pair read that isn't of the written form has this key, which no store has
+abbrev pub IsUnread : (KeyRange → ReadError → Type 0) → Opened → Reading → StoreError → List KeyRange → Map → Type 0
+IsUnread refuses opened reading Memory added m = IsBeginning added (reading.added m)
+IsUnread refuses opened reading (Read error) added m = IsBeginning added (reading.added m) × IsNextRefused refuses reading.asked added error
+IsUnread refuses opened reading (Corrupt key) added m =
+    (added ≡ reading.added m) × IsFirstBad (IsRecordPair opened.prefix opened.schema) (reading.pairs m) key × AtStore opened m (λ store. ⊥)
+IsUnread refuses opened reading error added m = ⊥
 
--- why reads aren't answered: memory is wanting, or a read is refused, or the first pair read that isn't of the written form has this key, which no store has
-abbrev pub IsUnread : (KeyRange → ReadError → Type 0) → Opened → List KeyRange → (Map → List (List ℕ × List ℕ)) → StoreError → Map → Type 0
-IsUnread refuses opened within reads Memory m = Unit {0}
-IsUnread refuses opened within reads (Read error) m = IsReadRefusedAs refuses within error
-IsUnread refuses opened within reads (Corrupt key) m =
-    IsFirstBad (IsRecordPair opened.prefix opened.schema) (reads m) key × AtStore opened m (λ store. ⊥)
-IsUnread refuses opened within reads error m = ⊥
+-- why a service isn't done: its reads aren't answered, or all were, all pairs are of the written form, and a limit refuses what is to be written
+abbrev pub IsFailure : {A : Type 0} → (KeyRange → ReadError → Type 0) → Opened → Service A → StoreError → List Mutation → List KeyRange → Map → Type 0
+IsFailure refuses opened service (Write error) before added m =
+    (added ≡ service.reading.added m) × AllByRecursion (IsRecordPair opened.prefix opened.schema) (service.reading.pairs m)
+    × AtStore opened m (λ store. write_all_refusal before (service.writes store) ≡ Some error)
+IsFailure refuses opened service error before added m = IsUnread refuses opened service.reading error added m
 
--- why a service isn't done: its reads aren't answered, or all that was read is of the written form and a limit refuses what is to be written
-abbrev pub IsFailure : {A : Type 0} → (KeyRange → ReadError → Type 0) → Opened → Service A → StoreError → List Mutation → Map → Type 0
-IsFailure refuses opened service (Write error) before m =
-    AllByRecursion (IsRecordPair opened.prefix opened.schema) (service.reads m) × AtStore opened m (λ store. write_all_refusal before (service.writes store) ≡ Some error)
-IsFailure refuses opened service error before m = IsUnread refuses opened service.reach service.reads error m
+-- a service wasn't done: it added these ranges to those read, and wrote nothing
+pub record IsUndone {A : Type 0} (maps : ℕ → Map) (refuses : KeyRange → ℕ → ReadError → Type 0) (opened : Opened) (service : Service A) (error : StoreError) (old new : CommitRequest) : Type 0 where
+  pub added : List KeyRange
+  pub ran : DidRead maps added old new (IsFailure (λ range. refuses range old.read_version) opened service error old.mutations added)
 
--- why a call wasn't answered: its own refusal, before it read anything; or it failed, having read within its reach and written nothing. Want of memory can come anywhere
+-- why a call wasn't answered: its own refusal, before it read anything; or what it does wasn't done. Want of memory can come anywhere
 abbrev pub IsRefused : {A : Type 0} → (ℕ → Map) → (KeyRange → ℕ → ReadError → Type 0) → Opened → Call A → StoreError → CommitRequest → CommitRequest → Type 0
 IsRefused maps refuses opened (Err refusal) error old new = ((error ≡ Memory) ⊎ (error ≡ Refused refusal)) × (new ≡ old)
-IsRefused maps refuses opened (Ok service) error old new =
-    DidRead maps service.reach old new (IsFailure (λ range. refuses range old.read_version) opened service error old.mutations)
+IsRefused maps refuses opened (Ok service) error old new = IsUndone maps refuses opened service error old new

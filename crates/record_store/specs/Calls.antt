@@ -1,17 +1,16 @@
--- The calls on an open store, one by one: what each may read, answers, leaves and writes.
+-- The calls on an open store, one by one: what each reads, answers, leaves and writes.
 use Rattle.std.specs.Prelude.{◌≡◌, ℕ, Bool, true, false, List, [], ◌∷◌, Option, Some, None, Result, Ok, Err, is_some}
 use Rattle.tuple_codec.specs.Item.{Item}
 use Rattle.kv_core.specs.Range.{point}
 use Rattle.kv_core.specs.declared.change.Mutation.{Mutation}
 use Rattle.kv_core.specs.declared.change.Mutation.TheVariants.{Set}
-use Rattle.kv_core.specs.Read.{read_of}
 use Rattle.metadata.specs.declared.cells.Cell.{Cell}
 use Rattle.metadata.specs.declared.definition.TypeDefinition.{TypeDefinition}
 use Rattle.metadata.specs.declared.definition.TypeRequest.{TypeRequest}
 use Rattle.metadata.specs.declared.index.IndexDefinition.{IndexDefinition}
 use Rattle.metadata.specs.declared.index.IndexRequest.{IndexRequest}
 use Rattle.metadata.specs.declared.index.State.{State}
-use Rattle.metadata.specs.declared.index.State.TheVariants.{Readable, Disabled}
+use Rattle.metadata.specs.declared.index.State.TheVariants.{Disabled}
 use Rattle.metadata.specs.declared.refusal.Refusal.{Refusal}
 use Rattle.metadata.specs.declared.refusal.Refusal.TheVariants.{OtherSchema, UnknownIndex, UnknownType}
 use Rattle.metadata.specs.Change.{add_type}
@@ -23,9 +22,8 @@ use Rattle.metadata.specs.Schema.{Schema, find_index, find_type}
 use Rattle.metadata.specs.Written.{schema_bytes}
 use Rattle.record_store.specs.Store.{disabled, dropped, extended, indexed, listed_as, new_state, removed, saved, state_in, with_state, without_state}
 use Rattle.record_store.specs.Layout.{record_key, schema_key, type_range}
-use Rattle.record_store.specs.Form.{read_in}
 use Rattle.record_store.specs.IndexWrites.{disable_writes, drop_writes, index_added_writes, remove_writes, save_writes}
-use Rattle.record_store.specs.Call.{Call, Opened, Service}
+use Rattle.record_store.specs.Call.{Call, Opened, Service, first_of, whole}
 
 -- what is done with a value, or the refusal
 abbrev pub done_with : {K A : Type 0} → (K → Service A) → Result K Refusal → Call A
@@ -35,8 +33,7 @@ done_with service (Err refusal) = Err refusal
 -- LOAD: the record of a primary key is answered
 abbrev pub load_service : Opened → List Item → Service (Option Record)
 load_service opened key = record {
-  reach = point (record_key opened.prefix key) ∷ [];
-  reads = λ m. read_in m (point (record_key opened.prefix key) ∷ []);
+  reading = whole (point (record_key opened.prefix key) ∷ []);
   answer = λ store. record_at key store.records;
   after = λ store. store;
   writes = λ store. [];
@@ -49,8 +46,7 @@ load_call opened name cells = done_with (load_service opened) (key_of opened.sch
 -- SAVE: a record is put in the place of that with its primary key, which is answered, and its indexes follow
 abbrev pub save_service : Opened → Record → Service (Option Record)
 save_service opened r = record {
-  reach = point (record_key opened.prefix (primary_key r)) ∷ [];
-  reads = λ m. read_in m (point (record_key opened.prefix (primary_key r)) ∷ []);
+  reading = whole (point (record_key opened.prefix (primary_key r)) ∷ []);
   answer = λ store. record_at (primary_key r) store.records;
   after = λ store. saved store r;
   writes = λ store. save_writes opened.prefix store r;
@@ -68,8 +64,7 @@ save_call opened r = done_with (save_service opened) (own_record (find_type open
 -- REMOVE: the record of a primary key is taken out, where it is there, and its indexes follow
 abbrev pub remove_service : Opened → List Item → Service Bool
 remove_service opened key = record {
-  reach = point (record_key opened.prefix key) ∷ [];
-  reads = λ m. read_in m (point (record_key opened.prefix key) ∷ []);
+  reading = whole (point (record_key opened.prefix key) ∷ []);
   answer = λ store. is_some (record_at key store.records);
   after = λ store. removed store key;
   writes = λ store. remove_writes opened.prefix store key (record_at key store.records);
@@ -86,8 +81,7 @@ number_of (Some type) = Ok type.number
 
 abbrev pub records_service : Opened → ℕ → Service (List Record)
 records_service opened number = record {
-  reach = type_range opened.prefix number ∷ [];
-  reads = λ m. read_in m (type_range opened.prefix number ∷ []);
+  reading = whole (type_range opened.prefix number ∷ []);
   answer = λ store. of_type number store.records;
   after = λ store. store;
   writes = λ store. [];
@@ -103,8 +97,7 @@ schema_writes prefix schema = Set (schema_key prefix) (schema_bytes schema) ∷ 
 
 abbrev pub schema_service : Opened → Schema → Service Schema
 schema_service opened schema = record {
-  reach = [];
-  reads = λ m. [];
+  reading = whole [];
   answer = λ store. schema;
   after = λ store. extended store schema;
   writes = λ store. schema_writes opened.prefix schema;
@@ -117,8 +110,7 @@ type_call opened request = done_with (schema_service opened) (add_type opened.sc
 -- INDEX: an index is added, and its state answered. Of the type's records the first alone is read
 abbrev pub index_service : Opened → IndexDefinition → Service State
 index_service opened index = record {
-  reach = type_range opened.prefix index.type_number ∷ [];
-  reads = λ m. read_of m (type_range opened.prefix index.type_number) 1 false;
+  reading = first_of (type_range opened.prefix index.type_number);
   answer = λ store. new_state (of_type index.type_number store.records);
   after = λ store. indexed store index;
   writes = λ store. index_added_writes opened.prefix store index;
@@ -142,8 +134,7 @@ index_number (Some index) = Ok index.number
 -- DROP: the schema is written without an index, and answered; what is kept of the index goes
 abbrev pub drop_service : Opened → ℕ → Service Schema
 drop_service opened number = record {
-  reach = [];
-  reads = λ m. [];
+  reading = whole [];
   answer = λ store. without_index store.schema number;
   after = λ store. dropped store number;
   writes = λ store. drop_writes opened.prefix store number;
@@ -156,8 +147,7 @@ drop_call opened name = done_with (drop_service opened) (index_number (find_inde
 -- DISABLE: the state of an index is written, its entries go, and the states are answered
 abbrev pub disable_service : Opened → ℕ → Service (List (ℕ × State))
 disable_service opened number = record {
-  reach = [];
-  reads = λ m. [];
+  reading = whole [];
   answer = λ store. with_state number Disabled store.states;
   after = λ store. disabled store number;
   writes = λ store. disable_writes opened.prefix number;

@@ -6,7 +6,7 @@ use Rattle.tuple_codec.specs.Item.{Item, IsTuple}
 use Rattle.kv_core.specs.Bytes.{key_cmp}
 use Rattle.kv_core.specs.Range.{KeyRange, point}
 use Rattle.kv_core.specs.Map.{Map}
-use Rattle.kv_core.specs.Read.{read_of}
+use Rattle.kv_core.specs.Read.{range_read, read_of}
 use Rattle.kv_core.specs.declared.change.CommitRequest.{CommitRequest}
 use Rattle.cluster_core.specs.declared.answers.ReadError.{ReadError}
 use Rattle.metadata.specs.declared.cells.Cell.{Cell}
@@ -26,19 +26,20 @@ use Rattle.record_store.specs.declared.error.StoreError.{StoreError}
 use Rattle.record_store.specs.declared.error.StoreError.TheVariants.{Memory, Read, Corrupt, Refused}
 use Rattle.record_store.specs.Layout.{record_key, schema_key, state_pair, type_range}
 use Rattle.record_store.specs.Form.{IsDisabledOf, IsRecordPair, IsStatePair, read_in}
-use Rattle.record_store.specs.Call.{AtStore, IsReadRefusedAs, IsUnread, Opened}
+use Rattle.record_store.specs.Call.{AtStore, IsUnread, Opened, Reading}
 use Rattle.record_store.specs.Store.{new_state}
-use Rattle.record_store.specs.Steps.{DidRead}
+use Rattle.record_store.specs.Steps.{DidRead, IsBeginning, IsNextRefused}
 
--- the error of reads within these ranges: memory is wanting, or a read of a range in them is refused so
-abbrev pub IsReadError : (KeyRange → ReadError → Type 0) → List KeyRange → StoreError → Type 0
-IsReadError refuses within Memory = Unit {0}
-IsReadError refuses within (Read error) = IsReadRefusedAs refuses within error
-IsReadError refuses within error = ⊥
+-- why reads of these ranges stopped behind the ones that were added: memory is wanting, or the next read is refused so
+abbrev pub IsReadError : (KeyRange → ReadError → Type 0) → List KeyRange → List KeyRange → StoreError → Type 0
+IsReadError refuses asked added Memory = IsBeginning added asked
+IsReadError refuses asked added (Read error) = IsBeginning added asked × IsNextRefused refuses asked added error
+IsReadError refuses asked added error = ⊥
 
--- a read within these ranges came to an error
-pub record HasNotRead (maps : ℕ → Map) (refuses : KeyRange → ℕ → ReadError → Type 0) (within : List KeyRange) (error : StoreError) (old new : CommitRequest) : Type 0 where
-  pub ran : DidRead maps within old new (λ m. IsReadError (λ range. refuses range old.read_version) within error)
+-- reads of these ranges came to an error
+pub record HasNotRead (maps : ℕ → Map) (refuses : KeyRange → ℕ → ReadError → Type 0) (asked : List KeyRange) (error : StoreError) (old new : CommitRequest) : Type 0 where
+  pub added : List KeyRange
+  pub ran : DidRead maps added old new (λ m. IsReadError (λ range. refuses range old.read_version) asked added error)
 
 -- the kind is that of a VALUE index
 abbrev pub is_value : IndexKind → Bool
@@ -124,15 +125,22 @@ IsRead opened key found m =
     AllByRecursion (IsRecordPair opened.prefix opened.schema) (read_in m (point (record_key opened.prefix key) ∷ []))
     × AtStore opened m (λ store. found ≡ record_at key store.records)
 
--- the first record of a type was read, if there is one: what was read is of the written form, and a new index over the type has this state
-abbrev pub IsStateRead : Opened → ℕ → State → Map → Type 0
-IsStateRead opened number state m =
-    AllByRecursion (IsRecordPair opened.prefix opened.schema) (read_of m (type_range opened.prefix number) 1 false)
+-- the first record of a type was read, if there is one: this range was added, what was read is of the written form, and a new index over the type has this state
+abbrev pub IsStateRead : Opened → ℕ → State → KeyRange → Map → Type 0
+IsStateRead opened number state added m =
+    (added ≡ range_read (type_range opened.prefix number) 1 false (read_of m (type_range opened.prefix number) 1 false))
+    × AllByRecursion (IsRecordPair opened.prefix opened.schema) (read_of m (type_range opened.prefix number) 1 false)
     × AtStore opened m (λ store. state ≡ new_state (of_type number store.records))
 
--- reads within these ranges of an open store weren't answered
-pub record HasNotFound (maps : ℕ → Map) (refuses : KeyRange → ℕ → ReadError → Type 0) (opened : Opened) (within : List KeyRange) (reads : Map → List (List ℕ × List ℕ)) (error : StoreError) (old new : CommitRequest) : Type 0 where
-  pub ran : DidRead maps within old new (IsUnread (λ range. refuses range old.read_version) opened within reads error)
+-- so was the state of a new index
+pub record HasRead (maps : ℕ → Map) (opened : Opened) (number : ℕ) (state : State) (old new : CommitRequest) : Type 0 where
+  pub added : KeyRange
+  pub ran : DidRead maps (added ∷ []) old new (IsStateRead opened number state added)
+
+-- reads of an open store weren't answered
+pub record HasNotFound (maps : ℕ → Map) (refuses : KeyRange → ℕ → ReadError → Type 0) (opened : Opened) (reading : Reading) (error : StoreError) (old new : CommitRequest) : Type 0 where
+  pub added : List KeyRange
+  pub ran : DidRead maps added old new (IsUnread (λ range. refuses range old.read_version) opened reading error added)
 
 -- a pair has the key of a record of the type behind the place of records, and its value
 pub record IsPairOf (records_place : List ℕ) (type : TypeDefinition) (pair : List ℕ × List ℕ) (stored : Record) : Type 0 where

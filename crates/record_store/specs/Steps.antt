@@ -1,6 +1,6 @@
 -- What reads of a store and its errors are, beneath whole calls.
-use Rattle.std.specs.Prelude.{ℕ, IsTrue, List, []}
-use Rattle.kv_core.specs.Range.{KeyRange, covers}
+use Rattle.std.specs.Prelude.{◌≡◌, ℕ, List, [], ◌∷◌, ◌++◌, drop, length}
+use Rattle.kv_core.specs.Range.{KeyRange}
 use Rattle.kv_core.specs.Map.{Map}
 use Rattle.kv_core.specs.declared.change.CommitRequest.{CommitRequest}
 use Rattle.kv_core.specs.declared.change.WriteError.{WriteError}
@@ -40,10 +40,18 @@ abbrev pub of_metadata : MetadataError → StoreError
 of_metadata meta.Memory = Memory
 of_metadata (meta.Refused refusal) = Refused refusal
 
--- a run read within these ranges and wrote nothing, and the fact stands of every map that agrees with what was read
+-- a run read just these ranges, in this order, and wrote nothing, and the fact stands of every map that agrees with what was read
 abbrev pub DidRead : (ℕ → Map) → List KeyRange → CommitRequest → CommitRequest → (Map → Type 0) → Type 0
-DidRead maps within old new Fact = Ran maps (λ key. IsTrue (covers within key)) old new [] Fact
+DidRead maps added old new Fact = Ran maps added old new [] Fact
 
--- the transaction has read all of these ranges
-abbrev pub ReadsAll : List KeyRange → CommitRequest → Type 0
-ReadsAll ranges request = (key : List ℕ) → IsTrue (covers ranges key) → IsTrue (covers request.reads key)
+-- the ranges are the first ones of a list
+pub record IsBeginning (ranges whole : List KeyRange) : Type 0 where
+  pub rest : List KeyRange
+  pub is : whole ≡ ranges ++ rest
+
+-- of the ranges that were asked for, the one behind as many as were added is refused so
+pub record IsNextRefused (refuses : KeyRange → ReadError → Type 0) (asked added : List KeyRange) (error : ReadError) : Type 0 where
+  pub range : KeyRange
+  pub rest : List KeyRange
+  pub next : drop (length added) asked ≡ range ∷ rest
+  pub refused : refuses range error

@@ -1,6 +1,5 @@
 // Indexes are added to a store.
-ghost use Rattle.std.specs.Prelude.{◌≡◌, ◌∷◌, ℕ, List, [], false, Ok, Some, IfOk, IfErr, OnErr};
-ghost use Rattle.kv_core.specs.Read.{read_of};
+ghost use Rattle.std.specs.Prelude.{◌≡◌, ◌∷◌, Ok, Some, IfOk, IfErr, OnErr, OnOk};
 ghost use Rattle.kv_core.specs.declared.change.Mutation.TheVariants.{Set};
 ghost use Rattle.metadata.specs.Answers.{IsRefusedAs};
 ghost use Rattle.metadata.specs.IndexChange.{add_index};
@@ -8,14 +7,14 @@ ghost use Rattle.metadata.specs.Lawful.{IsLawfulSchema};
 ghost use Rattle.metadata.specs.Schema.{find_type};
 ghost use Rattle.metadata.specs.Written.{schema_bytes};
 ghost use Rattle.metadata.specs.declared.index.IndexKind.TheVariants.{Value};
-ghost use Rattle.record_store.specs.Call.{IsAnswered, IsRefused};
+ghost use Rattle.metadata.specs.declared.index.State.TheVariants.{WriteOnly};
+ghost use Rattle.record_store.specs.Call.{IsAnswered, IsRefused, first_of};
 ghost use Rattle.record_store.specs.Calls.{IsIndexedAs, index_call};
 ghost use Rattle.record_store.specs.Store.{listed_as, new_state};
 ghost use Rattle.record_store.specs.Holds.{HasPlainIndexes};
 ghost use Rattle.record_store.specs.IndexWrites.{state_writes};
 ghost use Rattle.record_store.specs.Layout.{schema_key, type_range};
-ghost use Rattle.record_store.specs.Reading.{HasNotFound, IsStateRead};
-ghost use Rattle.record_store.specs.Steps.{DidRead};
+ghost use Rattle.record_store.specs.Reading.{HasNotFound, HasRead};
 
 use crate::create::schema_mutations;
 use crate::error::StoreError;
@@ -76,8 +75,9 @@ impl Store {
         definition: &TypeDefinition,
     ) -> Result<State, StoreError>
         requires { find_type self.now.schema definition.now.name ≡ Some definition.now }
-        ensures found { IfOk result (λ state. DidRead (S.map_at db.now) (type_range self.now.prefix definition.now.number ∷ []) tx.old tx.new (IsStateRead self.now definition.now.number state)) }
-        ensures refused { IfErr result (λ error. HasNotFound (S.map_at db.now) (S.may_refuse db.now) self.now (type_range self.now.prefix definition.now.number ∷ []) (λ m. read_of m (type_range self.now.prefix definition.now.number) 1 false) error tx.old tx.new) }
+        ensures plain { IfOk result (λ state. state ≡ WriteOnly → ⊥) }
+        ensures found { IfOk result (λ state. HasRead (S.map_at db.now) self.now definition.now.number state tx.old tx.new) }
+        ensures refused { IfErr result (λ error. HasNotFound (S.map_at db.now) (S.may_refuse db.now) self.now (first_of (type_range self.now.prefix definition.now.number)) error tx.old tx.new) }
     {
         let alloc = self.alloc();
         let range = type_range(alloc, self.prefix(), definition.number)?;
@@ -119,6 +119,7 @@ impl Store {
         requires plain { HasPlainIndexes self.old.schema self.old.states }
         ensures added { IfOk result (λ state. IsAnswered (S.map_at db.now) self.old (index_call self.old request.now) state tx.old tx.new) }
         ensures opened { IfOk result (λ state. IsIndexedAs self.old self.new request.now state) }
+        ensures plain { OnOk result (HasPlainIndexes self.new.schema self.new.states) }
         ensures kept { OnErr result (self.new ≡ self.old) }
         ensures refused { IfErr result (λ error. IsRefused (S.map_at db.now) (S.may_refuse db.now) self.old (index_call self.old request.now) error tx.old tx.new) }
     {

@@ -3,9 +3,8 @@ ghost use Rattle.std.specs.List.{AllByRecursion};
 ghost use Rattle.kv_core.specs.Bytes.{end_of_keys, key_lt};
 ghost use Rattle.metadata.specs.declared.index.IndexKind.TheVariants.{Value};
 ghost use Rattle.record_store.specs.Calls.{schema_writes};
-ghost use Rattle.record_store.specs.Opening.{HasLooked, IsCreated, IsUncreated, opening_reach};
+ghost use Rattle.record_store.specs.Opening.{IsCreated, IsUncreated};
 ghost use Rattle.record_store.specs.Reading.{IsThere};
-ghost use Rattle.record_store.specs.Steps.{ReadsAll};
 
 use crate::error::StoreError;
 use crate::layout::schema_key;
@@ -57,12 +56,10 @@ impl Store {
         requires below { IsTrue (key_lt prefix.now end_of_keys) }
         requires kinds { AllByRecursion (λ index. index.kind ≡ Value) schema.now.indexes }
         ensures created { IfOk result (λ store. IsCreated (S.map_at db.now) store tx.old tx.new) }
-        ensures looked { OnOk result (ReadsAll (opening_reach prefix.now) tx.new) }
         ensures prefix { IfOk result (λ store. store.prefix ≡ prefix.now) }
         ensures schema { IfOk result (λ store. store.schema ≡ schema.now) }
         ensures states { IfOk result (λ store. store.states ≡ []) }
         ensures refused { IfErr result (λ error. IsUncreated (S.map_at db.now) (S.may_refuse db.now) (record { prefix = prefix.now; schema = schema.now; states = [] }) error tx.old tx.new) }
-        ensures refused_looked { IfErr result (λ error. HasLooked prefix.now error tx.new) }
     {
         let _lawful = schema.types();
         let written = read_schema(alloc, prefix, tx, db)?;

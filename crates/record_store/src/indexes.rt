@@ -10,6 +10,7 @@ ghost use Rattle.metadata.specs.Lawful.{IsLawfulSchema};
 ghost use Rattle.metadata.specs.Written.{schema_bytes};
 ghost use Rattle.metadata.specs.declared.index.State.{State};
 ghost use Rattle.record_store.specs.IndexWrites.{disable_writes};
+ghost use Rattle.record_store.specs.Holds.{HasPlainIndexes};
 ghost use Rattle.record_store.specs.Layout.{entries_range, schema_key, state_key};
 ghost use Rattle.record_store.specs.Store.{still_listed, with_state};
 ghost use Rattle.txn.specs.Refusing.{NeverRefuses};
@@ -142,6 +143,7 @@ impl Store {
     pub fn drop_index(&mut self, tx: &mut Transaction, name: &Text) -> Result<(), StoreError>
         ensures dropped { OnOk result ((maps : ℕ → Map) → IsAnswered maps self.old (drop_call self.old name.now) self.new.schema tx.old tx.new) }
         ensures opened { OnOk result ((number : ℕ) → index_number (find_index self.old.schema name.now) ≡ Ok number → self.new ≡ opened_without self.old number) }
+        ensures plain { OnOk result (HasPlainIndexes self.old.schema self.old.states → HasPlainIndexes self.new.schema self.new.states) }
         ensures kept { OnErr result (self.new ≡ self.old) }
         ensures refused { IfErr result (λ error. (maps : ℕ → Map) → IsRefused maps NeverRefuses self.old (drop_call self.old name.now) error tx.old tx.new) }
     {
@@ -160,6 +162,7 @@ impl Store {
     pub fn mark_disabled(&mut self, tx: &mut Transaction, name: &Text) -> Result<(), StoreError>
         ensures disabled { OnOk result ((maps : ℕ → Map) → IsAnswered maps self.old (disable_call self.old name.now) self.new.states tx.old tx.new) }
         ensures opened { OnOk result ((number : ℕ) → index_number (find_index self.old.schema name.now) ≡ Ok number → self.new ≡ opened_disabled self.old number) }
+        ensures plain { OnOk result (HasPlainIndexes self.old.schema self.old.states → HasPlainIndexes self.new.schema self.new.states) }
         ensures kept { OnErr result (self.new ≡ self.old) }
         ensures refused { IfErr result (λ error. (maps : ℕ → Map) → IsRefused maps NeverRefuses self.old (disable_call self.old name.now) error tx.old tx.new) }
     {

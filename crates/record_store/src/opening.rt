@@ -1,4 +1,4 @@
-ghost use Rattle.std.specs.Prelude.{◌≡◌, ◌∷◌, [], IfOk, IfErr, IsTrue, OnOk};
+ghost use Rattle.std.specs.Prelude.{◌≡◌, ◌∷◌, [], IfOk, IfErr, IsTrue};
 ghost use Rattle.std.specs.List.{AllByRecursion, list_all};
 ghost use Rattle.std.specs.FinMap.{get as value_at};
 ghost use Rattle.kv_core.specs.Bytes.{end_of_keys, key_lt};
@@ -12,7 +12,7 @@ ghost use Rattle.record_store.specs.Layout.{schema_key, state_pair, states_range
 ghost use Rattle.record_store.specs.Opening.{IsOpened, IsUnopened};
 ghost use Rattle.record_store.specs.Reading.{AreStates, HasNotRead, HaveNoStates, IsBadSchema, IsNoSchema, IsNoState, IsPairOfState, IsSchema, is_value, same_pair};
 ghost use Rattle.record_store.specs.Holds.{HasPlainIndexes};
-ghost use Rattle.record_store.specs.Steps.{DidRead, ReadsAll};
+ghost use Rattle.record_store.specs.Steps.{DidRead};
 
 use crate::error::StoreError;
 use crate::layout::{schema_key, state_key, state_value, states_range};
@@ -31,7 +31,6 @@ pub(crate) fn read_schema<S: Snapshot>(
 ) -> Result<Option<Bytes>, StoreError>
     requires { IsTrue (key_lt prefix.now end_of_keys) }
     ensures read { IfOk result (λ written. DidRead (S.map_at db.now) (point (schema_key prefix.now) ∷ []) tx.old tx.new (λ m. written ≡ value_at m (schema_key prefix.now))) }
-    ensures whole { OnOk result (ReadsAll (point (schema_key prefix.now) ∷ []) tx.new) }
     ensures refused { IfErr result (λ error. HasNotRead (S.map_at db.now) (S.may_refuse db.now) (point (schema_key prefix.now) ∷ []) error tx.old tx.new) }
 {
     let key = schema_key(alloc, prefix)?;
@@ -48,7 +47,6 @@ pub(crate) fn read_states<S: Snapshot>(
 ) -> Result<Vec<Pair>, StoreError>
     requires { IsTrue (key_lt prefix.now end_of_keys) }
     ensures read { IfOk result (λ states. DidRead (S.map_at db.now) (states_range prefix.now ∷ []) tx.old tx.new (λ m. states.items ≡ pairs_in m (states_range prefix.now))) }
-    ensures whole { OnOk result (ReadsAll (states_range prefix.now ∷ []) tx.new) }
     ensures refused { IfErr result (λ error. HasNotRead (S.map_at db.now) (S.may_refuse db.now) (states_range prefix.now ∷ []) error tx.old tx.new) }
 {
     let range = states_range(alloc, prefix)?;

@@ -2,7 +2,7 @@
 ghost use Rattle.std.specs.Prelude.{◌≡◌, ◌∷◌, [], Some, IfOk, IfErr};
 ghost use Rattle.kv_core.specs.Range.{point};
 ghost use Rattle.metadata.specs.Schema.{find_type};
-ghost use Rattle.record_store.specs.Form.{read_in};
+ghost use Rattle.record_store.specs.Call.{whole};
 ghost use Rattle.record_store.specs.Layout.{record_key};
 ghost use Rattle.record_store.specs.Reading.{HasNotFound, IsFound, IsKeyOf, IsNotFound, IsRead};
 ghost use Rattle.record_store.specs.Steps.{DidRead};
@@ -48,7 +48,7 @@ impl Store {
         requires own { find_type self.now.schema definition.now.name ≡ Some definition.now }
         requires key { IsKeyOf definition.now primary_key.now }
         ensures found { IfOk result (λ found. DidRead (S.map_at db.now) (point (record_key self.now.prefix primary_key.now) ∷ []) tx.old tx.new (IsRead self.now primary_key.now found)) }
-        ensures refused { IfErr result (λ error. HasNotFound (S.map_at db.now) (S.may_refuse db.now) self.now (point (record_key self.now.prefix primary_key.now) ∷ []) (λ m. read_in m (point (record_key self.now.prefix primary_key.now) ∷ [])) error tx.old tx.new) }
+        ensures refused { IfErr result (λ error. HasNotFound (S.map_at db.now) (S.may_refuse db.now) self.now (whole (point (record_key self.now.prefix primary_key.now) ∷ [])) error tx.old tx.new) }
     {
         let alloc = self.alloc();
         let key = record_key(alloc, self.prefix(), primary_key)?;

@@ -1,6 +1,5 @@
 -- What the submitted transactions come to: the database holds what is committed at each version, and version order is a serial order.
 use Rattle.std.proofs.Common.{◌≡◌, ℕ, suc, ◌+◌, ◌-◌, ◌≤◌, Bool, true, false, cond, ◌&&◌, ◌⊎◌, inl, inr, List, [], ◌∷◌, ◌++◌, map, slice_get, refl, sym, ap, subst, ◌∙◌, Option, Some, None, arith, nat_le, is_none, fold}
-use Rattle.std.specs.Prelude.{IsTrue}
 use Rattle.std.specs.List.{All, AllByRecursion, filter}
 use Rattle.std.specs.Option.{option_map_or}
 use Rattle.std.specs.FinMap.{empty, get-empty}
@@ -8,7 +7,7 @@ use Rattle.kv_core.specs.Bytes.{key_cmp}
 use Rattle.schedule.specs.Layout.{store_prefix}
 use Rattle.std.proofs.lemmas.Bool.{le-leb, leb-true, true≢false}
 use Rattle.std.proofs.lemmas.List.Elements.{recursion_from_All, All-from_recursion}
-use Rattle.kv_core.specs.Range.{KeyRange, covers}
+use Rattle.kv_core.specs.Range.{KeyRange}
 use Rattle.kv_core.specs.Map.{Map, after_all}
 use Rattle.kv_core.specs.declared.change.CommitRequest.{CommitRequest}
 use Rattle.cluster_core.specs.Cluster.{ClusterState, database_at, tier_of}
@@ -32,7 +31,7 @@ use Rattle.schedule.specs.Reach.{reach}
 use Rattle.schedule.specs.Performed.{IsServed, IsReadRefusal, IsPerformed}
 use Rattle.schedule.specs.Commits.{committed, view}
 use Rattle.schedule.specs.Standing.{is_told, is_listed, listed, commit_entry, commits_of}
-use Rattle.schedule.specs.Contract.{attempted, written, reach_of, IsSerialAt, IsSerial, HoldsCommitted, AreRequestsOf, IsCommandReply}
+use Rattle.schedule.specs.Contract.{attempted, written, AreReads, IsSerialAt, IsSerial, HoldsCommitted, AreRequestsOf, IsCommandReply}
 use Rattle.schedule.specs.Turns.{fresh, IsOpenAs, AreSubmitted}
 use Rattle.schedule.proofs.Turning.{after_attempts, attempts_effects, done_serve, done_writes, done_reads}
 
@@ -254,14 +253,11 @@ module _ (p : PipelineState) (subs : List Submission) where
         done_writes maps open_now.attempts (fresh open_now.read_version) request is.done (maps open_now.read_version) (committed (commits_of p subs) open_now.read_version)
         (λ key h. ap (λ v. Rattle.std.specs.FinMap.get (maps v) key) is.at) (holds_committed open_now.read_version is.seen)
 
-    open_reads : (open_now : Open) (request : CommitRequest) → IsOpenAs maps p.reported open_now request → (key : List ℕ) → IsTrue (covers request.reads key) →
-        IsTrue (covers (reach_of (committed (commits_of p subs) open_now.read_version) open_now.attempts) key)
-    open_reads open_now request is key read =
-        elim (done_reads maps open_now.attempts (fresh open_now.read_version) request is.done (maps open_now.read_version) (committed (commits_of p subs) open_now.read_version)
-        (λ k h. ap (λ v. Rattle.std.specs.FinMap.get (maps v) k) is.at) (holds_committed open_now.read_version is.seen) key read) [
-          | inl none ↦ absurd (true≢false (sym none))
-          | inr within ↦ within
-        ]
+    open_reads : (open_now : Open) (request : CommitRequest) → IsOpenAs maps p.reported open_now request → AreReads (committed (commits_of p subs) open_now.read_version) open_now.attempts request.reads
+    open_reads open_now request is =
+        let (ranges, have, are_these) = done_reads maps open_now.attempts (fresh open_now.read_version) request is.done (maps open_now.read_version) (committed (commits_of p subs) open_now.read_version)
+        (λ k h. ap (λ v. Rattle.std.specs.FinMap.get (maps v) k) is.at) (holds_committed open_now.read_version is.seen) in
+        record { added = ranges; each = have; are = are_these }
 
     open_sees : (open_now : Open) (request : CommitRequest) → IsOpenAs maps p.reported open_now request → Stands (seen request (maps open_now.read_version)) (view (commits_of p subs) open_now)
     open_sees open_now request is =
@@ -293,7 +289,8 @@ module _ (p : PipelineState) (subs : List Submission) where
         ⊎ IsReadRefusal (refuses open_now.read_version) (reach (schema_in (view (commits_of p subs) open_now)) command) answer
     performed_right open_now request new refuses command answer is performed =
         let base : maps request.read_version ≡ maps open_now.read_version = ap maps is.at in
-        let at = performed.ran.over (maps open_now.read_version) (λ key h. ap (λ m. Rattle.std.specs.FinMap.get m key) base) (view (commits_of p subs) open_now) (open_sees open_now request is) in
+        let over = performed.ran.over (maps open_now.read_version) (λ key h. ap (λ m. Rattle.std.specs.FinMap.get m key) base) in
+        let at = over.1 (view (commits_of p subs) open_now) (open_sees open_now request is) in
         elim at.right [
           | inl served ↦ inl (subst (λ before. IsServed before (view (commits_of p subs) open_now) command answer) (open_writes open_now request is) served)
           | inr refused ↦ inr (subst (λ v. IsReadRefusal (refuses v) (reach (schema_in (view (commits_of p subs) open_now)) command) answer) is.at refused)

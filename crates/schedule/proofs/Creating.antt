@@ -1,16 +1,19 @@
 -- What making a store comes to.
-use Rattle.std.proofs.Common.{◌≡◌, ℕ, true, List, [], refl, sym, ap, subst, ◌∙◌, inl, inr, Option, Some, None, Ok, Err}
+use Rattle.std.proofs.Common.{◌≡◌, ℕ, List, [], ◌++◌, append-nil, refl, sym, ap, subst, ◌∙◌, inl, inr, Option, Some, None, Ok, Err}
 use Rattle.std.specs.List.{AllByRecursion}
-use Rattle.kv_core.specs.Range.{KeyRange, covers}
+use Rattle.std.specs.FinMap.{get}
+use Rattle.kv_core.specs.Range.{KeyRange}
 use Rattle.kv_core.specs.Map.{Map, after_all}
 use Rattle.kv_core.specs.Limits.{write_all_refusal}
 use Rattle.kv_core.specs.declared.change.CommitRequest.{CommitRequest}
 use Rattle.cluster_core.specs.declared.answers.ReadError.{ReadError}
-use Rattle.txn.proofs.Running.{ran_still, ran_because, ran_wider}
+use Rattle.txn.proofs.Running.{ran_still, ran_because}
 use Rattle.metadata.specs.declared.refusal.MetadataError.{MetadataError}
 use Rattle.metadata.specs.declared.refusal.MetadataError.TheVariants as meta
 use Rattle.metadata.specs.declared.refusal.Refusal.{Refusal}
-use Rattle.metadata.specs.declared.refusal.Refusal.TheVariants.{AlreadyThere}
+use Rattle.metadata.specs.declared.refusal.Refusal.TheVariants.{AlreadyThere, KeyOutside, KeyTooLarge, ValueTooLarge, TransactionTooLarge}
+use Rattle.kv_core.specs.declared.change.WriteError.{WriteError}
+use Rattle.kv_core.specs.declared.change.WriteError.TheVariants as write
 use Rattle.metadata.specs.Answers.{IsRefusedAs}
 use Rattle.metadata.specs.Asked.{SchemaRequest, schema_asked}
 use Rattle.metadata.specs.declared.index.IndexDefinition.{IndexDefinition}
@@ -23,17 +26,20 @@ use Rattle.record_store.specs.Holds.{Holds}
 use Rattle.record_store.specs.Call.{Opened}
 use Rattle.record_store.specs.Calls.{schema_writes}
 use Rattle.record_store.specs.Opening.{IsCreateFailure, IsCreated, IsUncreated, opening_reach}
-use Rattle.record_store.specs.Steps.{of_metadata}
+use Rattle.record_store.specs.Steps.{IsBeginning, of_metadata}
+use Rattle.record_store.specs.Layout.{schema_key}
+use Rattle.schedule.specs.declared.reply.Reply.{Reply}
 use Rattle.schedule.specs.declared.step.Command.TheVariants.{Create}
 use Rattle.schedule.specs.declared.reply.Reply.TheVariants as reply
 use Rattle.schedule.specs.Layout.{store_prefix}
 use Rattle.schedule.specs.Serve.{IsReply, served_create}
 use Rattle.schedule.specs.Holds.{Stands}
-use Rattle.schedule.specs.Reach.{reach, schema_written, writes}
-use Rattle.schedule.specs.Performed.{IsLimited, IsPerformed, IsPerformedAt}
-use Rattle.schedule.specs.Calls.{IsRefused}
-use Rattle.schedule.proofs.Outcomes.{IsRight, limit_right, none_within, opening_within, own_right, read_right, refused_by, refused_memory}
+use Rattle.schedule.specs.Reach.{added, make_reach, open_reach, reach, schema_written, writes}
+use Rattle.schedule.specs.Performed.{IsLimited, IsMade, IsMadeOf, IsPerformed, IsPerformedAt, IsSound, IsTold}
+use Rattle.schedule.specs.Calls.{IsRefused, reply_of}
 use Rattle.record_store.proofs.Plain.{created_plain}
+use Rattle.schedule.proofs.Reached.{begin_open, next_within, opening_asked}
+use Rattle.schedule.proofs.Stops.{IsRight, IsStop, limit_right, own_right, read_right, refused_by, refused_memory, stop_memory, told_read, told_refused}
 
 -- the place of a new store of this schema
 abbrev fresh_at : Schema → Opened
@@ -45,11 +51,32 @@ refusal_replies request None refusal is = (sym (ap (λ o. (served_create None o)
 refusal_replies request (Some store) refusal is = (sym (ap (λ o. (served_create (Some store) o).0) is), refl)
 
 pub refused_request : {maps : ℕ → Map} {refuses : KeyRange → ℕ → ReadError → Type 0} {old : CommitRequest} (request : SchemaRequest) (error : MetadataError) → IsRefusedAs error (schema_asked request) → IsRefused maps refuses (Create request) (of_metadata error) old old
-refused_request request meta.Memory is = refused_memory (Create request) refl
+refused_request request meta.Memory is = refused_memory (Create request)
 refused_request {refuses = refuses} {old = old} request (meta.Refused refusal) is =
-    refused_by (Create request) None (Refused refusal) (ran_still refl (λ m serial stands.
-    let says = refusal_replies request serial refusal is in
-    own_right (λ range. refuses range old.read_version) None (Create request) old.mutations refusal serial (none_within (schema_in serial) (Create request)) says.0 says.1))
+    refused_by (Create request) None (Refused refusal) [] (ran_still refl (λ m. record {
+      there = tt;
+      reads = reads_nothing;
+      told = λ answer same. told_refused None (Create request) refusal answer m same (subst (λ o. IsMadeOf o (reply.Refused refusal) m) (sym is) tt);
+      held = λ serial stands.
+          let says = refusal_replies request serial refusal is in
+          (own_right (λ range. refuses range old.read_version) (Create request) old.mutations refusal serial says.0 says.1, reads_nothing ∙ same_added m serial);
+    }))
+  where
+    reads_nothing : [] ≡ make_reach (schema_asked request) ++ []
+    reads_nothing = sym (ap (λ o. make_reach o ++ []) is)
+
+    same_added : (m : Map) (serial : Serial) → make_reach (schema_asked request) ++ [] ≡ added serial (Create request)
+    same_added m None = refl
+    same_added m (Some store) = refl
+
+-- what is asked for where the schema is made
+opens : (request : SchemaRequest) (schema : Schema) → schema_asked request ≡ Ok schema → open_reach (Create request) ≡ opening_reach store_prefix
+opens request schema is = ap make_reach is
+
+-- what is added at what is there
+added_there : (request : SchemaRequest) (serial : Serial) → open_reach (Create request) ++ [] ≡ added serial (Create request)
+added_there request None = refl
+added_there request (Some store) = refl
 
 -- what is written where there is no store
 writes_none : (request : SchemaRequest) (schema : Schema) → schema_asked request ≡ Ok schema → writes None (Create request) ≡ schema_writes store_prefix schema
@@ -58,27 +85,62 @@ writes_none request schema is = ap schema_written is
 -- NOT MADE
 uncreated_at : {maps : ℕ → Map} {refuses : KeyRange → ℕ → ReadError → Type 0} {old new : CommitRequest} (request : SchemaRequest) (schema : Schema) (error : StoreError) → schema_asked request ≡ Ok schema →
     IsUncreated maps refuses (fresh_at schema) error old new → IsRefused maps refuses (Create request) error old new
-uncreated_at {refuses = refuses} {old = old} request schema error made is =
-    refused_by (Create request) None error (ran_wider (ran_because is.ran (λ m says serial stands. right error m says serial stands)) (opening_within None (Create request)))
+uncreated_at {refuses = refuses} {old = old} request schema error made is = refused_by (Create request) None error is.added (ran_because is.ran (λ m says. stop error is.added m says))
   where
-    wider : (serial : Serial) (k : List ℕ) → covers (reach None (Create request)) k ≡ true → covers (reach (schema_in serial) (Create request)) k ≡ true
-    wider serial = none_within (schema_in serial) (Create request)
+    refused : KeyRange → ReadError → Type 0
+    refused range = refuses range old.read_version
 
-    right : (error : StoreError) (m : Map) → IsCreateFailure (λ range. refuses range old.read_version) (fresh_at schema) error old.mutations m → (serial : Serial) → Stands m serial →
-        IsRight (λ range. refuses range old.read_version) None (Create request) old.mutations error serial
-    right Memory m says serial stands = (λ answer same. absurd (cc), wider serial)
-    right (Read reason) m says serial stands = (
-      λ answer same. inr (read_right (λ range. refuses range old.read_version) (opening_reach store_prefix) (reach (schema_in serial) (Create request)) (opening_within (schema_in serial) (Create request)) reason answer same says),
-      wider serial,
-    )
-    right (Corrupt key) m says serial stands = absurd says
-    right (Refused refusal) m says None stands = absurd (says.2 None stands.held refl)
-    right (Refused refusal) m says (Some store) stands =
-        subst (λ r. IsRight (λ range. refuses range old.read_version) None (Create request) old.mutations (Refused r) (Some store)) (sym says.0)
-        (own_right (λ range. refuses range old.read_version) None (Create request) old.mutations AlreadyThere (Some store) (wider (Some store)) (sym (ap (λ o. (served_create (Some store) o).0) made)) refl)
-    right (Write reason) m says None stands =
-        limit_right (λ range. refuses range old.read_version) None (Create request) old.mutations reason None (wider None) (ap (write_all_refusal old.mutations) (writes_none request schema made) ∙ says.1)
-    right (Write reason) m says (Some store) stands = let none : ◌≡◌ {A = Option Store} (Some store) None = says.2 (Some store) stands.held in absurd (cc)
+    opened : open_reach (Create request) ≡ opening_reach store_prefix
+    opened = opens request schema made
+
+    all : (ranges : List KeyRange) → ranges ≡ opening_reach store_prefix → ranges ≡ open_reach (Create request) ++ []
+    all ranges same = same ∙ sym opened ∙ sym (append-nil (open_reach (Create request)))
+
+    sound : (m : Map) (refusal : Refusal) → IsMade (reply.Refused refusal) m → IsSound None (Create request) (reply.Refused refusal) m
+    sound m refusal is_made = subst (λ o. IsMadeOf o (reply.Refused refusal) m) (sym made) is_made
+
+    limited : (m : Map) → get m (schema_key store_prefix) ≡ None → (error : WriteError) (answer : Reply) → reply_of (Write error) ≡ Some answer → IsTold None (Create request) answer m
+    limited m none write.KeyOutside answer same = told_refused None (Create request) KeyOutside answer m same (sound m KeyOutside none)
+    limited m none write.KeyTooLarge answer same = told_refused None (Create request) KeyTooLarge answer m same (sound m KeyTooLarge none)
+    limited m none write.ValueTooLarge answer same = told_refused None (Create request) ValueTooLarge answer m same (sound m ValueTooLarge none)
+    limited m none write.TransactionTooLarge answer same = told_refused None (Create request) TransactionTooLarge answer m same (sound m TransactionTooLarge none)
+    limited m none write.Memory answer same = absurd (cc)
+
+    right : (error : StoreError) (ranges : List KeyRange) (m : Map) → IsCreateFailure refused (fresh_at schema) error old.mutations ranges m → (serial : Serial) → Stands m serial → IsRight refused (Create request) old.mutations error serial
+    right Memory ranges m says serial stands = λ answer same. absurd (cc)
+    right (Read reason) ranges m says serial stands =
+        λ answer same. inr (read_right refused (reach (schema_in serial) (Create request)) reason answer same
+        (next_within refused (opening_reach store_prefix) ranges (reach (schema_in serial) (Create request)) reason (opening_asked (schema_in serial) (Create request) opened) says.1))
+    right (Corrupt key) ranges m says serial stands = absurd says
+    right (Refused refusal) ranges m says None stands = absurd (says.3 None stands.held refl)
+    right (Refused refusal) ranges m says (Some store) stands =
+        subst (λ r. IsRight refused (Create request) old.mutations (Refused r) (Some store)) (sym says.1)
+        (own_right refused (Create request) old.mutations AlreadyThere (Some store) (sym (ap (λ o. (served_create (Some store) o).0) made)) refl)
+    right (Write reason) ranges m says None stands =
+        limit_right refused (Create request) old.mutations reason None (ap (write_all_refusal old.mutations) (writes_none request schema made) ∙ says.2)
+    right (Write reason) ranges m says (Some store) stands = let none : ◌≡◌ {A = Option Store} (Some store) None = says.3 (Some store) stands.held in absurd (cc)
+
+    stop : (error : StoreError) (ranges : List KeyRange) (m : Map) → IsCreateFailure refused (fresh_at schema) error old.mutations ranges m → IsStop refused None (Create request) old.mutations error ranges m
+    stop Memory ranges m says = stop_memory refused None (Create request) old.mutations ranges m tt (begin_open (Create request) [] opened says) (λ serial stands. subst (IsBeginning ranges) (added_there request serial) (begin_open (Create request) [] opened says))
+    stop (Read reason) ranges m says = record {
+      there = tt;
+      reads = begin_open (Create request) [] opened says.0;
+      told = λ answer same. told_read None (Create request) reason answer m same;
+      held = λ serial stands. (right (Read reason) ranges m says serial stands, subst (IsBeginning ranges) (added_there request serial) (begin_open (Create request) [] opened says.0));
+    }
+    stop (Corrupt key) ranges m says = absurd says
+    stop (Refused refusal) ranges m says = record {
+      there = tt;
+      reads = all ranges says.0;
+      told = λ answer same. told_refused None (Create request) refusal answer m same (sound m refusal (subst (λ r. IsMade (reply.Refused r) m) (sym says.1) says.2));
+      held = λ serial stands. (right (Refused refusal) ranges m says serial stands, all ranges says.0 ∙ added_there request serial);
+    }
+    stop (Write reason) ranges m says = record {
+      there = tt;
+      reads = all ranges says.0;
+      told = λ answer same. limited m says.1 reason answer same;
+      held = λ serial stands. (right (Write reason) ranges m says serial stands, all ranges says.0 ∙ added_there request serial);
+    }
 
 pub uncreated : {maps : ℕ → Map} {refuses : KeyRange → ℕ → ReadError → Type 0} {old new : CommitRequest} (request : SchemaRequest) (prefix : List ℕ) (schema : Schema) (error : StoreError) → prefix ≡ store_prefix → schema_asked request ≡ Ok schema →
     IsUncreated maps refuses (record { prefix = prefix; schema = schema; states = [] }) error old new → IsRefused maps refuses (Create request) error old new
@@ -89,19 +151,26 @@ uncreated {maps = maps} {refuses = refuses} {old = old} {new = new} request pref
 created_at : {maps : ℕ → Map} {refuses : KeyRange → ReadError → Type 0} {old new : CommitRequest} (request : SchemaRequest) (schema : Schema) → schema_asked request ≡ Ok schema → AllByRecursion (λ (index : IndexDefinition). index.kind ≡ Value) schema.indexes → IsCreated maps (fresh_at schema) old new → IsPerformed maps refuses (Create request) reply.Done old new
 created_at {refuses = refuses} {old = old} request schema made kinds is = record {
   schema = None;
+  added = opening_reach store_prefix;
   written = schema_writes store_prefix schema;
   changes = refl;
-  ran = ran_wider (ran_because is.ran (λ m fact serial stands. right m serial stands (fact.1 serial stands.held))) (opening_within None (Create request));
+  ran = ran_because is.ran (λ m fact. (
+    record { there = tt; reads = all; told = subst (λ o. IsMadeOf o reply.Done m) (sym made) fact.0 },
+    λ serial stands. right m serial stands (fact.1 serial stands.held),
+  ));
 }
   where
+    all : opening_reach store_prefix ≡ open_reach (Create request) ++ []
+    all = sym (opens request schema made) ∙ sym (append-nil (open_reach (Create request)))
+
     right : (m : Map) (serial : Serial) → Stands m serial → (serial ≡ None) × Holds store_prefix (after_all (schema_writes store_prefix schema) m) (Some (created schema)) →
-        IsPerformedAt refuses None (Create request) reply.Done old.mutations (schema_writes store_prefix schema) m serial
+        IsPerformedAt refuses (Create request) reply.Done old.mutations (schema_writes store_prefix schema) (opening_reach store_prefix) m serial
     right m (Some store) stands known = let none : ◌≡◌ {A = Option Store} (Some store) None = known.0 in absurd (cc)
     right m None stands known = record {
       right = inl (subst (λ o. IsLimited o None (Create request) reply.Done) (sym is.allowed ∙ ap (write_all_refusal old.mutations) (sym (writes_none request schema made))) (sym (ap (λ o. (served_create None o).0) made)));
       wrote = sym (writes_none request schema made);
       holds = subst (Stands (after_all (schema_writes store_prefix schema) m)) (sym (ap (λ o. (served_create None o).1) made)) (record { held = known.1; plain = created_plain schema kinds });
-      opened = λ k h. h;
+      reads = all ∙ added_there request None;
     }
 
 pub created_now : {maps : ℕ → Map} {refuses : KeyRange → ReadError → Type 0} {old new : CommitRequest} (request : SchemaRequest) (opened : Opened) (schema : Schema) → opened.prefix ≡ store_prefix → opened.schema ≡ schema → opened.states ≡ [] →

@@ -8,19 +8,18 @@ use Rattle.metadata.specs.declared.index.IndexKind.TheVariants.{Value}
 use Rattle.metadata.specs.declared.index.IndexRequest.{IndexRequest}
 use Rattle.metadata.specs.declared.index.State.TheVariants.{Readable, Disabled}
 use Rattle.metadata.specs.declared.refusal.Refusal.TheVariants.{BadSchema, NameTaken, UnknownField, UnknownIndex, UnknownType}
-use Rattle.metadata.specs.Written.{schema_bytes}
+use Rattle.kv_core.specs.Bytes.{next_key}
 use Rattle.kv_core.specs.Range.{point}
-use Rattle.kv_core.specs.declared.change.Mutation.{Mutation}
 use Rattle.kv_core.specs.declared.change.Mutation.TheVariants.{Set, ClearRange}
-use Rattle.record_store.specs.Store.{Serial, schema_in}
+use Rattle.record_store.specs.Store.{Serial}
 use Rattle.record_store.specs.Layout.{record_value, type_range}
 use Rattle.schedule.specs.declared.step.Command.{Command}
-use Rattle.schedule.specs.declared.step.Command.TheVariants.{Create, Save, Load, Remove, Index, Drop, Disable, State}
+use Rattle.schedule.specs.declared.step.Command.TheVariants.{Create, Save, Remove, Index, Drop, Disable, State}
 use Rattle.schedule.specs.declared.reply.Reply.{Reply}
 use Rattle.schedule.specs.declared.reply.Reply.TheVariants as answers
 use Rattle.schedule.specs.declared.reply.Reply.TheVariants.{Done, SavedNew, SavedOver, Refused}
 use Rattle.schedule.specs.Layout.{store_prefix}
-use Rattle.schedule.specs.Reach.{own_reach, writes}
+use Rattle.schedule.specs.Reach.{own_added, writes}
 use Rattle.schedule.specs.Serve.{effects, served}
 use Rattle.tuple_codec.specs.Spelling.{int_spelling, byte_count}
 
@@ -100,6 +99,7 @@ disabled : (writes (effects there (Disable a ∷ [])) (save 1 6) ≡ Set one (re
 unfolding int_spelling byte_count
 disabled = (refl, refl)
 
--- a new index reads the records of its type, a dropped one nothing
-reaches : (own_reach (schema_in there) (Index (asked b t (b ∷ []))) ≡ type_range store_prefix 1 ∷ []) × (own_reach (schema_in there) (Index (asked a t (b ∷ []))) ≡ []) × (own_reach (schema_in there) (Drop a) ≡ [])
+-- a new index reads up to the first record of its type, a refused one and a dropped one read nothing
+reaches : (own_added there (Index (asked b t (b ∷ []))) ≡ record { begin = (type_range store_prefix 1).begin; end = next_key one } ∷ []) × (own_added there (Index (asked a t (b ∷ []))) ≡ []) × (own_added there (Drop a) ≡ [])
+unfolding int_spelling byte_count
 reaches = (refl, refl, refl)

@@ -1,5 +1,5 @@
 -- What each command on an index is by its call on the open store.
-use Rattle.std.proofs.Common.{◌≡◌, ℕ, true, false, List, [], ◌∷◌, refl, sym, ap, ◌∙◌, Option, Some, None, Result, Ok, Err, subst}
+use Rattle.std.proofs.Common.{◌≡◌, ℕ, false, List, [], refl, sym, ap, ◌∙◌, Option, Some, None, Result, Ok, Err, subst}
 use Rattle.kv_core.specs.Range.{KeyRange}
 use Rattle.kv_core.specs.Map.{Map}
 use Rattle.kv_core.specs.declared.change.CommitRequest.{CommitRequest}
@@ -11,11 +11,11 @@ use Rattle.metadata.specs.declared.index.IndexRequest.{IndexRequest}
 use Rattle.metadata.specs.declared.index.State as states
 use Rattle.metadata.specs.declared.refusal.Refusal.{Refusal}
 use Rattle.metadata.specs.IndexChange.{new_index}
-use Rattle.metadata.specs.Schema.{Schema, find_index}
+use Rattle.metadata.specs.Schema.{find_index}
 use Rattle.metadata.proofs.AskedKinds.{added_kinds}
 use Rattle.record_store.specs.Store.{Store, state_in}
 use Rattle.record_store.specs.declared.error.StoreError.TheVariants.{Refused}
-use Rattle.record_store.specs.Call.{Call, IsAnswered, IsOpenAs, Opened, Service}
+use Rattle.record_store.specs.Call.{Call, IsAnswered, IsOpenAs, Opened, Service, whole}
 use Rattle.record_store.specs.Opening.{IsOpened}
 use Rattle.record_store.specs.Calls.{disable_call, disable_service, done_with, drop_call, drop_service, index_call, index_number, index_service, state_named}
 use Rattle.record_store.proofs.Plain.{disabled_plain, dropped_plain, indexed_plain}
@@ -23,11 +23,12 @@ use Rattle.schedule.specs.declared.step.Command.TheVariants.{Index, Drop, Disabl
 use Rattle.schedule.specs.declared.reply.Reply.{Reply}
 use Rattle.schedule.specs.declared.reply.Reply.TheVariants as reply
 use Rattle.schedule.specs.Serve.{served_by, served_disable, served_drop, served_index, served_state}
-use Rattle.schedule.specs.Reach.{disabling, dropping, index_reach, indexing}
+use Rattle.schedule.specs.Reach.{disabling, dropping, first_reading, indexing}
 use Rattle.schedule.specs.Calls.{IsRefused}
 use Rattle.schedule.specs.Performed.{IsPerformed}
 use Rattle.schedule.specs.Layout.{store_prefix}
-use Rattle.schedule.proofs.Outcomes.{Meets, Refuses, Serves, at, located, performed, refused_own}
+use Rattle.schedule.proofs.Outcomes.{Meets, Refuses, Serves, located, performed, refused_own}
+use Rattle.schedule.proofs.Stops.{at}
 use Rattle.schedule.proofs.Serving.{done_meets}
 
 -- ---- index
@@ -43,7 +44,8 @@ index_meets opened request kind = done_meets (at opened) (Index request) (index_
 
     serves : (index : IndexDefinition) → new_index opened.schema request ≡ Ok index → Serves (at opened) (Index request) (index_service (at opened) index) told_index
     serves index is = record {
-      reaches = ap index_reach is;
+      opens = refl;
+      reads = ap first_reading is;
       accepted = λ state. refl;
       reading = λ state. refl;
       replies = λ store lawful same. sym (ap (λ o. (served_by store (served_index store) o).0) (here store same is));
@@ -54,6 +56,8 @@ index_meets opened request kind = done_meets (at opened) (Index request) (index_
 
     refuses : (refusal : Refusal) → new_index opened.schema request ≡ Err refusal → Refuses (at opened) (Index request) refusal
     refuses refusal is = record {
+      opens = refl;
+      reads = ap first_reading is;
       replies = λ store same. sym (ap (λ o. (served_by store (served_index store) o).0) (here store same is));
       idle = λ store same. ap (indexing store) (here store same is);
     }
@@ -72,7 +76,8 @@ drop_meets opened name = done_meets (at opened) (Drop name) (drop_service (at op
   where
     serves : (number : ℕ) → index_number (find_index opened.schema name) ≡ Ok number → Serves (at opened) (Drop name) (drop_service (at opened) number) told_done
     serves number is = record {
-      reaches = refl;
+      opens = refl;
+      reads = refl;
       accepted = λ answer. refl;
       reading = λ answer. refl;
       replies = λ store lawful same. sym (ap (λ o. (served_by store (served_drop store) o).0) (numbered opened name store same is));
@@ -83,6 +88,8 @@ drop_meets opened name = done_meets (at opened) (Drop name) (drop_service (at op
 
     refuses : (refusal : Refusal) → index_number (find_index opened.schema name) ≡ Err refusal → Refuses (at opened) (Drop name) refusal
     refuses refusal is = record {
+      opens = refl;
+      reads = refl;
       replies = λ store same. sym (ap (λ o. (served_by store (served_drop store) o).0) (numbered opened name store same is));
       idle = λ store same. ap (dropping store) (numbered opened name store same is);
     }
@@ -92,7 +99,8 @@ disable_meets opened name = done_meets (at opened) (Disable name) (disable_servi
   where
     serves : (number : ℕ) → index_number (find_index opened.schema name) ≡ Ok number → Serves (at opened) (Disable name) (disable_service (at opened) number) told_done
     serves number is = record {
-      reaches = refl;
+      opens = refl;
+      reads = refl;
       accepted = λ answer. refl;
       reading = λ answer. refl;
       replies = λ store lawful same. sym (ap (λ o. (served_by store (served_disable store) o).0) (numbered opened name store same is));
@@ -103,6 +111,8 @@ disable_meets opened name = done_meets (at opened) (Disable name) (disable_servi
 
     refuses : (refusal : Refusal) → index_number (find_index opened.schema name) ≡ Err refusal → Refuses (at opened) (Disable name) refusal
     refuses refusal is = record {
+      opens = refl;
+      reads = refl;
       replies = λ store same. sym (ap (λ o. (served_by store (served_disable store) o).0) (numbered opened name store same is));
       idle = λ store same. ap disabling (numbered opened name store same is);
     }
@@ -112,8 +122,7 @@ disable_meets opened name = done_meets (at opened) (Disable name) (disable_servi
 -- the state of the index with this number, as a call that reads and writes nothing
 abbrev state_service : ℕ → Service states.State
 state_service number = record {
-  reach = [];
-  reads = λ m. [];
+  reading = whole [];
   answer = λ store. state_in store.states number;
   after = λ store. store;
   writes = λ store. [];
@@ -125,6 +134,8 @@ state_call opened name = done_with state_service (index_number (find_index opene
 
 state_refuses : (opened : Opened) (name : List ℕ) (refusal : Refusal) → index_number (find_index opened.schema name) ≡ Err refusal → Refuses (at opened) (State name) refusal
 state_refuses opened name refusal is = record {
+  opens = refl;
+  reads = refl;
   replies = λ store same. sym (ap (λ o. (served_by store (served_state store) o).0) (numbered opened name store same is));
   idle = λ store same. refl;
 }
@@ -134,7 +145,8 @@ state_meets opened name = done_meets (at opened) (State name) state_service told
   where
     serves : (number : ℕ) → index_number (find_index opened.schema name) ≡ Ok number → Serves (at opened) (State name) (state_service number) told_index
     serves number is = record {
-      reaches = refl;
+      opens = refl;
+      reads = refl;
       accepted = λ state. refl;
       reading = λ state. refl;
       replies = λ store lawful same. sym (ap (λ o. (served_by store (served_state store) o).0) (numbered opened name store same is));
@@ -161,9 +173,10 @@ state_answered opened name state is =
     let (number, found, same) = state_number opened.states (find_index opened.schema name) state is in record {
       service = state_service number;
       accepted = ap (done_with state_service) found;
+      added = [];
       written = [];
       changes = refl;
-      ran = ran_still refl (λ m. (tt, λ store holds as_opened. record { answers = same ∙ ap (λ ss. state_in ss number) (sym as_opened.states); wrote = refl; allowed = refl; holds = holds }));
+      ran = ran_still refl (λ m. (refl, tt, λ store holds as_opened. record { answers = same ∙ ap (λ ss. state_in ss number) (sym as_opened.states); wrote = refl; allowed = refl; holds = holds }));
     }
 
 -- STATE: the state that the opened store has of the index is the reply

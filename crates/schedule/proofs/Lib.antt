@@ -11,6 +11,8 @@ pub mod ReportSteps
 pub mod RunSteps
 pub mod WorkSteps
 pub mod SettleSteps
+pub mod Reached
+pub mod Stops
 pub mod Outcomes
 pub mod Serving
 pub mod IndexServing

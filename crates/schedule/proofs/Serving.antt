@@ -27,7 +27,7 @@ use Rattle.index_maint.proofs.RecordLists.{id, id_order, all_filter, ordered-fil
 use Rattle.record_store.specs.Store.{Store}
 use Rattle.record_store.specs.Holds.{IsLawful}
 use Rattle.record_store.proofs.Plain.{removed_plain, saved_plain}
-use Rattle.record_store.specs.Call.{IsOpenAs, Opened, Service}
+use Rattle.record_store.specs.Call.{IsOpenAs, Opened, Service, whole}
 use Rattle.record_store.specs.Calls.{done_with, load_call, load_service, number_of, own_record, records_call, records_service, remove_call, remove_service, save_call, save_service, schema_service, type_call}
 use Rattle.schedule.specs.declared.step.Command.{Command}
 use Rattle.schedule.specs.declared.step.Command.TheVariants.{«Type», Save, Load, Remove, Query}
@@ -40,7 +40,8 @@ use Rattle.schedule.specs.Query.{Allows}
 use Rattle.schedule.specs.Layout.{store_prefix}
 use Rattle.schedule.specs.Reach.{schema_written, saving, removing, record_reach, key_reach, type_reach}
 use Rattle.schedule.specs.Calls.{removal_reply}
-use Rattle.schedule.proofs.Outcomes.{Meets, Refuses, Serves, at}
+use Rattle.schedule.proofs.Outcomes.{Meets, Refuses, Serves}
+use Rattle.schedule.proofs.Stops.{at}
 
 -- a call that is done with a value, or has its own refusal
 pub done_meets : {K A : Type 0} (opened : Opened) (command : Command) (service : K → Service A) (told : A → Reply) (outcome : Result K Refusal) →
@@ -70,7 +71,8 @@ load_meets opened name cells = done_meets (at opened) (Load name cells) (load_se
 
     serves : (key : List Item) → key_of opened.schema name cells ≡ Ok key → Serves (at opened) (Load name cells) (load_service (at opened) key) told_load
     serves key is = record {
-      reaches = ap key_reach is;
+      opens = refl;
+      reads = ap (λ o. whole (key_reach o)) is;
       accepted = λ found. load_accepted (cells_in found);
       reading = λ found. load_reads name cells (cells_in found);
       replies = λ store lawful same. sym (ap (λ o. (served_by store (served_load store) o).0) (here store same is));
@@ -80,7 +82,12 @@ load_meets opened name cells = done_meets (at opened) (Load name cells) (load_se
     }
 
     refuses : (refusal : Refusal) → key_of opened.schema name cells ≡ Err refusal → Refuses (at opened) (Load name cells) refusal
-    refuses refusal is = record { replies = λ store same. sym (ap (λ o. (served_by store (served_load store) o).0) (here store same is)); idle = λ store same. refl }
+    refuses refusal is = record {
+      opens = refl;
+      reads = ap (λ o. whole (key_reach o)) is;
+      replies = λ store same. sym (ap (λ o. (served_by store (served_load store) o).0) (here store same is));
+      idle = λ store same. refl;
+    }
 
 -- ---- remove
 
@@ -104,7 +111,8 @@ remove_meets opened name cells = done_meets (at opened) (Remove name cells) (rem
 
     serves : (key : List Item) → key_of opened.schema name cells ≡ Ok key → Serves (at opened) (Remove name cells) (remove_service (at opened) key) removal_reply
     serves key is = record {
-      reaches = ap key_reach is;
+      opens = refl;
+      reads = ap (λ o. whole (key_reach o)) is;
       accepted = remove_accepted;
       reading = remove_reads name cells;
       replies = λ store lawful same. removed_reply (record_at key store.records) ∙ sym (ap (λ o. (served_by store (served_remove store) o).0) (here store same is));
@@ -115,6 +123,8 @@ remove_meets opened name cells = done_meets (at opened) (Remove name cells) (rem
 
     refuses : (refusal : Refusal) → key_of opened.schema name cells ≡ Err refusal → Refuses (at opened) (Remove name cells) refusal
     refuses refusal is = record {
+      opens = refl;
+      reads = ap (λ o. whole (key_reach o)) is;
       replies = λ store same. sym (ap (λ o. (served_by store (served_remove store) o).0) (here store same is));
       idle = λ store same. ap (removing store) (here store same is);
     }
@@ -177,6 +187,8 @@ own schema name cells r is =
 
 pub save_refuses : (opened : Opened) (name : List ℕ) (cells : List Cell) (refusal : Refusal) → record_of opened.schema name cells ≡ Err refusal → Refuses (at opened) (Save name cells) refusal
 save_refuses opened name cells refusal is = record {
+  opens = refl;
+  reads = ap (λ o. whole (record_reach o)) is;
   replies = λ store same. sym (ap (λ o. (served_by store (served_save store) o).0) (ap (λ s. record_of s name cells) same.schema ∙ is));
   idle = λ store same. ap (saving store) (ap (λ s. record_of s name cells) same.schema ∙ is);
 }
@@ -189,7 +201,8 @@ save_meets opened name cells r is = subst (λ o. Meets (at opened) (Save name ce
 
     serves : Serves (at opened) (Save name cells) (save_service (at opened) r) told_save
     serves = record {
-      reaches = ap record_reach is;
+      opens = refl;
+      reads = ap (λ o. whole (record_reach o)) is;
       accepted = λ old. save_accepted (cells_in old);
       reading = λ old. save_changes name cells (cells_in old);
       replies = λ store lawful same. sym (ap (λ o. (served_by store (served_save store) o).0) (here store same));
@@ -219,7 +232,8 @@ type_meets opened request = done_meets (at opened) («Type» request) (schema_se
 
     serves : (next : Schema) → add_type opened.schema request ≡ Ok next → Serves (at opened) («Type» request) (schema_service (at opened) next) told_type
     serves next is = record {
-      reaches = refl;
+      opens = refl;
+      reads = refl;
       accepted = λ answer. refl;
       reading = λ answer. refl;
       replies = λ store lawful same. sym (ap (λ o. (served_by store (served_type store) o).0) (here store same is));
@@ -233,6 +247,8 @@ type_meets opened request = done_meets (at opened) («Type» request) (schema_se
 
     refuses : (refusal : Refusal) → add_type opened.schema request ≡ Err refusal → Refuses (at opened) («Type» request) refusal
     refuses refusal is = record {
+      opens = refl;
+      reads = refl;
       replies = λ store same. sym (ap (λ o. (served_by store (served_type store) o).0) (here store same is));
       idle = λ store same. ap schema_written (here store same is);
     }
@@ -272,6 +288,10 @@ query_meets opened query = done_meets (at opened) (Query query) (records_service
     reached number None none = absurd (cc)
     reached number (Some type) some = let same : type.number ≡ number = cc in ap (λ n. Rattle.record_store.specs.Layout.type_range store_prefix n ∷ []) same
 
+    unreached : (refusal : Refusal) (type : Option TypeDefinition) → number_of type ≡ Err refusal → type_reach type ≡ []
+    unreached refusal None none = refl
+    unreached refusal (Some type) some = absurd (cc)
+
     answered : (number : ℕ) (store : Store) → IsLawful store → (type : Option TypeDefinition) → number_of type ≡ Ok number → IsQueryReply store type (told_query (of_type number store.records))
     answered number store lawful None none = absurd (cc)
     answered number store lawful (Some type) found =
@@ -287,7 +307,8 @@ query_meets opened query = done_meets (at opened) (Query query) (records_service
 
     serves : (number : ℕ) → number_of (find_type opened.schema query.record_type) ≡ Ok number → Serves (at opened) (Query query) (records_service (at opened) number) told_query
     serves number is = record {
-      reaches = reached number (find_type opened.schema query.record_type) is;
+      opens = refl;
+      reads = ap whole (reached number (find_type opened.schema query.record_type) is);
       accepted = λ rows. refl;
       reading = λ rows. refl;
       replies = λ store lawful same. answered number store lawful (find_type store.schema query.record_type) (ap (λ s. number_of (find_type s query.record_type)) same.schema ∙ is);
@@ -298,6 +319,8 @@ query_meets opened query = done_meets (at opened) (Query query) (records_service
 
     refuses : (refusal : Refusal) → number_of (find_type opened.schema query.record_type) ≡ Err refusal → Refuses (at opened) (Query query) refusal
     refuses refusal is = record {
+      opens = refl;
+      reads = ap whole (unreached refusal (find_type opened.schema query.record_type) is);
       replies = λ store same. unknown refusal store (find_type store.schema query.record_type) (ap (λ s. number_of (find_type s query.record_type)) same.schema ∙ is);
       idle = λ store same. refl;
     }

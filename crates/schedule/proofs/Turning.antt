@@ -1,9 +1,8 @@
 -- Attempts at commands, one after another, in one transaction.
-use Rattle.std.proofs.Common.{◌≡◌, ℕ, suc, ◌≤◌, Bool, true, false, not, cond, ◌==◌, ◌||◌, ◌⊎◌, inl, inr, List, [], ◌∷◌, ◌++◌, length, refl, sym, ap, subst, ◌∙◌, Option, Some, None, append_assoc, append-nil, arith}
-use Rattle.std.specs.Prelude.{IsTrue, filter, map, fold}
-use Rattle.std.proofs.lemmas.Bool.{eqb-true, true≢false, or_left, or_right}
-use Rattle.std.proofs.lemmas.List.Folds.{list_any-append}
-use Rattle.kv_core.specs.Range.{KeyRange, contains, covers}
+use Rattle.std.proofs.Common.{◌≡◌, ℕ, suc, ◌≤◌, Bool, true, false, not, cond, ◌==◌, ◌||◌, inl, inr, List, [], ◌∷◌, ◌++◌, length, refl, sym, ap, subst, ◌∙◌, Option, Some, None, append_assoc, append-nil, arith}
+use Rattle.std.specs.Prelude.{filter, map, fold}
+use Rattle.std.proofs.lemmas.Bool.{eqb-true, true≢false}
+use Rattle.kv_core.specs.Range.{KeyRange}
 use Rattle.kv_core.specs.Map.{Map, Agree, after_all}
 use Rattle.kv_core.specs.Limits.{write_all_refusal}
 use Rattle.kv_core.specs.declared.change.CommitRequest.{CommitRequest}
@@ -13,7 +12,8 @@ use Rattle.kv_core.specs.declared.change.WriteError.TheVariants as limits
 use Rattle.kv_core.proofs.Changes.{after_all-append}
 use Rattle.cluster_core.specs.declared.answers.ReadError.{ReadError}
 use Rattle.txn.specs.Reads.{seen}
-use Rattle.txn.proofs.Running.{ran_because}
+use Rattle.txn.specs.Runs.{with_ranges}
+use Rattle.txn.proofs.Running.{ran_because, ran_keeps, with_ranges_append}
 use Rattle.schedule.specs.declared.step.Command.{Command}
 use Rattle.schedule.specs.declared.reply.Reply.{Reply}
 use Rattle.schedule.specs.declared.reply.Reply.TheVariants.{Begun, Done, SavedNew, SavedOver, Found, Absent, Removed, Rows, State, Submitted, ReadOnly, Nothing, Reported, Refused, Corrupt}
@@ -23,7 +23,7 @@ use Rattle.schedule.specs.Past.{Attempt, Open, accepted, is_accepted, is_reading
 use Rattle.schedule.specs.Holds.{Stands}
 use Rattle.schedule.specs.Reach.{reach, writes}
 use Rattle.schedule.specs.Performed.{IsLimit, IsLimited, IsReadRefusal, IsPerformedAt, IsPerformed}
-use Rattle.schedule.specs.Contract.{attempted, written, reach_of, IsSerialAt}
+use Rattle.schedule.specs.Contract.{attempted, written, HaveAdded, IsSerialAt}
 use Rattle.schedule.specs.Turns.{fresh, DidAt, Did, AreDone, IsOpenAs}
 
 -- ---- one attempt
@@ -58,26 +58,26 @@ replied_of : (limit : Option WriteError) (serial : Serial) (command : Command) (
 replied_of None serial command answer is yes_accepted = is
 replied_of (Some error) serial command answer is yes_accepted = absurd (true≢false (sym yes_accepted ∙ limit_refuses error answer is))
 
-did_at : {refuses : KeyRange → ReadError → Type 0} {before : List Mutation} (schema : Option Rattle.metadata.specs.Schema.Schema) (command : Command) (answer : Reply) (written : List Mutation) (m : Map) (serial : Serial) →
-    IsPerformedAt refuses schema command answer before written m serial → DidAt schema (record { command = command; reply = answer }) written m serial
-did_at {refuses = refuses} {before = before} schema command answer written m serial performed = record {
+did_at : {refuses : KeyRange → ReadError → Type 0} {before : List Mutation} (command : Command) (answer : Reply) (wrote : List Mutation) (ranges : List KeyRange) (m : Map) (serial : Serial) →
+    IsPerformedAt refuses command answer before wrote ranges m serial → DidAt (record { command = command; reply = answer }) wrote ranges m serial
+did_at {refuses = refuses} {before = before} command answer wrote ranges m serial performed = record {
   replied = λ yes_accepted. elim performed.right [
     | inl served ↦ replied_of (write_all_refusal before (writes serial command)) serial command answer served yes_accepted
     | inr refused ↦ absurd (true≢false (sym yes_accepted ∙ read_refuses refuses (reach (schema_in serial) command) answer refused))
   ];
   wrote = performed.wrote;
   holds = performed.holds;
-  opened = performed.opened;
+  reads = performed.reads;
 }
 
 -- a command that was performed is an attempt that was made
 pub performed_did : (maps : ℕ → Map) (refuses : KeyRange → ReadError → Type 0) (command : Command) (answer : Reply) (old new : CommitRequest) →
     IsPerformed maps refuses command answer old new → Did maps (record { command = command; reply = answer }) old new
 performed_did maps refuses command answer old new performed = record {
-  schema = performed.schema;
+  added = performed.added;
   written = performed.written;
   changes = performed.changes;
-  ran = ran_because performed.ran (λ m fact serial holds. did_at performed.schema command answer performed.written m serial (fact serial holds));
+  ran = ran_because performed.ran (λ m fact serial holds. did_at command answer performed.written performed.added m serial (fact.1 serial holds));
 }
 
 -- ---- attempts in turn
@@ -96,14 +96,13 @@ done_version maps (attempt ∷ attempts) old new (mid, did, rest) = done_version
 -- the map at the read version alone matters
 did_elsewhere : (maps maps2 : ℕ → Map) (attempt : Attempt) (old new : CommitRequest) → maps old.read_version ≡ maps2 old.read_version → Did maps attempt old new → Did maps2 attempt old new
 did_elsewhere maps maps2 attempt old new same did = record {
-  schema = did.schema;
+  added = did.added;
   written = did.written;
   changes = did.changes;
   ran = record {
     version = did.ran.version;
     wrote = did.ran.wrote;
-    keeps = did.ran.keeps;
-    within = did.ran.within;
+    reads = did.ran.reads;
     over = λ m agree. did.ran.over m (subst (λ (base : Map). Agree new.reads base m) (sym same) agree);
   };
 }
@@ -119,7 +118,7 @@ pub keeps_all : (maps : ℕ → Map) (attempts : List Attempt) (old new : Commit
 keeps_all maps [] old new same m agree = subst (λ (t : CommitRequest). Agree t.reads (maps t.read_version) m) (sym same) agree
 keeps_all maps (attempt ∷ attempts) old new (mid, did, rest) m agree =
     let later = keeps_all maps attempts mid new rest m agree in
-    λ key h. subst (λ v. Agree mid.reads (maps v) m) did.ran.version later key (did.ran.keeps key h)
+    λ key h. subst (λ v. Agree mid.reads (maps v) m) did.ran.version later key (ran_keeps did.ran key h)
 
 -- what is there after attempts
 abbrev pub after_attempts : Serial → List Attempt → Serial
@@ -197,24 +196,20 @@ done_writes maps (attempt ∷ attempts) old new (mid, did, rest) m serial agree 
     by_test true = refl
     by_test false = refl
 
--- what was read lies in the reach of the attempts, over each map that agrees with what was read
+-- the ranges read are those before and those that the attempts added, over each map that agrees with what was read
 pub done_reads : (maps : ℕ → Map) (attempts : List Attempt) (old new : CommitRequest) → AreDone maps attempts old new →
     (m : Map) (serial : Serial) → Agree new.reads (maps new.read_version) m → Stands (seen old m) serial →
-    (key : List ℕ) → IsTrue (covers new.reads key) → IsTrue (covers old.reads key) ⊎ IsTrue (covers (reach_of serial attempts) key)
-done_reads maps [] old new same m serial agree holds key read = inl (subst (λ (t : CommitRequest). IsTrue (covers t.reads key)) (sym same) read)
-done_reads maps (attempt ∷ attempts) old new (mid, did, rest) m serial agree holds key read =
+    (ranges : List KeyRange) × HaveAdded serial attempts ranges × (new.reads ≡ with_ranges ranges old.reads)
+done_reads maps [] old new same m serial agree holds = ([], refl, ap (λ (t : CommitRequest). t.reads) (sym same))
+done_reads maps (attempt ∷ attempts) old new (mid, did, rest) m serial agree holds =
     let later = keeps_all maps attempts mid new rest m agree in
     let at = did.ran.over m (subst (λ v. Agree mid.reads (maps v) m) did.ran.version later) serial holds in
     let is_seen : after_all did.written (seen old m) ≡ seen mid m = sym (ap (λ ms. after_all ms m) did.ran.wrote ∙ after_all-append old.mutations did.written m) in
-    let now : covers (reach_of serial (attempt ∷ attempts)) key ≡ (covers (reach (schema_in serial) attempt.command) key || covers (reach_of (attempted serial attempt) attempts) key) =
-    list_any-append (λ (range : KeyRange). contains range key) (reach (schema_in serial) attempt.command) (reach_of (attempted serial attempt) attempts) in
-    elim (done_reads maps attempts mid new rest m (attempted serial attempt) agree (subst (λ (n : Map). Stands n (attempted serial attempt)) is_seen at.holds) key read) [
-      | inl before ↦ elim (did.ran.within key before) [
-        | inl earlier ↦ inl earlier
-        | inr own ↦ inr (now ∙ or_left _ _ (at.opened key own))
-      ]
-      | inr rest_reads ↦ inr (now ∙ or_right _ _ rest_reads)
-    ]
+    let (others, have, are) = done_reads maps attempts mid new rest m (attempted serial attempt) agree (subst (λ (n : Map). Stands n (attempted serial attempt)) is_seen at.holds) in (
+      did.added ++ others,
+      (did.added, others, refl, at.reads, have),
+      are ∙ ap (with_ranges others) did.ran.reads ∙ sym (with_ranges_append did.added others old.reads),
+    )
 
 -- ---- open transactions
 

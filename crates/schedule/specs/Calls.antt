@@ -13,7 +13,7 @@ use Rattle.record_store.specs.declared.error.StoreError.TheVariants.{Memory, Rea
 use Rattle.schedule.specs.declared.step.Command.{Command}
 use Rattle.schedule.specs.declared.reply.Reply.{Reply}
 use Rattle.schedule.specs.declared.reply.Reply.TheVariants as reply
-use Rattle.schedule.specs.Performed.{IsPerformed}
+use Rattle.schedule.specs.Performed.{IsPerformed, IsStopped}
 
 -- the reply that a refused read is; want of memory is none
 abbrev pub read_reply : ReadError → Option Reply
@@ -42,7 +42,7 @@ abbrev pub removal_reply : Bool → Reply
 removal_reply true = reply.Removed
 removal_reply false = reply.Absent
 
--- why a command was refused: it wrote nothing, and where the error is a reply it was performed with this reply
+-- why a command was refused: it stopped before it wrote anything, and where the error is a reply it was performed with this reply
 pub record IsRefused (maps : ℕ → Map) (refuses : KeyRange → ℕ → ReadError → Type 0) (command : Command) (error : StoreError) (old new : CommitRequest) : Type 0 where
-  pub kept : new.mutations ≡ old.mutations
+  pub stopped : IsStopped maps command old new
   pub replied : (answer : Reply) → reply_of error ≡ Some answer → IsPerformed maps (λ range. refuses range old.read_version) command answer old new

@@ -1,8 +1,8 @@
 -- What a schedule of many clients and of the database's roles replies, and what it leaves.
-use Rattle.std.specs.Prelude.{◌≡◌, ◌≤◌, ◌⊎◌, ℕ, ◌+◌, ◌-◌, Bool, true, List, [], ◌∷◌, ◌++◌, Option, Some, None, IsTrue, if◌then◌else◌, ◌==◌, length, nat_lt, All}
+use Rattle.std.specs.Prelude.{◌≡◌, ◌≤◌, ◌⊎◌, ℕ, ◌+◌, ◌-◌, Bool, true, List, [], ◌∷◌, ◌++◌, Option, Some, None, if◌then◌else◌, ◌==◌, length, nat_lt, All}
 use Rattle.std.specs.List.{find, range_with_len}
 use Rattle.std.specs.Option.{option_map, option_map_or}
-use Rattle.kv_core.specs.Range.{KeyRange, covers}
+use Rattle.kv_core.specs.Range.{KeyRange}
 use Rattle.kv_core.specs.declared.change.CommitRequest.{CommitRequest}
 use Rattle.kv_core.specs.declared.change.Mutation.{Mutation}
 use Rattle.cluster_core.specs.declared.answers.Config.{Config}
@@ -28,7 +28,9 @@ use Rattle.schedule.specs.Serve.{IsReply, effect}
 use Rattle.schedule.specs.Past.{Past, Attempt, Open, Submission, accepted, is_accepted, is_changed, open_of, submitted_in}
 use Rattle.schedule.specs.Holds.{Stands}
 use Rattle.schedule.specs.Reach.{reach, writes}
-use Rattle.schedule.specs.Performed.{IsServed, IsReadRefusal}
+use Rattle.schedule.specs.Reach.{added as added_at}
+use Rattle.schedule.specs.Performed.{HasAdded, IsServed, IsReadRefusal}
+use Rattle.txn.specs.Runs.{with_ranges}
 use Rattle.schedule.specs.Commits.{committed, view}
 use Rattle.schedule.specs.Standing.{cluster_after, commits_of, listed}
 
@@ -171,15 +173,22 @@ IsSerialAt serial (attempt ∷ attempts) =
 abbrev pub IsSerial : ClusterState → List CommitEntry → List Submission → Type 0
 IsSerial c commits submissions = All (λ one. IsSerialAt (committed commits (one.version - 1)) one.transaction.attempts) (listed c.pipeline submissions)
 
--- what attempts may read one after another
-abbrev pub reach_of : Serial → List Attempt → List KeyRange
-reach_of serial [] = []
-reach_of serial (attempt ∷ attempts) = reach (schema_in serial) attempt.command ++ reach_of (attempted serial attempt) attempts
+-- what attempts add to the ranges read, one after another
+abbrev pub HaveAdded : Serial → List Attempt → List KeyRange → Type 0
+HaveAdded serial [] added = added ≡ []
+HaveAdded serial (attempt ∷ attempts) added =
+    (first : List KeyRange) × (rest : List KeyRange) × (added ≡ first ++ rest) × HasAdded attempt.reply (added_at serial attempt.command) first × HaveAdded (attempted serial attempt) attempts rest
 
--- REQUESTS: there is one for each submission, with its read version; it writes just what the accepted commands write, and its reads lie in the reach of all commands
+-- the ranges read are those that attempts added, in their order, each once
+pub record AreReads (serial : Serial) (attempts : List Attempt) (reads : List KeyRange) : Type 0 where
+  pub added : List KeyRange
+  pub each : HaveAdded serial attempts added
+  pub are : reads ≡ with_ranges added []
+
+-- REQUESTS: there is one for each submission, with its read version; its reads are what the commands read, in order, and it writes just what the accepted commands write
 pub record IsRequestOf (commits : List CommitEntry) (one : Submission) (request : CommitRequest) : Type 0 where
   pub read_version : request.read_version ≡ one.transaction.read_version
-  pub reads : (key : List ℕ) → IsTrue (covers request.reads key) → IsTrue (covers (reach_of (committed commits one.transaction.read_version) one.transaction.attempts) key)
+  pub reads : AreReads (committed commits one.transaction.read_version) one.transaction.attempts request.reads
   pub mutations : request.mutations ≡ written (committed commits one.transaction.read_version) (accepted one.transaction.attempts)
 
 abbrev pub AreRequestsOf : List CommitEntry → List Submission → List CommitRequest → Type 0

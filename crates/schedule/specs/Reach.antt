@@ -1,7 +1,9 @@
--- What a command may read, and what it writes.
-use Rattle.std.specs.Prelude.{ℕ, List, [], ◌∷◌, ◌++◌, Option, Some, None, Result, Ok, Err}
+-- What a command reads, in order, and what it writes.
+use Rattle.std.specs.Prelude.{ℕ, false, List, [], ◌∷◌, ◌++◌, Option, Some, None, Result, Ok, Err, map, take}
 use Rattle.tuple_codec.specs.Item.{Item}
 use Rattle.kv_core.specs.Range.{KeyRange, point}
+use Rattle.kv_core.specs.Map.{Map}
+use Rattle.kv_core.specs.Read.{range_read}
 use Rattle.kv_core.specs.declared.change.Mutation.{Mutation}
 use Rattle.metadata.specs.declared.definition.TypeDefinition.{TypeDefinition}
 use Rattle.metadata.specs.declared.refusal.Refusal.{Refusal}
@@ -13,9 +15,10 @@ use Rattle.metadata.specs.Schema.{Schema, find_index, find_type}
 use Rattle.metadata.specs.Record.{Record, primary_key, record_of, key_of}
 use Rattle.schedule.specs.declared.step.Command.{Command}
 use Rattle.schedule.specs.declared.step.Command.TheVariants.{Create, «Type», Save, Load, Remove, Query, Index, Drop, Disable}
-use Rattle.metadata.specs.Records.{record_at}
-use Rattle.record_store.specs.Store.{Store, Serial}
-use Rattle.record_store.specs.Layout.{record_key, type_range}
+use Rattle.metadata.specs.Records.{of_type, record_at}
+use Rattle.record_store.specs.Store.{Store, Serial, schema_in}
+use Rattle.record_store.specs.Layout.{record_key, record_pair, type_range}
+use Rattle.record_store.specs.Call.{Reading, first_of, whole}
 use Rattle.record_store.specs.Opening.{opening_reach}
 use Rattle.record_store.specs.Calls.{index_number, schema_writes}
 use Rattle.record_store.specs.IndexWrites.{disable_writes, drop_writes, index_added_writes, remove_writes, save_writes}
@@ -34,22 +37,48 @@ abbrev pub type_reach : Option TypeDefinition → List KeyRange
 type_reach (Some type) = type_range store_prefix type.number ∷ []
 type_reach None = []
 
-abbrev pub index_reach : Result IndexDefinition Refusal → List KeyRange
-index_reach (Ok index) = type_range store_prefix index.type_number ∷ []
-index_reach (Err refusal) = []
+-- the first record of the type of an index that is asked for
+abbrev pub first_reading : Result IndexDefinition Refusal → Reading
+first_reading (Ok index) = first_of (type_range store_prefix index.type_number)
+first_reading (Err refusal) = whole []
 
--- what a command may read behind the opening of the store: the key of its record, or the records of its type
-abbrev pub own_reach : Option Schema → Command → List KeyRange
-own_reach (Some schema) (Save name cells) = record_reach (record_of schema name cells)
-own_reach (Some schema) (Load name cells) = key_reach (key_of schema name cells)
-own_reach (Some schema) (Remove name cells) = key_reach (key_of schema name cells)
-own_reach (Some schema) (Query query) = type_reach (find_type schema query.record_type)
-own_reach (Some schema) (Index request) = index_reach (new_index schema request)
-own_reach schema command = []
+-- what a command reads behind the opening of the store: the key of its record, or the records of its type, or the first one
+abbrev pub own_reading : Option Schema → Command → Reading
+own_reading (Some schema) (Save name cells) = whole (record_reach (record_of schema name cells))
+own_reading (Some schema) (Load name cells) = whole (key_reach (key_of schema name cells))
+own_reading (Some schema) (Remove name cells) = whole (key_reach (key_of schema name cells))
+own_reading (Some schema) (Query query) = whole (type_reach (find_type schema query.record_type))
+own_reading (Some schema) (Index request) = first_reading (new_index schema request)
+own_reading schema command = whole []
 
--- what a command may read: what opening the store reads, and its own
+-- what a command reads to open the store: nothing where it makes one of types and indexes that are refused
+abbrev pub make_reach : Result Schema Refusal → List KeyRange
+make_reach (Ok schema) = opening_reach store_prefix
+make_reach (Err refusal) = []
+
+abbrev pub open_reach : Command → List KeyRange
+open_reach (Create request) = make_reach (schema_asked request)
+open_reach command = opening_reach store_prefix
+
+-- the ranges that a command asks for, in order: those of opening the store, and its own
 abbrev pub reach : Option Schema → Command → List KeyRange
-reach schema command = opening_reach store_prefix ++ own_reach schema command
+reach schema command = open_reach command ++ (own_reading schema command).asked
+
+-- the ranges that it adds to those read, in order, by a map that has this schema
+abbrev pub added_by : Option Schema → Command → Map → List KeyRange
+added_by schema command m = open_reach command ++ (own_reading schema command).added m
+
+-- the same by what is there: of a type over which an index is asked for, the keys up to its first record
+abbrev pub first_added : Store → Result IndexDefinition Refusal → List KeyRange
+first_added store (Ok index) = range_read (type_range store_prefix index.type_number) 1 false (take 1 (map (record_pair store_prefix) (of_type index.type_number store.records))) ∷ []
+first_added store (Err refusal) = []
+
+abbrev pub own_added : Serial → Command → List KeyRange
+own_added (Some store) (Index request) = first_added store (new_index store.schema request)
+own_added serial command = (own_reading (schema_in serial) command).asked
+
+abbrev pub added : Serial → Command → List KeyRange
+added serial command = open_reach command ++ own_added serial command
 
 -- what making a store and adding a type write: the schema
 abbrev pub schema_written : Result Schema Refusal → List Mutation

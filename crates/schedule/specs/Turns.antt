@@ -1,16 +1,17 @@
 -- Commands that were performed in turn, in open transactions and in those that were submitted.
-use Rattle.std.specs.Prelude.{◌≡◌, ℕ, ◌+◌, ◌<◌, ◌≤◌, ◌==◌, true, List, [], ◌∷◌, Option, IsTrue, if◌then◌else◌, length}
-use Rattle.kv_core.specs.Range.{covers}
+use Rattle.std.specs.Prelude.{◌≡◌, ℕ, ◌+◌, ◌<◌, ◌≤◌, ◌==◌, true, List, [], ◌∷◌, if◌then◌else◌, length}
+use Rattle.kv_core.specs.Range.{KeyRange}
 use Rattle.kv_core.specs.Map.{Map, after_all}
 use Rattle.kv_core.specs.declared.change.CommitRequest.{CommitRequest}
 use Rattle.kv_core.specs.declared.change.Mutation.{Mutation}
 use Rattle.txn.specs.Runs.{Ran}
-use Rattle.metadata.specs.Schema.{Schema}
-use Rattle.record_store.specs.Store.{Serial, schema_in}
+use Rattle.record_store.specs.Store.{Serial}
 use Rattle.schedule.specs.Serve.{IsReply}
 use Rattle.schedule.specs.Past.{Attempt, Open, Submission, is_accepted, is_reading}
 use Rattle.schedule.specs.Holds.{Stands}
-use Rattle.schedule.specs.Reach.{reach, writes}
+use Rattle.schedule.specs.Performed.{HasAdded}
+use Rattle.schedule.specs.Reach.{writes}
+use Rattle.schedule.specs.Reach.{added as added_at}
 use Rattle.schedule.specs.Contract.{attempted}
 
 -- a transaction that has done nothing yet
@@ -18,18 +19,18 @@ abbrev pub fresh : ℕ → CommitRequest
 fresh read_version = record { read_version = read_version; reads = []; mutations = [] }
 
 -- what an attempt at a command came to where the map seen before it holds this: the part of `IsPerformedAt` that doesn't depend on how far the servers were
-pub record DidAt (schema : Option Schema) (attempt : Attempt) (written : List Mutation) (m : Map) (serial : Serial) : Type 0 where
+pub record DidAt (attempt : Attempt) (written : List Mutation) (added : List KeyRange) (m : Map) (serial : Serial) : Type 0 where
   pub replied : is_accepted attempt.reply ≡ true → IsReply serial attempt.command attempt.reply
   pub wrote : written ≡ (if is_accepted attempt.reply then writes serial attempt.command else [])
   pub holds : Stands (after_all written m) (attempted serial attempt)
-  pub opened : (key : List ℕ) → IsTrue (covers (reach schema attempt.command) key) → IsTrue (covers (reach (schema_in serial) attempt.command) key)
+  pub reads : HasAdded attempt.reply (added_at serial attempt.command) added
 
 -- an attempt at a command was made, which led from one state of the transaction to another
 pub record Did (maps : ℕ → Map) (attempt : Attempt) (old new : CommitRequest) : Type 0 where
-  pub schema : Option Schema
+  pub added : List KeyRange
   pub written : List Mutation
   pub changes : (length written == 0) ≡ is_reading attempt.command attempt.reply
-  pub ran : Ran maps (λ key. IsTrue (covers (reach schema attempt.command) key)) old new written (λ m. (serial : Serial) → Stands m serial → DidAt schema attempt written m serial)
+  pub ran : Ran maps added old new written (λ m. (serial : Serial) → Stands m serial → DidAt attempt written added m serial)
 
 -- attempts were made in turn
 abbrev pub AreDone : (ℕ → Map) → List Attempt → CommitRequest → CommitRequest → Type 0

@@ -1,5 +1,5 @@
 ghost use Rattle.std.specs.Prelude.{◌≡◌, None, Some, IfOk, IfErr, OnErr};
-ghost use Rattle.schedule.specs.Performed.{IsPerformed};
+ghost use Rattle.schedule.specs.Performed.{IsPerformed, IsStopped};
 ghost use Rattle.schedule.specs.Values.{AsksValues};
 ghost use Rattle.schedule.specs.Calls.{IsRefused, read_reply, reply_of, write_reply};
 
@@ -92,7 +92,7 @@ pub fn perform<S: Snapshot>(
 ) -> Result<Reply, AllocError>
     requires { AsksValues command.now }
     ensures performed { IfOk result (λ answer. IsPerformed (S.map_at db.now) (λ range. S.may_refuse db.now range tx.old.read_version) command.now answer tx.old tx.new) }
-    ensures kept { OnErr result (tx.new.mutations ≡ tx.old.mutations) }
+    ensures stopped { OnErr result (IsStopped (S.map_at db.now) command.now tx.old tx.new) }
 {
     match answer(alloc, command, tx, db) {
         Ok(reply) => Ok(reply),

@@ -1,137 +1,85 @@
 // Cells, their order and their copies, and copies of states.
-use crate::words::{digits_of, text_of};
+use crate::asking::cells_asked;
+use crate::parts::{holds, same, tells};
+use crate::words::digits_of;
 use metadata::{Cell, Cells, Kind, Places, State, States};
-use std::alloc::{AllocError, Global};
-use std::cmp::Ordering;
-use std::process::Abort;
+use std::alloc::Global;
 use std::test::Fail;
-use tuple_codec::{ByteString, pack};
-
-/// A cell as it stands in a table.
-#[derive(Clone, Copy)]
-enum Value {
-    Null,
-    Int(i64),
-    Text(&'static str),
-    Bytes(&'static [u8]),
-}
-
-use Value::{Bytes, Int, Null, Text};
+use tuple_codec::pack;
 
 /// Cells in their order.
-static RISING: [Value; 14] = [
-    Null,
-    Bytes(&[]),
-    Bytes(&[0]),
-    Bytes(&[0, 1]),
-    Bytes(&[1]),
-    Text(""),
-    Text("aa"),
-    Text("b"),
-    Int(-256),
-    Int(-255),
-    Int(-1),
-    Int(0),
-    Int(255),
-    Int(256),
-];
+const RISING: &str =
+    r#"[null,{"hex":""},{"hex":"00"},{"hex":"0001"},{"hex":"01"},"","aa","b",-256,-255,-1,0,255,256]"#;
+
+/// The cell at a place is ordered beside each of these, which rise, as their places are.
+fn stands_at(cell: &Cell, place: usize, cells: &[Cell]) -> Result<(), Fail> {
+    for (other, one) in cells.iter().enumerate() {
+        holds(cell.compare(one) == place.cmp(&other), "cells that rise")?;
+    }
+    Ok(())
+}
+
+fn cells_rise(cells: &[Cell]) -> Result<(), Fail> {
+    for (place, cell) in cells.iter().enumerate() {
+        stands_at(cell, place, cells)?;
+    }
+    Ok(())
+}
 
 /// Two lists of cells, and how they are ordered.
-static ORDERED: [(&[Value], &[Value], Ordering); 3] = [
-    (&[Int(1)], &[Int(1), Null], Ordering::Less),
-    (&[Int(2)], &[Int(1), Null], Ordering::Greater),
-    (&[Int(1)], &[Int(1)], Ordering::Equal),
+static ORDERED: [(&str, &str, &str); 3] = [
+    ("[1]", "[1,null]", "Less"),
+    ("[2]", "[1,null]", "Greater"),
+    ("[1]", "[1]", "Equal"),
 ];
 
-/// Cells at places, null past the end: the pack of their copy.
-static AT_PLACES: [(&[Value], &[usize], &str); 1] = [(
-    &[Text("x"), Bytes(&[])],
-    &[1, 0, 2],
-    "010002780000",
-)];
-
-fn cell_of(alloc: Global, value: Value) -> Result<Cell, AllocError> {
-    match value {
-        Null => Ok(Cell::Null),
-        Int(number) => Ok(Cell::Int(number)),
-        Text(letters) => Ok(Cell::Text(text_of(alloc, letters)?)),
-        Bytes(bytes) => Ok(Cell::Bytes(ByteString::new(Vec::from_slice(alloc, bytes)?))),
-    }
-}
-
-fn cells_of(alloc: Global, values: &[Value]) -> Result<Cells, AllocError> {
-    let mut cells = Vec::new(alloc);
-    for value in values {
-        cells.push(cell_of(alloc, *value)?)?;
-    }
-    Ok(Cells::new(cells))
-}
-
-/// Compares the cell at a place with each of these, which rise.
-fn stands_at(rt: &impl Abort, cell: &Cell, place: usize, cells: &[Cell]) {
-    for (other, one) in cells.iter().enumerate() {
-        assert_eq!(rt; cell.compare(one), place.cmp(&other), "{place} {other}");
-    }
+fn ordered(alloc: Global, first: &str, second: &str, told: &str) -> Result<(), Fail> {
+    let first = cells_asked(alloc, first)?;
+    let second = cells_asked(alloc, second)?;
+    tells(alloc, &first.compare(&second), told)
 }
 
 #[test]
-fn cells_are_ordered(rt: HostRuntime) -> Result<(), Fail> {
-    let cells = cells_of(rt.alloc(), &RISING)?;
-    for (place, cell) in cells.as_slice().iter().enumerate() {
-        stands_at(&rt, cell, place, cells.as_slice());
+fn cells_and_lists_are_ordered(rt: HostRuntime) -> Result<(), Fail> {
+    cells_rise(cells_asked(rt.alloc(), RISING)?.as_slice())?;
+    for (first, second, told) in &ORDERED {
+        ordered(rt.alloc(), first, second, told)?;
     }
     Ok(())
 }
 
-/// The order of two lists of cells.
-fn order_of(alloc: Global, first: &[Value], second: &[Value]) -> Result<Ordering, AllocError> {
-    let first = cells_of(alloc, first)?;
-    let second = cells_of(alloc, second)?;
-    Ok(first.compare(&second))
+/// A copy of a text and of a byte string, taken at the places 1, 0 and 2, the last of which is past the end.
+fn at_places(alloc: Global) -> Result<Cells, Fail> {
+    let places = Places::new(Vec::from_slice(alloc, &[1, 0, 2])?);
+    let cells = cells_asked(alloc, r#"["x",{"hex":""}]"#)?.at(alloc, &places)?;
+    Ok(cells.copy()?)
 }
 
-#[test]
-fn lists_of_cells_are_ordered(rt: HostRuntime) -> Result<(), Fail> {
-    for (first, second, order) in ORDERED {
-        assert_eq!(rt; order_of(rt.alloc(), first, second)?, order);
-    }
-    Ok(())
-}
-
-/// Whether a copy of each cell fits another kind than its own exactly where it is null.
-fn only_null_fits(cells: &[Cell]) -> Result<bool, AllocError> {
+/// A copy of each cell fits a kind that is none of theirs exactly where it is null.
+fn only_null_fits(cells: &[Cell], kind: Kind) -> Result<(), Fail> {
     for cell in cells {
         let copy = cell.copy()?;
-        if copy.fits(Kind::Int) != copy.is_null() {
-            return Ok(false);
-        }
-    }
-    Ok(true)
-}
-
-/// The pack of a copy of the cells at places, in hexadecimal digits: texts and byte strings, one of them null at least.
-fn pack_at(alloc: Global, values: &[Value], places: &[usize]) -> Result<String, Fail> {
-    let places = Places::new(Vec::from_slice(alloc, places)?);
-    let cells = cells_of(alloc, values)?.at(alloc, &places)?.copy()?;
-    if !cells.has_null() || !only_null_fits(cells.as_slice())? {
-        return Err(Fail::from("other cells"));
-    }
-    digits_of(alloc, &pack(alloc, &cells.tuple(alloc)?)?)
-}
-
-#[test]
-fn cells_are_taken_at_places(rt: HostRuntime) -> Result<(), Fail> {
-    for (values, places, digits) in AT_PLACES {
-        let told = pack_at(rt.alloc(), values, places)?;
-        assert_eq!(rt; told.as_str(), digits);
+        holds(copy.fits(kind) == copy.is_null(), "a copy")?;
     }
     Ok(())
 }
 
+fn are_taken(alloc: Global) -> Result<(), Fail> {
+    let cells = at_places(alloc)?;
+    holds(cells.has_null(), "a place past the end")?;
+    only_null_fits(cells.as_slice(), Kind::Int)?;
+    let bytes = pack(alloc, &cells.tuple(alloc)?)?;
+    same(digits_of(alloc, &bytes)?.as_str(), "010002780000")
+}
+
 #[test]
-fn states_are_copied(rt: HostRuntime) -> Result<(), Fail> {
+fn cells_and_states_are_copied(rt: HostRuntime) -> Result<(), Fail> {
+    are_taken(rt.alloc())?;
     let states = [State::Readable, State::WriteOnly, State::Disabled];
     let copy = States::new(Vec::from_slice(rt.alloc(), &states)?).copy()?;
-    assert_eq!(rt; copy.as_slice(), states.as_slice());
-    Ok(())
+    tells(
+        rt.alloc(),
+        &copy.as_slice(),
+        "[Readable, WriteOnly, Disabled]",
+    )
 }

@@ -2,8 +2,7 @@
 ghost use Rattle.cluster_core.specs.Roles.{is_caught_up};
 
 use crate::configs::{config_of, logs_and_window};
-use crate::parts::{holds, request_of, same, shown};
-use crate::roles::report_text;
+use crate::parts::{holds, report_text, request_of, same, shown};
 use cluster_core::{HoldError, Pipeline};
 use kv_core::CommitRequest;
 use std::alloc::Global;
@@ -17,25 +16,33 @@ struct Settled {
     ghost caught_up: { is_caught_up pipeline },
 }
 
-type Row = (&'static str, u64, &'static str, &'static str, u64);
+type Row = (
+    &'static str,
+    u64,
+    &'static str,
+    &'static str,
+    &'static str,
+    u64,
+);
 
 /// Commits one after another: the logs and the window where a pipeline begins anew, at the version that is read, with
-/// resolvers that meet at the key 62; the version that a request read, the key that it read and writes, what is told of
-/// it, and the last reported version then.
+/// resolvers that meet at the key 62; the version that a request read, the key that it read and what it writes, what is
+/// told of it, and the last reported version then.
 static COMMITS: [Row; 8] = [
     // A request conflicts with one that wrote later what it read.
-    ("2 10", 0, "61", "committed 1", 1),
-    ("", 0, "63", "committed 2", 2),
-    ("", 0, "61", "conflict 1 61-6100", 3),
+    ("2 10", 0, "61", "61=14", "committed 1", 1),
+    ("", 0, "63", "63=14", "committed 2", 2),
+    ("", 0, "61", "61=14", "conflict 1 61-6100", 3),
     // A request that read too long ago.
-    ("2 1", 0, "61", "committed 1", 1),
-    ("", 1, "61", "committed 2", 2),
-    ("", 0, "61", "Submit(TooOld)", 2),
+    ("2 1", 0, "61", "61=14", "committed 1", 1),
+    ("", 1, "61", "61=14", "committed 2", 2),
+    ("", 0, "61", "61=14", "Submit(TooOld)", 2),
     // The last version.
     (
         "2 1",
         18_446_744_073_709_551_614,
         "61",
+        "61=14",
         "committed 18446744073709551615",
         18_446_744_073_709_551_615,
     ),
@@ -43,6 +50,7 @@ static COMMITS: [Row; 8] = [
         "",
         18_446_744_073_709_551_615,
         "61",
+        "61=14",
         "Submit(VersionsExhausted)",
         18_446_744_073_709_551_615,
     ),
@@ -50,15 +58,9 @@ static COMMITS: [Row; 8] = [
 
 fn begun(alloc: Global, counts: &str, start: u64) -> Result<Settled, Fail> {
     let (logs, window) = logs_and_window(counts)?;
-    let config = config_of(alloc, "62", "", logs, window, start)?;
+    let config = config_of(alloc, ("62", ""), logs, window, start)?;
     let pipeline = Pipeline::new(alloc, &config)?;
     Ok(Settled { pipeline })
-}
-
-fn request(alloc: Global, version: u64, key: &str) -> Result<CommitRequest, Fail> {
-    let mut write = String::from_str(alloc, key)?;
-    write.push_str("=14")?;
-    request_of(alloc, version, key, write.as_str())
 }
 
 /// What is told of a request, and the pipeline then.
@@ -80,27 +82,22 @@ fn commit(
 
 /// Commits what a row says, which is told of it, and hands back the pipeline then.
 fn committed(alloc: Global, settled: Settled, row: &Row) -> Result<Settled, Fail> {
-    let (_, version, key, told, reported) = row;
-    let (settled, answer) = commit(alloc, settled, request(alloc, *version, key)?)?;
+    let (_, version, reads, writes, told, reported) = row;
+    let request = request_of(alloc, *version, reads, writes)?;
+    let (settled, answer) = commit(alloc, settled, request)?;
     same(answer.as_str(), told)?;
-    holds(settled.pipeline.read_version() == *reported, key)?;
+    holds(settled.pipeline.read_version() == *reported, told)?;
     Ok(settled)
-}
-
-/// The pipeline of a row: another one where the row has its counts.
-fn for_row(alloc: Global, settled: Settled, row: &Row) -> Result<Settled, Fail> {
-    let (counts, version, ..) = row;
-    if counts.is_empty() {
-        return Ok(settled);
-    }
-    begun(alloc, counts, *version)
 }
 
 #[test]
 fn requests_are_committed(rt: HostRuntime) -> Result<(), Fail> {
     let mut settled = begun(rt.alloc(), "1 1", 0)?;
     for row in &COMMITS {
-        settled = committed(rt.alloc(), for_row(rt.alloc(), settled, row)?, row)?;
+        if !row.0.is_empty() {
+            settled = begun(rt.alloc(), row.0, row.1)?;
+        }
+        settled = committed(rt.alloc(), settled, row)?;
     }
     Ok(())
 }
@@ -120,15 +117,12 @@ static ATTEMPTS: [(Ended, u64, bool, Next); 11] = [
     (Ended::Other, 1, true, Next::GiveUp),
 ];
 
-fn followed(ended: Ended, attempt: u64, repeatable: bool, next: Next) -> Result<(), Fail> {
-    let retry = Retry { limit: 3 };
-    holds(retry.next(ended, attempt, repeatable) == next, "an attempt")
-}
-
 #[test]
 fn attempts_are_followed() -> Result<(), Fail> {
+    let retry = Retry { limit: 3 };
     for (ended, attempt, repeatable, next) in &ATTEMPTS {
-        followed(*ended, *attempt, *repeatable, *next)?;
+        let found = retry.next(*ended, *attempt, *repeatable);
+        holds(found == *next, "an attempt")?;
     }
     Ok(())
 }

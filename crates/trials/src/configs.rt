@@ -1,16 +1,16 @@
-// Configurations: which are refused, and why.
-use crate::parts::{halves, holds, words_in};
+// Configurations: which are refused, and why; and the last version of servers.
+use crate::parts::{alike, holds, mutations_of, pairs_of, range_of, tells};
 use crate::words::bytes_of;
 use cluster_core::{Cluster, Config, ConfigError, Pipeline, Splits, Tier};
-use kv_core::Bytes;
-use std::alloc::{AllocError, Global};
+use std::alloc::Global;
 use std::test::Fail;
+use txn::Snapshot;
 
 /// The splits of a text, in which `empty` stands for the empty key.
-pub(crate) fn splits_of(alloc: Global, text: &str) -> Result<Splits, Fail> {
+fn splits_of(alloc: Global, text: &str) -> Result<Splits, Fail> {
     let mut splits = Vec::new(alloc);
-    for word in &words_in(alloc, text)? {
-        splits.push(bytes_of(alloc, if *word == "empty" { "" } else { word })?)?;
+    for word in text.split_whitespace() {
+        splits.push(bytes_of(alloc, if word == "empty" { "" } else { word })?)?;
     }
     Ok(Splits::new(splits))
 }
@@ -18,8 +18,7 @@ pub(crate) fn splits_of(alloc: Global, text: &str) -> Result<Splits, Fail> {
 /// A configuration with one place, with splits between resolvers and between servers.
 pub(crate) fn config_of(
     alloc: Global,
-    resolvers: &str,
-    servers: &str,
+    (resolvers, servers): (&str, &str),
     logs: u64,
     window: u64,
     start: u64,
@@ -36,9 +35,37 @@ pub(crate) fn config_of(
 
 /// The number of logs and the window, of a text.
 pub(crate) fn logs_and_window(text: &str) -> Result<(u64, u64), Fail> {
-    let (logs, window) = halves(text, ' ').ok_or("no window")?;
+    let (logs, window) = text.split_once(' ').ok_or("no window")?;
     Ok((logs.parse::<u64>()?, window.parse::<u64>()?))
 }
+
+type Row = (&'static str, u64, u64, u64, Option<ConfigError>);
+
+const FIFTEEN: &str = "1500 1501 1502 1503 1504 1505 1506 1507 1508 1509 150a 150b 150c 150d 150e";
+
+const SIXTEEN: &str =
+    "1500 1501 1502 1503 1504 1505 1506 1507 1508 1509 150a 150b 150c 150d 150e 150f";
+
+/// Splits, the numbers of logs and of places, the window, and the refusal.
+static CONFIGS: [Row; 17] = [
+    (FIFTEEN, 16, 16, 1_000_000, None),
+    ("", 1, 1, 1, None),
+    (SIXTEEN, 1, 1, 1, Some(ConfigError::BadCount)),
+    ("", 0, 1, 1, Some(ConfigError::BadCount)),
+    ("", 17, 1, 1, Some(ConfigError::BadCount)),
+    ("", 1, 0, 1, Some(ConfigError::BadCount)),
+    ("", 1, 17, 1, Some(ConfigError::BadCount)),
+    ("", 1, 1, 0, Some(ConfigError::BadCount)),
+    ("", 1, 1, 1_000_001, Some(ConfigError::BadCount)),
+    ("15 1500 16", 1, 1, 1, None),
+    ("62", 1, 1, 1, None),
+    ("16 15", 1, 1, 1, Some(ConfigError::BadSplits)),
+    ("15 15", 1, 1, 1, Some(ConfigError::BadSplits)),
+    ("62 62", 1, 1, 1, Some(ConfigError::BadSplits)),
+    ("empty", 1, 1, 1, Some(ConfigError::BadSplits)),
+    ("ff", 1, 1, 1, Some(ConfigError::BadSplits)),
+    ("fe ff00", 1, 1, 1, Some(ConfigError::BadSplits)),
+];
 
 /// Whether each of the three refuses a configuration with this error, or for None takes it.
 fn refuse(alloc: Global, config: &Config, error: Option<ConfigError>) -> bool {
@@ -47,114 +74,56 @@ fn refuse(alloc: Global, config: &Config, error: Option<ConfigError>) -> bool {
         && Cluster::new(alloc, config).err() == error
 }
 
-/// Whether configurations with these splits between resolvers, and between servers, are refused so.
-fn refuse_both(
-    alloc: Global,
-    splits: (Splits, Splits),
-    (logs, places, window): (u64, u64, u64),
-    error: Option<ConfigError>,
-) -> bool {
-    let mut config = Config {
-        resolver_splits: splits.0,
-        storage_splits: Splits::new(Vec::new(alloc)),
-        logs,
-        window,
-        start: 0,
-        places,
-    };
-    let first = refuse(alloc, &config, error);
-    config.resolver_splits = Splits::new(Vec::new(alloc));
-    config.storage_splits = splits.1;
-    first && refuse(alloc, &config, error)
-}
-
-/// Numbers of splits, of logs and of places, the window, and the refusal.
-static COUNTS: [(u8, u64, u64, u64, Option<ConfigError>); 9] = [
-    (15, 16, 16, 1_000_000, None),
-    (0, 1, 1, 1, None),
-    (16, 1, 1, 1, Some(ConfigError::BadCount)),
-    (0, 0, 1, 1, Some(ConfigError::BadCount)),
-    (0, 17, 1, 1, Some(ConfigError::BadCount)),
-    (0, 1, 0, 1, Some(ConfigError::BadCount)),
-    (0, 1, 17, 1, Some(ConfigError::BadCount)),
-    (0, 1, 1, 0, Some(ConfigError::BadCount)),
-    (0, 1, 1, 1_000_001, Some(ConfigError::BadCount)),
-];
-
-/// So many splits.
-fn many(alloc: Global, count: u8) -> Result<Splits, AllocError> {
-    let mut splits = Vec::new(alloc);
-    for number in 0..count {
-        splits.push(Bytes::new([0x15, number].to_vec(alloc)?))?;
-    }
-    Ok(Splits::new(splits))
-}
-
-fn counted(
-    alloc: Global,
-    splits: u8,
-    counts: (u64, u64, u64),
-    error: Option<ConfigError>,
-) -> Result<(), Fail> {
-    let splits = (many(alloc, splits)?, many(alloc, splits)?);
-    holds(refuse_both(alloc, splits, counts, error), "the counts")
-}
-
-#[test]
-fn counts_have_bounds(rt: HostRuntime) -> Result<(), Fail> {
-    for (splits, logs, places, window, error) in &COUNTS {
-        counted(rt.alloc(), *splits, (*logs, *places, *window), *error)?;
+/// Refused so, or taken, is a configuration with the splits between resolvers, and between servers.
+fn is_refused(alloc: Global, row: &Row) -> Result<(), Fail> {
+    let (splits, logs, places, window, error) = row;
+    for both in [(*splits, ""), ("", *splits)] {
+        let mut config = config_of(alloc, both, *logs, *window, 0)?;
+        config.places = *places;
+        holds(refuse(alloc, &config, *error), splits)?;
     }
     Ok(())
 }
 
-/// Splits, and the refusal.
-static SPLITS: [(&str, Option<ConfigError>); 8] = [
-    ("15 1500 16", None),
-    ("62", None),
-    ("16 15", Some(ConfigError::BadSplits)),
-    ("15 15", Some(ConfigError::BadSplits)),
-    ("62 62", Some(ConfigError::BadSplits)),
-    ("empty", Some(ConfigError::BadSplits)),
-    ("ff", Some(ConfigError::BadSplits)),
-    ("fe ff00", Some(ConfigError::BadSplits)),
-];
-
-fn split(alloc: Global, splits: &str, error: Option<ConfigError>) -> Result<(), Fail> {
-    let both = (splits_of(alloc, splits)?, splits_of(alloc, splits)?);
-    holds(refuse_both(alloc, both, (1, 1, 1), error), splits)
-}
-
 #[test]
-fn splits_are_rising_keys(rt: HostRuntime) -> Result<(), Fail> {
-    for (splits, error) in &SPLITS {
-        split(rt.alloc(), splits, *error)?;
+fn configurations_are_refused(rt: HostRuntime) -> Result<(), Fail> {
+    for row in &CONFIGS {
+        is_refused(rt.alloc(), row)?;
     }
     Ok(())
 }
 
-/// Numbers of bytes of a split, and the refusal.
-static LENGTHS: [(usize, Option<ConfigError>); 2] = [
-    (10_000, None),
-    (10_001, Some(ConfigError::BadSplits)),
+/// The versions at which servers begin, whether there is one left before they pull a version, and then, and the pairs
+/// that a snapshot's read finds at that version.
+static STARTS: [(u64, u64, &str, &str); 2] = [
+    (10, 11, "(true, true)", "61=01 63=03"),
+    (u64::MAX - 1, u64::MAX, "(true, false)", "61=01 63=03"),
 ];
 
-/// One split of so many bytes.
-fn long(alloc: Global, length: usize) -> Result<Splits, AllocError> {
-    let mut splits = Vec::new(alloc);
-    splits.push(Bytes::new(vec![in alloc; 0x15; length]?))?;
-    Ok(Splits::new(splits))
+/// Servers that meet at the key 62 and have pulled one version, if there was one left.
+fn pulled(alloc: Global, config: &Config, told: &str) -> Result<Tier, Fail> {
+    let mut tier = Tier::new(alloc, config)?;
+    let before = tier.has_next();
+    if before {
+        tier.pull_entry(mutations_of(alloc, "63=03 61=01")?.as_slice())?;
+    }
+    tells(alloc, &(before, tier.has_next()), told)?;
+    Ok(tier)
 }
 
-fn measured(alloc: Global, length: usize, error: Option<ConfigError>) -> Result<(), Fail> {
-    let splits = (long(alloc, length)?, long(alloc, length)?);
-    holds(refuse_both(alloc, splits, (1, 1, 1), error), "the length")
+fn read(alloc: Global, tier: &Tier, version: u64, told: &str) -> Result<(), Fail> {
+    let range = range_of(alloc, "61-64")?;
+    let pairs = Snapshot::read(tier, &range, version, 9, false)?;
+    alike(alloc, &pairs, &pairs_of(alloc, told)?)
 }
 
 #[test]
-fn splits_may_be_too_long(rt: HostRuntime) -> Result<(), Fail> {
-    for (length, error) in &LENGTHS {
-        measured(rt.alloc(), *length, *error)?;
+fn versions_are_pulled(rt: HostRuntime) -> Result<(), Fail> {
+    let mut config = config_of(rt.alloc(), ("", "62"), 1, 1, 0)?;
+    for (start, version, told, pairs) in &STARTS {
+        config.start = *start;
+        let tier = pulled(rt.alloc(), &config, told)?;
+        read(rt.alloc(), &tier, *version, pairs)?;
     }
     Ok(())
 }

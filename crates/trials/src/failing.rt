@@ -3,7 +3,7 @@ ghost use Rattle.std.specs.Prelude.{◌≡◌};
 ghost use Rattle.std.proofs.Common.{inl};
 ghost use Rattle.cluster_core.specs.declared.answers.ReadError.TheVariants.{TooOld};
 
-use crate::parts::{mutations_of, pairs_text, range_of, ranges_text, same, shown};
+use crate::parts::{alike, mutations_of, pairs_of, range_of, ranges_of, tells};
 use cluster_core::ReadError;
 use kv_core::{KeyRange, KvMap, Pair};
 use std::alloc::Global;
@@ -54,12 +54,17 @@ static ROWS: [(u64, &str, &str); 5] = [
     (4, "68=08", "68=08"),
 ];
 
-/// What a read of the first pair tells.
-fn first_told(alloc: Global, db: &Failing, transaction: &mut Transaction) -> Result<String, Fail> {
+/// Whether a read of the first pair tells this.
+fn is_told(
+    alloc: Global,
+    db: &Failing,
+    transaction: &mut Transaction,
+    wanted: &str,
+) -> Result<(), Fail> {
     let range = range_of(alloc, "61-70")?;
     match transaction.get_range(db, &range, 1, false) {
-        Ok(pairs) => pairs_text(alloc, pairs.as_slice()),
-        Err(error) => shown(alloc, &error),
+        Ok(pairs) => alike(alloc, &pairs, &pairs_of(alloc, wanted)?),
+        Err(error) => tells(alloc, &error, wanted),
     }
 }
 
@@ -74,17 +79,12 @@ fn reads_told(alloc: Global, row: &(u64, &str, &str)) -> Result<(), Fail> {
     };
     let mut transaction = Transaction::begin(alloc, 0);
     transaction.write_all(mutations_of(alloc, "61-68 6b=00")?)?;
-    same(first_told(alloc, &db, &mut transaction)?.as_str(), first)?;
-    same(first_told(alloc, &db, &mut transaction)?.as_str(), second)?;
+    is_told(alloc, &db, &mut transaction, first)?;
+    is_told(alloc, &db, &mut transaction, second)?;
     let request = transaction.into_request();
-    same(
-        ranges_text(alloc, request.reads.as_slice())?.as_str(),
-        "61-6800",
-    )?;
-    same(
-        shown(alloc, &request.mutations.as_slice().len())?.as_str(),
-        "2",
-    )
+    let read = ranges_of(alloc, "61-6800")?;
+    alike(alloc, &request.reads.as_slice(), &read.as_slice())?;
+    tells(alloc, &request.mutations.as_slice().len(), "2")
 }
 
 #[test]

@@ -6,11 +6,7 @@ mod asking;
 #[cfg(test)]
 mod cells;
 #[cfg(test)]
-mod changes;
-#[cfg(test)]
 mod clusters;
-#[cfg(test)]
-mod commands;
 #[cfg(test)]
 mod commits;
 #[cfg(test)]
@@ -30,8 +26,6 @@ mod ranges;
 #[cfg(test)]
 mod records;
 #[cfg(test)]
-mod roles;
-#[cfg(test)]
 mod scene;
 #[cfg(test)]
 mod schedules;
@@ -40,13 +34,7 @@ mod schema_bytes;
 #[cfg(test)]
 mod schemas;
 #[cfg(test)]
-mod servers;
-#[cfg(test)]
 mod stores;
-#[cfg(test)]
-mod subspaces;
-#[cfg(test)]
-mod telling;
 #[cfg(test)]
 mod texts;
 #[cfg(test)]

@@ -1,16 +1,16 @@
 // The lines of replies that no short script gets.
-use kv_core::{Bytes, KeyRange};
+use crate::parts::{range_of, same};
 use metadata::{Refusal, State};
 use schedule::{Reply, Report, Reports};
 use script::make_line;
-use std::alloc::{AllocError, Global};
+use std::alloc::Global;
 use std::test::Fail;
 
-// What is told of a client's transaction; of a conflict the version seen and the range's ends.
+// What is told of a client's transaction; of a conflict the version seen and the range.
 #[derive(Clone, Copy)]
 enum Told {
     Committed(u64, u64),
-    Conflict(u64, u64, &'static [u8], &'static [u8]),
+    Conflict(u64, u64, &'static str),
     Unknown(u64),
 }
 
@@ -18,31 +18,25 @@ enum Told {
 #[derive(Clone, Copy)]
 enum Plain {
     Reported(usize, usize),
-    Corrupt(&'static [u8]),
     Refused(Refusal),
     State(State),
 }
 
 static TOLD: [Told; 4] = [
     Told::Committed(15, u64::MAX),
-    Told::Conflict(0, 7, b"\x00\xab", b"\x7f"),
+    Told::Conflict(0, 7, "00ab-7f"),
     Told::Unknown(3),
-    Told::Conflict(1, 2, b"", b""),
+    Told::Conflict(1, 2, "-"),
 ];
 
 // The number of a step, what it replied, and the line that is printed.
-static LINES: [(usize, Plain, &str); 15] = [
+static LINES: [(usize, Plain, &str); 14] = [
     (
         12,
         Plain::Reported(0, 3),
         "12 client 15 committed 18446744073709551615, client 0 conflict 7 00ab..7f, client 3 unknown\n",
     ),
     (1, Plain::Reported(3, 4), "1 client 1 conflict 2 ..\n"),
-    (
-        3,
-        Plain::Corrupt(b"\x15\x01\xfe"),
-        "3 refused Corrupt 1501fe\n",
-    ),
     (
         1,
         Plain::Refused(Refusal::NoSuchRole),
@@ -89,16 +83,11 @@ static LINES: [(usize, Plain, &str); 15] = [
     (7, Plain::State(State::Disabled), "7 disabled\n"),
 ];
 
-fn bytes_of(alloc: Global, bytes: &[u8]) -> Result<Bytes, AllocError> {
-    Ok(Bytes::new(bytes.to_vec(alloc)?))
-}
-
 fn report_of(alloc: Global, told: Told) -> Result<Report, Fail> {
     match told {
         Told::Committed(client, version) => Ok(Report::Committed { client, version }),
-        Told::Conflict(client, seen, begin, end) => {
-            let range = KeyRange::new(bytes_of(alloc, begin)?, bytes_of(alloc, end)?);
-            let range = range.ok_or("no range")?;
+        Told::Conflict(client, seen, range) => {
+            let range = range_of(alloc, range)?;
             Ok(Report::Conflict {
                 client,
                 seen,
@@ -120,20 +109,18 @@ fn reports_of(alloc: Global, from: usize, to: usize) -> Result<Reports, Fail> {
 fn reply_of(alloc: Global, plain: Plain) -> Result<Reply, Fail> {
     match plain {
         Plain::Reported(from, to) => Ok(Reply::Reported(reports_of(alloc, from, to)?)),
-        Plain::Corrupt(key) => Ok(Reply::Corrupt(bytes_of(alloc, key)?)),
         Plain::Refused(refusal) => Ok(Reply::Refused(refusal)),
         Plain::State(state) => Ok(Reply::State(state)),
     }
 }
 
 #[test]
-fn prints_lines(rt: HostRuntime) -> Result<(), Fail> {
-    let alloc = rt.alloc();
-    let mut line = String::new(alloc);
-    for (number, plain, wanted) in LINES {
-        let reply = reply_of(alloc, plain)?;
-        make_line(alloc, &mut line, number, &reply)?;
-        assert!(rt; line.as_str() == wanted, "printed {line}");
+fn lines_are_printed(rt: HostRuntime) -> Result<(), Fail> {
+    let mut line = String::new(rt.alloc());
+    for (number, plain, wanted) in &LINES {
+        let reply = reply_of(rt.alloc(), *plain)?;
+        make_line(rt.alloc(), &mut line, *number, &reply)?;
+        same(line.as_str(), wanted)?;
     }
     Ok(())
 }

@@ -1,31 +1,37 @@
 // What keeping an index writes.
-use crate::asking::{cells_asked, index_asked, schema_asked, words_of};
-use crate::telling::mutations_told;
+use crate::asking::{cells_asked, schema_asked};
+use crate::parts::{alike, mutations_of};
 use crate::words::text_of;
 use index_maint::{Maintainer, ValueIndex};
 use kv_core::Mutation;
 use metadata::{IndexDefinition, Record, Schema};
-use std::alloc::{AllocError, Global};
+use std::alloc::Global;
 use std::test::Fail;
 
 /// What the store's keys begin with.
 const PREFIX: [u8; 2] = [0x15, 0x01];
 
-/// A record and the one in whose place it comes: what the first index of the type t, over a, writes.
+/// The schema of the type t of whole numbers k, a and b, whose key is k, with an index over a.
+const SCHEMA: &str = r#"{
+    "types":[{"name":"t","fields":[["k","int"],["a","int"],["b","int"]],"key":["k"]}],
+    "indexes":[{"name":"i","kind":"value","type":"t","columns":["a"]}]
+}"#;
+
+/// A record and the one that comes in its place, and what the index writes: the old entry goes and the new one comes,
+/// or neither.
 static WRITTEN: [(&str, &str, &str); 2] = [
     (
-        "1 5 0",
-        "1 6 7",
-        "clear 150115021501150515011501..15011502150115051501150100, set 150115021501150615011501=",
+        "[1,5,0]",
+        "[1,6,7]",
+        "150115021501150515011501-15011502150115051501150100 150115021501150615011501=",
     ),
-    ("1 5 0", "1 5 7", ""),
+    ("[1,5,0]", "[1,5,7]", ""),
 ];
 
-/// The record of the type t that words are.
-fn record_asked(alloc: Global, schema: &Schema, text: &str) -> Result<Record, Fail> {
-    let words = words_of(alloc, text)?;
-    let cells = cells_asked(alloc, &words)?;
-    Ok(Record::new(alloc, schema, &text_of(alloc, "t")?, cells)?)
+fn record_asked(alloc: Global, schema: &Schema, cells: &str) -> Result<Record, Fail> {
+    let name = text_of(alloc, "t")?;
+    let cells = cells_asked(alloc, cells)?;
+    Ok(Record::new(alloc, schema, &name, cells)?)
 }
 
 /// What a maintainer writes where a record gives way to another one.
@@ -34,25 +40,24 @@ fn changes<M: Maintainer>(
     index: &IndexDefinition,
     old: &Record,
     new: &Record,
-) -> Result<Vec<Mutation>, AllocError> {
-    M::changes(alloc, &PREFIX, index, Some(old), Some(new))
+) -> Result<Vec<Mutation>, Fail> {
+    Ok(M::changes(alloc, &PREFIX, index, Some(old), Some(new))?)
 }
 
-/// What is written where a record gives way to another one, in words.
-fn changes_told(alloc: Global, old: &str, new: &str) -> Result<String, Fail> {
-    let schema = schema_asked(alloc, &["t", "k,a,b", "k"])?;
-    let index = schema.new_index(&index_asked(alloc, &["i", "value", "t", "a"])?)?;
-    let old = record_asked(alloc, &schema, old)?;
-    let new = record_asked(alloc, &schema, new)?;
-    let mutations = changes::<ValueIndex>(alloc, &index, &old, &new)?;
-    mutations_told(alloc, mutations.as_slice())
+/// What the first index of a schema writes.
+fn written(alloc: Global, schema: &Schema, old: &str, new: &str) -> Result<Vec<Mutation>, Fail> {
+    let index = schema.indexes().first().ok_or("no index")?;
+    let old = record_asked(alloc, schema, old)?;
+    let new = record_asked(alloc, schema, new)?;
+    changes::<ValueIndex>(alloc, index, &old, &new)
 }
 
 #[test]
 fn entries_follow_records(rt: HostRuntime) -> Result<(), Fail> {
-    for (old, new, wanted) in WRITTEN {
-        let told = changes_told(rt.alloc(), old, new)?;
-        assert_eq!(rt; told.as_str(), wanted, "{new}");
+    let schema = schema_asked(rt.alloc(), SCHEMA)?;
+    for (old, new, told) in &WRITTEN {
+        let found = written(rt.alloc(), &schema, old, new)?;
+        alike(rt.alloc(), &found, &mutations_of(rt.alloc(), told)?)?;
     }
     Ok(())
 }

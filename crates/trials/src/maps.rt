@@ -1,228 +1,198 @@
 // Maps, mutations, their sums and their sizes.
 use crate::parts::{
-    digits_or_none, halves, holds, mutation_of, mutation_text, mutations_of, mutations_text,
-    pairs_text, pushed, range_of, request_of, same, words_in,
+    alike, holds, mutation_of, mutations_of, pair_of, pairs_of, range_of, request_of, same, tells,
 };
 use crate::words::{bytes_of, digits_of};
 use kv_core::{
-    Bytes, CommitRequest, KeyRange, KvMap, MAX_TRANSACTION_BYTES, Mutation, Mutations, Pair,
-    WriteError, add_le, total_size,
+    Bytes, KeyRange, KvMap, MAX_TRANSACTION_BYTES, Mutation, Mutations, add_le, total_size,
 };
-use std::alloc::{AllocError, Global};
+use std::alloc::Global;
+use std::mem;
 use std::test::Fail;
 
-/// Stored values and operands, and their sums: by the call alone, and at a key of a map.
-static SUMS: [(Option<&str>, &str, &str); 4] = [
-    (None, "0100", "0100"),
-    (Some("ff"), "0100", "0001"),
-    (Some("010203"), "ff", "00"),
-    (Some("01"), "", ""),
+/// What is done with a map, or asked: a row has a number, a text and what is told.
+#[derive(Clone, Copy)]
+enum Step {
+    /// Begins anew with the pairs of the text, of which the first with a key stands.
+    New,
+    Insert,
+    Apply,
+    /// Applies copies of the mutations of the text, and goes on with a copy of the map.
+    ApplyAll,
+    /// The value of a key, or `none`.
+    Get,
+    /// The pairs of the range, up to the number, from the front or from the back.
+    Range,
+    Back,
+    /// The sum of the stored value, or of none, and of the operand.
+    Sum,
+    /// Whether a copy of a request with the mutations of the text is equal to it.
+    Copy,
+    /// The value that the mutations `62-63 64=04` make of the byte 01 at a key.
+    After,
+    /// The size of a mutation by its sign and its numbers of bytes: of its key or begin, and of its value or end.
+    Size,
+    /// The size of so many bytes of a transaction, and of the mutations of the text behind them.
+    Total,
+}
+
+use Step::{After, Apply, ApplyAll, Back, Copy, Get, Insert, New, Range, Size, Sum, Total};
+
+type Row = (Step, usize, &'static str, &'static str);
+
+static STEPS: [Row; 56] = [
+    // Sums, by the call alone and at a key of a map.
+    (Sum, 0, "none+0100", "0100"),
+    (Sum, 0, "ff+0100", "0001"),
+    (Sum, 0, "010203+ff", "00"),
+    (Sum, 0, "01+", ""),
+    (New, 0, "", ""),
+    (Apply, 0, "61+0100", ""),
+    (Get, 0, "61", "0100"),
+    (New, 0, "61=ff", ""),
+    (Apply, 0, "61+0100", ""),
+    (Get, 0, "61", "0001"),
+    (New, 0, "61=010203", ""),
+    (Apply, 0, "61+ff", ""),
+    (Get, 0, "61", "00"),
+    (New, 0, "61=01", ""),
+    (Apply, 0, "61+", ""),
+    (Get, 0, "61", ""),
+    (Copy, 0, "", ""),
+    (Copy, 0, "61=01", ""),
+    (Copy, 0, "61-63", ""),
+    (Copy, 0, "61+0102", ""),
+    (Copy, 0, "62-63 64=04 64+01", ""),
+    // A map is read, from the front and from the back.
+    (New, 0, "63=03 61=01 62=02 61=09", ""),
+    (ApplyAll, 0, "62-63 64=04", ""),
+    (Range, 9, "61-ff", "61=01 63=03 64=04"),
+    (Range, 2, "61-ff", "61=01 63=03"),
+    (Back, 2, "61-ff", "64=04 63=03"),
+    (Back, 9, "61-ff", "64=04 63=03 61=01"),
+    (Back, 9, "62-64", "63=03"),
+    (Range, 0, "61-ff", ""),
+    (Get, 0, "61", "01"),
+    (Get, 0, "62", "none"),
+    (Get, 0, "64", "04"),
+    (After, 0, "61", "01"),
+    (After, 0, "62", "none"),
+    (After, 0, "64", "04"),
+    // A value comes in the place of another one.
+    (New, 0, "61=07", ""),
+    (Insert, 0, "61=01", ""),
+    (Get, 0, "61", "01"),
+    (Insert, 0, "61=02", ""),
+    (Get, 0, "61", "02"),
+    (Insert, 0, "61=", ""),
+    (Get, 0, "61", ""),
+    (Size, 10_000, "=0", "Ok(10000)"),
+    (Size, 10_001, "=0", "Err(KeyTooLarge)"),
+    (Size, 1, "=100000", "Ok(100001)"),
+    (Size, 1, "=100001", "Err(ValueTooLarge)"),
+    (Size, 10_000, "+0", "Ok(10000)"),
+    (Size, 10_001, "+0", "Err(KeyTooLarge)"),
+    (Size, 1, "+100000", "Ok(100001)"),
+    (Size, 1, "+100001", "Err(ValueTooLarge)"),
+    (Size, 0, "-10001", "Ok(10001)"),
+    (Size, 0, "-10002", "Err(KeyTooLarge)"),
+    (Total, 9_999_998, "61=01", "Ok(10000000)"),
+    (Total, 9_999_999, "61=01", "Err(TransactionTooLarge)"),
+    (Total, 0, "61=01 ff=", "Err(KeyOutside)"),
+    (Total, 0, "61+01 61-63", "Ok(4)"),
 ];
 
-fn added(alloc: Global, stored: Option<&Bytes>, operand: &Bytes) -> Result<Vec<u8>, AllocError> {
-    match stored {
-        Some(stored) => add_le(alloc, Some(stored.as_slice()), operand.as_slice()),
-        None => add_le(alloc, None, operand.as_slice()),
+/// Fails where a value isn't that of these digits, or there is one where `none` is wanted.
+pub(crate) fn has_value(alloc: Global, value: Option<&Bytes>, told: &str) -> Result<(), Fail> {
+    match value {
+        Some(value) => same(digits_of(alloc, value.as_slice())?.as_str(), told),
+        None => same("none", told),
     }
 }
 
-/// The map where a value, if there is one, stands at the key 61.
-fn map_at(alloc: Global, stored: Option<&Bytes>) -> Result<KvMap, Fail> {
-    let mut map = KvMap::new(alloc);
-    if let Some(stored) = stored {
-        map.insert(bytes_of(alloc, "61")?, stored.copy()?)?;
+/// The list of the mutations of a text, pushed one by one.
+fn pushed(alloc: Global, text: &str) -> Result<Mutations, Fail> {
+    let mut mutations = Mutations::new(Vec::new(alloc));
+    for word in text.split_whitespace() {
+        mutations.push(mutation_of(alloc, word)?)?;
     }
-    Ok(map)
+    Ok(mutations)
 }
 
-fn value_at(alloc: Global, map: &KvMap, key: &str) -> Result<String, Fail> {
-    let key = bytes_of(alloc, key)?;
-    digits_or_none(alloc, map.get(&key))
-}
-
-fn added_in(alloc: Global, mut map: KvMap, operand: Bytes) -> Result<String, Fail> {
-    let key = bytes_of(alloc, "61")?;
-    map.apply(&Mutation::Add { key, operand })?;
-    value_at(alloc, &map, "61")
-}
-
-fn stored_bytes(alloc: Global, stored: Option<&str>) -> Result<Option<Bytes>, Fail> {
-    match stored {
-        Some(digits) => Ok(Some(bytes_of(alloc, digits)?)),
-        None => Ok(None),
-    }
-}
-
-fn sum(alloc: Global, stored: Option<&str>, operand: &str, wanted: &str) -> Result<(), Fail> {
-    let stored = stored_bytes(alloc, stored)?;
-    let operand = bytes_of(alloc, operand)?;
-    let sum = added(alloc, stored.as_ref(), &operand)?;
-    same(digits_of(alloc, sum.as_slice())?.as_str(), wanted)?;
-    let map = map_at(alloc, stored.as_ref())?;
-    same(added_in(alloc, map, operand)?.as_str(), wanted)
-}
-
-#[test]
-fn sums_are_made(rt: HostRuntime) -> Result<(), Fail> {
-    for (stored, operand, wanted) in &SUMS {
-        sum(rt.alloc(), *stored, operand, wanted)?;
-    }
-    Ok(())
-}
-
-/// Mutations, of each variant: a copy of each is equal.
-static MUTATIONS: [&str; 3] = ["61=01", "61-63", "61+0102"];
-
-fn copied(alloc: Global, mutation: &str) -> Result<(), Fail> {
-    let copy = mutation_of(alloc, mutation)?.copy()?;
-    same(mutation_text(alloc, &copy)?.as_str(), mutation)
-}
-
-#[test]
-fn mutations_are_copied(rt: HostRuntime) -> Result<(), Fail> {
-    for mutation in &MUTATIONS {
-        copied(rt.alloc(), mutation)?;
-    }
-    Ok(())
-}
-
-/// The mutations of requests: those of a copy of each are the same.
-static LISTS: [&str; 3] = ["", "61=01", "62-63 64=04 64+01"];
-
-/// Whether a request has what the others have in common.
-fn is_request(request: &CommitRequest, empty: bool) -> bool {
-    request.read_version == 7
-        && request.reads.as_slice().len() == 1
-        && request.mutations.is_empty() == empty
-}
-
-fn requested(alloc: Global, mutations: &str) -> Result<(), Fail> {
-    let copy = request_of(alloc, 7, "61-62", mutations)?.copy()?;
-    holds(is_request(&copy, mutations.is_empty()), mutations)?;
-    same(
-        mutations_text(alloc, copy.mutations.as_slice())?.as_str(),
-        mutations,
-    )
-}
-
-#[test]
-fn requests_are_copied(rt: HostRuntime) -> Result<(), Fail> {
-    for mutations in &LISTS {
-        requested(rt.alloc(), mutations)?;
-    }
-    Ok(())
-}
-
-fn pair_of(alloc: Global, word: &str) -> Result<Pair, Fail> {
-    let (key, value) = halves(word, '=').ok_or("no pair")?;
-    let key = bytes_of(alloc, key)?;
-    Ok((key, bytes_of(alloc, value)?))
-}
-
-fn pairs_of(alloc: Global, text: &str) -> Result<Vec<Pair>, Fail> {
-    let mut pairs = Vec::new(alloc);
-    for word in &words_in(alloc, text)? {
-        pairs.push(pair_of(alloc, word)?)?;
-    }
-    Ok(pairs)
-}
-
-/// A copy of the map of the pairs, of which the first with a key stands, after the mutations.
-fn changed(alloc: Global) -> Result<KvMap, Fail> {
-    let map = KvMap::from_pairs(alloc, pairs_of(alloc, "63=03 61=01 62=02 61=09")?)?;
-    let mutations = pushed(alloc, "62-63 64=04")?.copy()?;
+fn with_all(alloc: Global, map: KvMap, text: &str) -> Result<KvMap, Fail> {
+    let mutations = pushed(alloc, text)?.copy()?;
     Ok(map.with_all(mutations.as_slice())?.copy()?)
 }
 
-/// Ranges and limits, and the first pairs and the last ones there, the last one first.
-static READS: [(&str, usize, bool, &str); 6] = [
-    ("61-ff", 9, false, "61=01 63=03 64=04"),
-    ("61-ff", 2, false, "61=01 63=03"),
-    ("61-ff", 2, true, "64=04 63=03"),
-    ("61-ff", 9, true, "64=04 63=03 61=01"),
-    ("62-64", 9, true, "63=03"),
-    ("61-ff", 0, false, ""),
-];
-
-fn read(alloc: Global, range: &str, limit: usize, reverse: bool, wanted: &str) -> Result<(), Fail> {
-    let pairs = changed(alloc)?.range(&range_of(alloc, range)?, limit, reverse)?;
-    same(pairs_text(alloc, pairs.as_slice())?.as_str(), wanted)
+fn insert(alloc: Global, map: &mut KvMap, text: &str) -> Result<(), Fail> {
+    let (key, value) = pair_of(alloc, text)?;
+    Ok(map.insert(key, value)?)
 }
 
-#[test]
-fn maps_are_read(rt: HostRuntime) -> Result<(), Fail> {
-    for (range, limit, reverse, wanted) in &READS {
-        read(rt.alloc(), range, *limit, *reverse, wanted)?;
+/// Changes a map.
+fn change(alloc: Global, map: &mut KvMap, step: Step, text: &str) -> Result<(), Fail> {
+    match step {
+        New => *map = KvMap::from_pairs(alloc, pairs_of(alloc, text)?)?,
+        Apply => map.apply(&mutation_of(alloc, text)?)?,
+        _ => *map = with_all(alloc, mem::replace(map, KvMap::new(alloc)), text)?,
     }
     Ok(())
 }
 
-/// Keys, and the value that the map has at each, which the mutations also make there of the byte 01.
-static VALUES: [(&str, &str); 3] = [("61", "01"), ("62", "none"), ("64", "04")];
-
-/// The value that mutations make of the byte 01 at a key.
-fn value_made(alloc: Global, key: &str) -> Result<String, Fail> {
-    let mut mutations = Mutations::new(mutations_of(alloc, "62-63")?);
-    mutations.append(mutations_of(alloc, "64=04")?)?;
-    let before = bytes_of(alloc, "01")?;
-    let value = mutations.value_after(&bytes_of(alloc, key)?, Some(before))?;
-    digits_or_none(alloc, value.as_ref())
+fn read(
+    alloc: Global,
+    map: &KvMap,
+    range: &str,
+    limit: usize,
+    reverse: bool,
+    told: &str,
+) -> Result<(), Fail> {
+    let pairs = map.range(&range_of(alloc, range)?, limit, reverse)?;
+    alike(alloc, &pairs, &pairs_of(alloc, told)?)
 }
 
-fn value(alloc: Global, key: &str, wanted: &str) -> Result<(), Fail> {
-    same(value_at(alloc, &changed(alloc)?, key)?.as_str(), wanted)?;
-    same(value_made(alloc, key)?.as_str(), wanted)
+fn sum(alloc: Global, text: &str, told: &str) -> Result<(), Fail> {
+    let (stored, operand) = text.split_once('+').ok_or("no sum")?;
+    let operand = bytes_of(alloc, operand)?;
+    let sum = match stored {
+        "none" => add_le(alloc, None, operand.as_slice())?,
+        stored => add_le(
+            alloc,
+            Some(bytes_of(alloc, stored)?.as_slice()),
+            operand.as_slice(),
+        )?,
+    };
+    same(digits_of(alloc, sum.as_slice())?.as_str(), told)
 }
 
-#[test]
-fn maps_have_values(rt: HostRuntime) -> Result<(), Fail> {
-    for (key, wanted) in &VALUES {
-        value(rt.alloc(), key, wanted)?;
-    }
-    Ok(())
+fn copied(alloc: Global, mutations: &str) -> Result<(), Fail> {
+    let request = request_of(alloc, 7, "61-62", mutations)?;
+    let copy = request.copy()?;
+    holds(copy.mutations.is_empty() == mutations.is_empty(), mutations)?;
+    alike(alloc, &copy, &request)
 }
 
-/// Values of one key, each put in the place of one before.
-static INSERTED: [&str; 3] = ["01", "02", ""];
-
-fn replaced(alloc: Global, value: &str) -> Result<(), Fail> {
-    let mut map = map_at(alloc, Some(&bytes_of(alloc, "07")?))?;
-    map.insert(bytes_of(alloc, "61")?, bytes_of(alloc, value)?)?;
-    same(value_at(alloc, &map, "61")?.as_str(), value)
+/// The mutations of two texts, those of the second put behind those of the first.
+fn appended(alloc: Global, first: &str, second: &str) -> Result<Mutations, Fail> {
+    let mut mutations = Mutations::new(mutations_of(alloc, first)?);
+    mutations.append(mutations_of(alloc, second)?)?;
+    Ok(mutations)
 }
 
-#[test]
-fn values_are_replaced(rt: HostRuntime) -> Result<(), Fail> {
-    for value in &INSERTED {
-        replaced(rt.alloc(), value)?;
-    }
-    Ok(())
+fn after(alloc: Global, key: &str, told: &str) -> Result<(), Fail> {
+    let mutations = appended(alloc, "62-63", "64=04")?;
+    let key = bytes_of(alloc, key)?;
+    let value = mutations.value_after(&key, Some(bytes_of(alloc, "01")?))?;
+    has_value(alloc, value.as_ref(), told)
 }
 
-/// Signs of mutations, numbers of bytes of a key or begin and of a value, operand or end, and the size.
-static SIZES: [(char, usize, usize, Result<u64, WriteError>); 10] = [
-    ('=', 10_000, 0, Ok(10_000)),
-    ('=', 10_001, 0, Err(WriteError::KeyTooLarge)),
-    ('=', 1, 100_000, Ok(100_001)),
-    ('=', 1, 100_001, Err(WriteError::ValueTooLarge)),
-    ('+', 10_000, 0, Ok(10_000)),
-    ('+', 10_001, 0, Err(WriteError::KeyTooLarge)),
-    ('+', 1, 100_000, Ok(100_001)),
-    ('+', 1, 100_001, Err(WriteError::ValueTooLarge)),
-    ('-', 0, 10_001, Ok(10_001)),
-    ('-', 0, 10_002, Err(WriteError::KeyTooLarge)),
-];
-
-fn zeros(alloc: Global, count: usize) -> Result<Bytes, AllocError> {
-    Ok(Bytes::new(vec![in alloc; 0; count]?))
-}
-
-fn of_zeros(alloc: Global, sign: char, first: usize, second: usize) -> Result<Mutation, Fail> {
-    let key = zeros(alloc, first)?;
-    let value = zeros(alloc, second)?;
+/// The mutation of this sign whose key or begin, and value, operand or end, have so many bytes.
+fn of_zeros(alloc: Global, sign: &str, first: usize, second: usize) -> Result<Mutation, Fail> {
+    let key = Bytes::new(vec![in alloc; 0; first]?);
+    let value = Bytes::new(vec![in alloc; 0; second]?);
     match sign {
-        '=' => Ok(Mutation::Set { key, value }),
-        '+' => Ok(Mutation::Add {
+        "=" => Ok(Mutation::Set { key, value }),
+        "+" => Ok(Mutation::Add {
             key,
             operand: value,
         }),
@@ -230,38 +200,45 @@ fn of_zeros(alloc: Global, sign: char, first: usize, second: usize) -> Result<Mu
     }
 }
 
-#[test]
-fn mutations_have_sizes(rt: HostRuntime) -> Result<(), Fail> {
-    for (sign, first, second, size) in &SIZES {
-        let mutation = of_zeros(rt.alloc(), *sign, *first, *second)?;
-        holds(mutation.size() == *size, "a size")?;
-    }
-    Ok(())
+fn sized(alloc: Global, first: usize, text: &str, told: &str) -> Result<(), Fail> {
+    let (sign, second) = text.split_at_checked(1).ok_or("no sign")?;
+    let mutation = of_zeros(alloc, sign, first, second.parse::<usize>()?)?;
+    tells(alloc, &mutation.size(), told)
 }
 
-/// Bytes of a transaction and mutations behind them, and the size of all.
-static TOTALS: [(u64, &str, Result<u64, WriteError>); 4] = [
-    (9_999_998, "61=01", Ok(10_000_000)),
-    (9_999_999, "61=01", Err(WriteError::TransactionTooLarge)),
-    (0, "61=01 ff=", Err(WriteError::KeyOutside)),
-    (0, "61+01 61-63", Ok(4)),
-];
-
-fn total(
-    alloc: Global,
-    before: u64,
-    mutations: &str,
-    size: Result<u64, WriteError>,
-) -> Result<(), Fail> {
+fn total(alloc: Global, before: usize, mutations: &str, told: &str) -> Result<(), Fail> {
     let list = mutations_of(alloc, mutations)?;
-    let before = before.min(MAX_TRANSACTION_BYTES);
-    holds(total_size(before, list.as_slice()) == size, mutations)
+    let before = (before as u64).min(MAX_TRANSACTION_BYTES);
+    tells(alloc, &total_size(before, list.as_slice()), told)
+}
+
+fn take(
+    alloc: Global,
+    map: &mut KvMap,
+    step: Step,
+    number: usize,
+    texts: (&str, &str),
+) -> Result<(), Fail> {
+    let (text, told) = texts;
+    match step {
+        New | Apply | ApplyAll => change(alloc, map, step, text),
+        Insert => insert(alloc, map, text),
+        Get => has_value(alloc, map.get(&bytes_of(alloc, text)?), told),
+        Range => read(alloc, map, text, number, false, told),
+        Back => read(alloc, map, text, number, true, told),
+        Sum => sum(alloc, text, told),
+        Copy => copied(alloc, text),
+        After => after(alloc, text, told),
+        Size => sized(alloc, number, text, told),
+        Total => total(alloc, number, text, told),
+    }
 }
 
 #[test]
-fn lists_have_sizes(rt: HostRuntime) -> Result<(), Fail> {
-    for (before, mutations, size) in &TOTALS {
-        total(rt.alloc(), *before, mutations, *size)?;
+fn maps_take_steps(rt: HostRuntime) -> Result<(), Fail> {
+    let mut map = KvMap::new(rt.alloc());
+    for (step, number, text, told) in &STEPS {
+        take(rt.alloc(), &mut map, *step, *number, (text, told))?;
     }
     Ok(())
 }

@@ -1,145 +1,91 @@
-// A store over a map, in a transaction, and what its calls tell in words.
+// A map and a transaction over it, in which commands are performed and a store is used.
 ghost use Rattle.std.specs.Prelude.{IfOk};
 ghost use Rattle.record_store.specs.Holds.{HasPlainIndexes};
-ghost use Rattle.txn.specs.Refusing.{NeverRefuses};
 
-use crate::asking::{cells_asked, name_of, schema_asked, words_of};
-use crate::telling::{cells_told, done, mutations_told, refusal_told};
-use crate::words::{bytes_of, digits_of, text_of};
-use cluster_core::ReadError;
-use kv_core::{Bytes, CommitRequest, KeyRange, KvMap, Pair};
-use metadata::{Cell, Cells, Record, Refusal, Schema};
-use record_store::{Records, Store, StoreError};
+use crate::asking::{cells_asked, schema_asked};
+use crate::parts::{alike, mutations_of, pair_of, same, shown, tells};
+use crate::transactions::Counted;
+use crate::words::{bytes_of, text_of};
+use json_forms::rows_text;
+use kv_core::{Bytes, CommitRequest};
+use metadata::{Record, Refusal};
+use record_store::{Store, StoreError};
+use schedule::{Command, Step as Scripted, perform};
+use script::{make_line, script_of};
 use std::alloc::Global;
 use std::mem;
 use std::test::Fail;
-use tuple_codec::{ByteString, Text};
-use txn::{Snapshot, Transaction};
+use txn::Transaction;
 
-/// The bytes of the schema of the type t of whole numbers k, a and b, whose key is k.
-const SCHEMA: &str =
-    "1501150114050515010274000505026b0015010005026100150100050262001501000005140000000500";
-
-/// One map that stands at each version.
-#[derive(Drop)]
-struct Still {
-    map: KvMap,
+/// What is done with a map and a transaction over it: a row has two texts and what is told.
+#[derive(Clone, Copy)]
+pub(crate) enum Step {
+    /// Empties the map, and begins with the prefix of the store of commands.
+    New,
+    /// Begins a transaction with the store under a prefix.
+    At,
+    /// Puts a pair into the map, or sets it in the transaction.
+    Pair,
+    Set,
+    /// Performs the command of a script's step, and prints its reply.
+    Perform,
+    /// Makes the store of the type t under the prefix, or saves there the record of these cells of the type t of a
+    /// schema, or tells the records there.
+    Create,
+    Save,
+    Records,
+    /// Ends the transaction, and tells what it wrote, or how many mutations and ranges that were read it has.
+    Written,
+    Counts,
 }
 
-impl Snapshot for Still {
-    ghost map_at = { λ still version. still.map };
+use Step::{At, Counts, Create, New, Pair, Perform, Records, Save, Set, Written};
 
-    ghost may_refuse = { λ still. NeverRefuses };
+pub(crate) type Row = (Step, &'static str, &'static str, &'static str);
 
-    ghost must_refuse = { λ still range version. ⊥ };
-
-    ghost narrows = { λ still whole part version error inside refused. absurd refused };
-
-    fn read(
-        &self,
-        range: &KeyRange,
-        _version: u64,
-        limit: usize,
-        reverse: bool,
-    ) -> Result<Vec<Pair>, ReadError> {
-        let pairs = self.map.range(range, limit, reverse)?;
-        Ok(pairs)
-    }
-}
-
-/// An error in words.
-fn error_told(alloc: Global, error: StoreError) -> Result<String, Fail> {
-    match error {
-        StoreError::Memory => Ok(String::from_str(alloc, "memory")?),
-        StoreError::Read(error) => Ok(format!(in alloc; "read {error:?}")?),
-        StoreError::Write(error) => Ok(format!(in alloc; "write {error:?}")?),
-        StoreError::Refused(refusal) => Ok(refusal_told(alloc, refusal)?),
-        StoreError::Corrupt(key) => {
-            let digits = digits_of(alloc, key.as_slice())?;
-            Ok(format!(in alloc; "corrupt {}", digits.as_str())?)
-        }
-    }
-}
-
-/// What was found, in words: a record by its cells.
-fn found_told(alloc: Global, found: Result<Option<Record>, StoreError>) -> Result<String, Fail> {
-    match found {
-        Ok(Some(found)) => Ok(cells_told(alloc, found.cells().as_slice())?),
-        Ok(None) => Ok(String::from_str(alloc, "none")?),
-        Err(error) => error_told(alloc, error),
-    }
-}
-
-/// Records in words.
-fn records_told(alloc: Global, records: &[Record]) -> Result<String, Fail> {
-    let mut told = format!(in alloc; "{}:", records.len())?;
-    for one in records {
-        told.push_str(" ")?;
-        told.push_str(cells_told(alloc, one.cells().as_slice())?.as_str())?;
-    }
-    Ok(told)
-}
-
-/// The cells that a whole number and a length are: the number, and so many letters a.
-fn long_cells(alloc: Global, words: &[&str]) -> Result<Cells, Fail> {
-    let [key, length] = words else {
-        return Err(Fail::from("no length"));
-    };
-    let key = Cell::Int(key.parse::<i64>()?);
-    let long = ByteString::new(vec![in alloc; 0x61; length.parse::<usize>()?]?);
-    Ok(Cells::new(vec![in alloc; key, Cell::Bytes(long)]?))
-}
-
-/// The bytes that a word is: none for `-`.
-fn bytes_in(alloc: Global, word: &str) -> Result<Bytes, Fail> {
-    bytes_of(alloc, if word == "-" { "" } else { word })
-}
+/// The schema of the type t of whole numbers k, a and b, whose key is k.
+pub(crate) const REQUEST: &str =
+    r#"{"types":[{"name":"t","fields":[["k","int"],["a","int"],["b","int"]],"key":["k"]}]}"#;
 
 /// A map, and a transaction over it in which the store under a prefix is used.
 #[derive(Drop)]
 pub(crate) struct Scene {
     alloc: Global,
-    db: Still,
+    db: Counted,
     tx: Transaction,
     prefix: Bytes,
 }
 
+/// Performs a command, unless it asks for an index that is no VALUE index, and makes the line of its reply.
+fn performed(scene: &mut Scene, command: &Command) -> Result<String, Fail> {
+    if !command.asks_values() {
+        return Err(Fail::from("an index isn't a VALUE index"));
+    }
+    let mut line = String::new(scene.alloc);
+    let reply = perform(scene.alloc, command, &mut scene.tx, &scene.db)?;
+    make_line(scene.alloc, &mut line, 1, &reply)?;
+    Ok(line)
+}
+
+/// The command of a script's step.
+fn command_of(alloc: Global, step: &str) -> Result<Command, Fail> {
+    let mut text = String::from_str(alloc, r#"{"steps":["#)?;
+    text.push_str(step)?;
+    text.push_str("]}")?;
+    match script_of(alloc, text.as_str().as_bytes())?.steps.pop() {
+        Some(Scripted::Perform(_, command)) => Ok(command),
+        _ => Err(Fail::from("no command")),
+    }
+}
+
+fn print(scene: &mut Scene, step: &str, told: &str) -> Result<(), Fail> {
+    let command = command_of(scene.alloc, step)?;
+    let line = performed(scene, &command)?;
+    let wanted = format!(in scene.alloc; "1 {told}\n")?;
+    same(line.as_str(), wanted.as_str())
+}
+
 impl Scene {
-    /// An empty map, and the empty prefix.
-    pub(crate) fn new(alloc: Global) -> Scene {
-        Scene {
-            alloc,
-            db: Still {
-                map: KvMap::new(alloc),
-            },
-            tx: Transaction::begin(alloc, 0),
-            prefix: Bytes::new(Vec::new(alloc)),
-        }
-    }
-
-    /// Begins a transaction with the store under a prefix.
-    fn begin(&mut self, digits: &str) -> Result<String, Fail> {
-        self.prefix = bytes_in(self.alloc, digits)?;
-        self.tx = Transaction::begin(self.alloc, 0);
-        Ok(done(self.alloc)?)
-    }
-
-    /// Empties the map, and begins a transaction with the store under a prefix.
-    fn begin_empty(&mut self, digits: &str) -> Result<String, Fail> {
-        self.db = Still {
-            map: KvMap::new(self.alloc),
-        };
-        self.begin(digits)
-    }
-
-    /// Puts a pair into the map.
-    fn put(&mut self, key: &str, value: &str) -> Result<String, Fail> {
-        let key = bytes_of(self.alloc, key)?;
-        let value = bytes_in(self.alloc, value)?;
-        self.db.map.insert(key, value)?;
-        Ok(done(self.alloc)?)
-    }
-
     fn opened(&mut self) -> Result<Store, StoreError>
         ensures { IfOk result (λ store. HasPlainIndexes store.schema store.states) }
     {
@@ -149,105 +95,65 @@ impl Scene {
         Store::open(self.alloc, self.prefix.as_slice(), &mut self.tx, &self.db)
     }
 
-    /// Makes a store of a schema without indexes.
-    fn created(&mut self, schema: &Schema) -> Result<Store, StoreError> {
-        if !self.prefix.is_key() {
-            return Err(StoreError::Refused(Refusal::KeyOutside));
-        }
-        let [] = schema.indexes() else {
-            return Err(StoreError::Refused(Refusal::BadSchema));
-        };
-        let prefix = self.prefix.as_slice();
-        Store::create(self.alloc, prefix, &mut self.tx, &self.db, schema)
-    }
-
     fn saved(&mut self, new: &Record) -> Result<Option<Record>, StoreError> {
         let store = self.opened()?;
         store.save(&mut self.tx, &self.db, new)
     }
 
-    /// Saves the record of a type of the store's own schema.
-    fn saved_own(&mut self, name: &Text, cells: Cells) -> Result<Option<Record>, StoreError> {
-        let store = self.opened()?;
-        let new = Record::new(self.alloc, store.schema(), name, cells)?;
-        store.save(&mut self.tx, &self.db, &new)
-    }
-
-    fn loaded(&mut self, name: &Text, key: &Cells) -> Result<Option<Record>, StoreError> {
-        let store = self.opened()?;
-        store.load(&mut self.tx, &self.db, name, key)
-    }
-
-    fn removed(&mut self, name: &Text, key: &Cells) -> Result<bool, StoreError> {
-        let store = self.opened()?;
-        store.remove(&mut self.tx, &self.db, name, key)
-    }
-
-    fn listed(&mut self, name: &Text) -> Result<Records, StoreError> {
-        let store = self.opened()?;
-        store.records(&mut self.tx, &self.db, name)
-    }
-
-    fn open(&mut self) -> Result<String, Fail> {
-        match self.opened() {
-            Ok(_) => Ok(done(self.alloc)?),
-            Err(error) => error_told(self.alloc, error),
+    /// Saves a record, where there is none.
+    fn save(&mut self, new: &Record) -> Result<String, Fail> {
+        match self.saved(new) {
+            Ok(None) => Ok(String::from_str(self.alloc, "none")?),
+            Err(StoreError::Refused(refusal)) => shown(self.alloc, &refusal),
+            _ => Err(Fail::from("another answer")),
         }
     }
 
-    /// Makes a store of the type t of these fields, whose key is k.
-    fn create(&mut self, fields: &str) -> Result<String, Fail> {
-        let schema = schema_asked(self.alloc, &["t", fields, "k"])?;
-        match self.created(&schema) {
-            Ok(_) => Ok(done(self.alloc)?),
-            Err(error) => error_told(self.alloc, error),
+    /// Makes a store of the type t, which has no index.
+    fn create(&mut self) -> Result<String, Fail> {
+        let schema = schema_asked(self.alloc, REQUEST)?;
+        let ([], true) = (schema.indexes(), self.prefix.is_key()) else {
+            return Err(Fail::from("no schema without indexes, or no prefix"));
+        };
+        let prefix = self.prefix.as_slice();
+        match Store::create(self.alloc, prefix, &mut self.tx, &self.db, &schema) {
+            Ok(_) => Ok(String::from_str(self.alloc, "done")?),
+            Err(_) => Err(Fail::from("no store is made")),
         }
     }
 
-    fn save(&mut self, name: &str, cells: &[&str]) -> Result<String, Fail> {
-        let name = name_of(self.alloc, name)?;
-        let cells = cells_asked(self.alloc, cells)?;
-        let old = self.saved_own(&name, cells);
-        found_told(self.alloc, old)
-    }
-
-    /// Saves the record with the key and the byte string of so many letters a that words are.
-    fn save_long(&mut self, name: &str, words: &[&str]) -> Result<String, Fail> {
-        let name = name_of(self.alloc, name)?;
-        let old = self.saved_own(&name, long_cells(self.alloc, words)?);
-        found_told(self.alloc, old)
-    }
-
-    /// Saves a record of a type t of these fields, which another schema has.
-    fn save_other(&mut self, fields: &str, cells: &[&str]) -> Result<String, Fail> {
-        let schema = schema_asked(self.alloc, &["t", fields, "k"])?;
-        let cells = cells_asked(self.alloc, cells)?;
-        let new = Record::new(self.alloc, &schema, &text_of(self.alloc, "t")?, cells)?;
-        let old = self.saved(&new);
-        found_told(self.alloc, old)
-    }
-
-    fn load(&mut self, name: &str, key: &[&str]) -> Result<String, Fail> {
-        let name = name_of(self.alloc, name)?;
-        let key = cells_asked(self.alloc, key)?;
-        let found = self.loaded(&name, &key);
-        found_told(self.alloc, found)
-    }
-
-    fn remove(&mut self, name: &str, key: &[&str]) -> Result<String, Fail> {
-        let name = name_of(self.alloc, name)?;
-        let key = cells_asked(self.alloc, key)?;
-        match self.removed(&name, &key) {
-            Ok(was_there) => Ok(format!(in self.alloc; "{was_there}")?),
-            Err(error) => error_told(self.alloc, error),
+    fn listed(&mut self, name: &str) -> Result<Vec<Record>, Fail> {
+        let name = text_of(self.alloc, name)?;
+        let Ok(store) = self.opened() else {
+            return Err(Fail::from("no store"));
+        };
+        match store.records(&mut self.tx, &self.db, &name) {
+            Ok(records) => Ok(records.into_vec()),
+            Err(_) => Err(Fail::from("no records")),
         }
     }
 
-    fn records(&mut self, name: &str) -> Result<String, Fail> {
-        let name = name_of(self.alloc, name)?;
-        match self.listed(&name) {
-            Ok(records) => records_told(self.alloc, records.as_slice()),
-            Err(error) => error_told(self.alloc, error),
+    /// The cells of the records of the type t.
+    fn records(&mut self) -> Result<String, Fail> {
+        let mut rows = Vec::new(self.alloc);
+        for found in self.listed("t")? {
+            rows.push(found.into_cells())?;
+        }
+        Ok(rows_text(self.alloc, rows.as_slice())?)
+    }
+
+    fn begin(&mut self, prefix: &str) -> Result<(), Fail> {
+        self.prefix = bytes_of(self.alloc, prefix)?;
+        self.tx = Transaction::begin(self.alloc, 0);
+        Ok(())
+    }
+
+    /// Puts a pair into the map, or sets it in the transaction.
+    fn put(&mut self, step: Step, pair: &str) -> Result<(), Fail> {
+        let (key, value) = pair_of(self.alloc, pair)?;
+        match step {
+            Pair => Ok(self.db.map.insert(key, value)?),
+            _ => Ok(self.tx.set(key, value)?),
         }
     }
 
@@ -255,43 +161,48 @@ impl Scene {
     fn end(&mut self) -> CommitRequest {
         mem::replace(&mut self.tx, Transaction::begin(self.alloc, 0)).into_request()
     }
+}
 
-    /// What the transaction wrote, in words.
-    fn written(&mut self) -> Result<String, Fail> {
-        let request = self.end();
-        mutations_told(self.alloc, request.mutations.as_slice())
-    }
+fn record_asked(alloc: Global, request: &str, cells: &str) -> Result<Record, Fail> {
+    let schema = schema_asked(alloc, request)?;
+    let cells = cells_asked(alloc, cells)?;
+    Ok(Record::new(alloc, &schema, &text_of(alloc, "t")?, cells)?)
+}
 
-    /// How many mutations and ranges that were read the transaction has.
-    fn counts(&mut self) -> Result<String, Fail> {
-        let request = self.end();
-        let mutations = request.mutations.as_slice().len();
-        let reads = request.reads.as_slice().len();
-        Ok(format!(in self.alloc; "{mutations} mutations, {reads} reads")?)
-    }
+fn written(alloc: Global, request: &CommitRequest, told: &str) -> Result<(), Fail> {
+    let wanted = mutations_of(alloc, told)?;
+    alike(alloc, &request.mutations.as_slice(), &wanted.as_slice())
+}
 
-    /// Makes the call that words are, and answers what it tells.
-    pub(crate) fn perform(&mut self, call: &str) -> Result<String, Fail> {
-        let words = words_of(self.alloc, call)?;
-        let name = words.first().copied().unwrap_or("-");
-        let word = words.get(1).copied().unwrap_or("-");
-        let rest = words.get(2..).unwrap_or(&[]);
-        match name {
-            "new" => self.begin_empty(word),
-            "at" => self.begin(word),
-            "schema" => self.put(word, SCHEMA),
-            "pair" => self.put(word, rest.first().copied().unwrap_or("-")),
-            "open" => self.open(),
-            "create" => self.create(word),
-            "save" => self.save(word, rest),
-            "save-long" => self.save_long(word, rest),
-            "save-other" => self.save_other(word, rest),
-            "load" => self.load(word, rest),
-            "remove" => self.remove(word, rest),
-            "records" => self.records(word),
-            "written" => self.written(),
-            "counts" => self.counts(),
-            _ => Err(Fail::from("no call")),
-        }
+fn counted(alloc: Global, request: &CommitRequest, told: &str) -> Result<(), Fail> {
+    let mutations = request.mutations.as_slice().len();
+    tells(alloc, &(mutations, request.reads.as_slice().len()), told)
+}
+
+pub(crate) fn take(alloc: Global, scene: &mut Scene, row: &Row) -> Result<(), Fail> {
+    let (step, first, second, told) = row;
+    match step {
+        New => *scene = begun(alloc)?,
+        At => scene.begin(first)?,
+        Pair | Set => scene.put(*step, first)?,
+        Perform => print(scene, first, told)?,
+        Create => same(scene.create()?.as_str(), told)?,
+        Save => same(
+            scene.save(&record_asked(alloc, first, second)?)?.as_str(),
+            told,
+        )?,
+        Records => same(scene.records()?.as_str(), told)?,
+        Written => written(alloc, &scene.end(), told)?,
+        Counts => counted(alloc, &scene.end(), told)?,
     }
+    Ok(())
+}
+
+pub(crate) fn begun(alloc: Global) -> Result<Scene, Fail> {
+    Ok(Scene {
+        alloc,
+        db: Counted::new(alloc),
+        tx: Transaction::begin(alloc, 0),
+        prefix: bytes_of(alloc, "1501")?,
+    })
 }

@@ -1,233 +1,149 @@
-// Schedules run: what stands in the cluster afterwards, what is committed, and which configurations are refused.
-use crate::asking::words_of;
-use crate::commands::command_asked;
-use crate::words::{bytes_of, digits_of};
-use cluster_core::{Cluster, Config, ConfigError, Splits};
-use kv_core::{KeyRange, Pair};
-use schedule::{CommitEntry, ScheduleError, Step, Transcript, ask_values, run_schedule};
-use std::alloc::{AllocError, Global};
-use std::process::Abort;
+// Schedules run: what stands in the cluster afterwards, and what is committed.
+use crate::parts::{alike, pairs_of, range_of, same};
+use cluster_core::Cluster;
+use schedule::{Transcript, ask_values, run_schedule};
+use script::script_of;
+use std::alloc::Global;
+use std::fmt::Write;
 use std::test::Fail;
 
 /// A store with an index over the column a is made; the record 1 is saved twice and 2 once, whose a is null.
-static THREE_SAVES: [&str; 7] = [
-    "0 begin",
-    "0 create t k,a,b k by_a value t a",
-    "0 save t 1 5 0",
-    "0 save t 1 6 0",
-    "0 save t 2 null 0",
-    "0 commit",
-    "settle",
+const THREE_SAVES: &str = r#"{"steps":[
+    ["begin",0],
+    ["create",0,{"types":[{"name":"t","fields":[["k","int"],["a","int"],["b","int"]],"key":["k"]}],
+        "indexes":[{"name":"by_a","kind":"value","type":"t","columns":["a"]}]}],
+    ["save",0,"t",[1,5,0]],
+    ["save",0,"t",[1,6,0]],
+    ["save",0,"t",[2,null,0]],
+    ["commit",0],
+    ["settle"]
+]}"#;
+
+/// After those saves an index is added over the records and the first one is disabled; then that one is dropped and
+/// added again.
+const DISABLED: &str = r#"{"steps":[
+    ["begin",0],
+    ["create",0,{"types":[{"name":"t","fields":[["k","int"],["a","int"],["b","int"]],"key":["k"]}],
+        "indexes":[{"name":"by_a","kind":"value","type":"t","columns":["a"]}]}],
+    ["save",0,"t",[1,5,0]],
+    ["save",0,"t",[1,6,0]],
+    ["save",0,"t",[2,null,0]],
+    ["commit",0],
+    ["settle"],
+    ["begin",0],
+    ["index",0,{"name":"by_b","kind":"value","type":"t","columns":["b"]}],
+    ["disable",0,"by_a"],
+    ["save",0,"t",[3,7,0]],
+    ["commit",0],
+    ["settle"],
+    ["begin",0],
+    ["drop",0,"by_a"],
+    ["index",0,{"name":"by_a","kind":"value","type":"t","columns":["a"]}],
+    ["commit",0],
+    ["settle"]
+]}"#;
+
+/// Two clients change what both have read, and the second one commits first.
+const TWO_CLIENTS: &str = r#"{"steps":[
+    ["begin",0],
+    ["create",0,{"types":[{"name":"t","fields":[["k","int"],["a","int"],["b","int"]],"key":["k"]}]}],
+    ["commit",0],
+    ["settle"],
+    ["begin",1],
+    ["load",1,"t",[7]],
+    ["save",1,"t",[7,0,0]],
+    ["begin",2],
+    ["load",2,"t",[7]],
+    ["save",2,"t",[7,0,0]],
+    ["commit",2],
+    ["commit",1],
+    ["settle"]
+]}"#;
+
+/// A script, and what is listed of it: how many requests there are, and of each committed transaction its version, its
+/// client, the version that it read and the number of its commands.
+static LISTED: [(&str, &str); 3] = [
+    (THREE_SAVES, "1 requests: 1 by 0 from 0 with 4,"),
+    (
+        DISABLED,
+        "3 requests: 1 by 0 from 0 with 4, 2 by 0 from 1 with 3, 3 by 0 from 2 with 2,",
+    ),
+    (
+        TWO_CLIENTS,
+        "3 requests: 1 by 0 from 0 with 1, 2 by 2 from 1 with 2,",
+    ),
 ];
 
-/// The entries between two keys at a version, up to a limit, and in reverse or not.
-static ENTRIES: [(&str, &str, u64, usize, bool, &str); 3] = [
+type Row = (&'static str, &'static str, u64, usize, bool, &'static str);
+
+/// A script, a range of the cluster that it leaves, a version, a limit, reverse or not, and the pairs there. Disabled
+/// and dropped indexes have none.
+static ENTRIES: [Row; 9] = [
     (
-        "150115021501",
-        "150115021501ff",
+        THREE_SAVES,
+        "150115021501-150115021501ff",
         1,
         10,
         false,
-        "1501150215010015011502=, 150115021501150615011501=",
+        "1501150215010015011502= 150115021501150615011501=",
     ),
     (
-        "150115021501",
-        "150115021501ff",
+        THREE_SAVES,
+        "150115021501-150115021501ff",
         1,
         1,
         true,
         "150115021501150615011501=",
     ),
-    ("150115021501", "150115021501ff", 0, 10, false, ""),
+    (THREE_SAVES, "150115021501-150115021501ff", 0, 10, false, ""),
+    (DISABLED, "150115021501-150115021501ff", 2, 10, false, ""),
+    (DISABLED, "150115021501-150115021501ff", 3, 10, false, ""),
+    (DISABLED, "150115021502-150115021502ff", 2, 10, false, ""),
+    (DISABLED, "150115021502-150115021502ff", 3, 10, false, ""),
+    (DISABLED, "150115021503-150115021503ff", 2, 10, false, ""),
+    (DISABLED, "150115021503-150115021503ff", 3, 10, false, ""),
 ];
 
-/// After those saves an index is added over the records and the first one is disabled; then that one is dropped and
-/// added again.
-static DISABLED: [&str; 18] = [
-    "0 begin",
-    "0 create t k,a,b k by_a value t a",
-    "0 save t 1 5 0",
-    "0 save t 1 6 0",
-    "0 save t 2 null 0",
-    "0 commit",
-    "settle",
-    "0 begin",
-    "0 index by_b value t b",
-    "0 disable by_a",
-    "0 save t 3 7 0",
-    "0 commit",
-    "settle",
-    "0 begin",
-    "0 drop by_a",
-    "0 index by_a value t a",
-    "0 commit",
-    "settle",
-];
-
-/// Disabled and dropped indexes have no entries.
-static NO_ENTRIES: [(&str, &str, u64, usize, bool, &str); 6] = [
-    ("150115021501", "150115021501ff", 2, 10, false, ""),
-    ("150115021501", "150115021501ff", 3, 10, false, ""),
-    ("150115021502", "150115021502ff", 2, 10, false, ""),
-    ("150115021502", "150115021502ff", 3, 10, false, ""),
-    ("150115021503", "150115021503ff", 2, 10, false, ""),
-    ("150115021503", "150115021503ff", 3, 10, false, ""),
-];
-
-/// Two clients change what both have read, and the second one commits first.
-static TWO_CLIENTS: [&str; 13] = [
-    "0 begin",
-    "0 create t k,a,b k",
-    "0 commit",
-    "settle",
-    "1 begin",
-    "1 load t 7",
-    "1 save t 7 0 0",
-    "2 begin",
-    "2 load t 7",
-    "2 save t 7 0 0",
-    "2 commit",
-    "1 commit",
-    "settle",
-];
-
-/// What is committed is listed: by whom, from which read version, with how many commands.
-const LISTED: &str = "1 by 0 from 0 with 1, 2 by 2 from 1 with 2";
-
-/// Numbers of logs, and why there is no database of them.
-static LOGS: [(u64, Option<ConfigError>); 3] = [
-    (0, Some(ConfigError::BadCount)),
-    (1, None),
-    (17, Some(ConfigError::BadCount)),
-];
-
-/// One of each role but the logs, and a window of 1000 versions.
-fn config(alloc: Global, logs: u64) -> Config {
-    Config {
-        resolver_splits: Splits::new(Vec::new(alloc)),
-        storage_splits: Splits::new(Vec::new(alloc)),
-        logs,
-        window: 1000,
-        start: 0,
-        places: 4,
-    }
-}
-
-/// The step that words are: `settle`, or a client and what it does.
-fn step_asked(alloc: Global, text: &str) -> Result<Step, Fail> {
-    let words = words_of(alloc, text)?;
-    let [client, words @ ..] = words.as_slice() else {
-        return Err(Fail::from("no step"));
-    };
-    if *client == "settle" {
-        return Ok(Step::Settle);
-    }
-    let client = client.parse::<u64>()?;
-    match words {
-        ["begin"] => Ok(Step::Begin(client)),
-        ["commit"] => Ok(Step::Commit(client)),
-        words => Ok(Step::Perform(client, command_asked(alloc, words)?)),
-    }
-}
-
-/// Runs the steps that texts are.
-fn run(alloc: Global, texts: &[&str]) -> Result<Transcript, Fail> {
-    let mut steps = Vec::new(alloc);
-    for text in texts {
-        steps.push(step_asked(alloc, text)?)?;
-    }
-    if !ask_values(steps.as_slice()) {
+fn run(alloc: Global, text: &str) -> Result<Transcript, Fail> {
+    let script = script_of(alloc, text.as_bytes())?;
+    if !ask_values(script.steps.as_slice()) {
         return Err(Fail::from("an index isn't a VALUE index"));
     }
-    Ok(run_schedule(alloc, &config(alloc, 1), steps.as_slice())?)
+    Ok(run_schedule(alloc, &script.config, script.steps.as_slice())?)
 }
 
-/// Pairs in words: the key and the value in hexadecimal digits.
-fn pairs_told(alloc: Global, pairs: &[Pair]) -> Result<String, Fail> {
-    let mut told = String::new(alloc);
-    for (key, value) in pairs {
-        if !told.is_empty() {
-            told.push_str(", ")?;
-        }
-        told.push_str(digits_of(alloc, key.as_slice())?.as_str())?;
-        told.push_str("=")?;
-        told.push_str(digits_of(alloc, value.as_slice())?.as_str())?;
-    }
-    Ok(told)
-}
-
-/// The range between two keys.
-fn range_of(alloc: Global, begin: &str, end: &str) -> Result<KeyRange, Fail> {
-    let range = KeyRange::new(bytes_of(alloc, begin)?, bytes_of(alloc, end)?);
-    Ok(range.ok_or("no range")?)
-}
-
-/// The committed transactions in words.
-fn commits_told(alloc: Global, commits: &[CommitEntry]) -> Result<String, AllocError> {
-    let mut told = String::new(alloc);
-    for commit in commits {
-        if !told.is_empty() {
-            told.push_str(", ")?;
-        }
+fn listed(alloc: Global, transcript: &Transcript) -> Result<String, Fail> {
+    let requests = transcript.cluster.requests().len();
+    let mut told = format!(in alloc; "{requests} requests:")?;
+    for commit in transcript.commits.as_slice() {
         let (version, client, from) = (commit.version, commit.client, commit.read_version);
         let count = commit.commands.as_slice().len();
-        told.push_str(format!(in alloc;
-            "{version} by {client} from {from} with {count}"
-        )?.as_str())?;
+        write!(told, " {version} by {client} from {from} with {count},")?;
     }
     Ok(told)
-}
-
-/// Reads ranges of the cluster that a schedule left, each of which must have the pairs that stand beside it.
-fn entries_are(
-    rt: &impl Abort,
-    alloc: Global,
-    cluster: &Cluster,
-    rows: &[(&str, &str, u64, usize, bool, &str)],
-) -> Result<(), Fail> {
-    for (begin, end, version, limit, reverse, wanted) in rows {
-        let range = range_of(alloc, begin, end)?;
-        let pairs = cluster.read(&range, *version, *limit, *reverse)?;
-        let told = pairs_told(alloc, pairs.as_slice())?;
-        assert_eq!(rt; told.as_str(), *wanted, "{begin} {version}");
-    }
-    Ok(())
-}
-
-#[test]
-fn entries_stand_in_the_cluster(rt: HostRuntime) -> Result<(), Fail> {
-    let transcript = run(rt.alloc(), &THREE_SAVES)?;
-    entries_are(&rt, rt.alloc(), &transcript.cluster, &ENTRIES)
-}
-
-#[test]
-fn disabled_and_dropped_indexes_have_no_entries(rt: HostRuntime) -> Result<(), Fail> {
-    let transcript = run(rt.alloc(), &DISABLED)?;
-    entries_are(&rt, rt.alloc(), &transcript.cluster, &NO_ENTRIES)
 }
 
 #[test]
 fn what_is_committed_is_listed(rt: HostRuntime) -> Result<(), Fail> {
-    let transcript = run(rt.alloc(), &TWO_CLIENTS)?;
-    assert_eq!(rt; transcript.cluster.requests().len(), 3);
-    assert_eq!(rt; transcript.cluster.read_version(), 3);
-    let told = commits_told(rt.alloc(), transcript.commits.as_slice())?;
-    assert_eq!(rt; told.as_str(), LISTED);
+    for (script, told) in &LISTED {
+        let transcript = run(rt.alloc(), script)?;
+        same(listed(rt.alloc(), &transcript)?.as_str(), told)?;
+    }
     Ok(())
 }
 
-/// Why there is no database of so many logs.
-fn refusal_of(alloc: Global, logs: u64) -> Option<ConfigError> {
-    match run_schedule(alloc, &config(alloc, logs), &[]) {
-        Err(ScheduleError::Config(error)) => Some(error),
-        _ => None,
-    }
+fn has_entries(alloc: Global, cluster: &Cluster, row: &Row) -> Result<(), Fail> {
+    let (_, range, version, limit, reverse, told) = row;
+    let range = range_of(alloc, range)?;
+    let pairs = cluster.read(&range, *version, *limit, *reverse)?;
+    alike(alloc, &pairs, &pairs_of(alloc, told)?)
 }
 
 #[test]
-fn configurations_are_refused(rt: HostRuntime) -> Result<(), Fail> {
-    for (logs, wanted) in LOGS {
-        assert_eq!(rt; refusal_of(rt.alloc(), logs), wanted, "{logs}");
+fn entries_stand_in_the_cluster(rt: HostRuntime) -> Result<(), Fail> {
+    for row in &ENTRIES {
+        let transcript = run(rt.alloc(), row.0)?;
+        has_entries(rt.alloc(), &transcript.cluster, row)?;
     }
     Ok(())
 }

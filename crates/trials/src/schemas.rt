@@ -1,46 +1,92 @@
-// Schemas as a caller makes, changes and asks them.
-use crate::asking::{index_asked, name_of, type_asked, words_of};
-use crate::telling::{done, error_told, refusal_told};
-use crate::words::{bytes_of, digits_of};
-use metadata::{IndexKind, IndexRequest, MetadataError, Schema, SchemaRequest};
-use std::alloc::{AllocError, Global};
-use std::process::Abort;
+// Schemas as a caller makes, changes, asks, writes and reads them.
+use crate::asking::request_asked;
+use crate::parts::{same, tells};
+use crate::words::{bytes_of, digits_of, text_of};
+use json_forms::{index_of, type_of};
+use metadata::{IndexKind, IndexRequest, MetadataError, Schema};
+use serde_json::Value as Json;
+use std::alloc::Global;
 use std::test::Fail;
+use tuple_codec::Text;
 
-/// Types are added with the next number, or are refused for the first reason.
-static TYPES: [(&str, &str); 14] = [
-    ("new", "done"),
-    ("type-number u", "none"),
-    ("type t k,a,b k", "done"),
-    ("type - k k", "refused BadName"),
-    ("type t k k", "refused NameTaken"),
-    ("type u k,k k", "refused NameTaken"),
-    ("type u k z", "refused UnknownField"),
-    ("type u k -", "refused BadSchema"),
-    ("type u k k,k", "refused BadSchema"),
-    (
-        "type u a,b,c,d,e,f,g,h,i a,b,c,d,e,f,g,h,i",
-        "refused TooMany",
-    ),
-    ("type-number u", "none"),
-    ("type-number t", "1"),
-    ("type u k k", "done"),
-    ("type-number u", "2"),
-];
+/// What is done with a schema, or asked: a row has two texts and what is told.
+#[derive(Clone, Copy)]
+enum Step {
+    /// Takes the schema that a text of JSON asks for.
+    Ask,
+    /// Adds the type that a text of JSON asks for.
+    Type,
+    /// Adds the index of this kind that a text of JSON asks for, whose own kind doesn't matter; the second text is the
+    /// summed field, where there is one.
+    Value,
+    Count,
+    Sum,
+    /// Drops the index of this name.
+    Drop,
+    /// The number of the type or the index of this name, as a copy of the schema tells it.
+    Number,
+    /// The bytes of the schema.
+    Encode,
+    /// Takes the schema of these bytes.
+    Decode,
+}
+
+use Step::{Ask, Count, Decode, Drop, Encode, Number, Sum, Type, Value};
+
+type Row = (Step, &'static str, &'static str, &'static str);
+
+const PLAIN: &str =
+    "1501150114050515010274000505026b0015010005026100150100050262001501000005140000000500";
+
+const COUNTED: &str = "150115011501\
+    050515010274000505026b001501000502610015010005026200150100000514000000\
+    05051501027600150215010515010000ff0000";
 
 /// Indexes are added with numbers that aren't given twice, or are refused for the first reason.
-static INDEXES: [(&str, &str); 29] = [
-    ("new", "done"),
-    ("type t k,a,b k", "done"),
-    ("type u s:text,y:bytes s", "done"),
-    ("index v value t a,b", "done"),
-    ("index d value u y", "done"),
-    ("index c count u -", "done"),
-    ("index w sum t a b", "done"),
-    ("drop d", "done"),
+static STEPS: [Row; 51] = [
+    (Ask, r#"{"types":[]}"#, "", "done"),
+    (
+        Type,
+        r#"{"name":"t","fields":[["k","int"],["a","int"],["b","int"]],"key":["k"]}"#,
+        "",
+        "Ok(())",
+    ),
+    (
+        Type,
+        r#"{"name":"u","fields":[["s","text"],["y","bytes"]],"key":["s"]}"#,
+        "",
+        "Ok(())",
+    ),
+    (
+        Value,
+        r#"{"name":"v","kind":"value","type":"t","columns":["a","b"]}"#,
+        "",
+        "Ok(())",
+    ),
+    (
+        Value,
+        r#"{"name":"d","kind":"value","type":"u","columns":["y"]}"#,
+        "",
+        "Ok(())",
+    ),
+    (
+        Count,
+        r#"{"name":"c","kind":"value","type":"u","columns":[]}"#,
+        "",
+        "Ok(())",
+    ),
+    (
+        Sum,
+        r#"{"name":"w","kind":"value","type":"t","columns":["a"]}"#,
+        "b",
+        "Ok(())",
+    ),
+    (Drop, "d", "", "Ok(())"),
     // The front, the types t and u, and the indexes v, c and w.
     (
-        "encode",
+        Encode,
+        "",
+        "",
         "150115021504\
          050515010274000505026b0015010005026100150100050262001501000005140000\
          051502027500050502730015020005027900150300000514000000\
@@ -48,211 +94,266 @@ static INDEXES: [(&str, &str); 29] = [
          05150302630015021502050000ff00\
          051504027700150315010515010015020000",
     ),
-    ("index - value z z", "refused BadName"),
-    ("index v value z z", "refused NameTaken"),
-    ("index n value z z", "refused UnknownType"),
-    ("index n value t z", "refused UnknownField"),
-    ("index n sum t - z", "refused UnknownField"),
-    ("index n sum u - s", "refused WrongKind"),
-    ("index n value t -", "refused BadSchema"),
-    ("index n count t a,a", "refused BadSchema"),
-    ("index n sum t a", "refused BadSchema"),
-    ("index n count t - b", "refused BadSchema"),
-    ("index n value t a b", "refused BadSchema"),
-    ("index-number w", "4"),
-    ("drop w", "done"),
-    ("drop w", "refused UnknownIndex"),
-    ("index-number w", "none"),
-    ("index w value t k", "done"),
-    ("index-number w", "5"),
-    ("indexes", "3"),
-    ("index-number v", "1"),
-    ("index-number c", "3"),
-];
-
-/// A type and indexes are asked for together: each index by its name and its type.
-static ASKED: [(&str, &str); 8] = [
-    ("new", "done"),
-    ("asked v t w t", "1 type, 2 indexes"),
-    ("indexes", "2"),
-    ("index-number v", "1"),
-    ("index-number w", "2"),
-    ("asked v t v t", "refused NameTaken"),
-    ("asked v t w u", "refused UnknownType"),
-    ("indexes", "2"),
-];
-
-/// The bytes of a schema are read back as that schema.
-static READ: [(&str, &str); 8] = [
-    ("new", "done"),
-    ("type t k,a,b k", "done"),
     (
-        "encode",
-        "1501150114050515010274000505026b0015010005026100150100050262001501000005140000000500",
+        Value,
+        r#"{"name":"","kind":"value","type":"z","columns":["z"]}"#,
+        "",
+        "Err(Refused(BadName))",
     ),
     (
-        "decode 1501150114050515010274000505026b0015010005026100150100050262001501000005140000000500",
+        Value,
+        r#"{"name":"v","kind":"value","type":"z","columns":["z"]}"#,
+        "",
+        "Err(Refused(NameTaken))",
+    ),
+    (
+        Value,
+        r#"{"name":"n","kind":"value","type":"z","columns":["z"]}"#,
+        "",
+        "Err(Refused(UnknownType))",
+    ),
+    (
+        Value,
+        r#"{"name":"n","kind":"value","type":"t","columns":["z"]}"#,
+        "",
+        "Err(Refused(UnknownField))",
+    ),
+    (
+        Sum,
+        r#"{"name":"n","kind":"value","type":"t","columns":[]}"#,
+        "z",
+        "Err(Refused(UnknownField))",
+    ),
+    (
+        Sum,
+        r#"{"name":"n","kind":"value","type":"u","columns":[]}"#,
+        "s",
+        "Err(Refused(WrongKind))",
+    ),
+    (
+        Value,
+        r#"{"name":"n","kind":"value","type":"t","columns":[]}"#,
+        "",
+        "Err(Refused(BadSchema))",
+    ),
+    (
+        Count,
+        r#"{"name":"n","kind":"value","type":"t","columns":["a","a"]}"#,
+        "",
+        "Err(Refused(BadSchema))",
+    ),
+    (
+        Sum,
+        r#"{"name":"n","kind":"value","type":"t","columns":["a"]}"#,
+        "",
+        "Err(Refused(BadSchema))",
+    ),
+    (
+        Count,
+        r#"{"name":"n","kind":"value","type":"t","columns":[]}"#,
+        "b",
+        "Err(Refused(BadSchema))",
+    ),
+    (
+        Value,
+        r#"{"name":"n","kind":"value","type":"t","columns":["a"]}"#,
+        "b",
+        "Err(Refused(BadSchema))",
+    ),
+    (Number, "w", "", "Some(4)"),
+    (Drop, "w", "", "Ok(())"),
+    (Drop, "w", "", "Err(UnknownIndex)"),
+    (Number, "w", "", "None"),
+    (
+        Value,
+        r#"{"name":"w","kind":"value","type":"t","columns":["k"]}"#,
+        "",
+        "Ok(())",
+    ),
+    (Number, "w", "", "Some(5)"),
+    (Number, "v", "", "Some(1)"),
+    (Number, "c", "", "Some(3)"),
+    (Number, "t", "", "Some(1)"),
+    (Number, "u", "", "Some(2)"),
+    // A type and indexes are asked for together, or are refused for the first reason.
+    (
+        Ask,
+        r#"{"types":[{"name":"t","fields":[["k","int"],["a","int"],["b","int"]],"key":["k"]}],
+            "indexes":[{"name":"v","kind":"value","type":"t","columns":["a"]},
+            {"name":"w","kind":"value","type":"t","columns":["a"]}]}"#,
+        "",
         "done",
     ),
-    ("type-number t", "1"),
+    (Number, "v", "", "Some(1)"),
+    (Number, "w", "", "Some(2)"),
     (
-        "encode",
-        "1501150114050515010274000505026b0015010005026100150100050262001501000005140000000500",
+        Ask,
+        r#"{"types":[{"name":"t","fields":[["k","int"],["a","int"],["b","int"]],"key":["k"]}],
+            "indexes":[{"name":"v","kind":"value","type":"t","columns":["a"]},
+            {"name":"v","kind":"value","type":"t","columns":["a"]}]}"#,
+        "",
+        "Refused(NameTaken)",
     ),
-    // The same with a COUNT index v over the column a.
     (
-        "decode 150115011501\
-         050515010274000505026b001501000502610015010005026200150100000514000000\
-         05051501027600150215010515010000ff0000",
+        Ask,
+        r#"{"types":[{"name":"t","fields":[["k","int"],["a","int"],["b","int"]],"key":["k"]}],
+            "indexes":[{"name":"v","kind":"value","type":"t","columns":["a"]},
+            {"name":"w","kind":"value","type":"u","columns":["a"]}]}"#,
+        "",
+        "Refused(UnknownType)",
+    ),
+    (Number, "v", "", "Some(1)"),
+    (Number, "w", "", "Some(2)"),
+    // The bytes of a schema are read back as that schema: of the type t, then with a COUNT index v over the column a.
+    (
+        Ask,
+        r#"{"types":[{"name":"t","fields":[["k","int"],["a","int"],["b","int"]],"key":["k"]}]}"#,
+        "",
         "done",
     ),
-    ("indexes", "1"),
+    (Encode, "", "", PLAIN),
+    (Decode, PLAIN, "", "done"),
+    (Number, "t", "", "Some(1)"),
+    (Encode, "", "", PLAIN),
+    (Decode, COUNTED, "", "done"),
+    (Number, "v", "", "Some(1)"),
+    // Nothing for the last byte; another form, last type number, type number, name, kind, and key field.
+    (
+        Decode,
+        "1501150114050515010274000505026b00150100050261001501000502620015010000051400000005",
+        "",
+        "Refused(BadSchema)",
+    ),
+    (
+        Decode,
+        "1502150114050515010274000505026b0015010005026100150100050262001501000005140000000500",
+        "",
+        "Refused(BadSchema)",
+    ),
+    (
+        Decode,
+        "1501150214050515010274000505026b0015010005026100150100050262001501000005140000000500",
+        "",
+        "Refused(BadSchema)",
+    ),
+    (
+        Decode,
+        "1501150114050515020274000505026b0015010005026100150100050262001501000005140000000500",
+        "",
+        "Refused(BadSchema)",
+    ),
+    (
+        Decode,
+        "150115011405051501022d000505026b0015010005026100150100050262001501000005140000000500",
+        "",
+        "Refused(BadSchema)",
+    ),
+    (
+        Decode,
+        "1501150114050515010274000505026b0015040005026100150100050262001501000005140000000500",
+        "",
+        "Refused(BadSchema)",
+    ),
+    (
+        Decode,
+        "1501150114050515010274000505026b0015010005026100150100050262001501000005260000000500",
+        "",
+        "Refused(BadSchema)",
+    ),
 ];
 
-/// A schema, at first the empty one.
-#[derive(Drop)]
-struct Catalog {
+fn taken(
     alloc: Global,
-    schema: Schema,
-}
-
-/// A number in words.
-fn number_told(alloc: Global, number: Option<u64>) -> Result<String, AllocError> {
-    match number {
-        Some(number) => format!(in alloc; "{number}"),
-        None => String::from_str(alloc, "none"),
-    }
-}
-
-/// An answer in words.
-fn answer_told(alloc: Global, answer: Result<(), MetadataError>) -> Result<String, AllocError> {
+    schema: &mut Schema,
+    answer: Result<Schema, MetadataError>,
+    told: &str,
+) -> Result<(), Fail> {
     match answer {
-        Ok(()) => done(alloc),
-        Err(error) => error_told(alloc, error),
+        Ok(found) => *schema = found,
+        Err(error) => return tells(alloc, &error, told),
+    }
+    same("done", told)
+}
+
+fn ask(alloc: Global, schema: &mut Schema, text: &str, told: &str) -> Result<(), Fail> {
+    let request = request_asked(alloc, text)?.copy()?;
+    taken(alloc, schema, Schema::of_request(alloc, &request), told)
+}
+
+fn add_type(alloc: Global, schema: &mut Schema, text: &str, told: &str) -> Result<(), Fail> {
+    let request = type_of(alloc, &Json::from_str(alloc, text)?)?;
+    tells(alloc, &schema.add_type(&request), told)
+}
+
+fn index_asked(
+    alloc: Global,
+    kind: IndexKind,
+    text: &str,
+    summed: &str,
+) -> Result<IndexRequest, Fail> {
+    let mut request = index_of(alloc, &Json::from_str(alloc, text)?)?;
+    request.kind = kind;
+    if !summed.is_empty() {
+        request.summed = Some(text_of(alloc, summed)?);
+    }
+    Ok(request)
+}
+
+fn add_index(
+    alloc: Global,
+    schema: &mut Schema,
+    kind: IndexKind,
+    (text, summed): (&str, &str),
+    told: &str,
+) -> Result<(), Fail> {
+    let request = index_asked(alloc, kind, text, summed)?.copy()?;
+    tells(alloc, &schema.add_index(&request), told)
+}
+
+fn number_of(schema: &Schema, name: &Text) -> Option<u64> {
+    match (schema.type_named(name), schema.index_named(name)) {
+        (Some(found), _) => Some(found.number),
+        (None, Some(found)) => Some(found.number),
+        (None, None) => None,
     }
 }
 
-/// VALUE indexes over the column a: two words ask for each, its name and its type.
-fn indexes_asked(alloc: Global, words: &[&str]) -> Result<Vec<IndexRequest>, Fail> {
-    let mut indexes = Vec::new(alloc);
-    for pair in words.chunks(2) {
-        if let [name, over] = pair {
-            indexes.push(index_asked(alloc, &[name, "value", over, "a"])?)?;
-        }
-    }
-    Ok(indexes)
+fn number(alloc: Global, schema: &Schema, name: &str, told: &str) -> Result<(), Fail> {
+    let name = text_of(alloc, name)?;
+    tells(alloc, &number_of(&schema.copy()?, &name), told)
 }
 
-impl Catalog {
-    fn add_type(&mut self, words: &[&str]) -> Result<String, Fail> {
-        let request = type_asked(self.alloc, words)?;
-        let answer = self.schema.add_type(&request);
-        Ok(answer_told(self.alloc, answer)?)
-    }
-
-    fn add_index(&mut self, words: &[&str]) -> Result<String, Fail> {
-        let request = index_asked(self.alloc, words)?.copy()?;
-        let answer = self.schema.add_index(&request);
-        Ok(answer_told(self.alloc, answer)?)
-    }
-
-    fn drop_index(&mut self, name: &str) -> Result<String, Fail> {
-        let name = name_of(self.alloc, name)?;
-        match self.schema.drop_index(&name) {
-            Ok(()) => Ok(done(self.alloc)?),
-            Err(refusal) => Ok(refusal_told(self.alloc, refusal)?),
-        }
-    }
-
-    /// The number of a type, as a copy of the schema tells it.
-    fn type_number(&self, name: &str) -> Result<String, Fail> {
-        let name = name_of(self.alloc, name)?;
-        let copy = self.schema.copy()?;
-        let number = copy.type_named(&name).map(|found| found.number);
-        Ok(number_told(self.alloc, number)?)
-    }
-
-    /// The number of an index, as a copy of the schema tells it.
-    fn index_number(&self, name: &str) -> Result<String, Fail> {
-        let name = name_of(self.alloc, name)?;
-        let copy = self.schema.copy()?;
-        let number = copy.index_named(&name).map(|found| found.number);
-        Ok(number_told(self.alloc, number)?)
-    }
-
-    fn count_indexes(&self) -> Result<String, Fail> {
-        let copy = self.schema.copy()?;
-        Ok(format!(in self.alloc; "{}", copy.indexes().len())?)
-    }
-
-    fn encode(&self) -> Result<String, Fail> {
-        let bytes = self.schema.encode(self.alloc)?;
-        digits_of(self.alloc, &bytes)
-    }
-
-    fn decode(&mut self, digits: &str) -> Result<String, Fail> {
-        let bytes = bytes_of(self.alloc, digits)?;
-        self.schema = Schema::decode(self.alloc, bytes.as_slice())?;
-        Ok(done(self.alloc)?)
-    }
-
-    /// Takes the schema that is asked for, and tells how many types and indexes were.
-    fn take_asked(&mut self, words: &[&str]) -> Result<String, Fail> {
-        let types = vec![in self.alloc; type_asked(self.alloc, &["t", "k,a,b", "k"])?]?;
-        let request = SchemaRequest::new(types, indexes_asked(self.alloc, words)?).copy()?;
-        match Schema::of_request(self.alloc, &request) {
-            Ok(schema) => self.schema = schema,
-            Err(error) => return Ok(error_told(self.alloc, error)?),
-        }
-        let (types, indexes) = (request.types().len(), request.indexes().len());
-        Ok(format!(in self.alloc; "{types} type, {indexes} indexes")?)
-    }
-
-    /// Takes the empty schema.
-    fn begin(&mut self) -> Result<String, Fail> {
-        self.schema = Schema::new(self.alloc);
-        Ok(done(self.alloc)?)
-    }
-
-    /// Makes the call that words are, and answers what it tells.
-    fn perform(&mut self, call: &str) -> Result<String, Fail> {
-        let words = words_of(self.alloc, call)?;
-        let Some((name, words)) = words.as_slice().split_first() else {
-            return Err(Fail::from("no words"));
-        };
-        let first = words.first().copied().unwrap_or("-");
-        match *name {
-            "new" => self.begin(),
-            "type" => self.add_type(words),
-            "index" => self.add_index(words),
-            "drop" => self.drop_index(first),
-            "type-number" => self.type_number(first),
-            "index-number" => self.index_number(first),
-            "indexes" => self.count_indexes(),
-            "encode" => self.encode(),
-            "decode" => self.decode(first),
-            "asked" => self.take_asked(words),
-            _ => Err(Fail::from("no call")),
-        }
-    }
+fn encode(alloc: Global, schema: &Schema, told: &str) -> Result<(), Fail> {
+    let bytes = schema.encode(alloc)?;
+    same(digits_of(alloc, &bytes)?.as_str(), told)
 }
 
-/// Makes the calls, each of which must tell what stands beside it.
-fn calls_tell(rt: &impl Abort, catalog: &mut Catalog, rows: &[(&str, &str)]) -> Result<(), Fail> {
-    for (call, answer) in rows {
-        let told = catalog.perform(call)?;
-        assert_eq!(rt; told.as_str(), *answer, "{call}");
+fn decode(alloc: Global, schema: &mut Schema, digits: &str, told: &str) -> Result<(), Fail> {
+    let bytes = bytes_of(alloc, digits)?;
+    taken(alloc, schema, Schema::decode(alloc, bytes.as_slice()), told)
+}
+
+fn take(alloc: Global, schema: &mut Schema, row: &Row) -> Result<(), Fail> {
+    let (step, text, second, told) = row;
+    let texts = (*text, *second);
+    match step {
+        Ask => ask(alloc, schema, text, told),
+        Type => add_type(alloc, schema, text, told),
+        Value => add_index(alloc, schema, IndexKind::Value, texts, told),
+        Count => add_index(alloc, schema, IndexKind::Count, texts, told),
+        Sum => add_index(alloc, schema, IndexKind::Sum, texts, told),
+        Drop => tells(alloc, &schema.drop_index(&text_of(alloc, text)?), told),
+        Number => number(alloc, schema, text, told),
+        Encode => encode(alloc, schema, told),
+        Decode => decode(alloc, schema, text, told),
     }
-    Ok(())
 }
 
 #[test]
-fn calls_on_schemas_tell(rt: HostRuntime) -> Result<(), Fail> {
-    let alloc = rt.alloc();
-    let schema = Schema::new(alloc);
-    let mut catalog = Catalog { alloc, schema };
-    for rows in [&TYPES[..], &INDEXES[..], &ASKED[..], &READ[..]] {
-        calls_tell(&rt, &mut catalog, rows)?;
+fn schemas_take_steps(rt: HostRuntime) -> Result<(), Fail> {
+    let mut schema = Schema::new(rt.alloc());
+    for row in &STEPS {
+        take(rt.alloc(), &mut schema, row)?;
     }
     Ok(())
 }

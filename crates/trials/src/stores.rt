@@ -1,185 +1,330 @@
-// Calls on stores: bytes by hand, and what is told of bytes that no store has.
-use crate::scene::Scene;
-use std::process::Abort;
+// Calls on stores, over pairs put there by hand, and commands performed there; what is told of bytes that no store has.
+use crate::scene::Step::{At, Counts, Create, New, Pair, Perform, Records, Save, Set, Written};
+use crate::scene::{REQUEST, Row, begun, take};
 use std::test::Fail;
 
-/// What was asked is written, byte by byte.
-static WRITTEN: [(&str, &str); 6] = [
-    ("new 1501", "done"),
-    ("create k,a,b", "done"),
-    ("save t 1 5 null", "none"),
-    ("remove t 1", "true"),
-    ("remove t 1", "false"),
+/// Makes the store of that schema, and the pair of it.
+const CREATE: &str = r#"["create",0,{"types":[
+    {"name":"t","fields":[["k","int"],["a","int"],["b","int"]],"key":["k"]}
+]}]"#;
+
+const SCHEMA: &str =
+    "150114=1501150114050515010274000505026b0015010005026100150100050262001501000005140000000500";
+
+static STEPS: [Row; 120] = [
+    // What was asked is written, byte by byte.
+    (New, "", "", ""),
+    (Perform, CREATE, "", "ok"),
+    (Perform, r#"["save",0,"t",[1,5,null]]"#, "", "saved new"),
+    (Perform, r#"["remove",0,"t",[1]]"#, "", "removed"),
+    (Perform, r#"["remove",0,"t",[1]]"#, "", "none"),
     (
-        "written",
-        "set 150114=1501150114050515010274000505026b0015010005026100150100050262001501000005140000000500, \
-         set 1501150115011501=1501150500, clear 1501150115011501..150115011501150100",
+        Written,
+        "",
+        "",
+        "150114=1501150114050515010274000505026b0015010005026100150100050262001501000005140000000500 \
+         1501150115011501=1501150500 1501150115011501-150115011501150100",
     ),
-];
-
-/// What is there is answered: pairs of the database, under the transaction's own writes.
-static FOUND: [(&str, &str); 14] = [
-    ("new 1501", "done"),
-    ("schema 150114", "done"),
-    ("pair 1501150115011502 1502150600", "done"),
-    ("open", "done"),
-    ("save t 300 9 null", "none"),
-    ("save t 2 9 null", "2 6 null"),
-    ("save t -1 9 null", "none"),
-    ("save t 2 9 null", "2 9 null"),
-    ("save t 1 9 null", "none"),
-    ("load t -1", "-1 9 null"),
-    ("load t 0", "none"),
-    ("remove t 1", "true"),
-    ("load t 1", "none"),
-    ("records t", "3: -1 9 null 2 9 null 300 9 null"),
-];
-
-/// Calls are refused before they read: the transaction has read what opening the store reads, its schema and the
-/// states.
-static REFUSED: [(&str, &str); 13] = [
-    ("new 1501", "done"),
-    ("schema 150114", "done"),
-    ("load u null null", "refused UnknownType"),
-    ("remove u null null", "refused UnknownType"),
-    ("load t null null", "refused WrongKind"),
-    ("remove t null null", "refused WrongKind"),
-    ("load t", "refused WrongKind"),
-    ("remove t", "refused WrongKind"),
-    ("load t null", "refused NullKey"),
-    ("remove t null", "refused NullKey"),
-    ("save-other k,a,c 1 2 null", "refused OtherSchema"),
-    ("save-other k,a,b:text 1 2 null", "refused OtherSchema"),
-    ("counts", "0 mutations, 2 reads"),
-];
-
-/// A store is opened where a schema stands whole, and made where nothing stands at the schema's key.
-static OPENED: [(&str, &str); 27] = [
-    ("new 1501", "done"),
-    ("open", "refused NoStore"),
-    ("create k,a,b", "done"),
+    // What is there is answered: pairs of the database, under the transaction's own writes.
+    (New, "", "", ""),
+    (Pair, SCHEMA, "", ""),
+    (Pair, "1501150115011502=1502150600", "", ""),
+    (Perform, r#"["state",0,"no"]"#, "", "refused UnknownIndex"),
+    (Perform, r#"["save",0,"t",[300,9,null]]"#, "", "saved new"),
+    (
+        Perform,
+        r#"["save",0,"t",[2,9,null]]"#,
+        "",
+        "saved over [2,6,null]",
+    ),
+    (Perform, r#"["save",0,"t",[-1,9,null]]"#, "", "saved new"),
+    (
+        Perform,
+        r#"["save",0,"t",[2,9,null]]"#,
+        "",
+        "saved over [2,9,null]",
+    ),
+    (Perform, r#"["save",0,"t",[1,9,null]]"#, "", "saved new"),
+    (Perform, r#"["load",0,"t",[-1]]"#, "", "found [-1,9,null]"),
+    (Perform, r#"["load",0,"t",[0]]"#, "", "none"),
+    (Perform, r#"["remove",0,"t",[1]]"#, "", "removed"),
+    (Perform, r#"["load",0,"t",[1]]"#, "", "none"),
+    (
+        Perform,
+        r#"["query",0,{"type":"t"}]"#,
+        "",
+        "rows [[-1,9,null],[2,9,null],[300,9,null]]",
+    ),
+    // Calls are refused before they read: the transaction has read what opening the store reads, its schema and the
+    // states.
+    (New, "", "", ""),
+    (Pair, SCHEMA, "", ""),
+    (
+        Perform,
+        r#"["load",0,"u",[null,null]]"#,
+        "",
+        "refused UnknownType",
+    ),
+    (
+        Perform,
+        r#"["remove",0,"u",[null,null]]"#,
+        "",
+        "refused UnknownType",
+    ),
+    (
+        Perform,
+        r#"["load",0,"t",[null,null]]"#,
+        "",
+        "refused WrongKind",
+    ),
+    (
+        Perform,
+        r#"["remove",0,"t",[null,null]]"#,
+        "",
+        "refused WrongKind",
+    ),
+    (Perform, r#"["load",0,"t",[]]"#, "", "refused WrongKind"),
+    (Perform, r#"["remove",0,"t",[]]"#, "", "refused WrongKind"),
+    (Perform, r#"["load",0,"t",[null]]"#, "", "refused NullKey"),
+    (Perform, r#"["remove",0,"t",[null]]"#, "", "refused NullKey"),
+    (
+        Save,
+        r#"{"types":[{"name":"t","fields":[["k","int"],["a","int"],["c","int"]],"key":["k"]}]}"#,
+        "[1,2,null]",
+        "OtherSchema",
+    ),
+    (
+        Save,
+        r#"{"types":[{"name":"t","fields":[["k","int"],["a","int"],["b","text"]],"key":["k"]}]}"#,
+        "[1,2,null]",
+        "OtherSchema",
+    ),
+    (Counts, "", "", "(0, 2)"),
+    // A store is opened where a schema stands whole, and made where nothing stands at the schema's key.
+    (New, "", "", ""),
+    (Perform, r#"["state",0,"no"]"#, "", "refused NoStore"),
+    (Perform, CREATE, "", "ok"),
     // A record alone.
-    ("new 1501", "done"),
-    ("pair 1501150115011501 1501150500", "done"),
-    ("open", "refused NoStore"),
-    ("create k,a,b", "done"),
+    (New, "", "", ""),
+    (Pair, "1501150115011501=1501150500", "", ""),
+    (Perform, r#"["state",0,"no"]"#, "", "refused NoStore"),
+    (Perform, CREATE, "", "ok"),
     // A schema without its last byte, and then a state of an index beside it.
-    ("new 1501", "done"),
+    (New, "", "", ""),
     (
-        "pair 150114 1501150114050515010274000505026b00150100050261001501000502620015010000051400000005",
-        "done",
+        Pair,
+        "150114=1501150114050515010274000505026b00150100050261001501000502620015010000051400000005",
+        "",
+        "",
     ),
-    ("open", "corrupt 150114"),
-    ("create k,a,b", "refused AlreadyThere"),
-    ("at 1501", "done"),
-    ("pair 1501150515011400 -", "done"),
-    ("open", "corrupt 150114"),
-    ("create k,a,b", "refused AlreadyThere"),
+    (Perform, r#"["state",0,"no"]"#, "", "refused Corrupt 150114"),
+    (Perform, CREATE, "", "refused AlreadyThere"),
+    (At, "1501", "", ""),
+    (Pair, "1501150515011400=", "", ""),
+    (Perform, r#"["state",0,"no"]"#, "", "refused Corrupt 150114"),
+    (Perform, CREATE, "", "refused AlreadyThere"),
     // A schema with a COUNT index.
-    ("new 1501", "done"),
+    (New, "", "", ""),
     (
-        "pair 150114 \
-         150115011501\
-         050515010274000505026b00150100050261001501000502620015010000051400000005\
-         051501027600150215010515010000ff0000",
-        "done",
+        Pair,
+        "150114=150115011501\
+         050515010274000505026b00150100050261001501000502620015010000051400000005051501027600150215010515010000ff0000",
+        "",
+        "",
     ),
-    ("open", "corrupt 150114"),
-    ("create k,a,b", "refused AlreadyThere"),
+    (Perform, r#"["state",0,"no"]"#, "", "refused Corrupt 150114"),
+    (Perform, CREATE, "", "refused AlreadyThere"),
     // A whole schema, and then a state of no index beside it.
-    ("new 1501", "done"),
-    ("schema 150114", "done"),
-    ("open", "done"),
-    ("create k,a,b", "refused AlreadyThere"),
-    ("at 1501", "done"),
-    ("pair 1501150515011400 -", "done"),
-    ("open", "corrupt 1501150515011400"),
-    ("create k,a,b", "refused AlreadyThere"),
-];
-
-/// Of a record that isn't of the written form the key is told: not a pack, another record's cells, too few cells, none.
-static DAMAGED: [(&str, &str); 23] = [
-    ("new 1501", "done"),
-    ("schema 150114", "done"),
-    ("pair 15011501150114 141400", "done"),
-    ("pair 1501150115011502 1500", "done"),
-    ("pair 1501150115011501 1500", "done"),
-    ("load t 1", "corrupt 1501150115011501"),
-    ("remove t 1", "corrupt 1501150115011501"),
-    ("records t", "corrupt 1501150115011501"),
-    ("at 1501", "done"),
-    ("pair 1501150115011501 1502150500", "done"),
-    ("load t 1", "corrupt 1501150115011501"),
-    ("remove t 1", "corrupt 1501150115011501"),
-    ("records t", "corrupt 1501150115011501"),
-    ("at 1501", "done"),
-    ("pair 1501150115011501 15011505", "done"),
-    ("load t 1", "corrupt 1501150115011501"),
-    ("remove t 1", "corrupt 1501150115011501"),
-    ("records t", "corrupt 1501150115011501"),
-    ("at 1501", "done"),
-    ("pair 1501150115011501 -", "done"),
-    ("load t 1", "corrupt 1501150115011501"),
-    ("remove t 1", "corrupt 1501150115011501"),
-    ("records t", "corrupt 1501150115011501"),
-];
-
-/// Stores stand beside each other, and within one whose prefix is empty.
-static BESIDE: [(&str, &str); 15] = [
-    ("new -", "done"),
-    ("schema 150214", "done"),
-    ("pair 1502150115011501 1501150500", "done"),
-    ("create k,a,b", "done"),
-    ("save t 3 null null", "none"),
+    (New, "", "", ""),
+    (Pair, SCHEMA, "", ""),
+    (Perform, r#"["state",0,"no"]"#, "", "refused UnknownIndex"),
+    (Perform, CREATE, "", "refused AlreadyThere"),
+    (At, "1501", "", ""),
+    (Pair, "1501150515011400=", "", ""),
     (
-        "written",
-        "set 14=1501150114050515010274000505026b0015010005026100150100050262001501000005140000000500, \
-         set 150115011503=15030000",
+        Perform,
+        r#"["state",0,"no"]"#,
+        "",
+        "refused Corrupt 1501150515011400",
     ),
-    ("schema 14", "done"),
-    ("pair 1501150114 141400", "done"),
-    ("at -", "done"),
-    ("records t", "1: 0 0 null"),
-    ("at 1502", "done"),
-    ("records t", "1: 1 5 null"),
-    ("at 1503", "done"),
-    ("create k,a,b", "done"),
-    ("records t", "0:"),
+    (Perform, CREATE, "", "refused AlreadyThere"),
+    // Of a record that isn't of the written form the key is told: not a pack, another record's cells, too few cells,
+    // none.
+    (New, "", "", ""),
+    (Pair, SCHEMA, "", ""),
+    (Pair, "15011501150114=141400", "", ""),
+    (Pair, "1501150115011502=1500", "", ""),
+    (Pair, "1501150115011501=1500", "", ""),
+    (
+        Perform,
+        r#"["load",0,"t",[1]]"#,
+        "",
+        "refused Corrupt 1501150115011501",
+    ),
+    (
+        Perform,
+        r#"["remove",0,"t",[1]]"#,
+        "",
+        "refused Corrupt 1501150115011501",
+    ),
+    (
+        Perform,
+        r#"["query",0,{"type":"t"}]"#,
+        "",
+        "refused Corrupt 1501150115011501",
+    ),
+    (At, "1501", "", ""),
+    (Pair, "1501150115011501=1502150500", "", ""),
+    (
+        Perform,
+        r#"["load",0,"t",[1]]"#,
+        "",
+        "refused Corrupt 1501150115011501",
+    ),
+    (
+        Perform,
+        r#"["remove",0,"t",[1]]"#,
+        "",
+        "refused Corrupt 1501150115011501",
+    ),
+    (
+        Perform,
+        r#"["query",0,{"type":"t"}]"#,
+        "",
+        "refused Corrupt 1501150115011501",
+    ),
+    (At, "1501", "", ""),
+    (Pair, "1501150115011501=15011505", "", ""),
+    (
+        Perform,
+        r#"["load",0,"t",[1]]"#,
+        "",
+        "refused Corrupt 1501150115011501",
+    ),
+    (
+        Perform,
+        r#"["remove",0,"t",[1]]"#,
+        "",
+        "refused Corrupt 1501150115011501",
+    ),
+    (
+        Perform,
+        r#"["query",0,{"type":"t"}]"#,
+        "",
+        "refused Corrupt 1501150115011501",
+    ),
+    (At, "1501", "", ""),
+    (Pair, "1501150115011501=", "", ""),
+    (
+        Perform,
+        r#"["load",0,"t",[1]]"#,
+        "",
+        "refused Corrupt 1501150115011501",
+    ),
+    (
+        Perform,
+        r#"["remove",0,"t",[1]]"#,
+        "",
+        "refused Corrupt 1501150115011501",
+    ),
+    (
+        Perform,
+        r#"["query",0,{"type":"t"}]"#,
+        "",
+        "refused Corrupt 1501150115011501",
+    ),
+    // What was read and written is counted: a store is made and a record is saved.
+    (New, "", "", ""),
+    (Perform, CREATE, "", "ok"),
+    (Perform, r#"["save",0,"t",[1,2,3]]"#, "", "saved new"),
+    (Counts, "", "", "(2, 3)"),
+    // Damage by the transaction's own writes is told by its key: of the schema, of a state, and of a record.
+    (New, "", "", ""),
+    (Perform, CREATE, "", "ok"),
+    (Set, "150114=ff", "", ""),
+    (
+        Perform,
+        r#"["load",0,"t",[0]]"#,
+        "",
+        "refused Corrupt 150114",
+    ),
+    (
+        Perform,
+        r#"["query",0,{"type":"t"}]"#,
+        "",
+        "refused Corrupt 150114",
+    ),
+    (Perform, CREATE, "", "refused AlreadyThere"),
+    (New, "", "", ""),
+    (Perform, CREATE, "", "ok"),
+    (Set, "150115051501=ff", "", ""),
+    (
+        Perform,
+        r#"["load",0,"t",[0]]"#,
+        "",
+        "refused Corrupt 150115051501",
+    ),
+    (
+        Perform,
+        r#"["query",0,{"type":"t"}]"#,
+        "",
+        "refused Corrupt 150115051501",
+    ),
+    (Perform, CREATE, "", "refused AlreadyThere"),
+    (New, "", "", ""),
+    (Perform, CREATE, "", "ok"),
+    (Set, "15011501150114=ff", "", ""),
+    (
+        Perform,
+        r#"["load",0,"t",[0]]"#,
+        "",
+        "refused Corrupt 15011501150114",
+    ),
+    (
+        Perform,
+        r#"["query",0,{"type":"t"}]"#,
+        "",
+        "refused Corrupt 15011501150114",
+    ),
+    (Perform, CREATE, "", "refused AlreadyThere"),
+    // Stores stand beside each other, and within one whose prefix is empty.
+    (New, "", "", ""),
+    (
+        Pair,
+        "150214=1501150114050515010274000505026b0015010005026100150100050262001501000005140000000500",
+        "",
+        "",
+    ),
+    (Pair, "1502150115011501=1501150500", "", ""),
+    (At, "", "", ""),
+    (Create, "", "", "done"),
+    (Save, REQUEST, "[3,null,null]", "none"),
+    (
+        Written,
+        "",
+        "",
+        "14=1501150114050515010274000505026b0015010005026100150100050262001501000005140000000500 150115011503=15030000",
+    ),
+    (
+        Pair,
+        "14=1501150114050515010274000505026b0015010005026100150100050262001501000005140000000500",
+        "",
+        "",
+    ),
+    (Pair, "1501150114=141400", "", ""),
+    (Records, "", "", "[[0,0,null]]"),
+    (At, "1502", "", ""),
+    (Records, "", "", "[[1,5,null]]"),
+    (At, "1503", "", ""),
+    (Create, "", "", "done"),
+    (Records, "", "", "[]"),
 ];
-
-/// A limit of writes is told, and nothing is written: the key 1 takes 2 bytes of the value, and the byte string 2 more
-/// than it has.
-static LIMITS: [(&str, &str); 5] = [
-    ("new 1501", "done"),
-    ("create k,y:bytes", "done"),
-    ("save-long t 1 99997", "write ValueTooLarge"),
-    ("save-long t 1 99996", "none"),
-    ("counts", "2 mutations, 3 reads"),
-];
-
-/// Makes the calls, each of which must tell what stands beside it.
-fn calls_tell(rt: &impl Abort, scene: &mut Scene, rows: &[(&str, &str)]) -> Result<(), Fail> {
-    for (call, answer) in rows {
-        let told = scene.perform(call)?;
-        assert_eq!(rt; told.as_str(), *answer, "{call}");
-    }
-    Ok(())
-}
 
 #[test]
-fn calls_on_stores_tell(rt: HostRuntime) -> Result<(), Fail> {
-    let mut scene = Scene::new(rt.alloc());
-    let tables = [
-        &WRITTEN[..],
-        &FOUND[..],
-        &REFUSED[..],
-        &OPENED[..],
-        &DAMAGED[..],
-        &BESIDE[..],
-        &LIMITS[..],
-    ];
-    for rows in tables {
-        calls_tell(&rt, &mut scene, rows)?;
+fn stores_take_steps(rt: HostRuntime) -> Result<(), Fail> {
+    let mut scene = begun(rt.alloc())?;
+    for row in &STEPS {
+        take(rt.alloc(), &mut scene, row)?;
     }
     Ok(())
 }

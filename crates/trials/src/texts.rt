@@ -105,14 +105,10 @@ fn printed(alloc: Global, error: AnyError) -> Result<String, AllocError> {
     }
 }
 
-fn told(alloc: Global, error: AnyError, text: &str) -> Result<(), Fail> {
-    same(printed(alloc, error)?.as_str(), text)
-}
-
 #[test]
 fn errors_are_printed(rt: HostRuntime) -> Result<(), Fail> {
     for (error, text) in &TEXTS {
-        told(rt.alloc(), *error, text)?;
+        same(printed(rt.alloc(), *error)?.as_str(), text)?;
     }
     Ok(())
 }

@@ -1,324 +1,169 @@
-// The packs of tuples, and what is told of bytes that may be none.
-use crate::changes::{BYTES, CHANGES, PACK, PREFIXES};
-use crate::parts::{add_word, holds, same};
+// The order of tuples, keys under a prefix, and copies of texts and byte strings.
+use crate::parts::{same, tells};
 use crate::words::{bytes_of, digits_of, text_of};
-use hex::FromHex;
-use std::alloc::{AllocError, Global};
-use std::fmt::Write;
+use std::alloc::Global;
 use std::test::Fail;
-use tuple_codec::{
-    ByteString, Element, Tuple, TupleInt, UnpackErrorKind, UnpackFailure, compare, pack, unpack,
-};
-use uuid::Uuid;
+use tuple_codec::{ByteString, Subspace, Tuple, compare, pack_into, strinc, unpack};
 
-/// Elements, by a letter of the kind and the value, and the packs of the tuples of each alone: those of FoundationDB's
-/// `design/tuple.md`, and each kind. A nested tuple's value is its own pack.
-static PACKS: [(char, &str, &str); 22] = [
-    ('n', "", "00"),
-    ('b', "666f6f00626172", "01666f6f00ff62617200"),
-    ('b', "", "0100"),
-    ('t', "F\u{d4}O\0bar", "0246c3944f00ff62617200"),
-    ('t', "", "0200"),
+/// What is asked: a row has two texts and what is told of them.
+#[derive(Clone, Copy)]
+enum Call {
+    /// How the tuple of the first pack is ordered beside that of the second, and the other way round.
+    Compare,
+    /// A copy of a text, and one of a byte string.
+    CopyText,
+    CopyBytes,
+    /// Whether the subspace `1501` has a key.
+    Has,
+    /// The tuple of a key there: its key and then its pack behind the byte aa, or why there is none.
+    Strip,
+    /// The range of the keys of a subspace.
+    Range,
+    /// The first string behind those that begin with these bytes, or `none`.
+    Behind,
+}
+
+use Call::{Behind, Compare, CopyBytes, CopyText, Has, Range, Strip};
+
+type Row = (Call, &'static str, &'static str, &'static str);
+
+/// Tuples rise element by element, by kind and then by value, a prefix first.
+static ROWS: [Row; 33] = [
+    (Compare, "", "00", "(Less, Greater)"),
+    (Compare, "00", "0000", "(Less, Greater)"),
+    (Compare, "0027", "0100", "(Less, Greater)"),
+    (Compare, "01ff00", "0200", "(Less, Greater)"),
+    (Compare, "026100", "026200", "(Less, Greater)"),
+    (Compare, "027a00", "0500", "(Less, Greater)"),
+    (Compare, "052700", "12feff", "(Less, Greater)"),
+    (Compare, "12feff", "1300", "(Less, Greater)"),
+    (Compare, "160100", "26", "(Less, Greater)"),
     (
-        '(',
-        "01666f6f00ff62617200000500",
-        "0501666f6f00ff6261720000ff050000",
-    ),
-    ('(', "", "0500"),
-    ('(', "1505", "05150500"),
-    ('i', "-5551212", "11ab4b93"),
-    ('i', "0", "14"),
-    ('i', "-1", "13fe"),
-    ('i', "255", "15ff"),
-    ('i', "256", "160100"),
-    ('i', "-255", "1300"),
-    ('i', "-256", "12feff"),
-    ('i', "18446744073709551615", "1cffffffffffffffff"),
-    ('i', "-18446744073709551615", "0c0000000000000000"),
-    ('f', "", "26"),
-    ('y', "", "27"),
-    (
-        'u',
-        "00000000000000000000000000000001",
+        Compare,
+        "27",
         "3000000000000000000000000000000001",
+        "(Less, Greater)",
     ),
+    (CopyText, "", "", ""),
+    (CopyText, "F\u{d4}O\0bar", "", "F\u{d4}O\0bar"),
+    (CopyText, "a", "", "a"),
+    (CopyBytes, "", "", ""),
+    (CopyBytes, "46c3944f00626172", "", "46c3944f00626172"),
+    (CopyBytes, "61", "", "61"),
+    (Has, "150114", "", "true"),
+    (Has, "1501", "", "true"),
+    (Has, "15010026", "", "true"),
+    (Has, "1502", "", "false"),
+    (Has, "15", "", "false"),
+    (Has, "15011500", "", "true"),
+    (Strip, "150114", "", "150114 aa14"),
+    (Strip, "1501", "", "1501 aa"),
+    (Strip, "15010026", "", "15010026 aa0026"),
+    (Strip, "1502", "", "outside the subspace"),
+    (Strip, "15", "", "outside the subspace"),
     (
-        'u',
-        "67e5504410b1426f9247bb680e5fe0c8",
-        "3067e5504410b1426f9247bb680e5fe0c8",
+        Strip,
+        "15011500",
+        "",
+        "refused behind the prefix: NotMinimal at 0",
     ),
-    (
-        's',
-        "000102030405060708090a0b",
-        "33000102030405060708090a0b",
-    ),
+    (Range, "1501", "", "150100 1501ff"),
+    (Behind, "61ff", "", "62"),
+    (Behind, "ff", "", "none"),
+    (Behind, "", "", "none"),
+    (Behind, "6100", "", "6101"),
 ];
-
-fn byte_string_of(alloc: Global, digits: &str) -> Result<ByteString, Fail> {
-    Ok(ByteString::new(hex::decode(alloc, digits)?))
-}
-
-fn int_of(number: &str) -> Result<TupleInt, Fail> {
-    Ok(TupleInt::new(number.parse::<i128>()?).ok_or("too large")?)
-}
 
 fn unpacked(alloc: Global, digits: &str) -> Result<Tuple, Fail> {
     Ok(unpack(alloc, bytes_of(alloc, digits)?.as_slice())?)
 }
 
-fn packed(alloc: Global, tuple: &Tuple) -> Result<String, Fail> {
-    digits_of(alloc, pack(alloc, tuple)?.as_slice())
-}
-
-fn element_of(alloc: Global, kind: char, value: &str) -> Result<Element, Fail> {
-    match kind {
-        'b' => Ok(Element::Bytes(byte_string_of(alloc, value)?)),
-        't' => Ok(Element::Text(text_of(alloc, value)?)),
-        '(' => Ok(Element::Nested(unpacked(alloc, value)?)),
-        'i' => Ok(Element::Int(int_of(value)?)),
-        'f' => Ok(Element::Bool(false)),
-        'y' => Ok(Element::Bool(true)),
-        'u' => Ok(Element::Uuid(Uuid::from_bytes(<[u8; 16] as FromHex>::from_hex(value)?))),
-        's' => Ok(Element::Stamp(<[u8; 12] as FromHex>::from_hex(value)?)),
-        _ => Ok(Element::Null),
-    }
-}
-
-fn alone(alloc: Global, element: Element) -> Result<Tuple, Fail> {
-    let mut elements = Vec::new(alloc);
-    elements.push(element)?;
-    match Tuple::new(elements) {
-        Ok(tuple) => Ok(tuple),
-        Err(_) => Err(Fail::from("too deep")),
-    }
-}
-
-fn kind_of(element: &Element) -> char {
-    match element {
-        Element::Null => 'n',
-        Element::Bytes(_) => 'b',
-        Element::Text(_) => 't',
-        Element::Nested(_) => '(',
-        Element::Int(_) => 'i',
-        Element::Bool(false) => 'f',
-        Element::Bool(true) => 'y',
-        Element::Uuid(_) => 'u',
-        Element::Stamp(_) => 's',
-    }
-}
-
-/// The value of an element, as a row has it.
-fn value_of(alloc: Global, element: &Element) -> Result<String, Fail> {
-    match element {
-        Element::Bytes(bytes) => digits_of(alloc, bytes.as_slice()),
-        Element::Text(text) => Ok(String::from_str(alloc, text.as_str())?),
-        Element::Nested(tuple) => packed(alloc, tuple),
-        Element::Int(int) => Ok(int.get().to_string(alloc)?),
-        Element::Uuid(uuid) => digits_of(alloc, uuid.as_bytes()),
-        Element::Stamp(stamp) => digits_of(alloc, stamp),
-        Element::Null | Element::Bool(_) => Ok(String::new(alloc)),
-    }
-}
-
-fn is_packed(alloc: Global, kind: char, value: &str, digits: &str) -> Result<(), Fail> {
-    let tuple = alone(alloc, element_of(alloc, kind, value)?)?;
-    same(packed(alloc, &tuple)?.as_str(), digits)
-}
-
-fn is_unpacked(alloc: Global, kind: char, value: &str, digits: &str) -> Result<(), Fail> {
-    let tuple = unpacked(alloc, digits)?;
-    let [element] = tuple.elements() else {
-        return Err(Fail::from("not alone"));
-    };
-    holds(kind_of(element) == kind, digits)?;
-    same(value_of(alloc, element)?.as_str(), value)
-}
-
-#[test]
-fn elements_are_packed_and_unpacked(rt: HostRuntime) -> Result<(), Fail> {
-    for (kind, value, digits) in &PACKS {
-        is_packed(rt.alloc(), *kind, value, digits)?;
-        is_unpacked(rt.alloc(), *kind, value, digits)?;
-    }
-    Ok(())
-}
-
-/// Packs of tuples, each of which is packed again as it was, and so are its elements.
-static SPELLINGS: [&str; 7] = [
-    "",
-    "00",
-    "0246c3944f00ff62617200",
-    "0501666f6f00ff6261720000ff050000",
-    "26273000000000000000000000000000000001",
-    "052615050261000000",
-    "026100ff000500ff15050013fe27",
-];
-
-fn is_again(alloc: Global, digits: &str) -> Result<(), Fail> {
-    let elements = unpacked(alloc, digits)?.into_elements();
-    match Tuple::new(elements) {
-        Ok(tuple) => same(packed(alloc, &tuple)?.as_str(), digits),
-        Err(_) => Err(Fail::from("too deep")),
-    }
-}
-
-#[test]
-fn tuples_are_packed_again(rt: HostRuntime) -> Result<(), Fail> {
-    for digits in &SPELLINGS {
-        is_again(rt.alloc(), digits)?;
-    }
-    Ok(())
-}
-
-/// Whole numbers that are of no element.
-static TOO_LARGE: [i128; 2] = [18446744073709551616, -18446744073709551616];
-
-#[test]
-fn numbers_may_be_too_large() -> Result<(), Fail> {
-    for number in &TOO_LARGE {
-        holds(TupleInt::new(*number).is_none(), "a number")?;
-    }
-    Ok(())
-}
-
-/// The packs of tuples, each beside a later one's: element by element by kind and then by value, a prefix first.
-static RISING: [(&str, &str); 10] = [
-    ("", "00"),
-    ("00", "0000"),
-    ("0027", "0100"),
-    ("01ff00", "0200"),
-    ("026100", "026200"),
-    ("027a00", "0500"),
-    ("052700", "12feff"),
-    ("12feff", "1300"),
-    ("160100", "26"),
-    ("27", "3000000000000000000000000000000001"),
-];
-
-fn rise(alloc: Global, first: &str, second: &str) -> Result<(), Fail> {
-    let less = unpacked(alloc, first)?;
-    let greater = unpacked(alloc, second)?;
-    holds(
-        compare(&less, &greater).is_lt() && compare(&greater, &less).is_gt(),
-        first,
+fn order(alloc: Global, first: &str, second: &str, told: &str) -> Result<(), Fail> {
+    let first = unpacked(alloc, first)?;
+    let second = unpacked(alloc, second)?;
+    tells(
+        alloc,
+        &(compare(&first, &second), compare(&second, &first)),
+        told,
     )
 }
 
+fn text_copied(alloc: Global, text: &str, told: &str) -> Result<(), Fail> {
+    let copy = text_of(alloc, text)?.copy()?;
+    same(copy.into_string().as_str(), told)
+}
+
+fn bytes_copied(alloc: Global, digits: &str, told: &str) -> Result<(), Fail> {
+    let copy = ByteString::new(hex::decode(alloc, digits)?).copy()?;
+    same(digits_of(alloc, copy.into_vec().as_slice())?.as_str(), told)
+}
+
+fn subspace(alloc: Global) -> Result<Subspace, Fail> {
+    Ok(Subspace::new(hex::decode(alloc, "1501")?))
+}
+
+fn has(alloc: Global, key: &str, told: &str) -> Result<(), Fail> {
+    let key = bytes_of(alloc, key)?;
+    tells(alloc, &subspace(alloc)?.contains(key.as_slice()), told)
+}
+
+/// Two byte strings in digits.
+fn both(alloc: Global, first: &[u8], second: &[u8]) -> Result<String, Fail> {
+    let first = digits_of(alloc, first)?;
+    let second = digits_of(alloc, second)?;
+    Ok(format!(in alloc; "{} {}", first.as_str(), second.as_str())?)
+}
+
+/// The key of a tuple, and its pack behind a byte.
+fn spelled(alloc: Global, subspace: &Subspace, tuple: &Tuple) -> Result<String, Fail> {
+    let mut bytes = Vec::from_slice(alloc, &[0xaa])?;
+    pack_into(tuple, &mut bytes)?;
+    both(
+        alloc,
+        subspace.key(alloc, tuple)?.as_slice(),
+        bytes.as_slice(),
+    )
+}
+
+fn stripped(alloc: Global, key: &str, told: &str) -> Result<(), Fail> {
+    let subspace = subspace(alloc)?;
+    match subspace.strip(alloc, bytes_of(alloc, key)?.as_slice()) {
+        Ok(tuple) => same(spelled(alloc, &subspace, &tuple)?.as_str(), told),
+        Err(error) => same(error.to_string(alloc)?.as_str(), told),
+    }
+}
+
+fn within(alloc: Global, prefix: &str, told: &str) -> Result<(), Fail> {
+    let range = Subspace::new(hex::decode(alloc, prefix)?).range(alloc)?;
+    same(
+        both(alloc, range.begin.as_slice(), range.end.as_slice())?.as_str(),
+        told,
+    )
+}
+
+fn behind(alloc: Global, digits: &str, told: &str) -> Result<(), Fail> {
+    match strinc(alloc, bytes_of(alloc, digits)?.as_slice())? {
+        Some(end) => same(digits_of(alloc, end.as_slice())?.as_str(), told),
+        None => same("none", told),
+    }
+}
+
+fn answer(alloc: Global, call: Call, texts: (&str, &str), told: &str) -> Result<(), Fail> {
+    match call {
+        Compare => order(alloc, texts.0, texts.1, told),
+        CopyText => text_copied(alloc, texts.0, told),
+        CopyBytes => bytes_copied(alloc, texts.0, told),
+        Has => has(alloc, texts.0, told),
+        Strip => stripped(alloc, texts.0, told),
+        Range => within(alloc, texts.0, told),
+        Behind => behind(alloc, texts.0, told),
+    }
+}
+
 #[test]
-fn tuples_are_ordered(rt: HostRuntime) -> Result<(), Fail> {
-    for (first, second) in &RISING {
-        rise(rt.alloc(), first, second)?;
+fn tuples_answer(rt: HostRuntime) -> Result<(), Fail> {
+    for (call, first, second, told) in &ROWS {
+        answer(rt.alloc(), *call, (first, second), told)?;
     }
     Ok(())
-}
-
-/// Texts and their bytes: a copy of either is equal to it.
-static COPIED: [(&str, &str); 3] = [("", ""), ("F\u{d4}O\0bar", "46c3944f00626172"), ("a", "61")];
-
-fn copied(alloc: Global, text: &str, digits: &str) -> Result<(), Fail> {
-    same(text_of(alloc, text)?.copy()?.into_string().as_str(), text)?;
-    let bytes = byte_string_of(alloc, digits)?.copy()?.into_vec();
-    same(digits_of(alloc, bytes.as_slice())?.as_str(), digits)
-}
-
-#[test]
-fn texts_and_byte_strings_are_copied(rt: HostRuntime) -> Result<(), Fail> {
-    for (text, digits) in &COPIED {
-        copied(rt.alloc(), text, digits)?;
-    }
-    Ok(())
-}
-
-/// Bytes, each a start, a piece so many times, and an end, and what is told of them: `ok`, or the refusal and its
-/// place.
-static TOLD: [(&str, &str, usize, &str, &str); 10] = [
-    ("1500", "", 0, "", "long@0"),
-    ("02ff00", "", 0, "", "text@0"),
-    ("050161", "", 0, "", "cut@1"),
-    ("051501", "", 0, "", "cut@0"),
-    ("21", "", 0, "", "code@0"),
-    ("", "05", 17, "", "deep@16"),
-    ("016100ff", "", 0, "", "cut@0"),
-    ("", "05", 10_000, "", "deep@16"),
-    ("01", "00ff", 5_000, "", "cut@0"),
-    ("01", "00ff", 5_000, "00", "ok"),
-];
-
-fn word(kind: UnpackErrorKind) -> &'static str {
-    match kind {
-        UnpackErrorKind::UnknownCode => "code@",
-        UnpackErrorKind::Truncated => "cut@",
-        UnpackErrorKind::NotMinimal => "long@",
-        UnpackErrorKind::NotUtf8 => "text@",
-        UnpackErrorKind::TooDeep => "deep@",
-    }
-}
-
-/// Writes behind a line what is told of bytes.
-fn tell(alloc: Global, line: &mut String, bytes: &[u8]) -> Result<(), AllocError> {
-    match unpack(alloc, bytes) {
-        Ok(_) => line.push_str("ok"),
-        Err(UnpackFailure::Memory) => line.push_str("memory"),
-        Err(UnpackFailure::Refused(error)) => write!(line, "{}{}", word(error.kind), error.at),
-    }
-}
-
-fn told(alloc: Global, bytes: &[u8]) -> Result<String, AllocError> {
-    let mut line = String::new(alloc);
-    tell(alloc, &mut line, bytes)?;
-    Ok(line)
-}
-
-fn repeated(alloc: Global, start: &str, piece: &str, times: usize) -> Result<String, AllocError> {
-    let mut digits = String::from_str(alloc, start)?;
-    for _ in 0..times {
-        digits.push_str(piece)?;
-    }
-    Ok(digits)
-}
-
-fn is_told(alloc: Global, digits: String, end: &str, wanted: &str) -> Result<(), Fail> {
-    let mut digits = digits;
-    digits.push_str(end)?;
-    let bytes = bytes_of(alloc, digits.as_str())?;
-    same(told(alloc, bytes.as_slice())?.as_str(), wanted)
-}
-
-#[test]
-fn bytes_are_refused(rt: HostRuntime) -> Result<(), Fail> {
-    for (start, piece, times, end, wanted) in &TOLD {
-        let digits = repeated(rt.alloc(), start, piece, *times)?;
-        is_told(rt.alloc(), digits, end, wanted)?;
-    }
-    Ok(())
-}
-
-/// What is told of the pack with each of the bytes at a place.
-fn told_of_changes(alloc: Global, place: usize, wanted: &str) -> Result<(), Fail> {
-    let mut line = String::new(alloc);
-    for byte in BYTES {
-        let mut bytes = Vec::from_slice(alloc, &PACK)?;
-        if let Some(changed) = bytes.get_mut(place) {
-            *changed = byte;
-        }
-        add_word(&mut line, told(alloc, bytes.as_slice())?.as_str())?;
-    }
-    same(line.as_str(), wanted)
-}
-
-#[test]
-fn changes_are_refused_as_the_grammar_does(rt: HostRuntime) -> Result<(), Fail> {
-    for (place, row) in CHANGES.iter().enumerate() {
-        told_of_changes(rt.alloc(), place, row)?;
-    }
-    Ok(())
-}
-
-#[test]
-fn prefixes_are_refused_as_the_grammar_does(rt: HostRuntime) -> Result<(), Fail> {
-    let mut line = String::new(rt.alloc());
-    for length in 0..=PACK.len() {
-        add_word(&mut line, told(rt.alloc(), &PACK[..length])?.as_str())?;
-    }
-    same(line.as_str(), PREFIXES)
 }

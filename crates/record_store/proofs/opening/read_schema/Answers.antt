@@ -1,8 +1,12 @@
 use Rattle.std.proofs.Common.{ap}
 use Rattle.kv_core.specs.Range.{point}
 use Rattle.record_store.specs.Layout.{schema_key}
-use Rattle.record_store.proofs.Creating.{read_whole}
+use Rattle.record_store.specs.Steps.{of_read}
+use Rattle.record_store.proofs.Openings.{exit_with}
+use Rattle.record_store.proofs.Stopping.{read_failed}
 use Rattle.record_store.proofs.opening.read_schema.Goals as goal
 
-pub returns-clause-whole : goal.returns-clause-whole
-returns-clause-whole g c = read_whole (point c.in_ok-key.key) (point (schema_key c.args.prefix.now)) c.args.tx.now c.get.new.self (ap point c.in_ok-key.ensures.key) c.in_ok-written.ensures.reads
+pub returns-in_err-written-clause-refused : goal.returns-in_err-written-clause-refused
+returns-in_err-written-clause-refused g c =
+    exit_with c.from_residual-in_err-written.result (of_read c.in_err-written.field-0.0) _ c.from_residual-in_err-written.ensures
+    (read_failed (point c.in_ok-key.key) (point (schema_key c.args.prefix.now)) c.in_err-written.field-0.0 (ap point c.in_ok-key.ensures.key) c.in_err-written.ensures.kept c.in_err-written.ensures.refused)

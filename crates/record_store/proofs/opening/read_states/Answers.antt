@@ -1,6 +1,10 @@
 use Rattle.record_store.specs.Layout.{states_range}
-use Rattle.record_store.proofs.Creating.{read_whole}
+use Rattle.record_store.specs.Steps.{of_read}
+use Rattle.record_store.proofs.Openings.{exit_with}
+use Rattle.record_store.proofs.Stopping.{read_failed}
 use Rattle.record_store.proofs.opening.read_states.Goals as goal
 
-pub returns-clause-whole : goal.returns-clause-whole
-returns-clause-whole g c = read_whole c.in_ok-range.range (states_range c.args.prefix.now) c.args.tx.now c.get_all.new.self c.in_ok-range.ensures c.in_ok-states.ensures.reads
+pub returns-in_err-states-clause-refused : goal.returns-in_err-states-clause-refused
+returns-in_err-states-clause-refused g c =
+    exit_with c.from_residual-in_err-states.result (of_read c.in_err-states.field-0.0) _ c.from_residual-in_err-states.ensures
+    (read_failed c.in_ok-range.range (states_range c.args.prefix.now) c.in_err-states.field-0.0 c.in_ok-range.ensures c.in_err-states.ensures.kept c.in_err-states.ensures.refused)

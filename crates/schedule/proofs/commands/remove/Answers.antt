@@ -2,19 +2,20 @@ use Rattle.std.proofs.Common.{refl}
 use Rattle.record_store.specs.Calls.{remove_call}
 use Rattle.schedule.specs.Calls.{removal_reply}
 use Rattle.schedule.specs.declared.step.Command.TheVariants.{Remove}
-use Rattle.schedule.proofs.Outcomes.{answered_as, exit_with, performed, refused, refused_unopened}
+use Rattle.schedule.proofs.Outcomes.{answered_as, performed, refused, refused_unopened}
+use Rattle.schedule.proofs.Stops.{exit_with}
 use Rattle.schedule.proofs.Serving.{remove_meets}
 use Rattle.schedule.proofs.commands.remove.Goals as goal
 
 pub returns-in_err-store-clause-refused : goal.returns-in_err-store-clause-refused
 returns-in_err-store-clause-refused g c =
     exit_with c.from_residual.result c.in_err-store.field-0.0 _ c.from_residual.ensures
-    (refused_unopened (Remove c.args.type_name.now c.args.cells.now) c.in_err-store.field-0.0 refl refl c.in_err-store.ensures.refused)
+    (refused_unopened (Remove c.args.type_name.now c.args.cells.now) c.in_err-store.field-0.0 refl refl refl c.in_err-store.ensures.refused)
 
 pub returns-in_err-was_there-clause-refused : goal.returns-in_err-was_there-clause-refused
 returns-in_err-was_there-clause-refused g c =
     exit_with c.from_residual-in_err-was_there.result c.in_err-was_there.field-0.0 _ c.from_residual-in_err-was_there.ensures
-    (refused c.in_ok-store.store (Remove c.args.type_name.now c.args.cells.now) (λ opened. remove_call opened c.args.type_name.now c.args.cells.now) removal_reply c.in_err-was_there.field-0.0 c.in_ok-store.ensures.prefix
+    (refused c.in_ok-store.store (Remove c.args.type_name.now c.args.cells.now) (λ opened. remove_call opened c.args.type_name.now c.args.cells.now) removal_reply c.in_err-was_there.field-0.0 refl c.in_ok-store.ensures.prefix
     (remove_meets c.in_ok-store.store c.args.type_name.now c.args.cells.now) c.in_ok-store.ensures.opened c.in_err-was_there.ensures.refused)
 
 pub returns-clause-performed : goal.returns-clause-performed

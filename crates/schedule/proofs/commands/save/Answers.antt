@@ -3,26 +3,27 @@ use Rattle.metadata.specs.Record.{record_of}
 use Rattle.record_store.specs.Steps.{of_metadata}
 use Rattle.record_store.specs.Calls.{save_call}
 use Rattle.schedule.specs.declared.step.Command.TheVariants.{Save}
-use Rattle.schedule.proofs.Outcomes.{answered_as, exit_with, performed, refused, refused_asked, refused_unopened}
+use Rattle.schedule.proofs.Outcomes.{answered_as, performed, refused, refused_asked, refused_unopened}
+use Rattle.schedule.proofs.Stops.{exit_with}
 use Rattle.schedule.proofs.Serving.{save_meets, save_refuses, told_save}
 use Rattle.schedule.proofs.commands.save.Goals as goal
 
 pub returns-in_err-store-clause-refused : goal.returns-in_err-store-clause-refused
 returns-in_err-store-clause-refused g c =
     exit_with c.from_residual.result c.in_err-store.field-0.0 _ c.from_residual.ensures
-    (refused_unopened (Save c.args.type_name.now c.args.cells.now) c.in_err-store.field-0.0 refl refl c.in_err-store.ensures.refused)
+    (refused_unopened (Save c.args.type_name.now c.args.cells.now) c.in_err-store.field-0.0 refl refl refl c.in_err-store.ensures.refused)
 
 pub returns-in_err-new-clause-refused : goal.returns-in_err-new-clause-refused
 returns-in_err-new-clause-refused g c =
     exit_with c.from_residual-in_err-new.result (of_metadata c.in_err-new.field-0.0) _ c.from_residual-in_err-new.ensures
-    (refused_asked c.in_ok-store.store (Save c.args.type_name.now c.args.cells.now) (record_of c.schema.result.now c.args.type_name.now c.args.cells.now) c.in_err-new.field-0.0 c.in_ok-store.ensures.prefix
+    (refused_asked c.in_ok-store.store (Save c.args.type_name.now c.args.cells.now) (record_of c.schema.result.now c.args.type_name.now c.args.cells.now) c.in_err-new.field-0.0 refl c.in_ok-store.ensures.prefix
     (λ refusal is. save_refuses c.in_ok-store.store c.args.type_name.now c.args.cells.now refusal (ap (λ s. record_of s c.args.type_name.now c.args.cells.now) (sym c.schema.ensures) ∙ is))
     c.in_ok-store.ensures.opened c.in_err-new.ensures.refused)
 
 pub returns-in_err-old-clause-refused : goal.returns-in_err-old-clause-refused
 returns-in_err-old-clause-refused g c =
     exit_with c.from_residual-in_err-old.result c.in_err-old.field-0.0 _ c.from_residual-in_err-old.ensures
-    (refused c.in_ok-store.store (Save c.args.type_name.now c.args.cells.now) (λ opened. save_call opened c.in_ok-new.new) told_save c.in_err-old.field-0.0 c.in_ok-store.ensures.prefix
+    (refused c.in_ok-store.store (Save c.args.type_name.now c.args.cells.now) (λ opened. save_call opened c.in_ok-new.new) told_save c.in_err-old.field-0.0 refl c.in_ok-store.ensures.prefix
     (save_meets c.in_ok-store.store c.args.type_name.now c.args.cells.now c.in_ok-new.new (ap (λ s. record_of s c.args.type_name.now c.args.cells.now) (sym c.schema.ensures) ∙ c.in_ok-new.ensures.made))
     c.in_ok-store.ensures.opened c.in_err-old.ensures.refused)
 

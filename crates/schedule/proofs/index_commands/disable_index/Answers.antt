@@ -2,19 +2,20 @@ use Rattle.std.proofs.Common.{refl}
 use Rattle.record_store.proofs.Answered.{refused_anyway}
 use Rattle.record_store.specs.Calls.{disable_call}
 use Rattle.schedule.specs.declared.step.Command.TheVariants.{Disable}
-use Rattle.schedule.proofs.Outcomes.{exit_with, performed, refused, refused_unopened}
+use Rattle.schedule.proofs.Outcomes.{performed, refused, refused_unopened}
+use Rattle.schedule.proofs.Stops.{exit_with}
 use Rattle.schedule.proofs.IndexServing.{disable_meets, told_done}
 use Rattle.schedule.proofs.index_commands.disable_index.Goals as goal
 
 pub returns-in_err-store-clause-refused : goal.returns-in_err-store-clause-refused
 returns-in_err-store-clause-refused g c =
     exit_with c.from_residual.result c.in_err-store.field-0.0 _ c.from_residual.ensures
-    (refused_unopened (Disable c.args.name.now) c.in_err-store.field-0.0 refl refl c.in_err-store.ensures.refused)
+    (refused_unopened (Disable c.args.name.now) c.in_err-store.field-0.0 refl refl refl c.in_err-store.ensures.refused)
 
 pub returns-in_err-mark_disabled-clause-refused : goal.returns-in_err-mark_disabled-clause-refused
 returns-in_err-mark_disabled-clause-refused g c =
     exit_with c.from_residual-in_err-mark_disabled.result c.in_err-mark_disabled.field-0.0 _ c.from_residual-in_err-mark_disabled.ensures
-    (refused c.in_ok-store.store (Disable c.args.name.now) (λ opened. disable_call opened c.args.name.now) told_done c.in_err-mark_disabled.field-0.0 c.in_ok-store.ensures.prefix
+    (refused c.in_ok-store.store (Disable c.args.name.now) (λ opened. disable_call opened c.args.name.now) told_done c.in_err-mark_disabled.field-0.0 refl c.in_ok-store.ensures.prefix
     (disable_meets c.in_ok-store.store c.args.name.now) c.in_ok-store.ensures.opened (refused_anyway _ _ _ _ _ _ _ (c.in_err-mark_disabled.ensures.refused _)))
 
 pub returns-clause-performed : goal.returns-clause-performed

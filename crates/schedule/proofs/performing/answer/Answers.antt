@@ -36,3 +36,18 @@ pub returns-in-State-clause-performed : goal.returns-in-State-clause-performed
 returns-in-State-clause-performed g c =
     subst (λ command. IfOk c.index_state.result (λ answer. IsPerformed (g.S.Snapshot.map_at c.args.db.now) (λ range. g.S.Snapshot.may_refuse c.args.db.now range c.args.tx.now.read_version) command answer c.args.tx.now c.index_state.new.tx))
     (sym c.in-State.is) c.index_state.ensures.performed
+
+pub returns-in-Index-clause-performed : goal.returns-in-Index-clause-performed
+returns-in-Index-clause-performed g c =
+    subst (λ command. IfOk c.add_index.result (λ answer. IsPerformed (g.S.Snapshot.map_at c.args.db.now) (λ range. g.S.Snapshot.may_refuse c.args.db.now range c.args.tx.now.read_version) command answer c.args.tx.now c.add_index.new.tx))
+    (sym c.in-Index.is) c.add_index.ensures.performed
+
+pub returns-in-Drop-clause-performed : goal.returns-in-Drop-clause-performed
+returns-in-Drop-clause-performed g c =
+    subst (λ command. IfOk c.drop_index.result (λ answer. IsPerformed (g.S.Snapshot.map_at c.args.db.now) (λ range. g.S.Snapshot.may_refuse c.args.db.now range c.args.tx.now.read_version) command answer c.args.tx.now c.drop_index.new.tx))
+    (sym c.in-Drop.is) c.drop_index.ensures.performed
+
+pub returns-in-Disable-clause-performed : goal.returns-in-Disable-clause-performed
+returns-in-Disable-clause-performed g c =
+    subst (λ command. IfOk c.disable_index.result (λ answer. IsPerformed (g.S.Snapshot.map_at c.args.db.now) (λ range. g.S.Snapshot.may_refuse c.args.db.now range c.args.tx.now.read_version) command answer c.args.tx.now c.disable_index.new.tx))
+    (sym c.in-Disable.is) c.disable_index.ensures.performed

@@ -1,4 +1,4 @@
-use Rattle.std.proofs.Common.{◌≡◌, take}
+use Rattle.std.proofs.Common.{take}
 use Rattle.std.specs.List.{AllByRecursion}
 use Rattle.schedule.specs.Values.{StepAsksValues}
 use Rattle.schedule.proofs.values.ask_values.Given as goal

@@ -1,10 +1,17 @@
-use Rattle.std.proofs.Common.{◌∙◌, ◌==◌, ap, length}
-use Rattle.record_store.specs.Calls.{done_with, schema_service, schema_writes, type_call}
+use Rattle.std.proofs.Common.{◌∙◌, ◌==◌, ap, length, subst, sym}
 use Rattle.txn.specs.Refusing.{NeverRefuses}
+use Rattle.record_store.specs.Calls.{done_with, schema_service, schema_writes, type_call}
+use Rattle.record_store.specs.Call.{Opened}
+use Rattle.record_store.specs.Holds.{HasPlainIndexes}
+use Rattle.record_store.proofs.Plain.{typed_plain}
 use Rattle.record_store.specs.Steps.{of_write}
 use Rattle.record_store.proofs.Answered.{answered, refused_limit}
 use Rattle.record_store.proofs.Openings.{exit_with}
 use Rattle.record_store.proofs.RecordCalls.{nothing_read, type_served}
+use Rattle.record_store.specs.Steps.{no_memory, of_metadata}
+use Rattle.record_store.proofs.Answered.{memory_still, refused_own}
+use Rattle.metadata.specs.Change.{add_type}
+use Rattle.std.proofs.Common.{refl}
 use Rattle.record_store.proofs.store.Store.add_type.Goals as goal
 
 pub returns-in_err-write_all-clause-refused : goal.returns-in_err-write_all-clause-refused
@@ -21,3 +28,18 @@ returns-clause-added c = λ maps.
     c.in_ok-write_all.ensures.ok c.in_ok-write_all.ensures.allowed
     (λ m store holds same empty. type_served c.args.self.now c.in_ok-next.next c.args.request.now c.in_ok-mutations.mutations.items (c.in_ok-mutations.ensures ∙ ap (λ p. schema_writes p c.in_ok-next.next) c.prefix.ensures.prefix)
     c.in_ok-next.ensures.lawful c.in_ok-next.ensures.added m store holds same)
+
+pub returns-clause-plain : goal.returns-clause-plain
+returns-clause-plain c = λ plain.
+    typed_plain c.args.self.now.schema c.in_ok-next.next c.self.inside.states.items c.args.request.now c.in_ok-next.ensures.added
+    (subst (HasPlainIndexes c.args.self.now.schema) (sym (ap (λ (o : Opened). o.states) c.self.view_is)) plain)
+
+pub returns-in_err-next-clause-refused : goal.returns-in_err-next-clause-refused
+returns-in_err-next-clause-refused c =
+    exit_with c.from_residual.result (of_metadata c.in_err-next.field-0.0) _ c.from_residual.ensures (λ maps.
+    refused_own maps NeverRefuses c.args.self.now (schema_service c.args.self.now) (add_type c.args.self.now.schema c.args.request.now) c.in_err-next.field-0.0 c.in_err-next.ensures.refused refl)
+
+pub returns-in_err-mutations-clause-refused : goal.returns-in_err-mutations-clause-refused
+returns-in_err-mutations-clause-refused c =
+    exit_with c.from_residual-in_err-mutations.result no_memory _ c.from_residual-in_err-mutations.ensures (λ maps.
+    memory_still maps NeverRefuses c.args.self.now (type_call c.args.self.now c.args.request.now) refl)

@@ -1,12 +1,15 @@
-use Rattle.std.proofs.Common.{rules, ◌∙◌, ◌==◌, ap, length, not}
+use Rattle.std.proofs.Common.{rules, ◌∙◌, ◌==◌, ap, length, not, refl, subst, sym}
 use Rattle.std.proofs.lemmas.Fn.{filter_same}
 use Rattle.metadata.specs.Schema.{find_index}
 use Rattle.record_store.specs.Call.{Opened}
 use Rattle.record_store.specs.Store.{without_state}
-use Rattle.record_store.specs.Calls.{done_with, drop_call, drop_service, index_number}
 use Rattle.txn.specs.Refusing.{NeverRefuses}
-use Rattle.record_store.specs.Steps.{of_write}
-use Rattle.record_store.proofs.Answered.{answered, refused_limit}
+use Rattle.record_store.specs.Calls.{done_with, drop_call, drop_service, index_number}
+use Rattle.record_store.specs.Holds.{HasPlainIndexes}
+use Rattle.record_store.specs.IndexWrites.{store_of}
+use Rattle.record_store.proofs.Plain.{dropped_plain}
+use Rattle.record_store.specs.Steps.{no_memory, of_metadata, of_write}
+use Rattle.record_store.proofs.Answered.{answered, memory_still, refused_limit, refused_own}
 use Rattle.record_store.proofs.Openings.{exit_with}
 use Rattle.record_store.proofs.RecordCalls.{nothing_read}
 use Rattle.record_store.proofs.IndexCalls.{left_is, drop_served, drop_wrote, named_there}
@@ -34,3 +37,22 @@ returns-clause-opened c = λ number is.
     (ap (λ (o : Opened). o.prefix) c.self.view_is) c.in_ok-next.ensures.next
     (filter_same _ (λ listed. not (listed.0 == c.in_ok-number.number)) _ (λ x b f' k. search rules) _ _ c.retain.ensures.filtered ∙ ap (without_state c.in_ok-number.number) (ap (λ (o : Opened). o.states) c.self.view_is))
     c.in_ok-number.ensures.found is
+
+pub returns-clause-plain : goal.returns-clause-plain
+returns-clause-plain c = λ plain.
+    subst (λ (o : Opened). HasPlainIndexes o.schema o.states) (sym (returns-clause-opened c c.in_ok-number.number c.in_ok-number.ensures.found)) (dropped_plain (store_of c.args.self.now) c.in_ok-number.number plain)
+
+pub returns-in_err-next-clause-refused : goal.returns-in_err-next-clause-refused
+returns-in_err-next-clause-refused c =
+    exit_with c.from_residual-in_err-next.result no_memory _ c.from_residual-in_err-next.ensures (λ maps.
+    memory_still maps NeverRefuses c.args.self.now (drop_call c.args.self.now c.args.name.now) refl)
+
+pub returns-in_err-mutations-clause-refused : goal.returns-in_err-mutations-clause-refused
+returns-in_err-mutations-clause-refused c =
+    exit_with c.from_residual-in_err-mutations.result no_memory _ c.from_residual-in_err-mutations.ensures (λ maps.
+    memory_still maps NeverRefuses c.args.self.now (drop_call c.args.self.now c.args.name.now) refl)
+
+pub returns-in_err-number-clause-refused : goal.returns-in_err-number-clause-refused
+returns-in_err-number-clause-refused c =
+    exit_with c.from_residual.result (of_metadata c.in_err-number.field-0.0) _ c.from_residual.ensures (λ maps.
+    refused_own maps NeverRefuses c.args.self.now (drop_service c.args.self.now) (index_number (find_index c.args.self.now.schema c.args.name.now)) c.in_err-number.field-0.0 c.in_err-number.ensures.refused refl)

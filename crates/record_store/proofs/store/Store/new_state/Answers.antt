@@ -1,10 +1,13 @@
-use Rattle.std.proofs.Common.{◌∙◌, ◌∷◌, [], ap, inl, refl, subst, sym, List, ℕ}
+use Rattle.std.proofs.Common.{◌∙◌, ap, inl, refl, subst, sym, List, ℕ}
 use Rattle.metadata.specs.declared.index.State.{State}
 use Rattle.record_store.specs.Store.{new_state}
 use Rattle.record_store.specs.Layout.{place, type_range}
-use Rattle.record_store.specs.Reading.{ArePairsOf, HaveNoRecords, IsStateRead}
-use Rattle.record_store.specs.Steps.{DidRead, no_memory}
+use Rattle.record_store.specs.Reading.{ArePairsOf, HasRead, HaveNoRecords}
+use Rattle.record_store.specs.Call.{first_of}
+use Rattle.record_store.specs.Steps.{no_memory, of_read}
+use Rattle.record_store.proofs.Stopping.{unread_failed}
 use Rattle.record_store.proofs.Openings.{exit_with}
+use Rattle.record_store.proofs.Plain.{new_known}
 use Rattle.record_store.proofs.Scanning.{state_read, state_unread}
 use Rattle.record_store.proofs.store.Store.new_state.Goals as goal
 
@@ -28,7 +31,7 @@ returns-in_err-records-clause-refused g c =
 
 pub returns-clause-found : goal.returns-clause-found
 returns-clause-found g c =
-    subst (λ (s : State). DidRead (g.S.Snapshot.map_at c.args.db.now) (type_range c.args.self.now.prefix c.args.definition.now.number ∷ []) c.args.tx.now c.get_range.new.self (IsStateRead c.args.self.now c.args.definition.now.number s))
+    subst (λ (s : State). HasRead (g.S.Snapshot.map_at c.args.db.now) c.args.self.now c.args.definition.now.number s c.args.tx.now c.get_range.new.self)
     (sym (c.state_over.ensures ∙ ap new_state c.as_slice-3.ensures.value))
     (state_read c.args.self.now c.args.definition.now c.prefix.ensures.lawful c.requires
     c.in_ok-range.range c.in_ok-pairs.pairs.items c.as_slice.result.now c.in_ok-records.records.items
@@ -36,3 +39,12 @@ returns-clause-found g c =
     (c.as_slice.ensures.value ∙ c.in_ok-place.ensures ∙ ap (λ p. place p 1) c.prefix-2.ensures.prefix)
     c.in_ok-pairs.ensures.reads c.in_ok-pairs.ensures.answer
     (subst (λ (pairs : List (List ℕ × List ℕ)). ArePairsOf c.as_slice.result.now c.args.definition.now pairs c.in_ok-records.records.items) c.as_slice-2.ensures.value c.in_ok-records.ensures.found))
+
+pub returns-clause-plain : goal.returns-clause-plain
+returns-clause-plain g c = λ is. new_known c.as_slice-3.result.now (sym c.state_over.ensures ∙ is)
+
+pub returns-in_err-pairs-clause-refused : goal.returns-in_err-pairs-clause-refused
+returns-in_err-pairs-clause-refused g c =
+    exit_with c.from_residual-in_err-pairs.result (of_read c.in_err-pairs.field-0.0) _ c.from_residual-in_err-pairs.ensures
+    (unread_failed c.args.self.now (first_of (type_range c.args.self.now.prefix c.args.definition.now.number)) c.in_ok-range.range (type_range c.args.self.now.prefix c.args.definition.now.number) c.in_err-pairs.field-0.0
+    (c.in_ok-range.ensures ∙ ap (λ p. type_range p c.args.definition.now.number) c.prefix.ensures.prefix) refl c.in_err-pairs.ensures.kept c.in_err-pairs.ensures.refused)

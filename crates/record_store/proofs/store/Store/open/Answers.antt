@@ -1,16 +1,18 @@
 use Rattle.std.proofs.Common.{subst, sym}
 use Rattle.record_store.specs.Opening.{IsOpened}
-use Rattle.record_store.proofs.Openings.{exit_with, opened_now, opened_plain, states_by, unopened_first, unopened_schema, unopened_states, unopened_then, unstated_by}
+use Rattle.record_store.proofs.Openings.{exit_with, first_failed, opened_now, opened_plain, states_by, then_failed, unopened, unopened_schema, unopened_states, unstated_by}
+use Rattle.record_store.specs.Steps.{no_memory}
+use Rattle.record_store.proofs.Openings.{opened_memory}
 use Rattle.record_store.proofs.store.Store.open.Goals as goal
 
 pub returns-in_err-written-clause-refused : goal.returns-in_err-written-clause-refused
 returns-in_err-written-clause-refused g c =
-    exit_with c.from_residual.result c.in_err-written.field-0.0 _ c.from_residual.ensures (unopened_first c.args.prefix.now c.in_err-written.field-0.0 c.in_err-written.ensures.refused)
+    exit_with c.from_residual.result c.in_err-written.field-0.0 _ c.from_residual.ensures (unopened c.args.prefix.now c.in_err-written.field-0.0 (first_failed c.args.prefix.now c.in_err-written.field-0.0 c.in_err-written.ensures.refused))
 
 pub returns-in_err-pairs-clause-refused : goal.returns-in_err-pairs-clause-refused
 returns-in_err-pairs-clause-refused g c =
     exit_with c.from_residual-in_err-pairs.result c.in_err-pairs.field-0.0 _ c.from_residual-in_err-pairs.ensures
-    (unopened_then c.args.prefix.now c.in_err-pairs.field-0.0 c.in_ok-written.ensures.read c.in_err-pairs.ensures.refused)
+    (unopened c.args.prefix.now c.in_err-pairs.field-0.0 (then_failed c.args.prefix.now c.in_err-pairs.field-0.0 c.in_ok-written.ensures.read c.in_err-pairs.ensures.refused))
 
 pub returns-in_err-schema-clause-refused : goal.returns-in_err-schema-clause-refused
 returns-in_err-schema-clause-refused g c =
@@ -33,3 +35,8 @@ pub returns-clause-plain : goal.returns-clause-plain
 returns-clause-plain g c =
     opened_plain c.args.prefix.now c.in_ok-written.written c.in_ok-pairs.pairs.items c.in_ok-schema.schema c.in_ok-states.states.items c.in_ok-schema.ensures.found
     (states_by c.args.prefix.now c.indexes.result.now c.in_ok-schema.schema.indexes c.as_slice.result.now c.in_ok-pairs.pairs.items c.in_ok-states.states.items c.indexes.ensures c.as_slice.ensures.value c.in_ok-states.ensures.found)
+
+pub returns-in_err-prefix-clause-refused : goal.returns-in_err-prefix-clause-refused
+returns-in_err-prefix-clause-refused g c =
+    exit_with c.from_residual-in_err-prefix.result no_memory _ c.from_residual-in_err-prefix.ensures
+    (opened_memory c.args.prefix.now c.in_ok-written.written c.in_ok-pairs.pairs.items c.in_ok-written.ensures.read c.in_ok-pairs.ensures.read)

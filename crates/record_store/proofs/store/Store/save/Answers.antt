@@ -6,6 +6,8 @@ use Rattle.record_store.specs.Steps.{of_write}
 use Rattle.record_store.proofs.Answered.{answered, own_found, refused_limit}
 use Rattle.record_store.proofs.Openings.{exit_with}
 use Rattle.record_store.proofs.RecordCalls.{replacement, save_accepted, save_changes, save_read, save_serves, save_wrote}
+use Rattle.record_store.specs.Steps.{no_memory}
+use Rattle.record_store.proofs.Answered.{refused_memory}
 use Rattle.record_store.proofs.store.Store.save.Goals as goal
 
 pub read_record-requires-clause-own : goal.read_record-requires-clause-own
@@ -35,3 +37,10 @@ returns-in_err-write_all-clause-refused g c =
   where
     wrote : c.in_ok-mutations.mutations.items ≡ replacement c.args.self.now c.args.new.now c.in_ok-old.old
     wrote = c.in_ok-mutations.ensures.mutations ∙ ap (replacement c.args.self.now c.args.new.now) c.as_ref.ensures.value
+
+pub returns-in_err-mutations-clause-refused : goal.returns-in_err-mutations-clause-refused
+returns-in_err-mutations-clause-refused g c =
+    exit_with c.from_residual-in_err-mutations.result no_memory _ c.from_residual-in_err-mutations.ensures
+    (refused_memory (g.S.Snapshot.map_at c.args.db.now) (g.S.Snapshot.may_refuse c.args.db.now) c.args.self.now (save_call c.args.self.now c.args.new.now) (save_service c.args.self.now c.args.new.now)
+    (save_accepted c.args.self.now c.args.new.now c.in_ok-check_type.ensures.own)
+    (save_read c.args.self.now c.args.new.now c.in_ok-primary_key.primary_key c.in_ok-old.old c.in_ok-primary_key.ensures.key c.in_ok-old.ensures.found))

@@ -1,0 +1,166 @@
+-- What commands read: by a schema and a map, and by what is there.
+use Rattle.std.proofs.Common.{◌≡◌, ℕ, Bool, true, false, List, [], ◌∷◌, ◌++◌, refl, sym, ap, subst, ◌∙◌, append-nil, Option, Some, None, Ok, Err, Result, length}
+use Rattle.std.specs.Prelude.{drop, take, map}
+use Rattle.std.specs.List.{AllByRecursion}
+use Rattle.std.specs.FinMap.{get}
+use Rattle.std.proofs.lemmas.Bool.{or_left, or_right}
+use Rattle.std.proofs.lemmas.List.Folds.{list_any-append}
+use Rattle.kv_core.specs.Range.{KeyRange, contains, covers}
+use Rattle.kv_core.specs.Map.{Map}
+use Rattle.kv_core.specs.Read.{range_read}
+use Rattle.cluster_core.specs.declared.answers.ReadError.{ReadError}
+use Rattle.metadata.specs.declared.index.IndexDefinition.{IndexDefinition}
+use Rattle.metadata.specs.declared.refusal.Refusal.{Refusal}
+use Rattle.metadata.specs.declared.refusal.Refusal.TheVariants.{NoStore}
+use Rattle.metadata.specs.Asked.{schema_asked}
+use Rattle.metadata.specs.IndexChange.{new_index}
+use Rattle.metadata.specs.Records.{of_type}
+use Rattle.metadata.specs.Schema.{Schema}
+use Rattle.record_store.specs.Store.{Store, Serial, schema_in}
+use Rattle.record_store.specs.Holds.{Holds}
+use Rattle.record_store.specs.Form.{IsRecordPair}
+use Rattle.record_store.specs.Layout.{record_pair, schema_key, type_range}
+use Rattle.record_store.specs.Call.{Reading, whole}
+use Rattle.record_store.specs.Opening.{opening_reach}
+use Rattle.record_store.specs.Steps.{IsBeginning, IsNextRefused}
+use Rattle.record_store.proofs.AddedCalls.{index_type_small}
+use Rattle.record_store.proofs.Held.{type_held}
+use Rattle.record_store.proofs.Stopping.{all_begin, begin_more}
+use Rattle.schedule.specs.declared.step.Command.{Command}
+use Rattle.schedule.specs.declared.step.Command.TheVariants.{Create, «Type», Save, Load, Remove, Query, Index, Drop, Disable, State}
+use Rattle.schedule.specs.declared.reply.Reply.{Reply}
+use Rattle.schedule.specs.declared.reply.Reply.TheVariants as reply
+use Rattle.schedule.specs.Layout.{store_prefix}
+use Rattle.schedule.specs.Past.{is_accepted}
+use Rattle.schedule.specs.Performed.{HasAdded, HasAddedSo, IsMadeOf, IsReadRefusedAs, IsSound, IsSoundSo, IsTold, is_unread}
+use Rattle.schedule.specs.Reach.{added, added_by, first_added, first_reading, open_reach, own_reading, reach}
+
+-- without a schema a command reads nothing of its own
+pub alone : (command : Command) → own_reading None command ≡ whole []
+alone (Create request) = refl
+alone («Type» request) = refl
+alone (Save name cells) = refl
+alone (Load name cells) = refl
+alone (Remove name cells) = refl
+alone (Query query) = refl
+alone (Index request) = refl
+alone (Drop name) = refl
+alone (Disable name) = refl
+alone (State name) = refl
+
+-- ---- what is asked for
+
+-- the ranges of the opening are asked for first, then the command's own
+pub opening_asked : (schema : Option Schema) (command : Command) → open_reach command ≡ opening_reach store_prefix → (k : List ℕ) → covers (opening_reach store_prefix) k ≡ true → covers (reach schema command) k ≡ true
+opening_asked schema command opens k h =
+    list_any-append (λ range. contains range k) (open_reach command) (own_reading schema command).asked
+    ∙ or_left (covers (open_reach command) k) (covers (own_reading schema command).asked k) (ap (λ ranges. covers ranges k) opens ∙ h)
+
+pub own_asked : (schema : Option Schema) (command : Command) (reading : Reading) → own_reading schema command ≡ reading → (k : List ℕ) → covers reading.asked k ≡ true → covers (reach schema command) k ≡ true
+own_asked schema command reading is k h =
+    list_any-append (λ range. contains range k) (open_reach command) (own_reading schema command).asked
+    ∙ or_right (covers (open_reach command) k) (covers (own_reading schema command).asked k) (ap (λ (r : Reading). covers r.asked k) is ∙ h)
+
+-- a range that is refused behind the first ones is one of those asked for
+later_covers : (n : ℕ) (asked rest : List KeyRange) (range : KeyRange) → drop n asked ≡ range ∷ rest → (k : List ℕ) → contains range k ≡ true → covers asked k ≡ true
+later_covers Rattle.std.proofs.Common.zero asked rest range is k h = ap (λ ranges. covers ranges k) is ∙ or_left (contains range k) (covers rest k) h
+later_covers (Rattle.std.proofs.Common.suc n) [] rest range is k h = absurd (cc)
+later_covers (Rattle.std.proofs.Common.suc n) (one ∷ asked) rest range is k h = or_right (contains one k) (covers asked k) (later_covers n asked rest range is k h)
+
+pub next_within : (refuses : KeyRange → ReadError → Type 0) (asked added far : List KeyRange) (error : ReadError) → ((k : List ℕ) → covers asked k ≡ true → covers far k ≡ true) → IsNextRefused refuses asked added error →
+    IsReadRefusedAs refuses far error
+next_within refuses asked added far error wider next =
+    record { range = next.range; inside = λ k h. wider k (later_covers (length added) asked next.rest next.range next.next k h); refused = next.refused }
+
+-- ---- what is added
+
+first_is : (m : Map) (store : Store) (o : Result IndexDefinition Refusal) → ((index : IndexDefinition) → o ≡ Ok index → Rattle.kv_core.specs.Map.pairs_in m (type_range store_prefix index.type_number) ≡ map (record_pair store_prefix) (of_type index.type_number store.records)) →
+    (first_reading o).added m ≡ first_added store o
+first_is m store (Ok index) held = ap (λ ps. range_read (type_range store_prefix index.type_number) 1 false (take 1 ps) ∷ []) (held index refl)
+first_is m store (Err refusal) held = refl
+
+-- what a command adds by the map is what it adds by what is there
+pub added_held : (m : Map) (command : Command) (serial : Serial) → Holds store_prefix m serial → added_by (schema_in serial) command m ≡ added serial command
+added_held m command None holds = ap (λ (r : Reading). open_reach command ++ r.added m) (alone command) ∙ sym (ap (λ (r : Reading). open_reach command ++ r.asked) (alone command))
+added_held m (Create request) (Some store) holds = refl
+added_held m («Type» request) (Some store) holds = refl
+added_held m (Save name cells) (Some store) holds = refl
+added_held m (Load name cells) (Some store) holds = refl
+added_held m (Remove name cells) (Some store) holds = refl
+added_held m (Query query) (Some store) holds = refl
+added_held m (Index request) (Some store) holds = ap (λ ranges. opening_reach store_prefix ++ ranges)
+    (first_is m store (new_index store.schema request) (λ index is. type_held store_prefix m store index.type_number (index_type_small store.schema request index holds.lawful.schema is) holds))
+added_held m (Drop name) (Some store) holds = refl
+added_held m (Disable name) (Some store) holds = refl
+added_held m (State name) (Some store) holds = refl
+
+-- all ranges were added, or the first ones: by what the reply tells
+pub all_added : (answer : Reply) {all ranges : List KeyRange} → ranges ≡ all → HasAdded answer all ranges
+all_added answer {all = all} {ranges = ranges} is = by_test (is_unread answer)
+  where
+    by_test : (b : Bool) → HasAddedSo b all ranges
+    by_test true = subst (IsBeginning ranges) is (all_begin ranges)
+    by_test false = is
+
+pub added_begin : (answer : Reply) {all ranges : List KeyRange} → HasAdded answer all ranges → IsBeginning ranges all
+added_begin answer {all = all} {ranges = ranges} has = by_test (is_unread answer) has
+  where
+    by_test : (b : Bool) → HasAddedSo b all ranges → IsBeginning ranges all
+    by_test true begin = begin
+    by_test false is = subst (IsBeginning ranges) is (all_begin ranges)
+
+-- the first ones of an opening's ranges are the first ones of a command's
+pub begin_open : (command : Command) {ranges : List KeyRange} (rest : List KeyRange) → open_reach command ≡ opening_reach store_prefix → IsBeginning ranges (opening_reach store_prefix) → IsBeginning ranges (open_reach command ++ rest)
+begin_open command {ranges = ranges} rest opens begin = subst (λ first. IsBeginning ranges (first ++ rest)) (sym opens) (begin_more rest begin)
+
+-- an opening is all that a command reads that reads nothing of its own
+pub opening_added : (schema : Option Schema) (command : Command) (m : Map) → open_reach command ≡ opening_reach store_prefix → own_reading schema command ≡ whole [] → opening_reach store_prefix ≡ added_by schema command m
+opening_added schema command m opens none = sym (append-nil (opening_reach store_prefix)) ∙ (λ i. sym opens i ++ (sym none i).added m)
+
+-- ---- what a reply tells
+
+-- that all pairs are of the written form
+pub told_refusal : (schema : Option Schema) (command : Command) (refusal : Refusal) (m : Map) → IsSound schema command (reply.Refused refusal) m → IsTold schema command (reply.Refused refusal) m
+told_refusal schema command refusal m sound = by_test (is_unread (reply.Refused refusal))
+  where
+    by_test : (b : Bool) → IsSoundSo b schema command (reply.Refused refusal) m
+    by_test true = tt
+    by_test false = sound
+
+pub told_accepted : (schema : Option Schema) (command : Command) (answer : Reply) (m : Map) → is_accepted answer ≡ true → IsSound schema command answer m → IsTold schema command answer m
+told_accepted schema command (reply.Refused refusal) m is sound = absurd (cc)
+told_accepted schema command (reply.Corrupt key) m is sound = absurd (cc)
+told_accepted schema command (reply.Begun version) m is sound = sound
+told_accepted schema command reply.Done m is sound = sound
+told_accepted schema command reply.SavedNew m is sound = sound
+told_accepted schema command (reply.SavedOver cells) m is sound = sound
+told_accepted schema command (reply.Found cells) m is sound = sound
+told_accepted schema command reply.Absent m is sound = sound
+told_accepted schema command reply.Removed m is sound = sound
+told_accepted schema command (reply.Rows rows) m is sound = sound
+told_accepted schema command (reply.State state) m is sound = sound
+told_accepted schema command (reply.Submitted version) m is sound = sound
+told_accepted schema command reply.ReadOnly m is sound = sound
+told_accepted schema command reply.Nothing m is sound = sound
+told_accepted schema command (reply.Reported reports) m is sound = sound
+
+-- that no schema stands there
+pub sound_none : (command : Command) (m : Map) → get m (schema_key store_prefix) ≡ None → IsSound None command (reply.Refused NoStore) m
+sound_none (Create request) m none = by_schema (schema_asked request)
+  where
+    by_schema : (o : Result Schema Refusal) → IsMadeOf o (reply.Refused NoStore) m
+    by_schema (Ok schema) = none
+    by_schema (Err refusal) = tt
+sound_none («Type» request) m none = none
+sound_none (Save name cells) m none = none
+sound_none (Load name cells) m none = none
+sound_none (Remove name cells) m none = none
+sound_none (Query query) m none = none
+sound_none (Index request) m none = none
+sound_none (Drop name) m none = none
+sound_none (Disable name) m none = none
+sound_none (State name) m none = none
+
+-- that all pairs of a reading are
+pub sound_by : (schema : Schema) (command : Command) (answer : Reply) (m : Map) (reading : Reading) → own_reading (Some schema) command ≡ reading → AllByRecursion (IsRecordPair store_prefix schema) (reading.pairs m) → IsSound (Some schema) command answer m
+sound_by schema command answer m reading is good = subst (λ (r : Reading). AllByRecursion (IsRecordPair store_prefix schema) (r.pairs m)) (sym is) good

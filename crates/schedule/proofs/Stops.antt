@@ -1,0 +1,231 @@
+-- What is so where a command stops with an error.
+use Rattle.std.proofs.Common.{◌≡◌, ℕ, true, false, cond, List, [], ◌⊎◌, inl, refl, sym, ap, subst, Option, Some, None, Result}
+use Rattle.std.specs.Prelude.{IfErr}
+use Rattle.std.specs.Result.{IsErr, IsErrAnd}
+use Rattle.std.proofs.lemmas.Result.{err_from_is_err_and}
+use Rattle.kv_core.specs.Range.{KeyRange}
+use Rattle.kv_core.specs.Map.{Map}
+use Rattle.kv_core.specs.Limits.{write_all_refusal}
+use Rattle.kv_core.specs.declared.change.CommitRequest.{CommitRequest}
+use Rattle.kv_core.specs.declared.change.Mutation.{Mutation}
+use Rattle.kv_core.specs.declared.change.WriteError.{WriteError}
+use Rattle.kv_core.specs.declared.change.WriteError.TheVariants as write
+use Rattle.cluster_core.specs.declared.answers.ReadError.{ReadError}
+use Rattle.cluster_core.specs.declared.answers.ReadError.TheVariants as read
+use Rattle.txn.specs.Runs.{Ran}
+use Rattle.txn.proofs.Running.{ran_because, ran_still}
+use Rattle.metadata.specs.declared.refusal.Refusal.{Refusal}
+use Rattle.metadata.specs.declared.refusal.Refusal.TheVariants.{AlreadyThere, FutureVersion, TooOld, KeyOutside, KeyTooLarge, ValueTooLarge, TransactionTooLarge}
+use Rattle.metadata.specs.Schema.{Schema}
+use Rattle.record_store.specs.declared.error.StoreError.{StoreError}
+use Rattle.record_store.specs.declared.error.StoreError.TheVariants.{Memory, Read, Write, Corrupt, Refused}
+use Rattle.record_store.specs.Store.{Serial, schema_in}
+use Rattle.record_store.specs.Call.{Opened}
+use Rattle.record_store.specs.Opening.{IsOpened, IsThereAs, opening_reach}
+use Rattle.record_store.specs.Steps.{IsBeginning}
+use Rattle.record_store.proofs.Stopping.{all_begin, none_begin}
+use Rattle.schedule.specs.declared.step.Command.{Command}
+use Rattle.schedule.specs.declared.step.Command.TheVariants.{Create, «Type», Save, Load, Remove, Query, Index, Drop, Disable, State}
+use Rattle.schedule.specs.declared.reply.Reply.{Reply}
+use Rattle.schedule.specs.declared.reply.Reply.TheVariants as reply
+use Rattle.schedule.specs.Layout.{store_prefix}
+use Rattle.schedule.specs.Serve.{IsReply, effect}
+use Rattle.schedule.specs.Past.{is_accepted, is_reading}
+use Rattle.schedule.specs.Holds.{Stands}
+use Rattle.schedule.specs.Reach.{added, added_by, open_reach, own_added, own_reading, reach, writes}
+use Rattle.schedule.specs.Performed.{HasAdded, HasRead, IsDamaged, IsLimit, IsLimited, IsReadRefusal, IsReadRefusedAs, IsServed, IsSound, IsTold}
+use Rattle.schedule.specs.Calls.{IsRefused, reply_of}
+use Rattle.schedule.proofs.Reached.{all_added, begin_open, told_refusal}
+
+-- EXIT: the clause on refusals at the exit of a `?`, from the one for the error that it makes
+pub exit_with : {T : Type 0} (r : Result T StoreError) (error : StoreError) (P : StoreError → Type 0) → IsErr r × IsErrAnd r (λ made. made ≡ error) → P error → IfErr r P
+exit_with r error P says p =
+    let (made, is, same) = err_from_is_err_and r says.1 in
+    subst (λ x. IfErr x P) (sym is) (subst P (sym same) p)
+
+-- what was opened, at the store's prefix
+abbrev pub at : Opened → Opened
+at opened = record opened { prefix = store_prefix }
+
+-- ---- refusals
+
+-- the reply that an error is accepts nothing, and changes nothing
+refuses_all : (command : Command) (refusal : Refusal) → is_reading command (reply.Refused refusal) ≡ true
+refuses_all (Create request) refusal = refl
+refuses_all («Type» request) refusal = refl
+refuses_all (Save name cells) refusal = refl
+refuses_all (Load name cells) refusal = refl
+refuses_all (Remove name cells) refusal = refl
+refuses_all (Query query) refusal = refl
+refuses_all (Index request) refusal = refl
+refuses_all (Drop name) refusal = refl
+refuses_all (Disable name) refusal = refl
+refuses_all (State name) refusal = refl
+
+corrupts_all : (command : Command) (key : List ℕ) → is_reading command (reply.Corrupt key) ≡ true
+corrupts_all (Create request) key = refl
+corrupts_all («Type» request) key = refl
+corrupts_all (Save name cells) key = refl
+corrupts_all (Load name cells) key = refl
+corrupts_all (Remove name cells) key = refl
+corrupts_all (Query query) key = refl
+corrupts_all (Index request) key = refl
+corrupts_all (Drop name) key = refl
+corrupts_all (Disable name) key = refl
+corrupts_all (State name) key = refl
+
+refusing : (command : Command) (refusal : Refusal) (answer : Reply) → ◌≡◌ {A = Option Reply} (Some (reply.Refused refusal)) (Some answer) → (is_accepted answer ≡ false) × (is_reading command answer ≡ true)
+refusing command refusal answer is =
+    let same : reply.Refused refusal ≡ answer = cc in
+    subst (λ a. (is_accepted a ≡ false) × (is_reading command a ≡ true)) same (refl, refuses_all command refusal)
+
+error_refuses : (command : Command) (error : StoreError) (answer : Reply) → reply_of error ≡ Some answer → (is_accepted answer ≡ false) × (is_reading command answer ≡ true)
+error_refuses command Memory answer is = absurd (cc)
+error_refuses command (Read read.FutureVersion) answer is = refusing command FutureVersion answer is
+error_refuses command (Read read.TooOld) answer is = refusing command TooOld answer is
+error_refuses command (Read read.Memory) answer is = absurd (cc)
+error_refuses command (Write write.KeyOutside) answer is = refusing command _ answer is
+error_refuses command (Write write.KeyTooLarge) answer is = refusing command _ answer is
+error_refuses command (Write write.ValueTooLarge) answer is = refusing command _ answer is
+error_refuses command (Write write.TransactionTooLarge) answer is = refusing command _ answer is
+error_refuses command (Write write.Memory) answer is = absurd (cc)
+error_refuses command (Corrupt key) answer is =
+    let same : reply.Corrupt key ≡ answer = cc in
+    subst (λ a. (is_accepted a ≡ false) × (is_reading command a ≡ true)) same (refl, corrupts_all command key)
+error_refuses command (Refused refusal) answer is = refusing command refusal answer is
+
+-- what is there, by what was opened
+pub schema_is : (opened : Opened) (serial : Serial) → IsThereAs opened serial → schema_in serial ≡ Some opened.schema
+schema_is opened None has = absurd has
+schema_is opened (Some store) has = ap Some has.schema
+
+-- where a command stopped with an error these ranges were added: the first ones where memory was wanting or a read was refused, and else all
+abbrev pub HasStopped : StoreError → List KeyRange → List KeyRange → Type 0
+HasStopped Memory all ranges = IsBeginning ranges all
+HasStopped (Read reason) all ranges = IsBeginning ranges all
+HasStopped error all ranges = ranges ≡ all
+
+stopped_begin : (error : StoreError) {all ranges : List KeyRange} → HasStopped error all ranges → IsBeginning ranges all
+stopped_begin Memory has = has
+stopped_begin (Read reason) has = has
+stopped_begin (Write reason) {ranges = ranges} has = subst (IsBeginning ranges) has (all_begin ranges)
+stopped_begin (Corrupt key) {ranges = ranges} has = subst (IsBeginning ranges) has (all_begin ranges)
+stopped_begin (Refused refusal) {ranges = ranges} has = subst (IsBeginning ranges) has (all_begin ranges)
+
+stopped_added : (error : StoreError) (answer : Reply) (all ranges : List KeyRange) → reply_of error ≡ Some answer → HasStopped error all ranges → HasAdded answer all ranges
+stopped_added Memory answer all ranges is has = absurd (cc)
+stopped_added (Read read.FutureVersion) answer all ranges is has = let same : reply.Refused FutureVersion ≡ answer = cc in subst (λ a. HasAdded a all ranges) same has
+stopped_added (Read read.TooOld) answer all ranges is has = let same : reply.Refused TooOld ≡ answer = cc in subst (λ a. HasAdded a all ranges) same has
+stopped_added (Read read.Memory) answer all ranges is has = absurd (cc)
+stopped_added (Write reason) answer all ranges is has = all_added answer has
+stopped_added (Corrupt key) answer all ranges is has = all_added answer has
+stopped_added (Refused refusal) answer all ranges is has = all_added answer has
+
+-- why the reply of an error is right at what is there
+abbrev pub IsRight : (KeyRange → ReadError → Type 0) → Command → List Mutation → StoreError → Serial → Type 0
+IsRight refuses command before error serial = (answer : Reply) → reply_of error ≡ Some answer → IsServed before serial command answer ⊎ IsReadRefusal refuses (reach (schema_in serial) command) answer
+
+-- what is so of a map, and of all that it holds, where a command stopped with an error
+pub record IsStop (refuses : KeyRange → ReadError → Type 0) (schema : Option Schema) (command : Command) (before : List Mutation) (error : StoreError) (ranges : List KeyRange) (m : Map) : Type 0 where
+  pub there : HasRead schema m
+  pub reads : HasStopped error (added_by schema command m) ranges
+  pub told : (answer : Reply) → reply_of error ≡ Some answer → IsTold schema command answer m
+  pub held : (serial : Serial) → Stands m serial → IsRight refuses command before error serial × HasStopped error (added serial command) ranges
+
+-- REFUSED: reads, and then an error that is right at all that may be there
+pub refused_by : {maps : ℕ → Map} {refuses : KeyRange → ℕ → ReadError → Type 0} {old new : CommitRequest} (command : Command) (schema : Option Schema) (error : StoreError) (ranges : List KeyRange) →
+    Ran maps ranges old new [] (IsStop (λ range. refuses range old.read_version) schema command old.mutations error ranges) → IsRefused maps refuses command error old new
+refused_by {refuses = refuses} {old = old} {new = new} command schema error ranges ran = record {
+  stopped = record {
+    schema = schema;
+    added = ranges;
+    ran = ran_because ran (λ m stop. record { there = stop.there; reads = stopped_begin error stop.reads; held = λ serial stands. stopped_begin error (stop.held serial stands).1 });
+  };
+  replied = λ answer is.
+      let no_effect = error_refuses command error answer is in record {
+        schema = schema;
+        added = ranges;
+        written = [];
+        changes = sym no_effect.1;
+        ran =
+            ran_because ran (λ m stop. (
+              record { there = stop.there; reads = stopped_added error answer (added_by schema command m) ranges is stop.reads; told = stop.told answer is },
+              λ serial stands. record {
+                right = (stop.held serial stands).0 answer is;
+                wrote = ap (λ b. cond b (writes serial command) []) (sym no_effect.0);
+                holds = subst (λ b. Stands m (cond b (effect serial command) serial)) (sym no_effect.0) stands;
+                reads = stopped_added error answer (added serial command) ranges is (stop.held serial stands).1;
+              },
+            ));
+      };
+}
+
+-- MEMORY: want of memory is no reply
+pub stop_memory : (refuses : KeyRange → ReadError → Type 0) (schema : Option Schema) (command : Command) (before : List Mutation) (ranges : List KeyRange) (m : Map) → HasRead schema m → IsBeginning ranges (added_by schema command m) →
+    ((serial : Serial) → Stands m serial → IsBeginning ranges (added serial command)) → IsStop refuses schema command before Memory ranges m
+stop_memory refuses schema command before ranges m has begin held = record { there = has; reads = begin; told = λ answer is. absurd (cc); held = λ serial stands. (λ answer is. absurd (cc), held serial stands) }
+
+-- it was wanting before anything was read
+pub refused_memory : {maps : ℕ → Map} {refuses : KeyRange → ℕ → ReadError → Type 0} {old : CommitRequest} (command : Command) → IsRefused maps refuses command Memory old old
+refused_memory {refuses = refuses} {old = old} command =
+    refused_by command None Memory [] (ran_still refl (λ m.
+    stop_memory (λ range. refuses range old.read_version) None command old.mutations [] m tt (none_begin (added_by None command m)) (λ serial stands. none_begin (added serial command))))
+
+-- it was wanting behind the opening
+pub memory_opened : {maps : ℕ → Map} {refuses : KeyRange → ℕ → ReadError → Type 0} {old mid : CommitRequest} (opened : Opened) (command : Command) → open_reach command ≡ opening_reach store_prefix → IsOpened maps (at opened) old mid → IsRefused maps refuses command Memory old mid
+memory_opened {refuses = refuses} {old = old} opened command opens is =
+    refused_by command None Memory (opening_reach store_prefix) (ran_because is.ran (λ m has.
+    stop_memory (λ range. refuses range old.read_version) None command old.mutations (opening_reach store_prefix) m tt
+    (begin_open command ((own_reading None command).added m) opens (all_begin (opening_reach store_prefix)))
+    (λ serial stands. begin_open command (own_added serial command) opens (all_begin (opening_reach store_prefix)))))
+
+-- a refused read within the reach
+pub read_right : (refuses : KeyRange → ReadError → Type 0) (within : List KeyRange) (error : ReadError) (answer : Reply) → reply_of (Read error) ≡ Some answer → IsReadRefusedAs refuses within error → IsReadRefusal refuses within answer
+read_right refuses within read.FutureVersion answer is says = let same : reply.Refused FutureVersion ≡ answer = cc in subst (IsReadRefusal refuses within) same says
+read_right refuses within read.TooOld answer is says = let same : reply.Refused TooOld ≡ answer = cc in subst (IsReadRefusal refuses within) same says
+read_right refuses within read.Memory answer is says = absurd (cc)
+
+-- such a reply tells nothing of what was read
+pub told_read : (schema : Option Schema) (command : Command) (error : ReadError) (answer : Reply) (m : Map) → reply_of (Read error) ≡ Some answer → IsTold schema command answer m
+told_read schema command read.FutureVersion answer m is = let same : reply.Refused FutureVersion ≡ answer = cc in subst (λ a. IsTold schema command a m) same tt
+told_read schema command read.TooOld answer m is = let same : reply.Refused TooOld ≡ answer = cc in subst (λ a. IsTold schema command a m) same tt
+told_read schema command read.Memory answer m is = absurd (cc)
+
+-- the reply that a damaged pair is
+pub told_damage : (schema : Option Schema) (command : Command) (key : List ℕ) (answer : Reply) (m : Map) → reply_of (Corrupt key) ≡ Some answer → IsDamaged schema command key m → IsTold schema command answer m
+told_damage schema command key answer m is damaged = let same : reply.Corrupt key ≡ answer = cc in subst (λ a. IsTold schema command a m) same damaged
+
+-- the reply that a refusal is
+pub told_refused : (schema : Option Schema) (command : Command) (refusal : Refusal) (answer : Reply) (m : Map) → reply_of (Refused refusal) ≡ Some answer → IsSound schema command (reply.Refused refusal) m → IsTold schema command answer m
+told_refused schema command refusal answer m is sound = let same : reply.Refused refusal ≡ answer = cc in subst (λ a. IsTold schema command a m) same (told_refusal schema command refusal m sound)
+
+-- the reply that a limit is
+pub told_limit : (schema : Option Schema) (command : Command) (error : WriteError) (answer : Reply) (m : Map) → reply_of (Write error) ≡ Some answer → ((refusal : Refusal) → (refusal ≡ AlreadyThere → ⊥) → IsSound schema command (reply.Refused refusal) m) → IsTold schema command answer m
+told_limit schema command write.KeyOutside answer m is sound = let same : reply.Refused KeyOutside ≡ answer = cc in subst (λ a. IsTold schema command a m) same (sound KeyOutside (λ none. absurd (cc)))
+told_limit schema command write.KeyTooLarge answer m is sound = let same : reply.Refused KeyTooLarge ≡ answer = cc in subst (λ a. IsTold schema command a m) same (sound KeyTooLarge (λ none. absurd (cc)))
+told_limit schema command write.ValueTooLarge answer m is sound = let same : reply.Refused ValueTooLarge ≡ answer = cc in subst (λ a. IsTold schema command a m) same (sound ValueTooLarge (λ none. absurd (cc)))
+told_limit schema command write.TransactionTooLarge answer m is sound = let same : reply.Refused TransactionTooLarge ≡ answer = cc in subst (λ a. IsTold schema command a m) same (sound TransactionTooLarge (λ none. absurd (cc)))
+told_limit schema command write.Memory answer m is sound = absurd (cc)
+
+-- a reply by which the command writes nothing
+served_idle : (before : List Mutation) (serial : Serial) (command : Command) (answer : Reply) → writes serial command ≡ [] → IsReply serial command answer → IsServed before serial command answer
+served_idle before serial command answer none is = subst (λ ms. IsLimited (write_all_refusal before ms) serial command answer) (sym none) is
+
+-- a refusal of the command's own, where it writes nothing
+pub own_right : (refuses : KeyRange → ReadError → Type 0) (command : Command) (before : List Mutation) (refusal : Refusal) (serial : Serial) → IsReply serial command (reply.Refused refusal) → writes serial command ≡ [] →
+    IsRight refuses command before (Refused refusal) serial
+own_right refuses command before refusal serial is none =
+    λ answer same. let that : reply.Refused refusal ≡ answer = cc in inl (subst (IsServed before serial command) that (served_idle before serial command (reply.Refused refusal) none is))
+
+-- a limit is the reply that it is
+limit_is : (error : WriteError) (answer : Reply) → reply_of (Write error) ≡ Some answer → IsLimit error answer
+limit_is write.KeyOutside answer is = let same : reply.Refused _ ≡ answer = cc in sym same
+limit_is write.KeyTooLarge answer is = let same : reply.Refused _ ≡ answer = cc in sym same
+limit_is write.ValueTooLarge answer is = let same : reply.Refused _ ≡ answer = cc in sym same
+limit_is write.TransactionTooLarge answer is = let same : reply.Refused _ ≡ answer = cc in sym same
+limit_is write.Memory answer is = absurd (cc)
+
+-- a limit that what the command writes meets
+pub limit_right : (refuses : KeyRange → ReadError → Type 0) (command : Command) (before : List Mutation) (error : WriteError) (serial : Serial) → write_all_refusal before (writes serial command) ≡ Some error →
+    IsRight refuses command before (Write error) serial
+limit_right refuses command before error serial meets = λ answer is. inl (subst (λ o. IsLimited o serial command answer) (sym meets) (limit_is error answer is))
