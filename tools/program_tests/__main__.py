@@ -5,11 +5,12 @@
 Prints a line for each case that fails. The last line is 'N passed, M failed', and the status is 0 where M is 0.
 """
 import os
+import resource
 import subprocess
 import sys
 import tempfile
 from cases import cases_in, example_cases
-from edges import SETTLE, byte_cases, command_line_cases, long_cases
+from edges import MANY_STEPS, MEMORY_LIMITS, SETTLE, byte_cases, command_line_cases, long_cases
 
 SECONDS = 60
 
@@ -45,6 +46,21 @@ def closed_output_fault(program, words, given):
     return None if (done.returncode, done.stderr) == (1, b"") else f"status {done.returncode}: {done.stderr[:200]!r}"
 
 
+def memory_fault(program):
+    """What is wrong where memory is wanting: all is printed, or nothing but 'out of memory', and either happens."""
+    script, lines = MANY_STEPS
+    endings = set()
+    for megabytes in MEMORY_LIMITS:
+        limit = megabytes << 20
+        done = subprocess.run(
+            [program, "run"], input=script, capture_output=True, timeout=SECONDS, check=False,
+            preexec_fn=lambda it=limit: resource.setrlimit(resource.RLIMIT_AS, (it, it)))
+        endings.add((done.returncode, done.stdout, done.stderr))
+    wanted = {(0, lines, b""), (1, b"", b"out of memory\n")}
+    strange = sorted((status, output[:80], errors[:200]) for status, output, errors in endings - wanted)
+    return None if endings == wanted else f"{len(endings)} endings; not wanted: {strange!r}"
+
+
 def faults(program, folder):
     """What each case shows, and what is wrong with it, or None."""
     cases = [*cases_in("cases"), *example_cases("examples"), *long_cases(), *byte_cases(), *command_line_cases(folder)]
@@ -52,6 +68,7 @@ def faults(program, folder):
         yield case.shows, fault_of(program, case)
     for words, given in ([["run"], SETTLE.encode()], [["pack", "[1]"], b""], [["unpack", "14"], b""]):
         yield f"output that can't be written: {words[0]}", closed_output_fault(program, words, given)
+    yield "want of memory", memory_fault(program)
 
 
 def main(programs):

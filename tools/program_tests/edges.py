@@ -5,6 +5,15 @@ BEGIN = '["begin",0]'
 SETTLE = '{"steps":[["settle"]]}'
 
 
+# a long script of many steps with the lines of its replies; sizes of memory in MB: the least are too small to read it,
+# more of them to run it
+MANY_STEPS = (
+    (b'{"steps":[' + b",".join([b'["settle"]'] * 50_000) + b"]}").ljust(4_000_000),
+    b"".join(b"%d nothing\n" % it for it in range(1, 50_001)),
+)
+MEMORY_LIMITS = [4, 6, 8, 12, 16, 24, 32, 48, 64, 128, 512]
+
+
 def run_case(shows, given, output):
     return Case(shows, ["run"], given, 0, output, b"")
 

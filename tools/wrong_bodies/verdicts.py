@@ -4,7 +4,7 @@ from enum import Enum
 from bodies import is_proof_of
 
 # a proof file that names what the edit took away
-STALE = re.compile(r"has no field|is not in scope|has no `|was not admitted|were not checked")
+STALE = re.compile(r"has no field|\(nearest: |is not in scope|has no `|was not admitted|were not checked")
 NOTE = re.compile(r"note: (?:\./)?(\S+?):(\d+):\d+: it is not proved")
 ANSWER = re.compile(r"(?:\./)?proofs/(\S+)/[^/]+\.antt:\d+:\d+: error")
 

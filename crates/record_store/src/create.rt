@@ -3,6 +3,7 @@ ghost use Rattle.std.specs.List.{AllByRecursion};
 ghost use Rattle.kv_core.specs.Bytes.{end_of_keys, key_lt};
 ghost use Rattle.metadata.specs.declared.index.IndexKind.TheVariants.{Value};
 ghost use Rattle.record_store.specs.Calls.{schema_writes};
+ghost use Rattle.record_store.specs.Holds.{HasPlainIndexes};
 ghost use Rattle.record_store.specs.Opening.{IsCreated, IsUncreated};
 ghost use Rattle.record_store.specs.Reading.{IsThere};
 
@@ -59,6 +60,7 @@ impl Store {
         ensures prefix { IfOk result (λ store. store.prefix ≡ prefix.now) }
         ensures schema { IfOk result (λ store. store.schema ≡ schema.now) }
         ensures states { IfOk result (λ store. store.states ≡ []) }
+        ensures plain { IfOk result (λ store. HasPlainIndexes store.schema store.states) }
         ensures refused { IfErr result (λ error. IsUncreated (S.map_at db.now) (S.may_refuse db.now) (record { prefix = prefix.now; schema = schema.now; states = [] }) error tx.old tx.new) }
     {
         let _lawful = schema.types();

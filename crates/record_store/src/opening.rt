@@ -160,7 +160,7 @@ fn states_found(
 }
 
 impl Store {
-    /// Opens the store under this prefix, which doesn't begin with the byte FF: reads its schema and the states of its indexes.
+    /// Opens the store under this prefix, which doesn't begin with the byte FF: reads its schema and then the states of its indexes, both before it answers anything but a refused read.
     ///
     /// Refused with `NoStore` where no schema stands there, with `Corrupt` and its key where the first pair that isn't of the written form is the schema's or a state's, and with the snapshot's refusal of a read. Of the written form are schemas whose indexes are all VALUE indexes, and pairs of those of them that are disabled: where there is an index of another kind, or a pair of another state, `Corrupt` is answered.
     pub fn open<S: Snapshot>(

@@ -35,7 +35,7 @@ script_moved a b e config steps h = record { config_read = rw e at h.config_read
 
 explained_moved : (a b : List ℕ) → value_in a ≡ value_in b → (fault : Fault) → explains_run a fault → explains_run b fault
 explained_moved a b e OutOfMemory h = tt
-explained_moved a b e CannotRead h = tt
+explained_moved a b e CannotRead h = h
 explained_moved a b e (BadConfig why) h = (h.0, h.1, script_moved a b e h.0 h.1 h.2, h.3)
 explained_moved a b e (BadScript number) h = rw e at h
 explained_moved a b e BadArgument h = h
@@ -45,14 +45,14 @@ explained_moved a b e (Refused kind at) h = h
 pub transcript_of_front : (known : Option (List ℕ)) (bytes : List ℕ) (transcript : Transcript) → IfSome known (λ text. bytes ≡ take 4000001 text) → IsTranscriptOf bytes transcript → IfSome known (λ text. IsTranscriptOf text transcript)
 transcript_of_front None bytes transcript h is = tt
 transcript_of_front (Some text) bytes transcript h is =
-    record { config = is.config; steps = is.steps; script = script_moved bytes text (ap value_in h ∙ value_of_front text) is.config is.steps is.script; replies = is.replies; allowed = is.allowed }
+    record { config = is.config; steps = is.steps; script = script_moved bytes text (ap value_in h ∙ value_of_front text) is.config is.steps is.script; right = is.right; allowed = is.allowed }
 
 pub explained_of_front : (known : Option (List ℕ)) (bytes : List ℕ) (fault : Fault) → IfSome known (λ text. bytes ≡ take 4000001 text) → explains_run bytes fault → IfSome known (λ text. explains_run text fault)
 explained_of_front None bytes fault h is = tt
 explained_of_front (Some text) bytes fault h is = explained_moved bytes text (ap value_in h ∙ value_of_front text) fault is
 
 -- where nothing is read
-pub unread : (known : Option (List ℕ)) (fault : Fault) → (fault ≡ CannotRead) ⊎ (fault ≡ OutOfMemory) → IfSome known (λ text. explains_run text fault)
-unread None fault h = tt
-unread (Some text) fault (inl e) = rw e tt
-unread (Some text) fault (inr e) = rw e tt
+pub unread : (known : Option (List ℕ)) (fault : Fault) → (fault ≡ CannotRead) ⊎ (fault ≡ OutOfMemory) → (fault ≡ CannotRead) ⊎ IfSome known (λ text. explains_run text fault)
+unread known fault (inl e) = inl e
+unread None fault (inr e) = inr tt
+unread (Some text) fault (inr e) = inr (rw e tt)

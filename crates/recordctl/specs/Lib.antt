@@ -1,2 +1,3 @@
 pub mod TupleLines
 pub mod Run
+pub mod Status

@@ -2,7 +2,7 @@
 use Rattle.std.specs.Prelude.{◌≡◌, ℕ, List, Some, IsNone}
 use Rattle.cluster_core.specs.Configuration.{config_refusal}
 use Rattle.cluster_core.specs.declared.answers.Config.{Config}
-use Rattle.schedule.specs.Contract.{HasRightReplies}
+use Rattle.schedule.specs.Contract.{IsRightRun}
 use Rattle.schedule.specs.declared.step.Step.{Step}
 use Rattle.schedule.specs.declared.transcript.Transcript.{Transcript}
 use Rattle.script.specs.Script.{IsScript, explains_script}
@@ -10,21 +10,21 @@ use Rattle.script.specs.declared.error.ScriptError.TheVariants as errors
 use Rattle.recordctl.specs.declared.fault.Fault.{Fault}
 use Rattle.recordctl.specs.declared.fault.Fault.TheVariants.{OutOfMemory, BadScript, BadConfig, CannotRead, BadArgument, Refused}
 
--- a fault says why a text isn't run: it can't be read, is no script, or has a configuration that is refused
+-- a fault says why a text that was read isn't run: it is no script, or has a configuration that is refused; memory may be wanting for any
 abbrev pub explains_run : List ℕ → Fault → Type 0
 explains_run text (BadConfig why) = (config : Config) × (steps : List Step) × IsScript text config steps × (config_refusal config ≡ Some why)
-explains_run text CannotRead = Unit {0}
+explains_run text CannotRead = ⊥
 explains_run text OutOfMemory = Unit {0}
 explains_run text (BadScript number) = explains_script text (errors.BadScript number)
 explains_run text BadArgument = ⊥
 explains_run text (Refused kind at) = ⊥
 
--- a transcript is that of a script's text: its replies are right ones to the script's steps over a database of its configuration
+-- a transcript is that of a script's text: a right run of the script's steps over a database of its configuration
 pub record IsTranscriptOf (text : List ℕ) (transcript : Transcript) : Type 0 where
   pub config : Config
   pub steps : List Step
   pub script : IsScript text config steps
-  pub replies : HasRightReplies config transcript.cluster.pipeline.requests steps transcript.replies
+  pub right : IsRightRun config steps transcript
   pub allowed : IsNone (config_refusal config)
 
 -- a text is a script that can be run: there is a database of its configuration

@@ -1,5 +1,8 @@
 //! The program `recordctl`: runs scripts over a record store, and packs and unpacks tuples.
 #![tactic(auto)]
+ghost use Rattle.std.specs.Prelude.{◌≡◌, ◌≤◌};
+ghost use Rattle.std.specs.Process.{exit_status};
+ghost use Rattle.recordctl.specs.Status.{refused_status};
 
 mod fault;
 mod run;
@@ -17,7 +20,9 @@ use tuples::{pack, unpack};
 const BAD_COMMAND_LINE: u8 = 2;
 
 // Prints why the command line isn't taken, or the help that it asks for; answers the exit status.
-fn refuse_command_line(rt: &HostRuntime, error: &CommandLineError) -> ExitCode {
+fn refuse_command_line(rt: &HostRuntime, error: &CommandLineError) -> ExitCode
+    ensures { exit_status result ≡ refused_status error.now }
+{
     match error {
         CommandLineError::NotTaken(text) => {
             let _ = rt.eprint(text.as_str());
@@ -28,7 +33,9 @@ fn refuse_command_line(rt: &HostRuntime, error: &CommandLineError) -> ExitCode {
 }
 
 // Runs the script in a file.
-fn run_file(rt: &HostRuntime, path: &str) -> ExitCode {
+fn run_file(rt: &HostRuntime, path: &str) -> ExitCode
+    ensures { exit_status result ≤ 1 }
+{
     match File::open(rt, path) {
         Ok(mut file) => run(rt.alloc(), &mut file, &mut rt.stdout(), &mut rt.stderr()),
         Err(_) => refuse(&mut rt.stderr(), Fault::CannotRead),
@@ -36,7 +43,9 @@ fn run_file(rt: &HostRuntime, path: &str) -> ExitCode {
 }
 
 // Runs the script on standard input.
-fn run_standard_input(rt: &HostRuntime) -> ExitCode {
+fn run_standard_input(rt: &HostRuntime) -> ExitCode
+    ensures { exit_status result ≤ 1 }
+{
     run(
         rt.alloc(),
         &mut rt.stdin(),
@@ -46,7 +55,9 @@ fn run_standard_input(rt: &HostRuntime) -> ExitCode {
 }
 
 // Does what the words of the command line ask for.
-fn perform(rt: &HostRuntime, words: &[String]) -> ExitCode {
+fn perform(rt: &HostRuntime, words: &[String]) -> ExitCode
+    ensures { exit_status result ≤ 2 }
+{
     let alloc = rt.alloc();
     match request_of(alloc, words) {
         Ok(Request::Run(Some(path))) => run_file(rt, path.as_str()),

@@ -15,11 +15,12 @@ use Rattle.schedule.specs.declared.step.Step.{Step}
 use Rattle.schedule.specs.declared.step.TheConstants.{CLIENTS}
 use Rattle.schedule.specs.declared.reply.Reply.{Reply}
 use Rattle.schedule.specs.declared.transcript.CommitEntry.{CommitEntry}
+use Rattle.schedule.specs.declared.transcript.Transcript.{Transcript}
 use Rattle.schedule.specs.declared.database.Database.{Database}
 use Rattle.schedule.specs.declared.database.OpenTransaction.{OpenTransaction}
 use Rattle.schedule.specs.Past.{submitted_in}
-use Rattle.schedule.specs.Contract.{AreRequestsOf, EachReply, HasRightReplies, HoldsCommitted, IsReplyTo, IsSerial, LeavesAll, past_of}
-use Rattle.schedule.specs.Standing.{cluster_after, commits_of, stepped}
+use Rattle.schedule.specs.Contract.{AreRequestsOf, HasRightReplies, HoldsCommitted, IsReplyTo, IsRightRun, IsSerial, past_of}
+use Rattle.schedule.specs.Standing.{cluster_after, stepped}
 use Rattle.schedule.specs.Running.{HasRun, IsFirst, IsStandingAt, IsStepped, Stands, Steps, kept}
 use Rattle.schedule.proofs.ClientSteps.{standing_as}
 use Rattle.schedule.proofs.Composed.{are_requests, holds_all, is_serial}
@@ -90,18 +91,12 @@ turn config steps i step before after reply old new within is pushed run stepped
 
 -- ---- the end
 
--- what a whole run is
-pub record Ends (config : Config) (steps : List Step) (answers : List Reply) (c : ClusterState) (entries : List CommitEntry) : Type 0 where
-  pub replies : HasRightReplies config c.pipeline.requests steps answers
-  pub cluster : c ≡ cluster_after config c.pipeline.requests (past_of [] steps answers)
-  pub commits : entries ≡ commits_of c.pipeline (submitted_in (past_of [] steps answers))
-  pub holds : HoldsCommitted c entries
-  pub serial : IsSerial c entries (submitted_in (past_of [] steps answers))
-  pub requests : AreRequestsOf entries (submitted_in (past_of [] steps answers)) c.pipeline.requests
-  pub refusals : EachReply (LeavesAll config c.pipeline.requests) [] steps answers
+-- what is handed out
+abbrev pub handed_out : List Reply → List CommitEntry → ClusterState → Transcript
+handed_out answers entries c = record { replies = answers; commits = entries; cluster = c }
 
 pub run_ends : (config : Config) (steps : List Step) (answers : List Reply) (database : Database) → HasRun config steps answers database → IsLegal (history database.cluster.pipeline) →
-    Ends config steps answers database.cluster database.commits.items
+    IsRightRun config steps (handed_out answers database.commits.items database.cluster)
 run_ends config steps answers database run legal =
     let c = database.cluster in
     let subs = submitted_in (past_of [] steps answers) in
@@ -111,6 +106,7 @@ run_ends config steps answers database run legal =
       replies = right;
       cluster = sym (ap (λ full. cluster_after config full (past_of [] steps answers)) (sym (append-nil c.pipeline.requests)) ∙ run.cluster []);
       commits = s.commits;
+      legal = legal;
       holds = subst (HoldsCommitted c) (sym s.commits) (holds_all c subs legal s.submitted);
       serial = subst (λ commits. IsSerial c commits subs) (sym s.commits) (is_serial c subs legal s.submitted);
       requests = subst (λ commits. AreRequestsOf commits subs c.pipeline.requests) (sym s.commits) (are_requests c subs legal s.submitted);
@@ -119,6 +115,6 @@ run_ends config steps answers database run legal =
 
 -- the same, with the replies and the commits as they are handed out
 pub ended : (config : Config) (steps : List Step) (given answers : List Reply) (handed : List CommitEntry) (database : Database) → answers ≡ given → handed ≡ database.commits.items → HasRun config steps given database →
-    IsLegal (history database.cluster.pipeline) → Ends config steps answers database.cluster handed
+    IsLegal (history database.cluster.pipeline) → IsRightRun config steps (handed_out answers handed database.cluster)
 ended config steps given answers handed database is_answers is_handed run legal =
-    subst₂ (λ rs es. Ends config steps rs database.cluster es) (sym is_answers) (sym is_handed) (run_ends config steps given database run legal)
+    subst₂ (λ rs es. IsRightRun config steps (handed_out rs es database.cluster)) (sym is_answers) (sym is_handed) (run_ends config steps given database run legal)

@@ -11,7 +11,8 @@ use Rattle.cluster_core.specs.declared.answers.Reported.TheVariants as reported
 use Rattle.cluster_core.specs.declared.answers.SubmitError.{SubmitError}
 use Rattle.cluster_core.specs.declared.answers.SubmitError.TheVariants as submitting
 use Rattle.cluster_core.specs.Cluster.{ClusterState, database_at, may_pull, tier_of}
-use Rattle.cluster_core.specs.Roles.{PipelineState, may_append, may_report, may_resolve, outcome, submit_refusal, submitted}
+use Rattle.cluster_core.specs.History.{IsLegal}
+use Rattle.cluster_core.specs.Roles.{PipelineState, history, may_append, may_report, may_resolve, outcome, submit_refusal, submitted}
 use Rattle.txn.specs.Refusing.{MayRefuse}
 use Rattle.metadata.specs.declared.refusal.Refusal.TheVariants.{NoSuchClient, NoSuchRole, Busy, NoTransaction, TooOld, VersionsExhausted}
 use Rattle.schedule.specs.declared.step.Command.{Command}
@@ -23,6 +24,7 @@ use Rattle.schedule.specs.declared.reply.Reply.TheVariants as answers
 use Rattle.schedule.specs.declared.reply.Report as telling
 use Rattle.schedule.specs.declared.reply.Report.TheVariants as tells
 use Rattle.schedule.specs.declared.transcript.CommitEntry.{CommitEntry}
+use Rattle.schedule.specs.declared.transcript.Transcript.{Transcript}
 use Rattle.record_store.specs.Store.{Serial, schema_in}
 use Rattle.schedule.specs.Serve.{IsReply, effect}
 use Rattle.schedule.specs.Past.{Past, Attempt, Open, Submission, accepted, is_accepted, is_changed, open_of, submitted_in}
@@ -195,3 +197,24 @@ abbrev pub AreRequestsOf : List CommitEntry → List Submission → List CommitR
 AreRequestsOf commits [] [] = Unit {0}
 AreRequestsOf commits (one ∷ submissions) (request ∷ requests) = IsRequestOf commits one request × AreRequestsOf commits submissions requests
 AreRequestsOf commits submissions requests = ⊥
+
+-- ---- the whole
+
+-- RUN: what a run of a schedule is
+pub record IsRightRun (config : Config) (steps : List Step) (run : Transcript) : Type 0 where
+  -- there is one reply for each step, and each is right as the cluster stands after the steps before it
+  pub replies : HasRightReplies config run.cluster.pipeline.requests steps run.replies
+  -- the cluster that is left is the one that the steps and their replies define
+  pub cluster : run.cluster ≡ cluster_after config run.cluster.pipeline.requests (past_of [] steps run.replies)
+  -- the transactions listed are those that were reported and committed, with their accepted commands
+  pub commits : run.commits ≡ commits_of run.cluster.pipeline (submitted_in (past_of [] steps run.replies))
+  -- the committed requests are a legal history: each would have read the same just before its own version
+  pub legal : IsLegal (history run.cluster.pipeline)
+  -- at each version up to the last reported one the database holds just the store that the committed transactions make
+  pub holds : HoldsCommitted run.cluster run.commits
+  -- version order is a serial order: each listed transaction has the same replies just before its version
+  pub serial : IsSerial run.cluster run.commits (submitted_in (past_of [] steps run.replies))
+  -- each request's reads are what its commands read, in order, and its writes just those of the accepted ones
+  pub requests : AreRequestsOf run.commits (submitted_in (past_of [] steps run.replies)) run.cluster.pipeline.requests
+  -- a refused step leaves all as it was, which follows from the first two
+  pub refusals : EachReply (LeavesAll config run.cluster.pipeline.requests) [] steps run.replies

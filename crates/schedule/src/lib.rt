@@ -1,14 +1,10 @@
 //! Schedules: the steps of clients and of the database's roles, one at a time, and what each replies.
 #![tactic(auto)]
 
-ghost use Rattle.std.specs.Prelude.{◌≡◌, ◌⊎◌, [], Some, IfOk, IfErr, OnOk, IsNone};
+ghost use Rattle.std.specs.Prelude.{◌≡◌, ◌⊎◌, Some, IfOk, IfErr, OnOk, IsNone};
 ghost use Rattle.cluster_core.specs.Configuration.{config_refusal};
-ghost use Rattle.cluster_core.specs.History.{IsLegal};
-ghost use Rattle.cluster_core.specs.Roles.{history};
 ghost use Rattle.cluster_core.specs.declared.answers.ConfigError.{ConfigError as ConfigRefusal};
-ghost use Rattle.schedule.specs.Contract.{AreRequestsOf, EachReply, HasRightReplies, HoldsCommitted, IsSerial, LeavesAll, past_of};
-ghost use Rattle.schedule.specs.Past.{submitted_in};
-ghost use Rattle.schedule.specs.Standing.{cluster_after, commits_of};
+ghost use Rattle.schedule.specs.Contract.{IsRightRun};
 ghost use Rattle.schedule.specs.Values.{StepAsksValues};
 ghost use Rattle.std.specs.List.{AllByRecursion};
 
@@ -49,16 +45,10 @@ pub fn run_schedule(
     steps: &[Step],
 ) -> Result<Transcript, ScheduleError>
     requires { AllByRecursion StepAsksValues steps.now }
-    ensures replies { IfOk result (λ run. HasRightReplies config.now run.cluster.pipeline.requests steps.now run.replies) }
-    ensures cluster { IfOk result (λ run. run.cluster ≡ cluster_after config.now run.cluster.pipeline.requests (past_of [] steps.now run.replies)) }
-    ensures commits { IfOk result (λ run. run.commits ≡ commits_of run.cluster.pipeline (submitted_in (past_of [] steps.now run.replies))) }
-    ensures legal { IfOk result (λ run. IsLegal (history run.cluster.pipeline)) }
-    ensures holds { IfOk result (λ run. HoldsCommitted run.cluster run.commits) }
-    ensures serial { IfOk result (λ run. IsSerial run.cluster run.commits (submitted_in (past_of [] steps.now run.replies))) }
-    ensures requests { IfOk result (λ run. AreRequestsOf run.commits (submitted_in (past_of [] steps.now run.replies)) run.cluster.pipeline.requests) }
-    ensures refusals { IfOk result (λ run. EachReply (LeavesAll config.now run.cluster.pipeline.requests) [] steps.now run.replies) }
+    ensures right { IfOk result (IsRightRun config.now steps.now) }
     ensures allowed { OnOk result (IsNone (config_refusal config.now)) }
-    ensures refused { IfErr result (λ error. (error ≡ ScheduleError.Memory) ⊎ ((why : ConfigRefusal) × (error ≡ ScheduleError.Config why) × (config_refusal config.now ≡ Some why))) }
+    ensures refused { IfErr result (λ error. (error ≡ ScheduleError.Memory)
+        ⊎ ((why : ConfigRefusal) × (error ≡ ScheduleError.Config why) × (config_refusal config.now ≡ Some why))) }
 {
     let mut database = start(alloc, config)?;
     let replies = match database.steps(alloc, steps) {

@@ -81,9 +81,11 @@ fn answer<S: Snapshot>(
 
 /// Performs a command in a transaction, whose reads are answered by the snapshot.
 ///
-/// A refusal is a reply: it keeps the ranges that were read, and writes nothing. The only error is
-/// want of memory, which writes nothing either. The indexes that the command asks for are all
-/// VALUE indexes.
+/// It adds to the ranges read just those that the command reads, in order. A refusal is a reply: it
+/// keeps the ranges that were read, and writes nothing. `Corrupt` has the key of the first pair
+/// read that isn't of the written form. The only error is want of memory, which writes nothing
+/// either and keeps what was read before it, so that the transaction can go on. The indexes that
+/// the command asks for are all VALUE indexes.
 pub fn perform<S: Snapshot>(
     alloc: Global,
     command: &Command,

@@ -5,6 +5,8 @@ use Rattle.record_store.proofs.Creating.{created_now, uncreated, uncreated_limit
 use Rattle.record_store.proofs.Openings.{exit_with, first_failed, then_failed}
 use Rattle.record_store.specs.Steps.{no_memory}
 use Rattle.record_store.proofs.Creating.{uncreated_memory}
+use Rattle.record_store.specs.Holds.{HasPlainIndexes}
+use Rattle.record_store.proofs.Plain.{created_plain}
 use Rattle.record_store.proofs.store.Store.create.Goals as goal
 
 pub returns-in_err-written-clause-refused : goal.returns-in_err-written-clause-refused
@@ -48,3 +50,7 @@ pub returns-in_err-mutations-clause-refused : goal.returns-in_err-mutations-clau
 returns-in_err-mutations-clause-refused g c =
     exit_with c.from_residual-in_err-mutations.result no_memory _ c.from_residual-in_err-mutations.ensures
     (uncreated_memory c.args.prefix.now c.args.schema.now c.in_ok-written.written c.in_ok-written.ensures.read c.in_ok-_states.ensures.read)
+
+pub returns-clause-plain : goal.returns-clause-plain
+returns-clause-plain g c =
+    subst₂ (λ s ss. HasPlainIndexes s ss) (sym c.in_ok-own_schema.ensures) (sym c.new.ensures.items) (created_plain c.args.schema.now c.requires.kinds)
