@@ -1,7 +1,9 @@
 #!/usr/bin/env python3
-"""Prints a script for `recordctl run` that saves many records and loads them: clients in turn, each transaction settled before the next begins.
+"""Prints a script for `recordctl run` that saves many records and loads them: clients in turn, each transaction settled
+before the next begins.
 
-By default 10,000 saves in transactions of 100 records by 4 clients, and no loads and no indexes. A script has 4,000,000 bytes at most.
+By default 10,000 saves in transactions of 100 records by 4 clients, and no loads and no indexes. A script has 4,000,000
+bytes at most.
 """
 
 import argparse

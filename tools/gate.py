@@ -1,7 +1,7 @@
 #!/usr/bin/env python3
 """Proves, builds and tests everything: the test command of the repository. It is run at the top of the repository.
 
-1. The tools' own tests.
+1. The tools' own tests, and the house's rules over the files as they stand (tools/house_rules).
 2. `rt ci`: every proof from nothing, the tests, the programs as two compilers build them, and the edits of must-fail/.
 3. Beside it, with what processors are left: the wrong bodies, which the prover must refuse (tools/wrong_bodies).
 4. The cases of cases/, the examples and the program's edge, against both built programs (tools/program_tests).
@@ -53,6 +53,8 @@ def main():
         tests.append(run("rt ci", ["rt", "ci"], counts))
         tests.append(run("the program", [python, "tools/program_tests", *filter(os.path.isfile, PROGRAMS)], counts))
         tests.append(run("the tools", [python, "tools/wrong_bodies/tests.py"], tool_counts))
+        tests.append(run("the tools", [python, "tools/house_rules/tests.py"], tool_counts))
+        tests.append(run("the house's rules", [python, "tools/house_rules"], counts))
         print("== wrong bodies", flush=True)
         wrong.wait()
         log.seek(0)

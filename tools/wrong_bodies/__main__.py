@@ -9,8 +9,8 @@ bodies. Crates are proved and tried side by side, lowest first, in copies below 
 An edit is a file crates/NAME/wrong-bodies/*.edit or crates/NAME/must-fail/*.edit with a line 'file: PATH', and then
 pairs of lines 'old: TEXT' and 'new: TEXT'; each old text stands once in that file.
 
-A line is printed for each crate, for each round and for each edit that isn't refused, or only because a proof file names
-what it took away, which counts as not refused. The last line is 'N refused, M not'; the status is 0 where M is 0.
+A line is printed for each crate, for each round and for each edit that isn't refused, or only because a proof file
+names what it took away, which counts as not refused. The last line is 'N refused, M not'; the status is 0 where M is 0.
 """
 import argparse
 import os

@@ -1,5 +1,6 @@
-//! Measures the crates: `bench tuples` packs and unpacks tuples, `bench ranges` fills lists of ranges,
-//! `bench schemas` writes and reads schemas and makes records, and `bench transactions` writes and reads in transactions. It prints what it measured.
+//! Measures the crates: `bench tuples` packs and unpacks tuples, `bench ranges` fills lists of
+//! ranges, `bench schemas` writes and reads schemas and makes records, and `bench transactions`
+//! writes and reads in transactions. It prints what it measured.
 #![tactic(auto)]
 
 mod keys;

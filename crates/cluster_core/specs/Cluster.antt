@@ -1,5 +1,6 @@
 -- The whole cluster: the pipeline, and how far each server has pulled what the logs have.
-use Rattle.std.specs.Prelude.{◌≡◌, ℕ, zero, suc, ◌-◌, ◌%◌, Bool, true, false, nat_lt, min, List, [], ◌∷◌, length, slice_index}
+use Rattle.std.specs.Prelude.{◌≡◌, ℕ, zero, suc, ◌-◌, ◌%◌, Bool, true, false}
+use Rattle.std.specs.Prelude.{nat_lt, min, List, [], ◌∷◌, length, slice_index}
 use Rattle.kv_core.specs.Map.{Map}
 use Rattle.cluster_core.specs.declared.answers.Work.{Work}
 use Rattle.cluster_core.specs.declared.answers.Work.TheVariants.{Done, NothingToDo}
@@ -34,7 +35,8 @@ servers_at p (owner ∷ others) (clock ∷ clocks) = server_at p owner clock ∷
 
 -- the servers of a cluster: each has its part of the database at its clock and as far back as the window
 abbrev pub tier_of : ClusterState → TierState
-tier_of c = record { splits = c.splits; window = c.pipeline.window; servers = servers_at c.pipeline (owners c.splits) c.pulled }
+tier_of c =
+    record { splits = c.splits; window = c.pipeline.window; servers = servers_at c.pipeline (owners c.splits) c.pulled }
 
 -- the log that serves a server
 abbrev pub log_of : ClusterState → ℕ → ℕ

@@ -1,5 +1,6 @@
 -- Which configurations there are, and the state at the start.
-use Rattle.std.specs.Prelude.{◌≡◌, ℕ, ◌+◌, ◌-◌, ◌≤◌, ◌&&◌, Bool, true, not, nat_le, if◌then◌else◌, Option, Some, None, List, [], ◌∷◌, length, map, replicate}
+use Rattle.std.specs.Prelude.{◌≡◌, ℕ, ◌+◌, ◌-◌, ◌≤◌, ◌&&◌, Bool, true, not, nat_le, if◌then◌else◌}
+use Rattle.std.specs.Prelude.{Option, Some, None, List, [], ◌∷◌, length, map, replicate}
 use Rattle.std.specs.List.{list_all}
 use Rattle.std.specs.FinMap.{empty}
 use Rattle.kv_core.specs.Map.{Map}
@@ -24,14 +25,17 @@ abbrev pub is_rising_above : List ℕ → List (List ℕ) → Bool
 is_rising_above key [] = true
 is_rising_above key (split ∷ splits) = key_lt key split && is_rising_above split splits
 
--- whether keys may be splits: they rise from above the empty key, come before the end of the keys, and are no longer than a key may be
+-- whether keys may be splits: they rise from above the empty key, come before the end of the keys, and are no longer
+-- than a key may be
 abbrev pub are_splits : List (List ℕ) → Bool
-are_splits splits = is_rising_above [] splits && list_all (λ split. key_lt split end_of_keys && nat_le (length split) 10_000) splits
+are_splits splits =
+    is_rising_above [] splits && list_all (λ split. key_lt split end_of_keys && nat_le (length split) 10_000) splits
 
 -- whether each number of the configuration is within its bounds
 abbrev pub has_good_counts : Config → Bool
 has_good_counts config =
-    is_count (length config.resolver_splits + 1) && is_count (length config.storage_splits + 1) && is_count config.logs && is_count config.places
+    is_count (length config.resolver_splits + 1) && is_count (length config.storage_splits + 1) && is_count config.logs
+    && is_count config.places
     && nat_le 1 config.window && nat_le config.window 1_000_000
 
 -- why a configuration is refused, or None where it isn't
@@ -65,19 +69,28 @@ first_tier config =
 -- whatever log the servers have absorbed, within the window their maps together are those that the log makes
 abbrev pub TierFollowsLog : Type 0
 TierFollowsLog =
-    (config : Config) (log : List (List Mutation)) (maps : ℕ → Map) → maps config.start ≡ empty → Makes maps config.start log →
-    (version : ℕ) → config.start ≤ version → version ≤ config.start + length log → (config.start + length log) - version ≤ config.window →
+    (config : Config) (log : List (List Mutation)) (maps : ℕ → Map) → maps config.start ≡ empty →
+    Makes maps config.start log →
+    (version : ℕ) → config.start ≤ version → version ≤ config.start + length log →
+    (config.start + length log) - version ≤ config.window →
     whole_map (after_log log (first_tier config)) version ≡ maps version
 
--- once the servers have absorbed what the logs have of some requests, within the window their maps together are the database's
+-- once the servers have absorbed what the logs have of some requests, within the window their maps together are the
+-- database's
 abbrev pub TierHasDatabase : Type 0
 TierHasDatabase =
     (config : Config) (requests : List CommitRequest) (version : ℕ) →
-    config.start ≤ version → version ≤ config.start + length requests → (config.start + length requests) - version ≤ config.window →
+    config.start ≤ version → version ≤ config.start + length requests →
+    (config.start + length requests) - version ≤ config.window →
     let entries = numbered config.start requests in
-    whole_map (after_log (log config.resolver_splits entries) (first_tier config)) version ≡ map_at (committed config.resolver_splits entries) version
+    whole_map (after_log (log config.resolver_splits entries) (first_tier config)) version
+    ≡ map_at (committed config.resolver_splits entries) version
 
 -- the cluster at the start: every server stands at `start` too
 abbrev pub first_cluster : Config → ClusterState
 first_cluster config =
-    record { pipeline = first_pipeline config; splits = config.storage_splits; pulled = map (λ _. config.start) (owners config.storage_splits) }
+    record {
+      pipeline = first_pipeline config;
+      splits = config.storage_splits;
+      pulled = map (λ _. config.start) (owners config.storage_splits);
+    }

@@ -1,14 +1,17 @@
 -- What the resolvers and the logs keep of the requests, by their places in version order.
-use Rattle.std.specs.Prelude.{◌≡◌, ℕ, ◌+◌, ◌<◌, ◌≤◌, ◌^◌, Bool, false, is_none, Option, Some, None, unwrap_or, List, [], ◌∷◌, length, map, slice_get, All}
+use Rattle.std.specs.Prelude.{◌≡◌, ℕ, ◌+◌, ◌<◌, ◌≤◌, ◌^◌, Bool, false, is_none, Option, Some}
+use Rattle.std.specs.Prelude.{None, unwrap_or, List, [], ◌∷◌, length, map, slice_get, All}
 use Rattle.std.specs.Option.{option_or, option_map_or}
 use Rattle.kv_core.specs.declared.change.CommitRequest.{CommitRequest}
 use Rattle.cluster_core.specs.History.{Entry}
-use Rattle.cluster_core.specs.Decision.{Owned, Cause, owners, numbered, agreed_above, newer_agreed, earlier, first_disturbed, is_committed}
+use Rattle.cluster_core.specs.Decision.{Owned, Cause, owners, numbered, agreed_above}
+use Rattle.cluster_core.specs.Decision.{newer_agreed, earlier, first_disturbed, is_committed}
 use Rattle.cluster_core.specs.Laws.{ReadsBelow}
 use Rattle.cluster_core.specs.Kept.{AreAt}
 use Rattle.cluster_core.specs.Roles.{PipelineState}
 
--- the owner that a resolver answers for, the places of the requests to which it agreed, and its answer for each request so far
+-- the owner that a resolver answers for, the places of the requests to which it agreed, and its answer for each request
+-- so far
 pub record ResolverState : Type 0 where
   pub owner : Owned
   pub agreed : List ℕ
@@ -37,22 +40,26 @@ has_agreed place resolver = option_map_or (λ cause. is_none cause) (slice_get r
 -- the first cause that the resolvers, in their order, keep against the request at a place
 abbrev pub first_kept : ℕ → List ResolverState → Option Cause
 first_kept place [] = None
-first_kept place (resolver ∷ others) = option_or (unwrap_or (slice_get resolver.causes place) None) (first_kept place others)
+first_kept place (resolver ∷ others) =
+    option_or (unwrap_or (slice_get resolver.causes place) None) (first_kept place others)
 
 -- these are the places of the entries before a version to which the owner agrees
 abbrev pub AgreedBefore : Owned → List Entry → List ℕ → ℕ → Type 0
 AgreedBefore owner entries places version = AreAt entries places (agreed_above owner 0 (earlier entries version))
 
 -- a resolver knows to which of the requests it agreed, and keeps its answer for each of them that isn't reported yet
-pub record IsResolver (start : ℕ) (requests : List CommitRequest) (reported : ℕ) (resolver : ResolverState) : Type 0 where
+pub record IsResolver (start : ℕ) (requests : List CommitRequest) (reported : ℕ) (resolver : ResolverState) :
+    Type 0 where
   pub within : length resolver.causes ≤ length requests
   pub kept : AgreedBefore resolver.owner (numbered start requests) resolver.agreed (start + length resolver.causes + 1)
   pub answers :
-      (place : ℕ) (entry : Entry) → reported ≤ place → place < length resolver.causes → slice_get (numbered start requests) place ≡ Some entry →
+      (place : ℕ) (entry : Entry) → reported ≤ place → place < length resolver.causes →
+      slice_get (numbered start requests) place ≡ Some entry →
       slice_get resolver.causes place ≡ Some (answer_of resolver.owner (numbered start requests) entry)
 
 -- a log has for each request so far whether it is committed, and for each that is reported
-pub record IsLog (splits : List (List ℕ)) (start : ℕ) (requests : List CommitRequest) (reported : ℕ) (passes : List Bool) : Type 0 where
+pub record IsLog (splits : List (List ℕ)) (start : ℕ) (requests : List CommitRequest) (reported : ℕ)
+    (passes : List Bool) : Type 0 where
   pub behind : reported ≤ length passes
   pub within : length passes ≤ length requests
   pub answers :
@@ -60,7 +67,8 @@ pub record IsLog (splits : List (List ℕ)) (start : ℕ) (requests : List Commi
       slice_get passes place ≡ Some (is_committed splits (numbered start requests) entry)
 
 -- the roles stand in their order: a log has only what every resolver answered for, and only what a log has is reported
-pub record IsPipeline (splits : List (List ℕ)) (start : ℕ) (requests : List CommitRequest) (resolvers : List ResolverState) (logs : List (List Bool)) (reported : ℕ) : Type 0 where
+pub record IsPipeline (splits : List (List ℕ)) (start : ℕ) (requests : List CommitRequest)
+    (resolvers : List ResolverState) (logs : List (List Bool)) (reported : ℕ) : Type 0 where
   pub versions : start + length requests < 2 ^ 64
   pub reads : ReadsBelow (numbered start requests)
   pub owned : owners_of resolvers ≡ owners splits
@@ -71,7 +79,8 @@ pub record IsPipeline (splits : List (List ℕ)) (start : ℕ) (requests : List 
   pub told : reported ≤ length requests
 
 -- the pipeline as its callers see it, with a version in the place of each number of requests
-abbrev pub state_of : List (List ℕ) → ℕ → ℕ → List CommitRequest → List ResolverState → List (List Bool) → ℕ → PipelineState
+abbrev pub state_of :
+    List (List ℕ) → ℕ → ℕ → List CommitRequest → List ResolverState → List (List Bool) → ℕ → PipelineState
 state_of splits window start requests resolvers logs reported =
     record {
       splits = splits;

@@ -1,9 +1,12 @@
-ghost use Rattle.std.specs.Prelude.{◌≡◌, ◌⊎◌, ◌+◌, ◌<◌, ◌≤◌, Some, IsNone, IfOk, IfErr, OnOk, OnErr, if◌then◌else◌, length};
+ghost use Rattle.std.specs.Prelude.{◌≡◌, ◌⊎◌, ◌+◌, ◌<◌, ◌≤◌, Some, IsNone, IfOk};
+ghost use Rattle.std.specs.Prelude.{IfErr, OnOk, OnErr, if◌then◌else◌, length};
 ghost use Rattle.kv_core.specs.Read.{read_of};
 ghost use Rattle.cluster_core.specs.Cluster.{Did, database_at, may_pull, pull as with_pulled, tier_of, with_pipeline};
 ghost use Rattle.cluster_core.specs.Configuration.{config_refusal, first_cluster};
 ghost use Rattle.cluster_core.specs.History.{IsLegal};
-ghost use Rattle.cluster_core.specs.Roles.{AreInOrder, append as with_appended, history, may_append, may_report, may_resolve, outcome, report as with_reported, resolve as with_resolved, submit as with_submitted, submit_refusal, submitted};
+ghost use Rattle.cluster_core.specs.Roles.{AreInOrder, append as with_appended, history, may_append, may_report};
+ghost use Rattle.cluster_core.specs.Roles.{may_resolve, outcome, report as with_reported, resolve as with_resolved};
+ghost use Rattle.cluster_core.specs.Roles.{submit as with_submitted, submit_refusal, submitted};
 ghost use Rattle.cluster_core.specs.Tier.{refusal};
 
 use crate::answers::{Config, ConfigError, ReadError, Reported, SubmitError, Work};
@@ -41,7 +44,8 @@ impl Cluster {
     pub fn new(alloc: Global, config: &Config) -> Result<Cluster, ConfigError>
         ensures made { IfOk result (λ cluster. cluster ≡ first_cluster config.now) }
         ensures allowed { OnOk result (IsNone (config_refusal config.now)) }
-        ensures refused { IfErr result (λ error. (error ≡ ConfigError.Memory) ⊎ (config_refusal config.now ≡ Some error)) }
+        ensures refused { IfErr result (λ error.
+            (error ≡ ConfigError.Memory) ⊎ (config_refusal config.now ≡ Some error)) }
     {
         let pipeline = Pipeline::new(alloc, config)?;
         let tier = Tier::new(alloc, config)?;
@@ -90,10 +94,13 @@ impl Cluster {
     /// Gives the request the next version, as `Pipeline::submit` does.
     pub fn submit(&mut self, request: CommitRequest) -> Result<Ticket, SubmitError>
         requires { request.read_version ≤ self.old.pipeline.reported }
-        ensures given { IfOk result (λ ticket. (self.new ≡ with_pipeline (with_submitted request self.old.pipeline) self.old) × (ticket ≡ submitted self.new.pipeline)) }
+        ensures given { IfOk result (λ ticket.
+            (self.new ≡ with_pipeline (with_submitted request self.old.pipeline) self.old)
+            × (ticket ≡ submitted self.new.pipeline)) }
         ensures allowed { OnOk result (IsNone (submit_refusal self.old.pipeline request.read_version)) }
         ensures unchanged { OnErr result (self.new ≡ self.old) }
-        ensures refused { IfErr result (λ error. (error ≡ SubmitError.Memory) ⊎ (submit_refusal self.old.pipeline request.read_version ≡ Some error)) }
+        ensures refused { IfErr result (λ error.
+            (error ≡ SubmitError.Memory) ⊎ (submit_refusal self.old.pipeline request.read_version ≡ Some error)) }
     {
         let ticket = self.pipeline.submit(request)?;
         Ok(ticket)
@@ -103,7 +110,9 @@ impl Cluster {
     /// cluster as it was.
     pub fn resolve(&mut self, r: usize) -> Result<Work, AllocError>
         requires { r < length self.old.pipeline.resolved }
-        ensures step { IfOk result (λ work. Did work (may_resolve self.old.pipeline r) self.old self.new (with_pipeline (with_resolved r self.old.pipeline) self.old)) }
+        ensures step { IfOk result (λ work.
+            Did work (may_resolve self.old.pipeline r) self.old self.new
+            (with_pipeline (with_resolved r self.old.pipeline) self.old)) }
         ensures unchanged { OnErr result (self.new ≡ self.old) }
     {
         let work = self.pipeline.resolve(r)?;
@@ -114,7 +123,9 @@ impl Cluster {
     /// was.
     pub fn append_log(&mut self, l: usize) -> Result<Work, AllocError>
         requires { l < length self.old.pipeline.logged }
-        ensures step { IfOk result (λ work. Did work (may_append self.old.pipeline l) self.old self.new (with_pipeline (with_appended l self.old.pipeline) self.old)) }
+        ensures step { IfOk result (λ work.
+            Did work (may_append self.old.pipeline l) self.old self.new
+            (with_pipeline (with_appended l self.old.pipeline) self.old)) }
         ensures unchanged { OnErr result (self.new ≡ self.old) }
     {
         let work = self.pipeline.append_log(l)?;
@@ -123,15 +134,18 @@ impl Cluster {
 
     /// Reports the next version, as `Pipeline::report` does, which takes no memory.
     pub fn report(&mut self) -> Reported
-        ensures told { result ≡ (if may_report self.old.pipeline then outcome self.old.pipeline (self.old.pipeline.reported + 1) else Reported.NothingToDo) }
-        ensures step { self.new ≡ (if may_report self.old.pipeline then with_pipeline (with_reported self.old.pipeline) self.old else self.old) }
+        ensures told { result ≡ (if may_report self.old.pipeline
+            then outcome self.old.pipeline (self.old.pipeline.reported + 1) else Reported.NothingToDo) }
+        ensures step { self.new ≡ (if may_report self.old.pipeline
+            then with_pipeline (with_reported self.old.pipeline) self.old else self.old) }
     {
         self.pipeline.report()
     }
 
     /// Reports the next version to nobody: the same step as `report`, which takes no memory.
     pub fn report_lost(&mut self) -> Work
-        ensures { Did result (may_report self.old.pipeline) self.old self.new (with_pipeline (with_reported self.old.pipeline) self.old) }
+        ensures { Did result (may_report self.old.pipeline) self.old self.new
+            (with_pipeline (with_reported self.old.pipeline) self.old) }
     {
         self.pipeline.report_lost()
     }
@@ -162,9 +176,11 @@ impl Cluster {
         limit: usize,
         reverse: bool,
     ) -> Result<Vec<Pair>, ReadError>
-        ensures pairs { IfOk result (λ pairs. pairs.items ≡ read_of (database_at self.now version) range.now limit reverse) }
+        ensures pairs { IfOk result (λ pairs.
+            pairs.items ≡ read_of (database_at self.now version) range.now limit reverse) }
         ensures allowed { OnOk result (IsNone (refusal (tier_of self.now) range.now version)) }
-        ensures refused { IfErr result (λ error. (error ≡ ReadError.Memory) ⊎ (refusal (tier_of self.now) range.now version ≡ Some error)) }
+        ensures refused { IfErr result (λ error.
+            (error ≡ ReadError.Memory) ⊎ (refusal (tier_of self.now) range.now version ≡ Some error)) }
     {
         let pairs = self.tier.read(range, version, limit, reverse)?;
         Ok(pairs)

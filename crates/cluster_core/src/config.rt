@@ -1,7 +1,8 @@
 ghost use Rattle.std.specs.Prelude.{◌≡◌, ◌+◌, ◌≤◌, ◌&&◌, [], length, nat_le};
 ghost use Rattle.std.specs.List.{list_all};
 ghost use Rattle.kv_core.specs.Bytes.{key_lt, end_of_keys};
-ghost use Rattle.cluster_core.specs.Configuration.{are_splits, config_refusal, has_good_counts, is_count, is_rising_above};
+ghost use Rattle.cluster_core.specs.Configuration.{are_splits, config_refusal};
+ghost use Rattle.cluster_core.specs.Configuration.{has_good_counts, is_count, is_rising_above};
 
 use crate::answers::{Config, ConfigError, Splits};
 use kv_core::{Bytes, MAX_KEY_BYTES};

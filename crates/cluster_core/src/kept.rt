@@ -1,4 +1,5 @@
-ghost use Rattle.std.specs.Prelude.{◌≡◌, ◌+◌, ◌<◌, ◌^◌, List, ℕ, length, reverse, slice_get, Some, IfOk, OnOk, OnErr, All};
+ghost use Rattle.std.specs.Prelude.{◌≡◌, ◌+◌, ◌<◌, ◌^◌, List, ℕ, length, reverse};
+ghost use Rattle.std.specs.Prelude.{slice_get, Some, IfOk, OnOk, OnErr, All};
 ghost use Rattle.std.specs.List.{find};
 ghost use Rattle.cluster_core.specs.History.{Entry};
 ghost use Rattle.cluster_core.specs.Decision.{numbered};
@@ -131,7 +132,8 @@ pub(crate) fn answer(
         AgreedBefore part.now entries agreed.old.items entry.version → cause ≡ answer_of part.now entries entry) }
     ensures grown { let entries = numbered start requests.now in
         OnOk result ((entry : Entry) → slice_get entries place ≡ Some entry →
-        AgreedBefore part.now entries agreed.old.items entry.version → AgreedBefore part.now entries agreed.new.items (entry.version + 1)) }
+        AgreedBefore part.now entries agreed.old.items entry.version →
+        AgreedBefore part.now entries agreed.new.items (entry.version + 1)) }
     ensures unchanged { OnErr result (agreed.new.items ≡ agreed.old.items) }
 {
     let cause = decide(part, start, requests, agreed.as_slice(), place)?;

@@ -1,11 +1,16 @@
-ghost use Rattle.std.specs.Prelude.{◌≡◌, ◌⊎◌, ℕ, List, [], slice_index, ◌+◌, ◌-◌, ◌<◌, ◌≤◌, Some, None, IsNone, IfOk, IfErr, OnOk, OnErr, if◌then◌else◌, length, map, replicate, slice_get, true, nat_lt, All, ◌^◌, IsSome, IfSome, is_some};
+ghost use Rattle.std.specs.Prelude.{◌≡◌, ◌⊎◌, ℕ, List, [], slice_index, ◌+◌, ◌-◌, ◌<◌, ◌≤◌, Some, None};
+ghost use Rattle.std.specs.Prelude.{IsNone, IfOk, IfErr, OnOk, OnErr, if◌then◌else◌, length, map};
+ghost use Rattle.std.specs.Prelude.{replicate, slice_get, true, nat_lt, All, ◌^◌, IsSome, IfSome, is_some};
 ghost use Rattle.std.specs.List.{list_all};
 ghost use Rattle.cluster_core.specs.History.{IsLegal};
 ghost use Rattle.cluster_core.specs.Decision.{log, owners};
 ghost use Rattle.cluster_core.specs.Configuration.{config_refusal, first_pipeline};
 ghost use Rattle.cluster_core.specs.Cluster.{Did};
-ghost use Rattle.cluster_core.specs.Roles.{AreInOrder, PipelineState, entries, history, submitted, submit_refusal, submit as with_submitted, may_resolve, resolve as with_resolved, may_append, append as with_appended, may_report, report as with_reported, outcome};
-ghost use Rattle.cluster_core.specs.Progress.{IsResolver, counts_of, first_kept, fresh, has_agreed, owners_of, state_of};
+ghost use Rattle.cluster_core.specs.Roles.{AreInOrder, PipelineState, entries, history, submitted, submit_refusal};
+ghost use Rattle.cluster_core.specs.Roles.{submit as with_submitted, may_resolve, resolve as with_resolved, may_append};
+ghost use Rattle.cluster_core.specs.Roles.{append as with_appended, may_report, report as with_reported, outcome};
+ghost use Rattle.cluster_core.specs.Progress.{IsResolver, counts_of, first_kept};
+ghost use Rattle.cluster_core.specs.Progress.{fresh, has_agreed, owners_of, state_of};
 
 use crate::answers::{Config, ConfigError, Reported, Splits, SubmitError, Work};
 use crate::config::refusal_of;
@@ -124,7 +129,8 @@ fn take_cause(resolvers: &mut [Resolver], place: usize) -> Option<Cause>
     ensures owners { owners_of resolvers.new ≡ owners_of resolvers.old }
     ensures counts { counts_of resolvers.new ≡ counts_of resolvers.old }
     ensures kept { (start : ℕ) (requests : List CommitRequest) →
-        All (IsResolver start requests place) resolvers.old → All (IsResolver start requests (place + 1)) resolvers.new }
+        All (IsResolver start requests place) resolvers.old →
+        All (IsResolver start requests (place + 1)) resolvers.new }
 {
     for resolver in resolvers.iter_mut() {
         if let Some(cause) = resolver.take_cause(place) {
@@ -143,7 +149,8 @@ impl Pipeline {
     pub fn new(alloc: Global, config: &Config) -> Result<Pipeline, ConfigError>
         ensures made { IfOk result (λ pipeline. pipeline ≡ first_pipeline config.now) }
         ensures allowed { OnOk result (IsNone (config_refusal config.now)) }
-        ensures refused { IfErr result (λ error. (error ≡ ConfigError.Memory) ⊎ (config_refusal config.now ≡ Some error)) }
+        ensures refused { IfErr result (λ error.
+            (error ≡ ConfigError.Memory) ⊎ (config_refusal config.now ≡ Some error)) }
     {
         if let Some(error) = refusal_of(config) {
             return Err(error);
@@ -169,7 +176,8 @@ impl Pipeline {
         logs: u64,
     ) -> Result<Pipeline, AllocError>
         requires { 1 ≤ logs }
-        ensures { IfOk result (λ pipeline. pipeline ≡ state_of splits window start [] (map fresh (owners splits)) (replicate logs []) 0) }
+        ensures { IfOk result (λ pipeline.
+            pipeline ≡ state_of splits window start [] (map fresh (owners splits)) (replicate logs []) 0) }
     {
         let resolvers = resolvers_between(alloc, splits.as_slice())?;
         let logs = empty_logs(alloc, logs)?;
@@ -231,10 +239,12 @@ impl Pipeline {
     /// out. A refusal leaves the pipeline as it was.
     pub fn submit(&mut self, request: CommitRequest) -> Result<Ticket, SubmitError>
         requires { request.read_version ≤ self.old.reported }
-        ensures given { IfOk result (λ ticket. (self.new ≡ with_submitted request self.old) × (ticket ≡ submitted self.new)) }
+        ensures given { IfOk result (λ ticket.
+            (self.new ≡ with_submitted request self.old) × (ticket ≡ submitted self.new)) }
         ensures allowed { OnOk result (IsNone (submit_refusal self.old request.read_version)) }
         ensures unchanged { OnErr result (self.new ≡ self.old) }
-        ensures refused { IfErr result (λ error. (error ≡ SubmitError.Memory) ⊎ (submit_refusal self.old request.read_version ≡ Some error)) }
+        ensures refused { IfErr result (λ error.
+            (error ≡ SubmitError.Memory) ⊎ (submit_refusal self.old request.read_version ≡ Some error)) }
     {
         let last = self.submitted();
         if last == u64::MAX {
@@ -251,7 +261,8 @@ impl Pipeline {
     /// pipeline stays as it was.
     pub fn resolve(&mut self, r: usize) -> Result<Work, AllocError>
         requires { r < length self.old.resolved }
-        ensures step { IfOk result (λ work. Did work (may_resolve self.old r) self.old self.new (with_resolved r self.old)) }
+        ensures step { IfOk result (λ work.
+            Did work (may_resolve self.old r) self.old self.new (with_resolved r self.old)) }
         ensures unchanged { OnErr result (self.new ≡ self.old) }
     {
         if self.resolvers[r].answered() == self.requests.len() {
@@ -265,7 +276,8 @@ impl Pipeline {
     /// out the pipeline stays as it was.
     pub fn append_log(&mut self, l: usize) -> Result<Work, AllocError>
         requires { l < length self.old.logged }
-        ensures step { IfOk result (λ work. Did work (may_append self.old l) self.old self.new (with_appended l self.old)) }
+        ensures step { IfOk result (λ work.
+            Did work (may_append self.old l) self.old self.new (with_appended l self.old)) }
         ensures unchanged { OnErr result (self.new ≡ self.old) }
     {
         let place = self.logs[l].len();
@@ -306,7 +318,8 @@ impl Pipeline {
     /// Reports the next version, if every log has it: that its request is committed, or the newest
     /// version that wrote what the request read. This takes no memory.
     pub fn report(&mut self) -> Reported
-        ensures told { result ≡ (if may_report self.old then outcome self.old (self.old.reported + 1) else Reported.NothingToDo) }
+        ensures told { result ≡ (if may_report self.old then outcome self.old (self.old.reported + 1)
+            else Reported.NothingToDo) }
         ensures step { self.new ≡ (if may_report self.old then with_reported self.old else self.old) }
     {
         if self.may_report() {
@@ -345,7 +358,8 @@ impl Pipeline {
     pub(crate) fn logged_after(&self, l: usize, version: u64) -> Option<&[Mutation]>
         requires log { l < length self.now.logged }
         requires from { self.now.start ≤ version }
-        ensures some { IfSome result (λ mutations. slice_get (log self.now.splits (entries self.now)) (version - self.now.start) ≡ Some mutations.now) }
+        ensures some { IfSome result (λ mutations.
+            slice_get (log self.now.splits (entries self.now)) (version - self.now.start) ≡ Some mutations.now) }
         ensures given { IsSome result → version < submitted self.now }
         ensures next { IsSome result → version + 1 < 2 ^ 64 }
         ensures may { is_some result ≡ nat_lt version (slice_index self.now.logged l) }

@@ -1,4 +1,5 @@
-ghost use Rattle.std.specs.Prelude.{◌≡◌, ℕ, ◌+◌, ◌<◌, ◌^◌, [], length, slice_index_or, slice_set, None, OnOk, OnErr, IfNone, IfSome, All};
+ghost use Rattle.std.specs.Prelude.{◌≡◌, ℕ, ◌+◌, ◌<◌, ◌^◌, [], length, slice_index_or};
+ghost use Rattle.std.specs.Prelude.{slice_set, None, OnOk, OnErr, IfNone, IfSome, All};
 ghost use Rattle.cluster_core.specs.Progress.{IsResolver, fresh, has_agreed};
 
 use crate::kept::{Cause, answer};

@@ -1,4 +1,5 @@
-ghost use Rattle.std.specs.Prelude.{◌≡◌, ◌+◌, ◌-◌, ◌<◌, ◌^◌, ◌∷◌, [], IfOk, OnOk, OnErr, None, All, IsTrue, ◌↔◌, if◌then◌else◌, map, slice_get, take};
+ghost use Rattle.std.specs.Prelude.{◌≡◌, ◌+◌, ◌-◌, ◌<◌, ◌^◌, ◌∷◌, [], IfOk, OnOk, OnErr, None};
+ghost use Rattle.std.specs.Prelude.{All, IsTrue, ◌↔◌, if◌then◌else◌, map, slice_get, take};
 ghost use Rattle.std.specs.List.{AllByRecursion, flat_map};
 ghost use Rattle.std.specs.Option.{option_copied};
 ghost use Rattle.std.specs.VecDeque.{deque_len, deque_capacity};
@@ -7,7 +8,8 @@ ghost use Rattle.kv_core.specs.Map.{after_all};
 ghost use Rattle.kv_core.specs.Range.{has_keys};
 ghost use Rattle.kv_core.specs.Read.{read_of};
 ghost use Rattle.cluster_core.specs.Decision.{cut};
-ghost use Rattle.cluster_core.specs.Server.{HasOwnKeys, first_server, kept_of, owner_of, pairs_at, server_state, turned};
+ghost use Rattle.cluster_core.specs.Server.{HasOwnKeys, first_server, kept_of};
+ghost use Rattle.cluster_core.specs.Server.{owner_of, pairs_at, server_state, turned};
 ghost use Rattle.cluster_core.specs.Tier.{absorb, absorb_each, first_refusal, map_of, part, refusal_of};
 
 use crate::answers::ReadError;
@@ -85,7 +87,9 @@ impl Server {
     /// The map after one more version with these mutations, unless memory runs out.
     fn next_map(&self, mutations: &[Mutation]) -> Result<KvMap, AllocError>
         requires { HasOwnKeys self.now }
-        ensures { IfOk result (λ map. map ≡ part (owner_of self.now) (after_all mutations.now (map_of (server_state self.now) self.now.version))) }
+        ensures { IfOk result (λ map.
+            map ≡ part (owner_of self.now)
+            (after_all mutations.now (map_of (server_state self.now) self.now.version))) }
     {
         let mut map = match self.map_at(self.version) {
             Some(newest) => newest.copy()?,
@@ -108,7 +112,8 @@ impl Server {
         requires next { self.old.version + 1 < 2 ^ 64 }
         requires room { deque_len self.old.maps < deque_capacity self.old.maps }
         ensures owner { owner_of self.new ≡ owner_of self.old }
-        ensures state { server_state self.new ≡ record { version = self.old.version + 1; maps = take (window + 1) (map ∷ self.old.maps.items) } }
+        ensures state { server_state self.new
+            ≡ record { version = self.old.version + 1; maps = take (window + 1) (map ∷ self.old.maps.items) } }
     {
         self.maps.truncate(window as usize);
         self.maps.push_front_reserved(map);
@@ -120,7 +125,8 @@ impl Server {
         requires next { self.old.version + 1 < 2 ^ 64 }
         requires own { HasOwnKeys self.old }
         ensures owner { owner_of self.new ≡ owner_of self.old }
-        ensures ok { OnOk result (server_state self.new ≡ absorb window (owner_of self.old) mutations.now (server_state self.old)) }
+        ensures ok { OnOk result (server_state self.new
+            ≡ absorb window (owner_of self.old) mutations.now (server_state self.old)) }
         ensures err { OnErr result (server_state self.new ≡ server_state self.old) }
         ensures own { HasOwnKeys self.new }
     {
@@ -133,7 +139,8 @@ impl Server {
     /// Why the server refuses a read of the range at a version, or None where it doesn't, or owns
     /// no key of the range.
     fn refusal(&self, window: u64, range: &KeyRange, version: u64) -> Option<ReadError>
-        ensures { result ≡ (if has_keys (cut (owner_of self.now) range.now) then refusal_of window (server_state self.now) version else None) }
+        ensures { result ≡ (if has_keys (cut (owner_of self.now) range.now)
+            then refusal_of window (server_state self.now) version else None) }
     {
         if !self.part.meets(range) {
             None
@@ -154,7 +161,8 @@ impl Server {
         limit: usize,
         reverse: bool,
     ) -> Result<Vec<Pair>, AllocError>
-        ensures { IfOk result (λ pairs. pairs.items ≡ read_of (map_of (server_state self.now) version) range.now limit reverse) }
+        ensures { IfOk result (λ pairs.
+            pairs.items ≡ read_of (map_of (server_state self.now) version) range.now limit reverse) }
     {
         match self.map_at(version) {
             Some(map) => map.range(range, limit, reverse),
@@ -180,7 +188,8 @@ pub(crate) fn pull_each(
     requires next { All (λ server. server.version + 1 < 2 ^ 64) servers.old }
     requires own { AllByRecursion HasOwnKeys servers.old }
     ensures owners { map owner_of servers.new ≡ map owner_of servers.old }
-    ensures ok { OnOk result (map server_state servers.new ≡ absorb_each window mutations.now (map owner_of servers.old) (map server_state servers.old)) }
+    ensures ok { OnOk result (map server_state servers.new
+        ≡ absorb_each window mutations.now (map owner_of servers.old) (map server_state servers.old)) }
     ensures err { OnErr result (map server_state servers.new ≡ map server_state servers.old) }
     ensures own { AllByRecursion HasOwnKeys servers.new }
 {
@@ -202,7 +211,8 @@ pub(crate) fn refusal_among(
     range: &KeyRange,
     version: u64,
 ) -> Option<ReadError>
-    ensures { result ≡ first_refusal window range.now version (map owner_of servers.now) (map server_state servers.now) }
+    ensures { result ≡ first_refusal window range.now version (map owner_of servers.now)
+        (map server_state servers.now) }
 {
     for server in servers {
         if let Some(error) = server.refusal(window, range, version) {
@@ -222,7 +232,8 @@ pub(crate) fn read_each(
     limit: usize,
     reverse: bool,
 ) -> Result<Vec<Pair>, AllocError>
-    ensures { IfOk result (λ pairs. pairs.items ≡ take limit (flat_map (pairs_at range.now version reverse) (turned reverse servers.now))) }
+    ensures { IfOk result (λ pairs.
+        pairs.items ≡ take limit (flat_map (pairs_at range.now version reverse) (turned reverse servers.now))) }
 {
     let mut pairs = Vec::new(alloc);
     let count = servers.len();

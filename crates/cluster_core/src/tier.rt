@@ -1,4 +1,5 @@
-ghost use Rattle.std.specs.Prelude.{◌≡◌, ◌⊎◌, ◌+◌, ◌<◌, ◌^◌, ◌↔◌, Some, IsTrue, IsNone, IfOk, IfErr, OnOk, OnErr, All, length, map, slice_get, slice_set};
+ghost use Rattle.std.specs.Prelude.{◌≡◌, ◌⊎◌, ◌+◌, ◌<◌, ◌^◌, ◌↔◌, Some, IsTrue, IsNone, IfOk};
+ghost use Rattle.std.specs.Prelude.{IfErr, OnOk, OnErr, All, length, map, slice_get, slice_set};
 ghost use Rattle.std.specs.List.{AllByRecursion};
 ghost use Rattle.kv_core.specs.Read.{read_of};
 ghost use Rattle.cluster_core.specs.Configuration.{config_refusal, first_tier};
@@ -43,7 +44,8 @@ impl Model for Tier {
 /// A server with the empty map at a version for each part between the splits.
 fn servers_between(alloc: Global, splits: &[Bytes], version: u64) -> Result<Vec<Server>, AllocError>
     ensures owners { IfOk result (λ servers. map owner_of servers.items ≡ owners splits.now) }
-    ensures states { IfOk result (λ servers. AllByRecursion (λ server. server_state server ≡ first_server version) servers.items) }
+    ensures states { IfOk result (λ servers.
+        AllByRecursion (λ server. server_state server ≡ first_server version) servers.items) }
 {
     let mut servers = Vec::new(alloc);
     let mut from = Bytes::new(Vec::new(alloc));
@@ -65,7 +67,8 @@ impl Tier {
     pub fn new(alloc: Global, config: &Config) -> Result<Tier, ConfigError>
         ensures made { IfOk result (λ tier. tier ≡ first_tier config.now) }
         ensures allowed { OnOk result (IsNone (config_refusal config.now)) }
-        ensures refused { IfErr result (λ error. (error ≡ ConfigError.Memory) ⊎ (config_refusal config.now ≡ Some error)) }
+        ensures refused { IfErr result (λ error.
+            (error ≡ ConfigError.Memory) ⊎ (config_refusal config.now ≡ Some error)) }
     {
         if let Some(error) = refusal_of(config) {
             return Err(error);
@@ -116,9 +119,12 @@ impl Tier {
     /// leaves it as it was.
     pub(crate) fn pull(&mut self, s: usize, mutations: &[Mutation]) -> Result<(), AllocError>
         requires server { s < length self.old.servers }
-        requires next { (server : ServerState) → slice_get self.old.servers s ≡ Some server → server.version + 1 < 2 ^ 64 }
-        ensures ok { OnOk result ((owner : Owned) (server : ServerState) → slice_get (owners self.old.splits) s ≡ Some owner → slice_get self.old.servers s ≡ Some server →
-            self.new ≡ record self.old { servers = slice_set self.old.servers s (absorb self.old.window owner mutations.now server) }) }
+        requires next { (server : ServerState) → slice_get self.old.servers s ≡ Some server →
+            server.version + 1 < 2 ^ 64 }
+        ensures ok { OnOk result ((owner : Owned) (server : ServerState) →
+            slice_get (owners self.old.splits) s ≡ Some owner → slice_get self.old.servers s ≡ Some server →
+            self.new ≡ record self.old
+            { servers = slice_set self.old.servers s (absorb self.old.window owner mutations.now server) }) }
         ensures err { OnErr result (self.new ≡ self.old) }
     {
         let window = self.window;
@@ -141,9 +147,11 @@ impl Tier {
         limit: usize,
         reverse: bool,
     ) -> Result<Vec<Pair>, ReadError>
-        ensures pairs { IfOk result (λ pairs. pairs.items ≡ read_of (whole_map self.now version) range.now limit reverse) }
+        ensures pairs { IfOk result (λ pairs.
+            pairs.items ≡ read_of (whole_map self.now version) range.now limit reverse) }
         ensures allowed { OnOk result (IsNone (refusal self.now range.now version)) }
-        ensures refused { IfErr result (λ error. (error ≡ ReadError.Memory) ⊎ (refusal self.now range.now version ≡ Some error)) }
+        ensures refused { IfErr result (λ error.
+            (error ≡ ReadError.Memory) ⊎ (refusal self.now range.now version ≡ Some error)) }
     {
         let servers = self.servers.as_slice();
         if let Some(error) = refusal_among(servers, self.window, range, version) {

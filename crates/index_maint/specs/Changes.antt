@@ -18,7 +18,8 @@ entries_map prefix index records = from_entries (entry_pairs prefix index record
 -- under the index's prefix a map has just the entries of the records
 abbrev pub HasEntries : List ℕ → IndexDefinition → List Record → Map → Type 0
 HasEntries prefix index records m =
-    (bytes : List ℕ) → get m (entries_prefix prefix index.number ++ bytes) ≡ get (entries_map prefix index records) (entries_prefix prefix index.number ++ bytes)
+    (bytes : List ℕ) → get m (entries_prefix prefix index.number ++ bytes)
+    ≡ get (entries_map prefix index records) (entries_prefix prefix index.number ++ bytes)
 
 -- to take an entry out, and to put one in
 abbrev pub clear_entry : List ℕ → ℕ → Entry → Mutation
@@ -27,13 +28,16 @@ clear_entry prefix number entry = ClearRange (point (entry_key prefix number ent
 abbrev pub set_entry : List ℕ → ℕ → Entry → Mutation
 set_entry prefix number entry = Set (entry_key prefix number entry) []
 
--- what is written where one entry gives way to another: the old one is taken out before the new one is put in, and nothing is written where they are the same
+-- what is written where one entry gives way to another: the old one is taken out before the new one is put in, and
+-- nothing is written where they are the same
 abbrev pub entry_changes : List ℕ → ℕ → Option Entry → Option Entry → List Mutation
 entry_changes prefix number None None = []
 entry_changes prefix number None (Some new) = set_entry prefix number new ∷ []
 entry_changes prefix number (Some old) None = clear_entry prefix number old ∷ []
-entry_changes prefix number (Some old) (Some new) = if same_entry old new then [] else (clear_entry prefix number old ∷ set_entry prefix number new ∷ [])
+entry_changes prefix number (Some old) (Some new) =
+    if same_entry old new then [] else (clear_entry prefix number old ∷ set_entry prefix number new ∷ [])
 
 -- what is written where one record of the index's type gives way to another
 abbrev pub value_changes : List ℕ → IndexDefinition → Option Record → Option Record → List Mutation
-value_changes prefix index old new = entry_changes prefix index.number (option_map (entry_of index) old) (option_map (entry_of index) new)
+value_changes prefix index old new =
+    entry_changes prefix index.number (option_map (entry_of index) old) (option_map (entry_of index) new)

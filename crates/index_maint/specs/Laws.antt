@@ -52,7 +52,8 @@ Writing = List ℕ → IndexDefinition → Option Record → Option Record → L
 -- what was had of the records is had, after the writes, of the records with the new one
 abbrev pub Follows : Keeping → Writing → Type 0
 Follows Has writes =
-    (prefix : List ℕ) (index : IndexDefinition) (key : List Item) (old new : Option Record) (records : List Record) (m : Map) →
+    (prefix : List ℕ) (index : IndexDefinition) (key : List Item) (old new : Option Record) (records : List Record)
+    (m : Map) →
     IsReplacement key old new records → IsIndexed index old → IsIndexed index new →
     Has prefix index records m → Has prefix index (replaced key new records) (after_all (writes prefix index old new) m)
 
@@ -68,19 +69,22 @@ OnlyChanges Has writes =
 -- a record of another type changes nothing of what is to be had
 abbrev pub IgnoresOthers : Keeping → Type 0
 IgnoresOthers Has =
-    (prefix : List ℕ) (index : IndexDefinition) (key : List Item) (old new : Option Record) (records : List Record) (m : Map) →
+    (prefix : List ℕ) (index : IndexDefinition) (key : List Item) (old new : Option Record) (records : List Record)
+    (m : Map) →
     IsReplacement key old new records → IsOther index old → IsOther index new →
     Has prefix index records m → Has prefix index (replaced key new records) m
 
 -- each key that doesn't begin with the index's prefix keeps what it had
 abbrev pub WritesWithin : Writing → Type 0
 WritesWithin writes =
-    (prefix : List ℕ) (index : IndexDefinition) (old new : Option Record) (m : Map) (key : List ℕ) → (BeginsWith (entries_prefix prefix index.number) key → ⊥) →
+    (prefix : List ℕ) (index : IndexDefinition) (old new : Option Record) (m : Map) (key : List ℕ) →
+    (BeginsWith (entries_prefix prefix index.number) key → ⊥) →
     get (after_all (writes prefix index old new) m) key ≡ get m key
 
 -- nothing but the keys that begin with the index's prefix matters
 abbrev pub HasWithin : Keeping → Type 0
 HasWithin Has =
     (prefix : List ℕ) (index : IndexDefinition) (records : List Record) (m n : Map) →
-    ((bytes : List ℕ) → get m (entries_prefix prefix index.number ++ bytes) ≡ get n (entries_prefix prefix index.number ++ bytes)) →
+    ((bytes : List ℕ) → get m (entries_prefix prefix index.number ++ bytes)
+    ≡ get n (entries_prefix prefix index.number ++ bytes)) →
     Has prefix index records m → Has prefix index records n

@@ -22,8 +22,8 @@ fn pair_tuple(alloc: Global, first: u64, second: u64) -> Result<Tuple, AllocErro
     }
 }
 
-/// What the key of each entry of the index with this number begins with, under a store's prefix: the prefix and the pack of
-/// (2, number).
+/// What the key of each entry of the index with this number begins with, under a store's prefix:
+/// the prefix and the pack of (2, number).
 pub fn entries_prefix(alloc: Global, prefix: &[u8], number: u64) -> Result<Vec<u8>, AllocError>
     ensures { IfOk result (λ bytes. bytes.items ≡ entries_prefix prefix.now number) }
 {

@@ -44,7 +44,8 @@ pub trait Maintainer {
         mutations: &mut Vec<Mutation>,
     ) -> Result<(), AllocError>
         requires { IsTrue (key_lt prefix.now end_of_keys) }
-        ensures { OnOk result (mutations.new.items ≡ mutations.old.items ++ writes prefix.now index.now (option_copied old.entry) (option_copied new.entry)) };
+        ensures { OnOk result (mutations.new.items
+            ≡ mutations.old.items ++ writes prefix.now index.now (option_copied old.entry) (option_copied new.entry)) };
 
     /// What is to be written, as a list of its own.
     final fn changes(
@@ -55,7 +56,8 @@ pub trait Maintainer {
         new: Option<&Record>,
     ) -> Result<Vec<Mutation>, AllocError>
         requires { IsTrue (key_lt prefix.now end_of_keys) }
-        ensures { IfOk result (λ mutations. mutations.items ≡ writes prefix.now index.now (option_copied old.entry) (option_copied new.entry)) }
+        ensures { IfOk result (λ mutations.
+            mutations.items ≡ writes prefix.now index.now (option_copied old.entry) (option_copied new.entry)) }
     {
         let mut mutations = Vec::new(alloc);
         Self::push_changes(alloc, prefix, index, old, new, &mut mutations)?;
@@ -91,7 +93,8 @@ fn push_replacement(
     mutations: &mut Vec<Mutation>,
 ) -> Result<(), AllocError>
     requires { IsTrue (key_lt prefix.now end_of_keys) }
-    ensures { OnOk result (mutations.new.items ≡ mutations.old.items ++ entry_changes prefix.now number (Some old.now) (Some new.now)) }
+    ensures { OnOk result (mutations.new.items
+        ≡ mutations.old.items ++ entry_changes prefix.now number (Some old.now) (Some new.now)) }
 {
     if old.is_same(alloc, new)? {
         return Ok(());

@@ -8,7 +8,9 @@ use Rattle.json_forms.specs.Json.{all_in, has_only, hex_in, number_in}
 
 -- the keys that a configuration may have
 abbrev pub config_keys : List (List ℕ)
-config_keys = codes "resolver_splits" ∷ codes "storage_splits" ∷ codes "logs" ∷ codes "window" ∷ codes "start" ∷ codes "places" ∷ []
+config_keys =
+    codes "resolver_splits" ∷ codes "storage_splits" ∷ codes "logs" ∷ codes "window" ∷ codes "start"
+    ∷ codes "places" ∷ []
 
 -- the number at a key of an object, or this one where nothing stands there
 abbrev pub number_at : List ℕ → ℕ → Data → Option ℕ
@@ -26,8 +28,16 @@ splits_at key d = option_map_or splits_in (get key d) (Some [])
 abbrev pub config_with : List (List ℕ) → List (List ℕ) → Data → Option Config
 config_with resolver_splits storage_splits d =
     option_and_then (λ logs. option_and_then (λ window. option_and_then (λ start. option_and_then (λ places.
-    Some (record { resolver_splits = resolver_splits; storage_splits = storage_splits; logs = logs; window = window; start = start; places = places }))
-    (number_at (codes "places") 4 d)) (number_at (codes "start") 0 d)) (number_at (codes "window") 1000 d)) (number_at (codes "logs") 1 d)
+    Some (record {
+      resolver_splits = resolver_splits;
+      storage_splits = storage_splits;
+      logs = logs;
+      window = window;
+      start = start;
+      places = places;
+    }))
+    (number_at (codes "places") 4 d)) (number_at (codes "start") 0 d)) (number_at (codes "window") 1000 d))
+    (number_at (codes "logs") 1 d)
 
 -- the configuration that an object stands for, where it has no key that a configuration hasn't
 abbrev pub config_in : Data → Option Config

@@ -19,7 +19,9 @@ kind_named name = named ((codes "int", Int) ∷ (codes "text", Text) ∷ (codes 
 
 -- the field that a name and the name of a kind stand for
 abbrev pub field_of : List Data → Option Field
-field_of (name ∷ kind ∷ []) = option_and_then (λ k. option_map (λ text. record { name = text; kind = k }) (as_str name)) (option_and_then kind_named (as_str kind))
+field_of (name ∷ kind ∷ []) =
+    option_and_then (λ k. option_map (λ text. record { name = text; kind = k }) (as_str name))
+    (option_and_then kind_named (as_str kind))
 field_of parts = None
 
 -- the field that a list stands for
@@ -42,7 +44,8 @@ type_keys = codes "name" ∷ codes "fields" ∷ codes "key" ∷ []
 abbrev pub type_in : Data → Option TypeRequest
 type_in d =
     if has_only type_keys d then
-    option_and_then (λ name. option_and_then (λ fields. option_map (λ key. record { name = name; fields = fields; key = key })
+    option_and_then (λ name.
+    option_and_then (λ fields. option_map (λ key. record { name = name; fields = fields; key = key })
     (member_in names_in (codes "key") d)) (member_in fields_in (codes "fields") d)) (member_in as_str (codes "name") d)
     else None
 
@@ -62,9 +65,10 @@ index_keys = codes "name" ∷ codes "kind" ∷ codes "type" ∷ codes "columns" 
 abbrev pub index_in : Data → Option IndexRequest
 index_in d =
     if has_only index_keys d then
-    option_and_then (λ name. option_and_then (λ kind. option_and_then (λ type_name. option_map
-    (λ columns. record { name = name; kind = kind; type_name = type_name; columns = columns; summed = None })
-    (member_in names_in (codes "columns") d)) (member_in as_str (codes "type") d)) (member_in index_kind_in (codes "kind") d)) (member_in as_str (codes "name") d)
+    option_and_then (λ name. option_and_then (λ kind. option_and_then (λ type_name.
+    option_map (λ columns. record { name = name; kind = kind; type_name = type_name; columns = columns; summed = None })
+    (member_in names_in (codes "columns") d)) (member_in as_str (codes "type") d))
+    (member_in index_kind_in (codes "kind") d)) (member_in as_str (codes "name") d)
     else None
 
 -- the types and the indexes in a list
@@ -86,5 +90,6 @@ schema_keys = codes "types" ∷ codes "indexes" ∷ []
 abbrev pub schema_in : Data → Option SchemaRequest
 schema_in d =
     if has_only schema_keys d then
-    option_and_then (λ types. option_map (λ indexes. record { types = types; indexes = indexes }) (indexes_of d)) (member_in types_in (codes "types") d)
+    option_and_then (λ types. option_map (λ indexes. record { types = types; indexes = indexes }) (indexes_of d))
+    (member_in types_in (codes "types") d)
     else None

@@ -1,5 +1,6 @@
 -- The tuples that JSON stands for.
-use Rattle.std.specs.Prelude.{ℕ, zero, suc, ◌^◌, ◌==◌, ◌&&◌, nat_lt, if◌then◌else◌, List, length, codes, slice_index, drop, ℤ, pos, neg_ℤ, Option, Some, None, option_map, option_and_then}
+use Rattle.std.specs.Prelude.{ℕ, zero, suc, ◌^◌, ◌==◌, ◌&&◌, nat_lt, if◌then◌else◌, List, length, codes}
+use Rattle.std.specs.Prelude.{slice_index, drop, ℤ, pos, neg_ℤ, Option, Some, None, option_map, option_and_then}
 use Rattle.std.specs.Option.{option_map_or}
 use Rattle.std.specs.Result.{result_ok}
 use Rattle.std.specs.Str.{all_ascii_digits}
@@ -15,11 +16,15 @@ use Rattle.json_forms.specs.Json.{only_member, items_in, each_in, all_in, hex_in
 
 -- the number that decimal digits write, up to 2^64 - 1
 abbrev pub number_in : List ℕ → Option ℕ
-number_in digits = if nat_lt 0 (length digits) && all_ascii_digits digits && nat_lt (digits_value 10 digits) (2 ^ 64) then Some (digits_value 10 digits) else None
+number_in digits =
+    if nat_lt 0 (length digits) && all_ascii_digits digits && nat_lt (digits_value 10 digits) (2 ^ 64)
+    then Some (digits_value 10 digits) else None
 
 -- the whole number of a tuple that a text writes: digits, behind a minus or not
 abbrev pub int_in : List ℕ → Option ℤ
-int_in word = if slice_index word 0 == 45 then option_map (λ n. neg_ℤ (pos n)) (number_in (drop 1 word)) else option_map pos (number_in word)
+int_in word =
+    if slice_index word 0 == 45 then option_map (λ n. neg_ℤ (pos n)) (number_in (drop 1 word))
+    else option_map pos (number_in word)
 
 -- the twelve bytes that a text of hexadecimal digits writes
 abbrev pub stamp_in : List ℕ → Option (List ℕ)

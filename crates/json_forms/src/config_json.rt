@@ -31,7 +31,8 @@ const PLACES: u64 = 4;
 // The number at a key, or the given one where nothing stands there.
 fn number_at(object: &Value, key: &str, given: u64) -> Result<u64, PartError>
     ensures ok { IfOk result (λ number. number_at key.now given (view object.now) ≡ Some number) }
-    ensures err { IfErr result (λ error. (error ≡ PartError.BadForm) × (number_at key.now given (view object.now) ≡ None)) }
+    ensures err { IfErr result (λ error.
+        (error ≡ PartError.BadForm) × (number_at key.now given (view object.now) ≡ None)) }
 {
     match object.get(key) {
         Some(value) => number_of(value),

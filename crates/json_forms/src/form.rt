@@ -1,7 +1,8 @@
 ghost use Rattle.std.specs.Prelude.{◌≡◌, ◌↔◌, Some, None, IsTrue, IfOk, IfErr, map, string_bytes};
 ghost use Rattle.serde_json.specs.Find.{as_str, get};
 ghost use Rattle.serde_json.specs.View.{view, members_view};
-ghost use Rattle.json_forms.specs.Json.{are_among, has_only, is_among, hex_in, key_count, labelled, list_in, number_in, only_member};
+ghost use Rattle.json_forms.specs.Json.{are_among, has_only, is_among, hex_in, key_count};
+ghost use Rattle.json_forms.specs.Json.{labelled, list_in, number_in, only_member};
 
 use crate::error::PartError;
 use hex::FromHexError;

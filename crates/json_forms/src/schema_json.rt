@@ -2,7 +2,9 @@ ghost use Rattle.std.specs.Prelude.{◌≡◌, Some, None, IfOk, IfErr};
 ghost use Rattle.std.specs.List.{AllByRecursion};
 ghost use Rattle.metadata.specs.declared.index.IndexKind.TheVariants.{Value as OfValues};
 ghost use Rattle.serde_json.specs.View.{view};
-ghost use Rattle.json_forms.specs.SchemaJson.{field_in, fields_in, index_in, index_kind_in, index_kind_named, indexes_in, indexes_of, kind_named, names_in, schema_in, type_in, types_in};
+ghost use Rattle.json_forms.specs.SchemaJson.{field_in, fields_in, index_in, index_kind_in};
+ghost use Rattle.json_forms.specs.SchemaJson.{index_kind_named, indexes_in, indexes_of};
+ghost use Rattle.json_forms.specs.SchemaJson.{kind_named, names_in, schema_in, type_in, types_in};
 
 use crate::error::PartError;
 use crate::form::{has_only, list_of, member, str_of, text_of};

@@ -1,11 +1,13 @@
-ghost use Rattle.std.specs.Prelude.{◌≡◌, ◌+◌, ◌<◌, ◌≤◌, ◌^◌, ℕ, Some, None, IfOk, IfErr, length, slice_index, map, option_map, string_bytes};
+ghost use Rattle.std.specs.Prelude.{◌≡◌, ◌+◌, ◌<◌, ◌≤◌, ◌^◌, ℕ, Some, None, IfOk, IfErr};
+ghost use Rattle.std.specs.Prelude.{length, slice_index, map, option_map, string_bytes};
 ghost use Rattle.serde_json.specs.Data.{depth, items_depth};
 ghost use Rattle.serde_json.specs.View.{view, items_view};
 ghost use Rattle.tuple_codec.specs.Item.{int, bytes, uuid, stamp, nested, items_of, item_depth, nesting, magnitude};
 ghost use Rattle.tuple_codec.specs.Elements.{item_in as item_of, items_in};
 ghost use Rattle.uuid.specs.Text.{parsed};
 ghost use Rattle.json_forms.specs.Json.{each_in};
-ghost use Rattle.json_forms.specs.TupleJson.{int_in, stamp_in, of_text, object_in, item_in, nested_in, tuple_in, tuple_of_text};
+ghost use Rattle.json_forms.specs.TupleJson.{int_in, stamp_in, of_text, object_in};
+ghost use Rattle.json_forms.specs.TupleJson.{item_in, nested_in, tuple_in, tuple_of_text};
 
 use crate::error::PartError;
 use crate::form::{hex_of, labelled, list_of, only_member, str_of, text_of};
@@ -33,7 +35,8 @@ fn int_of(word: &str) -> Option<TupleInt>
 
 // The same of a value that is a text.
 fn int_element(value: &Value) -> Result<Element, PartError>
-    ensures ok { IfOk result (λ element. of_text (λ t. option_map int (int_in t)) (view value.now) ≡ Some (item_of element)) }
+    ensures ok { IfOk result (λ element.
+        of_text (λ t. option_map int (int_in t)) (view value.now) ≡ Some (item_of element)) }
     ensures flat { IfOk result (λ element. item_depth (item_of element) ≡ 0) }
     ensures err { IfErr result (λ error. of_text (λ t. option_map int (int_in t)) (view value.now) ≡ None) }
 {
@@ -45,7 +48,8 @@ fn int_element(value: &Value) -> Result<Element, PartError>
 
 // The UUID that a text writes, in any of the forms of a UUID.
 fn uuid_element(value: &Value) -> Result<Element, PartError>
-    ensures ok { IfOk result (λ element. of_text (λ t. option_map uuid (parsed t)) (view value.now) ≡ Some (item_of element)) }
+    ensures ok { IfOk result (λ element.
+        of_text (λ t. option_map uuid (parsed t)) (view value.now) ≡ Some (item_of element)) }
     ensures flat { IfOk result (λ element. item_depth (item_of element) ≡ 0) }
     ensures err { IfErr result (λ error. of_text (λ t. option_map uuid (parsed t)) (view value.now) ≡ None) }
 {
@@ -57,7 +61,8 @@ fn uuid_element(value: &Value) -> Result<Element, PartError>
 
 // The versionstamp that a text writes in 24 hexadecimal digits.
 fn stamp_element(value: &Value) -> Result<Element, PartError>
-    ensures ok { IfOk result (λ element. of_text (λ t. option_map stamp (stamp_in t)) (view value.now) ≡ Some (item_of element)) }
+    ensures ok { IfOk result (λ element.
+        of_text (λ t. option_map stamp (stamp_in t)) (view value.now) ≡ Some (item_of element)) }
     ensures flat { IfOk result (λ element. item_depth (item_of element) ≡ 0) }
     ensures err { IfErr result (λ error. of_text (λ t. option_map stamp (stamp_in t)) (view value.now) ≡ None) }
 {
@@ -131,9 +136,11 @@ fn nested_tuple(alloc: Global, items: &[Value], levels: u8) -> Result<Tuple, Par
 #[cycle(read)]
 fn elements_of(alloc: Global, items: &[Value], levels: u8) -> Result<Vec<Element>, PartError>
     requires { levels ≤ 16 }
-    ensures ok { IfOk result (λ elements. each_in (item_in levels) (map view items.now) ≡ Some (items_in elements.items)) }
+    ensures ok { IfOk result (λ elements.
+        each_in (item_in levels) (map view items.now) ≡ Some (items_in elements.items)) }
     ensures nests { IfOk result (λ elements. nesting (items_in elements.items) ≤ levels) }
-    ensures err { IfErr result (λ error. error ≡ PartError.BadForm → each_in (item_in levels) (map view items.now) ≡ None) }
+    ensures err { IfErr result (λ error.
+        error ≡ PartError.BadForm → each_in (item_in levels) (map view items.now) ≡ None) }
 {
     let mut elements = Vec::new(alloc);
     for item in items {
@@ -244,7 +251,8 @@ fn nested_value(alloc: Global, tuple: &Tuple, levels: u8) -> Result<Value, Alloc
 fn element_values(alloc: Global, elements: &[Element], levels: u8) -> Result<Vec<Value>, AllocError>
     requires small { levels ≤ 16 }
     requires nests { nesting (items_in elements.now) ≤ levels }
-    ensures read { IfOk result (λ values. each_in (item_in levels) (map view values.items) ≡ Some (items_in elements.now)) }
+    ensures read { IfOk result (λ values.
+        each_in (item_in levels) (map view values.items) ≡ Some (items_in elements.now)) }
     ensures depth { IfOk result (λ values. items_depth (items_view values.items) ≤ levels + 1) }
 {
     let mut values = Vec::new(alloc);

@@ -18,7 +18,9 @@ EndsAt entries begin end = lookup (is_at (key_cmp begin)) entries ≡ Some end
 -- there is a key in each stretch, and of two stretches the one that begins first ends first
 pub record AreStretches (entries : List (List ℕ × List ℕ)) : Type 0 where
   pub have_keys : (begin end : List ℕ) → EndsAt entries begin end → IsTrue (key_lt begin end)
-  pub rise : (begin end next next_end : List ℕ) → EndsAt entries begin end → EndsAt entries next next_end → IsTrue (key_lt begin next) → IsTrue (key_lt end next_end)
+  pub rise :
+      (begin end next next_end : List ℕ) → EndsAt entries begin end → EndsAt entries next next_end →
+      IsTrue (key_lt begin next) → IsTrue (key_lt end next_end)
 
 -- of the stretches these are the begins of those that begin after a range does and end within it
 abbrev pub AreSwallowed : KeyRange → List (List ℕ × List ℕ) → List (List ℕ) → Type 0
@@ -30,12 +32,15 @@ AreSwallowed range entries begins =
 -- what is covered up to a place and on begins there: from each byte string before it on, some before it aren't covered
 abbrev pub BeginsAt : List KeyRange → List ℕ → Type 0
 BeginsAt stretches place =
-    (begin : List ℕ) → IsTrue (key_lt begin place) → (q : List ℕ) × IsTrue (key_le begin q) × IsTrue (key_lt q place) × (covers stretches q ≡ false)
+    (begin : List ℕ) → IsTrue (key_lt begin place) →
+    (q : List ℕ) × IsTrue (key_le begin q) × IsTrue (key_lt q place) × (covers stretches q ≡ false)
 
--- the stretches cover the keys from one up to a place, and end at the place or before it, but for those that begin after the key, which don't end before the place
+-- the stretches cover the keys from one up to a place, and end at the place or before it, but for those that begin
+-- after the key, which don't end before the place
 pub record Reaches (entries : List (List ℕ × List ℕ)) (key place : List ℕ) : Type 0 where
   pub from : IsTrue (key_le key place)
-  pub covered : (q : List ℕ) → IsTrue (key_le key q) → IsTrue (key_lt q place) → IsTrue (covers (stretches_of entries) q)
+  pub covered :
+      (q : List ℕ) → IsTrue (key_le key q) → IsTrue (key_lt q place) → IsTrue (covers (stretches_of entries) q)
   pub others : (begin end : List ℕ) → EndsAt entries begin end → IsTrue (key_le begin key) → IsTrue (key_le end place)
   pub ahead : (begin end : List ℕ) → EndsAt entries begin end → IsTrue (key_lt key begin) → IsTrue (key_le place end)
 

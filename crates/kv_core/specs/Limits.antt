@@ -1,11 +1,13 @@
 -- How large keys, values and transactions may be.
-use Rattle.std.specs.Prelude.{ℕ, ◌+◌, nat_le, not, if◌then◌else◌, Option, Some, None, List, [], ◌∷◌, ◌++◌, length, sum_by}
+use Rattle.std.specs.Prelude.{ℕ, ◌+◌, nat_le, not, if◌then◌else◌, Option}
+use Rattle.std.specs.Prelude.{Some, None, List, [], ◌∷◌, ◌++◌, length, sum_by}
 use Rattle.std.specs.Option.{option_or}
 use Rattle.kv_core.specs.Bytes.{key_lt, end_of_keys}
 use Rattle.kv_core.specs.declared.change.Mutation.{Mutation}
 use Rattle.kv_core.specs.declared.change.Mutation.TheVariants.{Set, ClearRange, Add}
 use Rattle.kv_core.specs.declared.change.WriteError.{WriteError}
-use Rattle.kv_core.specs.declared.change.WriteError.TheVariants.{KeyOutside, KeyTooLarge, ValueTooLarge, TransactionTooLarge}
+use Rattle.kv_core.specs.declared.change.WriteError.TheVariants.{KeyOutside, KeyTooLarge}
+use Rattle.kv_core.specs.declared.change.WriteError.TheVariants.{ValueTooLarge, TransactionTooLarge}
 
 -- the bytes that a mutation counts: key and value, or begin and end
 abbrev pub size_of : Mutation → ℕ
@@ -35,15 +37,20 @@ own_refusal (ClearRange range) =
 -- why a mutation is refused after these: by itself, or since the transaction would have over 10,000,000 bytes
 abbrev pub write_refusal : List Mutation → Mutation → Option WriteError
 write_refusal mutations mutation =
-    option_or (own_refusal mutation) (if not (nat_le (size_of_all mutations + size_of mutation) 10_000_000) then Some TransactionTooLarge else None)
+    option_or (own_refusal mutation)
+    (if not (nat_le (size_of_all mutations + size_of mutation) 10_000_000) then Some TransactionTooLarge else None)
 
--- why a list of mutations is refused after these: the refusal of the first of them that is refused after those before it
+-- why a list of mutations is refused after these: the refusal of the first of them that is refused after those before
+-- it
 abbrev pub write_all_refusal : List Mutation → List Mutation → Option WriteError
 write_all_refusal mutations [] = None
-write_all_refusal mutations (mutation ∷ more) = option_or (write_refusal mutations mutation) (write_all_refusal (mutations ++ mutation ∷ []) more)
+write_all_refusal mutations (mutation ∷ more) =
+    option_or (write_refusal mutations mutation) (write_all_refusal (mutations ++ mutation ∷ []) more)
 
 -- why a list of mutations is refused after mutations of so many bytes
 abbrev pub refusal_after : ℕ → List Mutation → Option WriteError
 refusal_after size [] = None
 refusal_after size (mutation ∷ more) =
-    option_or (own_refusal mutation) (if nat_le (size + size_of mutation) 10_000_000 then refusal_after (size + size_of mutation) more else Some TransactionTooLarge)
+    option_or (own_refusal mutation)
+    (if nat_le (size + size_of mutation) 10_000_000 then refusal_after (size + size_of mutation) more
+    else Some TransactionTooLarge)

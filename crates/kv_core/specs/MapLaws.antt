@@ -1,5 +1,6 @@
 -- What maps after mutations, their pairs, sums, limits and refusals come to.
-use Rattle.std.specs.Prelude.{◌≡◌, ◌+◌, ◌%◌, ◌^◌, ◌≤◌, ℕ, IsTrue, if◌then◌else◌, Option, None, Some, unwrap_or, List, [], length}
+use Rattle.std.specs.Prelude.{◌≡◌, ◌+◌, ◌%◌, ◌^◌, ◌≤◌, ℕ, IsTrue, if◌then◌else◌}
+use Rattle.std.specs.Prelude.{Option, None, Some, unwrap_or, List, [], length}
 use Rattle.std.specs.FinMap.{get}
 use Rattle.std.specs.FinMap.Entries.{find, is_sorted}
 use Rattle.kv_core.specs.Addition.{added, number_of}
@@ -13,7 +14,9 @@ use Rattle.kv_core.specs.declared.limits.TheConstants.{MAX_TRANSACTION_BYTES, MA
 
 -- after mutations a map has at each key what they make of the value that it had there
 abbrev pub ValuesByKey : Type 0
-ValuesByKey = (mutations : List Mutation) (m : Map) (key : List ℕ) → get (after_all mutations m) key ≡ value_after_all mutations key (get m key)
+ValuesByKey =
+    (mutations : List Mutation) (m : Map) (key : List ℕ) →
+    get (after_all mutations m) key ≡ value_after_all mutations key (get m key)
 
 -- the pairs of a range rise by their keys, with the map's value at each key of the range and nothing elsewhere
 abbrev pub PairsByKey : Type 0
@@ -43,4 +46,5 @@ LimitsInBytes =
 
 -- of the mutations before a list only their bytes matter to its refusal
 abbrev pub RefusalsBySize : Type 0
-RefusalsBySize = (mutations more : List Mutation) → write_all_refusal mutations more ≡ refusal_after (size_of_all mutations) more
+RefusalsBySize =
+    (mutations more : List Mutation) → write_all_refusal mutations more ≡ refusal_after (size_of_all mutations) more

@@ -58,7 +58,9 @@ range_cmp a b = ordering_then (key_cmp a.begin b.begin) (key_cmp a.end b.end)
 
 -- it is total: each two ranges compare, and comparisons agree with one another
 pub range_cmp_total : IsTotalOrder range_cmp
-range_cmp_total = then_total (on_total (λ (range : KeyRange). range.begin) nat_list_cmp_total) (on_total (λ (range : KeyRange). range.end) nat_list_cmp_total)
+range_cmp_total =
+    then_total (on_total (λ (range : KeyRange). range.begin) nat_list_cmp_total)
+    (on_total (λ (range : KeyRange). range.end) nat_list_cmp_total)
 
 -- whether a range lies within another one
 abbrev pub is_within : KeyRange → KeyRange → Bool

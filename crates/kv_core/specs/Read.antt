@@ -17,7 +17,8 @@ abbrev pub last_key : List ℕ → List (List ℕ × List ℕ) → List ℕ
 last_key key [] = key
 last_key key (pair ∷ pairs) = last_key pair.0 pairs
 
--- the range that decides a read which gave these pairs: the whole range where they are fewer than the limit, else its part through the last pair
+-- the range that decides a read which gave these pairs: the whole range where they are fewer than the limit, else its
+-- part through the last pair
 abbrev pub range_read : KeyRange → ℕ → Bool → List (List ℕ × List ℕ) → KeyRange
 range_read range limit reversed pairs =
     if nat_lt (length pairs) limit then range

@@ -73,7 +73,8 @@ fn end_over<'a>(stretches: &'a BTreeMap<Bytes, Bytes>, key: &'a Bytes) -> &'a By
 fn first_past<'a>(stretches: &'a BTreeMap<Bytes, Bytes>, key: &'a Bytes) -> &'a Bytes
     requires { AreStretches stretches.now.entries }
     ensures from { IsTrue (key_le key.now result.now) }
-    ensures covered { (q : List ℕ) → IsTrue (key_le key.now q) → IsTrue (key_lt q result.now) → IsTrue (covers (stretches_of stretches.now.entries) q) }
+    ensures covered { (q : List ℕ) → IsTrue (key_le key.now q) → IsTrue (key_lt q result.now) →
+        IsTrue (covers (stretches_of stretches.now.entries) q) }
     ensures left_out { covers (stretches_of stretches.now.entries) result.now ≡ false }
 {
     let mut place = end_over(stretches, key);
@@ -90,7 +91,8 @@ fn first_past<'a>(stretches: &'a BTreeMap<Bytes, Bytes>, key: &'a Bytes) -> &'a 
 fn first_before<'a>(stretches: &'a BTreeMap<Bytes, Bytes>, key: &'a Bytes) -> &'a Bytes
     requires { AreStretches stretches.now.entries }
     ensures upto { IsTrue (key_le result.now key.now) }
-    ensures covered { (q : List ℕ) → IsTrue (key_le result.now q) → IsTrue (key_lt q key.now) → IsTrue (covers (stretches_of stretches.now.entries) q) }
+    ensures covered { (q : List ℕ) → IsTrue (key_le result.now q) → IsTrue (key_lt q key.now) →
+        IsTrue (covers (stretches_of stretches.now.entries) q) }
     ensures stops { BeginsAt (stretches_of stretches.now.entries) result.now }
 {
     let mut place = key;
@@ -128,7 +130,8 @@ impl Coverage {
 
     /// Adds the keys of a range. Where memory runs out the coverage stays as it was.
     pub fn add(&mut self, range: &KeyRange) -> Result<(), AllocError>
-        ensures ok { OnOk result ((key : List ℕ) → covers self.new key ≡ (covers self.old key || contains range.now key)) }
+        ensures ok { OnOk result ((key : List ℕ) →
+            covers self.new key ≡ (covers self.old key || contains range.now key)) }
         ensures err { OnErr result (self.new ≡ self.old) }
     {
         if range.is_empty() || self.has_whole(range) {
@@ -153,7 +156,8 @@ impl Coverage {
     /// An error says that memory ran out.
     pub fn past(&self, key: &Bytes) -> Result<Bytes, AllocError>
         ensures from { IfOk result (λ end. IsTrue (key_le key.now end)) }
-        ensures covered { IfOk result (λ end. (q : List ℕ) → IsTrue (key_le key.now q) → IsTrue (key_lt q end) → IsTrue (covers self.now q)) }
+        ensures covered { IfOk result (λ end.
+            (q : List ℕ) → IsTrue (key_le key.now q) → IsTrue (key_lt q end) → IsTrue (covers self.now q)) }
         ensures left_out { IfOk result (λ end. covers self.now end ≡ false) }
     {
         let end = first_past(&self.stretches, key).copy()?;
@@ -164,7 +168,8 @@ impl Coverage {
     /// where those just before it aren't. An error says that memory ran out.
     pub fn before(&self, key: &Bytes) -> Result<Bytes, AllocError>
         ensures upto { IfOk result (λ begin. IsTrue (key_le begin key.now)) }
-        ensures covered { IfOk result (λ begin. (q : List ℕ) → IsTrue (key_le begin q) → IsTrue (key_lt q key.now) → IsTrue (covers self.now q)) }
+        ensures covered { IfOk result (λ begin.
+            (q : List ℕ) → IsTrue (key_le begin q) → IsTrue (key_lt q key.now) → IsTrue (covers self.now q)) }
         ensures stops { IfOk result (λ begin. BeginsAt self.now begin) }
     {
         let begin = first_before(&self.stretches, key).copy()?;

@@ -2,7 +2,8 @@ ghost use Rattle.std.specs.Prelude.{◌≡◌, IsTrue, IfOk, IfNone, IfSome, Som
 ghost use Rattle.std.specs.Ordering.{eq_by_cmp};
 ghost use Rattle.std.specs.Cmp.{eq_by_cmp_equiv, partial_equiv_from_equiv, partial_order_from_agreeing_total};
 ghost use Rattle.kv_core.specs.Bytes.{key_lt, key_max, key_min, end_of_keys};
-ghost use Rattle.kv_core.specs.Range.{KeyRange as Range, is_key_range, has_keys, contains, meets, part_before, part_from, point, is_same_range, range_cmp, range_cmp_total};
+ghost use Rattle.kv_core.specs.Range.{KeyRange as Range, is_key_range, has_keys, contains, meets, part_before};
+ghost use Rattle.kv_core.specs.Range.{part_from, point, is_same_range, range_cmp, range_cmp_total};
 
 use crate::bytes::Bytes;
 use std::alloc::{AllocError, Global};

@@ -8,7 +8,8 @@ use std::collections::BTreeMap;
 /// Takes out the entries with these keys.
 pub(crate) fn remove_each(map: &mut BTreeMap<Bytes, Bytes>, keys: &[Bytes])
     requires { IsOrdered key_cmp map.old }
-    ensures gone { (key : List ℕ) → get key_cmp map.new key ≡ (if has_key keys.now key then None else get key_cmp map.old key) }
+    ensures gone { (key : List ℕ) →
+        get key_cmp map.new key ≡ (if has_key keys.now key then None else get key_cmp map.old key) }
     ensures ordered { IsOrdered key_cmp map.new }
 {
     for key in keys {

@@ -15,8 +15,10 @@ pub record SchemaRequest : Type 0 where
 -- the schema with indexes asked for, each in turn, or the first refusal
 abbrev pub add_indexes : Schema → List IndexRequest → Result Schema Refusal
 add_indexes schema [] = Ok schema
-add_indexes schema (request ∷ requests) = elim (add_index schema request) [ Err refusal ↦ Err refusal | Ok next ↦ add_indexes next requests ]
+add_indexes schema (request ∷ requests) =
+    elim (add_index schema request) [ Err refusal ↦ Err refusal | Ok next ↦ add_indexes next requests ]
 
 -- the schema that is asked for: its types are added to nothing, then its indexes, or the first refusal
 abbrev pub schema_asked : SchemaRequest → Result Schema Refusal
-schema_asked request = elim (schema_of request.types) [ Err refusal ↦ Err refusal | Ok schema ↦ add_indexes schema request.indexes ]
+schema_asked request =
+    elim (schema_of request.types) [ Err refusal ↦ Err refusal | Ok schema ↦ add_indexes schema request.indexes ]

@@ -1,5 +1,6 @@
 -- How a schema grows, and what is refused.
-use Rattle.std.specs.Prelude.{ℕ, ◌+◌, Bool, false, not, ◌&&◌, ◌||◌, List, [], ◌∷◌, ◌++◌, Option, Some, None, ◌==◌, map, length, is_some, is_none, nat_lt, nat_le, if◌then◌else◌, Result, Ok, Err}
+use Rattle.std.specs.Prelude.{ℕ, ◌+◌, Bool, false, not, ◌&&◌, ◌||◌, List, [], ◌∷◌, ◌++◌, Option, Some, None, ◌==◌}
+use Rattle.std.specs.Prelude.{map, length, is_some, is_none, nat_lt, nat_le, if◌then◌else◌, Result, Ok, Err}
 use Rattle.std.specs.List.{list_any, list_all, filter_map}
 use Rattle.std.specs.Str.{bytes_eq}
 use Rattle.metadata.specs.declared.definition.Field.{Field}
@@ -16,7 +17,9 @@ first_refusal (test ∷ tests) = if test.0 then Some test.1 else first_refusal t
 
 -- a letter, a digit or an underscore
 abbrev pub is_name_byte : ℕ → Bool
-is_name_byte byte = (nat_le 97 byte && nat_le byte 122) || (nat_le 65 byte && nat_le byte 90) || (nat_le 48 byte && nat_le byte 57) || byte == 95
+is_name_byte byte =
+    (nat_le 97 byte && nat_le byte 122) || (nat_le 65 byte && nat_le byte 90) || (nat_le 48 byte && nat_le byte 57)
+    || byte == 95
 
 -- 1 to 32 such bytes
 abbrev pub is_name : List ℕ → Bool
@@ -68,12 +71,14 @@ with_type schema request = record schema { types = schema.types ++ type_asked sc
 
 -- the schema with a type asked for, or the first refusal
 abbrev pub add_type : Schema → TypeRequest → Result Schema Refusal
-add_type schema request = elim (type_refusal schema request) [ None ↦ Ok (with_type schema request) | Some refusal ↦ Err refusal ]
+add_type schema request =
+    elim (type_refusal schema request) [ None ↦ Ok (with_type schema request) | Some refusal ↦ Err refusal ]
 
 -- the schema with types asked for, each in turn, or the first refusal
 abbrev pub add_types : Schema → List TypeRequest → Result Schema Refusal
 add_types schema [] = Ok schema
-add_types schema (request ∷ requests) = elim (add_type schema request) [ Err refusal ↦ Err refusal | Ok next ↦ add_types next requests ]
+add_types schema (request ∷ requests) =
+    elim (add_type schema request) [ Err refusal ↦ Err refusal | Ok next ↦ add_types next requests ]
 
 -- a schema of types alone
 abbrev pub types_alone : List TypeDefinition → Schema

@@ -1,5 +1,7 @@
--- Which schemas there are: those whose types are added one after another, with indexes that could have been asked for over them.
-use Rattle.std.specs.Prelude.{◌≡◌, ℕ, Bool, true, false, not, ◌&&◌, List, [], ◌∷◌, nat_eq, Ok, length, map, is_some, nat_lt, nat_le}
+-- Which schemas there are: those whose types are added one after another, with indexes that could have been asked for
+-- over them.
+use Rattle.std.specs.Prelude.{◌≡◌, ℕ, Bool, true, false, not, ◌&&◌, List, [], ◌∷◌}
+use Rattle.std.specs.Prelude.{nat_eq, Ok, length, map, is_some, nat_lt, nat_le}
 use Rattle.std.specs.List.{list_all}
 use Rattle.std.specs.Option.{option_map_or}
 use Rattle.std.specs.Str.{bytes_eq}
@@ -28,14 +30,17 @@ is_index_over index type =
 -- the definition is that of an index over one of the types
 abbrev pub is_index : List TypeDefinition → IndexDefinition → Bool
 is_index types index =
-    is_name index.name && nat_le (length index.columns) 8 && is_shaped index.kind (length index.columns) (is_some index.summed)
+    is_name index.name && nat_le (length index.columns) 8
+    && is_shaped index.kind (length index.columns) (is_some index.summed)
     && option_map_or (is_index_over index) (type_at types index.type_number) false
 
--- the indexes of a schema: their numbers rise up to the last one given, their names differ, and each is an index over one of the types
+-- the indexes of a schema: their numbers rise up to the last one given, their names differ, and each is an index over
+-- one of the types
 abbrev pub has_good_indexes : Schema → Bool
 has_good_indexes schema =
     nat_le schema.last_index 65_535 && is_rising_upto 0 schema.last_index (map (λ index. index.number) schema.indexes)
-    && nat_le (length schema.indexes) 64 && not (has_twice same_index schema.indexes) && list_all (is_index schema.types) schema.indexes
+    && nat_le (length schema.indexes) 64 && not (has_twice same_index schema.indexes)
+    && list_all (is_index schema.types) schema.indexes
 
 -- a lawful schema: requests make its types, and its indexes are good
 pub record IsLawfulSchema (schema : Schema) : Type 0 where

@@ -1,5 +1,6 @@
 -- What the private readers of a schema's tuple give. They pass over what the schema's own written form tells.
-use Rattle.std.specs.Prelude.{ℕ, ◌^◌, pos, List, [], ◌∷◌, Option, Some, None, ◌==◌, ◌≡◌, nat_lt, slice_get, if◌then◌else◌}
+use Rattle.std.specs.Prelude.{ℕ, ◌^◌, pos, List, [], ◌∷◌, Option, Some, None}
+use Rattle.std.specs.Prelude.{◌==◌, ◌≡◌, nat_lt, slice_get, if◌then◌else◌}
 use Rattle.std.specs.Result.{result_ok}
 use Rattle.std.specs.Option.{option_map, option_and_then}
 use Rattle.tuple_codec.specs.Item.{Item, int, text, nested, null, listed}
@@ -44,11 +45,14 @@ read_at read items place = option_and_then read (slice_get items place)
 
 -- the kind of a number
 abbrev pub kind_of : ℕ → Option Kind
-kind_of n = if n == 1 then Some kind.Int else if n == 2 then Some kind.Text else if n == 3 then Some kind.Bytes else None
+kind_of n =
+    if n == 1 then Some kind.Int else if n == 2 then Some kind.Text else if n == 3 then Some kind.Bytes else None
 
 -- the field that a tuple is
 abbrev pub field_in : List Item → Option Field
-field_in parts = option_and_then (λ name. option_map (λ found. record { name = name; kind = found }) (option_and_then kind_of (read_at small_of parts 1))) (read_at text_of parts 0)
+field_in parts =
+    option_and_then (λ name. option_map (λ found. record { name = name; kind = found })
+    (option_and_then kind_of (read_at small_of parts 1))) (read_at text_of parts 0)
 
 abbrev pub field_of : Item → Option Field
 field_of one = option_and_then field_in (tuple_of one)
@@ -59,11 +63,17 @@ name_of fields one = option_map (λ field. field.name) (option_and_then (slice_g
 
 -- the request for a type of this name, and of the fields and key that items are
 abbrev pub asked_of : List ℕ → List Item → List Item → Option TypeRequest
-asked_of name fields places = option_and_then (λ fields_read. option_map (λ key. record { name = name; fields = fields_read; key = key }) (all_read (name_of fields_read) places)) (all_read field_of fields)
+asked_of name fields places =
+    option_and_then (λ fields_read.
+    option_map (λ key. record { name = name; fields = fields_read; key = key })
+    (all_read (name_of fields_read) places)) (all_read field_of fields)
 
 -- the request for a type that a tuple is
 abbrev pub request_in : List Item → Option TypeRequest
-request_in parts = option_and_then (λ name. option_and_then (λ fields. option_and_then (asked_of name fields) (read_at tuple_of parts 3)) (read_at tuple_of parts 2)) (read_at text_of parts 1)
+request_in parts =
+    option_and_then (λ name.
+    option_and_then (λ fields. option_and_then (asked_of name fields) (read_at tuple_of parts 3))
+    (read_at tuple_of parts 2)) (read_at text_of parts 1)
 
 abbrev pub request_of : Item → Option TypeRequest
 request_of one = option_and_then request_in (tuple_of one)
@@ -93,9 +103,13 @@ places_in parts at = option_and_then (all_read small_of) (read_at tuple_of parts
 -- the index that a tuple is
 abbrev pub index_in : List Item → Option IndexDefinition
 index_in parts =
-    option_and_then (λ number. option_and_then (λ name. option_and_then (λ kind. option_and_then (λ type_number. option_and_then (λ columns.
-    option_map (λ summed. record { number = number; name = name; kind = kind; type_number = type_number; columns = columns; summed = summed })
-    (read_at summed_of parts 5)) (places_in parts 4)) (read_at number_of parts 3)) (option_and_then index_kind_of (read_at small_of parts 2))) (read_at text_of parts 1)) (read_at number_of parts 0)
+    option_and_then (λ number.
+    option_and_then (λ name. option_and_then (λ kind. option_and_then (λ type_number. option_and_then (λ columns.
+    option_map (λ summed.
+    record { number = number; name = name; kind = kind; type_number = type_number; columns = columns; summed = summed })
+    (read_at summed_of parts 5)) (places_in parts 4)) (read_at number_of parts 3))
+    (option_and_then index_kind_of (read_at small_of parts 2))) (read_at text_of parts 1))
+    (read_at number_of parts 0)
 
 abbrev pub index_of : Item → Option IndexDefinition
 index_of one = option_and_then index_in (tuple_of one)
@@ -106,7 +120,9 @@ indexes_in items = option_and_then (all_read index_of) (read_at tuple_of items 4
 
 -- the types of a schema's tuple
 abbrev pub types_in : List Item → Option (List TypeDefinition)
-types_in items = option_and_then (λ requests. option_map (λ schema. schema.types) (result_ok (schema_of requests))) (requests_in items)
+types_in items =
+    option_and_then (λ requests. option_map (λ schema. schema.types) (result_ok (schema_of requests)))
+    (requests_in items)
 
 -- the schema, where its indexes are good
 abbrev pub if_good : Schema → Option Schema
@@ -115,7 +131,9 @@ if_good schema = if has_good_indexes schema then Some schema else None
 -- the schema that a tuple tells
 abbrev pub schema_in : List Item → Option Schema
 schema_in items =
-    option_and_then (λ types. option_and_then (λ last. option_and_then (λ indexes. if_good (record { types = types; last_index = last; indexes = indexes })) (indexes_in items)) (read_at number_of items 2)) (types_in items)
+    option_and_then (λ types. option_and_then (λ last.
+    option_and_then (λ indexes. if_good (record { types = types; last_index = last; indexes = indexes }))
+    (indexes_in items)) (read_at number_of items 2)) (types_in items)
 
 -- memory was wanting, or the tuple is refused as that of no schema
 abbrev pub IsUnread : MetadataError → List Item → Type 0

@@ -27,7 +27,8 @@ placed Greater before same after = after
 abbrev pub with_record : Record → List Record → List Record
 with_record new [] = new ∷ []
 with_record new (old ∷ records) =
-    placed (tuple_cmp (primary_key new) (primary_key old)) (new ∷ old ∷ records) (new ∷ records) (old ∷ with_record new records)
+    placed (tuple_cmp (primary_key new) (primary_key old)) (new ∷ old ∷ records) (new ∷ records)
+    (old ∷ with_record new records)
 
 -- the records without that of this primary key
 abbrev pub without_record : List Item → List Record → List Record
@@ -45,4 +46,6 @@ pub record IsStorable (r : Record) : Type 0 where
 -- each record stands before each later one, by primary key
 abbrev pub AreOrdered : List Record → Type 0
 AreOrdered [] = Unit {0}
-AreOrdered (r ∷ records) = AllByRecursion (λ later. IsTrue (is_lt (tuple_cmp (primary_key r) (primary_key later)))) records × AreOrdered records
+AreOrdered (r ∷ records) =
+    AllByRecursion (λ later. IsTrue (is_lt (tuple_cmp (primary_key r) (primary_key later)))) records
+    × AreOrdered records

@@ -25,4 +25,5 @@ equal_field a b = bytes_eq a.name b.name && same_kind a.kind b.kind
 
 -- the same number, name, fields and key
 abbrev pub same_type : TypeDefinition → TypeDefinition → Bool
-same_type a b = a.number == b.number && bytes_eq a.name b.name && all_same equal_field a.fields b.fields && bytes_eq a.key b.key
+same_type a b =
+    a.number == b.number && bytes_eq a.name b.name && all_same equal_field a.fields b.fields && bytes_eq a.key b.key

@@ -8,7 +8,8 @@ use Rattle.metadata.specs.declared.definition.Field.{Field}
 use Rattle.metadata.specs.declared.definition.TypeDefinition.{TypeDefinition}
 use Rattle.metadata.specs.declared.index.IndexDefinition.{IndexDefinition}
 
--- the types of a store and its indexes, both in the order of their numbers, and the number that was given to an index last
+-- the types of a store and its indexes, both in the order of their numbers, and the number that was given to an index
+-- last
 pub record Schema : Type 0 where
   pub types : List TypeDefinition
   pub last_index : ℕ

@@ -38,7 +38,9 @@ field_item field = nested_item (field_parts field)
 
 -- (number, name, fields, places of the key fields)
 abbrev pub type_parts : TypeDefinition → List Item
-type_parts type = number_item type.number ∷ text type.name ∷ nested_item (map field_item type.fields) ∷ nested_item (map number_item type.key) ∷ []
+type_parts type =
+    number_item type.number ∷ text type.name ∷ nested_item (map field_item type.fields)
+    ∷ nested_item (map number_item type.key) ∷ []
 
 abbrev pub type_item : TypeDefinition → Item
 type_item type = nested_item (type_parts type)
@@ -57,7 +59,8 @@ summed_item None = null
 -- (number, name, kind, type number, places of the columns, place of the summed field or null)
 abbrev pub index_parts : IndexDefinition → List Item
 index_parts index =
-    number_item index.number ∷ text index.name ∷ number_item (index_kind_number index.kind) ∷ number_item index.type_number
+    number_item index.number ∷ text index.name ∷ number_item (index_kind_number index.kind)
+    ∷ number_item index.type_number
     ∷ nested_item (map number_item index.columns) ∷ summed_item index.summed ∷ []
 
 abbrev pub index_item : IndexDefinition → Item
@@ -66,7 +69,8 @@ index_item index = nested_item (index_parts index)
 -- (1, last type number, last index number, types, indexes)
 abbrev pub written : Schema → List Item
 written schema =
-    number_item 1 ∷ number_item (length schema.types) ∷ number_item schema.last_index ∷ nested_item (map type_item schema.types) ∷ nested_item (map index_item schema.indexes) ∷ []
+    number_item 1 ∷ number_item (length schema.types) ∷ number_item schema.last_index
+    ∷ nested_item (map type_item schema.types) ∷ nested_item (map index_item schema.indexes) ∷ []
 
 -- the bytes of a schema
 abbrev pub schema_bytes : Schema → List ℕ
@@ -75,7 +79,8 @@ schema_bytes schema = spelling (written schema)
 -- memory was wanting, or the bytes are refused as those of no lawful schema
 abbrev pub IsNoSchema : MetadataError → List ℕ → Type 0
 IsNoSchema Memory bytes = Unit {0}
-IsNoSchema (Refused refusal) bytes = (refusal ≡ BadSchema) × ((schema : Schema) → IsLawfulSchema schema → bytes ≡ schema_bytes schema → ⊥)
+IsNoSchema (Refused refusal) bytes =
+    (refusal ≡ BadSchema) × ((schema : Schema) → IsLawfulSchema schema → bytes ≡ schema_bytes schema → ⊥)
 
 -- memory was wanting, or the bytes are refused as those of no tuple
 abbrev pub IsNoTuple : MetadataError → List ℕ → Type 0

@@ -2,7 +2,8 @@ ghost use Rattle.std.specs.Prelude.{◌≡◌, ◌++◌, List, All, IfOk, OnOk};
 ghost use Rattle.std.specs.List.{list_any};
 ghost use Rattle.tuple_codec.specs.Item.{AreBytes, IsTuple, nesting};
 ghost use Rattle.tuple_codec.specs.Elements.{item_in, items_in};
-ghost use Rattle.metadata.specs.Cell.{IsCell, all_fit, cell_at, cell_of, cells_at, cells_of, fits, is_null, item_of, items_of};
+ghost use Rattle.metadata.specs.Cell.{IsCell, all_fit, cell_at, cell_of, cells_at};
+ghost use Rattle.metadata.specs.Cell.{cells_of, fits, is_null, item_of, items_of};
 
 use crate::definition::Places;
 use std::alloc::{AllocError, Global};
@@ -232,7 +233,8 @@ impl Cells {
         Ok(flat_tuple(elements))
     }
 
-    /// The cells that a tuple is. None where an item isn't a cell: nested, a truth value, a UUID, a versionstamp, or a whole number beyond 64 bits.
+    /// The cells that a tuple is. None where an item isn't a cell: nested, a truth value, a UUID, a
+    /// versionstamp, or a whole number beyond 64 bits.
     pub fn from_tuple(alloc: Global, tuple: Tuple) -> Result<Option<Cells>, AllocError>
         ensures { IfOk result (λ cells. cells ≡ cells_of tuple) }
     {

@@ -1,10 +1,13 @@
 // Indexes are added to a schema and dropped.
-ghost use Rattle.std.specs.Prelude.{◌≡◌, ◌<◌, false, Ok, IfOk, IfErr, OnOk, OnErr, ◌||◌, not, is_some, length, nat_le, nat_lt, map};
+ghost use Rattle.std.specs.Prelude.{◌≡◌, ◌<◌, false, Ok, IfOk, IfErr, OnOk, OnErr};
+ghost use Rattle.std.specs.Prelude.{◌||◌, not, is_some, length, nat_le, nat_lt, map};
 ghost use Rattle.std.specs.Option.{option_copied, option_map_or};
 ghost use Rattle.std.specs.Str.{bytes_eq};
 ghost use Rattle.metadata.specs.Answers.{IsRefusedAs};
 ghost use Rattle.metadata.specs.Change.{has_twice};
-ghost use Rattle.metadata.specs.IndexChange.{add_index, drop_index, has_unknown_field, index_asked, index_over, is_int, is_shaped, name_refusal, new_index, over_refusal, place_summed, sums_other, without_index};
+ghost use Rattle.metadata.specs.IndexChange.{add_index, drop_index, has_unknown_field, index_asked};
+ghost use Rattle.metadata.specs.IndexChange.{index_over, is_int, is_shaped, name_refusal, new_index};
+ghost use Rattle.metadata.specs.IndexChange.{over_refusal, place_summed, sums_other, without_index};
 ghost use Rattle.metadata.specs.Schema.{find_index, kind_at, place_of};
 
 use crate::cells::Kind;
@@ -85,7 +88,8 @@ fn sums_other(fields: &[Field], request: &IndexRequest) -> bool
 
 // Whether the columns and the summed field aren't those of an index of this kind.
 fn is_bad_index(request: &IndexRequest) -> bool
-    ensures { result ≡ (not (is_shaped request.now.kind (length request.now.columns) (is_some request.now.summed)) || has_twice bytes_eq request.now.columns) }
+    ensures { result ≡ (not (is_shaped request.now.kind (length request.now.columns) (is_some request.now.summed))
+        || has_twice bytes_eq request.now.columns) }
 {
     let columns = request.columns.as_slice();
     !is_shaped(request.kind, columns.len(), request.summed.is_some()) || has_twice(columns)
@@ -108,7 +112,8 @@ impl Schema {
 
     // Whether there would be more indexes, columns or index numbers than there may be.
     fn has_too_many_for(&self, request: &IndexRequest) -> bool
-        ensures { result ≡ (nat_lt 63 (length self.now.indexes) || nat_lt 8 (length request.now.columns) || nat_le 65535 self.now.last_index) }
+        ensures { result ≡ (nat_lt 63 (length self.now.indexes) || nat_lt 8 (length request.now.columns)
+            || nat_le 65535 self.now.last_index) }
     {
         self.indexes.len() >= MAX_INDEXES
             || request.columns.as_slice().len() > MAX_COLUMNS
@@ -171,7 +176,8 @@ impl Schema {
         })
     }
 
-    /// The index that `add_index` would add, with the number after the one that was given last. It is refused as `add_index` is.
+    /// The index that `add_index` would add, with the number after the one that was given last. It
+    /// is refused as `add_index` is.
     pub fn new_index(&self, request: &IndexRequest) -> Result<IndexDefinition, MetadataError>
         ensures made { IfOk result (λ index. new_index self.now request.now ≡ Ok index) }
         ensures refused { IfErr result (λ error. IsRefusedAs error (new_index self.now request.now)) }
@@ -189,7 +195,13 @@ impl Schema {
         Ok(index)
     }
 
-    /// Adds an index, with the number after the one that was given last. Refused, in this order: `BadName` (the name isn't 1 to 32 of `a-z A-Z 0-9 _`), `NameTaken` (another index has it), `UnknownType`, `UnknownField` (a column, or the summed field, isn't a field of the type), `WrongKind` (the summed field isn't of whole numbers), `BadSchema` (a VALUE without columns, a column twice, a SUM without a summed field, or another kind with one), `TooMany` (65 indexes, 9 columns, or the last index number was given). After a refusal the schema is as before.
+    /// Adds an index, with the number after the one that was given last. Refused, in this order:
+    /// `BadName` (the name isn't 1 to 32 of `a-z A-Z 0-9 _`), `NameTaken` (another index has it),
+    /// `UnknownType`, `UnknownField` (a column, or the summed field, isn't a field of the type),
+    /// `WrongKind` (the summed field isn't of whole numbers), `BadSchema` (a VALUE without columns,
+    /// a column twice, a SUM without a summed field, or another kind with one), `TooMany` (65
+    /// indexes, 9 columns, or the last index number was given). After a refusal the schema is as
+    /// before.
     pub fn add_index(&mut self, request: &IndexRequest) -> Result<(), MetadataError>
         ensures ok { OnOk result (add_index self.old request.now ≡ Ok self.new) }
         ensures refused { IfErr result (λ error. IsRefusedAs error (add_index self.old request.now)) }
@@ -202,7 +214,9 @@ impl Schema {
         Ok(())
     }
 
-    /// Takes out the index of this name. Its name is free again, and its number isn't given to another index. Refused with `UnknownIndex` where there is no such index, which leaves the schema as before.
+    /// Takes out the index of this name. Its name is free again, and its number isn't given to
+    /// another index. Refused with `UnknownIndex` where there is no such index, which leaves the
+    /// schema as before.
     pub fn drop_index(&mut self, name: &Text) -> Result<(), Refusal>
         ensures ok { OnOk result (drop_index self.old name.now ≡ Ok self.new) }
         ensures refused { IfErr result (λ refusal. drop_index self.old name.now ≡ Err refusal) }

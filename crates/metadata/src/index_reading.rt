@@ -2,7 +2,8 @@
 ghost use Rattle.std.specs.Prelude.{◌≡◌, IfOk};
 ghost use Rattle.std.specs.Option.{option_map};
 ghost use Rattle.tuple_codec.specs.Elements.{item_in, items_in};
-ghost use Rattle.metadata.specs.Reading.{all_read, index_in, index_kind_of, index_of, indexes_in, number_of, places_in, read_at, small_of, summed_of};
+ghost use Rattle.metadata.specs.Reading.{all_read, index_in, index_kind_of, index_of, indexes_in};
+ghost use Rattle.metadata.specs.Reading.{number_of, places_in, read_at, small_of, summed_of};
 
 use crate::definition::Places;
 use crate::index::{IndexDefinition, IndexKind};
@@ -131,7 +132,8 @@ fn indexes_of(
     alloc: Global,
     elements: &[Element],
 ) -> Result<Option<Vec<IndexDefinition>>, AllocError>
-    ensures { IfOk result (λ indexes. option_map (λ found. found.items) indexes ≡ all_read index_of (items_in elements.now)) }
+    ensures { IfOk result (λ indexes.
+        option_map (λ found. found.items) indexes ≡ all_read index_of (items_in elements.now)) }
 {
     let mut indexes = Vec::with_capacity(alloc, elements.len())?;
     for element in elements {

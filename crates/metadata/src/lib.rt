@@ -1,6 +1,7 @@
 //! Types, their fields, and the records of a store.
 //!
-//! A call answers `AllocError`, or `MetadataError::Memory`, only where memory is wanting. A call that fails changes nothing.
+//! A call answers `AllocError`, or `MetadataError::Memory`, only where memory is wanting. A call
+//! that fails changes nothing.
 #![tactic(auto)]
 
 mod cells;

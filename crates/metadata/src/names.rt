@@ -1,7 +1,8 @@
 ghost use Rattle.std.specs.Prelude.{◌≡◌, Bool, IfOk, nat_eq};
 ghost use Rattle.std.specs.List.{list_any, list_all};
 ghost use Rattle.std.specs.Str.{bytes_eq};
-ghost use Rattle.metadata.specs.Change.{field_names, has_twice, has_unknown, is_name, is_name_byte, places_of, same_field};
+ghost use Rattle.metadata.specs.Change.{field_names, has_twice, has_unknown, is_name};
+ghost use Rattle.metadata.specs.Change.{is_name_byte, places_of, same_field};
 ghost use Rattle.metadata.specs.Lawful.{same_index};
 ghost use Rattle.metadata.specs.Schema.{place_of};
 

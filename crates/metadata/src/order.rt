@@ -6,7 +6,8 @@ ghost use Rattle.tuple_codec.specs.Spelling.{item_spelling, outer, spelling};
 ghost use Rattle.tuple_codec.specs.Subspace.{BeginsWith, IsWithin, key_of, range_end};
 ghost use Rattle.metadata.specs.declared.cells.Cell.{Cell as CellValue};
 ghost use Rattle.metadata.specs.Cell.{IsCell, is_null, item_of, items_of};
-ghost use Rattle.metadata.specs.Order.{BeginWith, BeginsAs, cell_cmp, cells_cmp, is_stop, is_string, is_tail, open_pack, rank};
+ghost use Rattle.metadata.specs.Order.{BeginWith, BeginsAs, cell_cmp, cells_cmp};
+ghost use Rattle.metadata.specs.Order.{is_stop, is_string, is_tail, open_pack, rank};
 
 use crate::cells::{Cell, Cells};
 use std::cmp::Ordering;
@@ -67,13 +68,17 @@ impl Cells {
 /// alone below 01, and one begins as that of a text or a byte string without its closing 00 exactly
 /// where the cell is of that kind and begins so.
 pub fn cells_are_ordered_as_their_packs()
-    ensures order { (a b : List CellValue) → All IsCell a → All IsCell b → bytes_cmp (spelling (items_of a)) (spelling (items_of b)) ≡ cells_cmp a b }
+    ensures order { (a b : List CellValue) → All IsCell a → All IsCell b →
+        bytes_cmp (spelling (items_of a)) (spelling (items_of b)) ≡ cells_cmp a b }
     ensures decides { (a b : CellValue) (y z : List ℕ) → IsCell a → IsCell b → is_tail y ≡ true → is_stop z ≡ true
-        → bytes_cmp (item_spelling outer (item_of a) ++ y) (item_spelling outer (item_of b) ++ z) ≡ ordering_then (cell_cmp a b) (bytes_cmp y z) }
+        → bytes_cmp (item_spelling outer (item_of a) ++ y) (item_spelling outer (item_of b) ++ z)
+        ≡ ordering_then (cell_cmp a b) (bytes_cmp y z) }
     ensures ranges { (prefix : List ℕ) (fixed cells : List CellValue) → All IsCell fixed → All IsCell cells
-        → IsWithin (key_of prefix (items_of fixed)) (Some (range_end (key_of prefix (items_of fixed)))) (key_of prefix (items_of cells)) ↔ BeginWith fixed cells }
+        → IsWithin (key_of prefix (items_of fixed)) (Some (range_end (key_of prefix (items_of fixed))))
+        (key_of prefix (items_of cells)) ↔ BeginWith fixed cells }
     ensures low { (a : CellValue) (y : List ℕ) → IsCell a → is_tail (item_spelling outer (item_of a) ++ y) ≡ true }
-    ensures null_first { (a : CellValue) (y : List ℕ) → IsCell a → is_le (bytes_cmp (1 ∷ []) (item_spelling outer (item_of a) ++ y)) ≡ not (is_null a) }
+    ensures null_first { (a : CellValue) (y : List ℕ) → IsCell a →
+        is_le (bytes_cmp (1 ∷ []) (item_spelling outer (item_of a) ++ y)) ≡ not (is_null a) }
     ensures opens { (part a : CellValue) (y : List ℕ) → is_string part ≡ true → IsCell a → is_tail y ≡ true
         → BeginsWith (open_pack part) (item_spelling outer (item_of a) ++ y) ↔ BeginsAs part a }
 {}

@@ -3,7 +3,8 @@
 ghost use Rattle.std.specs.Prelude.{◌≡◌, IfOk, IfErr};
 ghost use Rattle.std.specs.Option.{option_copied, option_map};
 ghost use Rattle.tuple_codec.specs.Elements.{item_in, items_in};
-ghost use Rattle.metadata.specs.Reading.{all_read, asked_of, field_in, field_of, kind_of, name_of, read_at, request_in, request_of, requests_in, small_of, text_of, tuple_of};
+ghost use Rattle.metadata.specs.Reading.{all_read, asked_of, field_in, field_of, kind_of, name_of, read_at};
+ghost use Rattle.metadata.specs.Reading.{request_in, request_of, requests_in, small_of, text_of, tuple_of};
 
 use crate::cells::Kind;
 use crate::definition::{Field, Fields, Names, TypeRequest};
@@ -185,7 +186,8 @@ fn request_of(alloc: Global, element: &Element) -> Result<Option<TypeRequest>, A
 
 // The requests for the types that elements are.
 fn requests_of(alloc: Global, elements: &[Element]) -> Result<Option<Vec<TypeRequest>>, AllocError>
-    ensures { IfOk result (λ requests. option_map (λ found. found.items) requests ≡ all_read request_of (items_in elements.now)) }
+    ensures { IfOk result (λ requests.
+        option_map (λ found. found.items) requests ≡ all_read request_of (items_in elements.now)) }
 {
     let mut types = Vec::with_capacity(alloc, elements.len())?;
     for element in elements {

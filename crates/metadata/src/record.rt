@@ -27,7 +27,8 @@ impl Model for Record {
 
     ghost view = { λ r. record { definition = r.definition; cells = r.cells } };
 
-    ghost invariant = { λ r. record_in r.definition r.cells ≡ Ok (record { definition = r.definition; cells = r.cells }) };
+    ghost invariant = { λ r. record_in r.definition r.cells
+        ≡ Ok (record { definition = r.definition; cells = r.cells }) };
 }
 
 // The primary key of the record of the type with this number and these key cells.
@@ -41,7 +42,10 @@ pub(crate) fn key_tuple(alloc: Global, number: u64, cells: &Cells) -> Result<Tup
     Ok(flat_tuple(elements))
 }
 
-/// The primary key of the record of the type of this name with these key cells: the type's number, then the cells. Refused, in this order: `UnknownType` (no type has the name), `WrongKind` (a cell of another kind than its key field, or another number of cells than of key fields), `NullKey` (a cell is null).
+/// The primary key of the record of the type of this name with these key cells: the type's number,
+/// then the cells. Refused, in this order: `UnknownType` (no type has the name), `WrongKind` (a
+/// cell of another kind than its key field, or another number of cells than of key fields),
+/// `NullKey` (a cell is null).
 pub fn key_of(
     alloc: Global,
     schema: &Schema,
@@ -89,7 +93,8 @@ pub(crate) fn key_in(
     cells: &Cells,
 ) -> Result<Cells, MetadataError>
     ensures key { IfOk result (λ key. key ≡ cells_at cells.now definition.now.key) }
-    ensures made { OnOk result (record_in definition.now cells.now ≡ Ok (record { definition = definition.now; cells = cells.now })) }
+    ensures made { OnOk result (record_in definition.now cells.now
+        ≡ Ok (record { definition = definition.now; cells = cells.now })) }
     ensures refused { IfErr result (λ error. IsRefusedAs error (record_in definition.now cells.now)) }
 {
     if !fit_fields(definition.fields.as_slice(), cells) {
@@ -103,7 +108,9 @@ pub(crate) fn key_in(
 }
 
 impl Record {
-    /// The record of the type of this name with these cells, one for each field. Refused, in this order: `UnknownType` (no type has the name), `WrongKind` (a cell of another kind than its field, or another number of cells than of fields), `NullKey` (a key field is null).
+    /// The record of the type of this name with these cells, one for each field. Refused, in this
+    /// order: `UnknownType` (no type has the name), `WrongKind` (a cell of another kind than its
+    /// field, or another number of cells than of fields), `NullKey` (a key field is null).
     pub fn new(
         alloc: Global,
         schema: &Schema,

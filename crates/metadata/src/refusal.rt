@@ -24,11 +24,14 @@ pub enum Refusal {
     UnknownIndex,
     /// The type has no field of this name.
     UnknownField,
-    /// A cell isn't of its field's kind, or there are not as many cells as fields; or a SUM is over a field that isn't a whole number.
+    /// A cell isn't of its field's kind, or there are not as many cells as fields; or a SUM is over
+    /// a field that isn't a whole number.
     WrongKind,
     /// A key field is null.
     NullKey,
-    /// A type has no key field, or one twice; an index has a column twice, a VALUE has none, or a summed field stands where there is none to be, or is wanting; or bytes are those of no schema.
+    /// A type has no key field, or one twice; an index has a column twice, a VALUE has none, or a
+    /// summed field stands where there is none to be, or is wanting; or bytes are those of no
+    /// schema.
     BadSchema,
     /// More types, fields, key fields, indexes or columns than there may be, or no index number is left.
     TooMany,

@@ -3,7 +3,8 @@ ghost use Rattle.std.specs.Prelude.{◌≡◌, ℕ, length, map};
 ghost use Rattle.std.specs.Bool.{Decides};
 ghost use Rattle.tuple_codec.specs.Item.{Item};
 ghost use Rattle.tuple_codec.specs.Elements.{item_in, items_in};
-ghost use Rattle.metadata.specs.Written.{field_item, field_parts, index_item, index_parts, nested_item, number_item, summed_item, type_item, type_parts, written};
+ghost use Rattle.metadata.specs.Written.{field_item, field_parts, index_item, index_parts, nested_item};
+ghost use Rattle.metadata.specs.Written.{number_item, summed_item, type_item, type_parts, written};
 ghost use Rattle.tuple_codec.specs.Item.{text};
 
 use crate::definition::{Field, TypeDefinition};

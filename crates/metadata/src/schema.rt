@@ -1,10 +1,12 @@
-ghost use Rattle.std.specs.Prelude.{◌≡◌, ◌∷◌, ◌==◌, ◌||◌, not, is_some, nat_lt, length, None, Ok, true, IfOk, IfErr, OnOk, OnErr};
+ghost use Rattle.std.specs.Prelude.{◌≡◌, ◌∷◌, ◌==◌, ◌||◌, not, is_some, nat_lt};
+ghost use Rattle.std.specs.Prelude.{length, None, Ok, true, IfOk, IfErr, OnOk, OnErr};
 ghost use Rattle.std.specs.Option.{option_copied};
 ghost use Rattle.std.specs.List.{list_all};
 ghost use Rattle.std.specs.Str.{bytes_eq};
 ghost use Rattle.metadata.specs.Schema.{find_type};
 ghost use Rattle.metadata.specs.Asked.{add_indexes, schema_asked};
-ghost use Rattle.metadata.specs.Change.{add_type, add_types, empty_schema, field_names, has_twice, is_name, same_field, schema_of, type_refusal, with_type};
+ghost use Rattle.metadata.specs.Change.{add_type, add_types, empty_schema, field_names, has_twice};
+ghost use Rattle.metadata.specs.Change.{is_name, same_field, schema_of, type_refusal, with_type};
 ghost use Rattle.metadata.specs.Answers.{IsRefusedAs};
 ghost use Rattle.metadata.specs.Lawful.{IsLawfulSchema, has_good_indexes};
 
@@ -81,7 +83,8 @@ impl Model for Schema {
 
     ghost view = { λ s. record { types = s.types.items; last_index = s.last_index; indexes = s.indexes.items } };
 
-    ghost invariant = { λ s. IsLawfulSchema (record { types = s.types.items; last_index = s.last_index; indexes = s.indexes.items }) };
+    ghost invariant = { λ s. IsLawfulSchema
+        (record { types = s.types.items; last_index = s.last_index; indexes = s.indexes.items }) };
 }
 
 impl Schema {
@@ -118,7 +121,8 @@ impl Schema {
         Ok(())
     }
 
-    /// The schema of this request: its types are added to the empty schema in their order, then its indexes. The refusal is that of the first `add_type` or `add_index` that refuses.
+    /// The schema of this request: its types are added to the empty schema in their order, then its
+    /// indexes. The refusal is that of the first `add_type` or `add_index` that refuses.
     pub fn of_request(alloc: Global, request: &SchemaRequest) -> Result<Schema, MetadataError>
         ensures made { IfOk result (λ schema. schema_asked request.now ≡ Ok schema) }
         ensures refused { IfErr result (λ error. IsRefusedAs error (schema_asked request.now)) }
@@ -143,7 +147,8 @@ impl Schema {
 
     // The schema of these types with other indexes.
     pub(crate) fn with_indexes(self, last_index: u64, indexes: Vec<IndexDefinition>) -> Schema
-        requires { has_good_indexes (record { types = self.types; last_index = last_index; indexes = indexes.items }) ≡ true }
+        requires { has_good_indexes (record { types = self.types; last_index = last_index; indexes = indexes.items })
+            ≡ true }
         ensures { result ≡ record { types = self.types; last_index = last_index; indexes = indexes.items } }
     {
         Schema {
@@ -179,7 +184,8 @@ impl Schema {
 
     // Whether there would be more types, fields or key fields than there may be.
     fn has_too_many(&self, request: &TypeRequest) -> bool
-        ensures { result ≡ (nat_lt 31 (length self.now.types) || nat_lt 32 (length request.now.fields) || nat_lt 8 (length request.now.key)) }
+        ensures { result ≡ (nat_lt 31 (length self.now.types) || nat_lt 32 (length request.now.fields)
+            || nat_lt 8 (length request.now.key)) }
     {
         self.types.len() >= MAX_TYPES
             || request.fields.as_slice().len() > MAX_FIELDS
@@ -211,7 +217,8 @@ impl Schema {
     // Adds a type of this name and these fields, whose key fields have these names, with the next number.
     fn push_type(&mut self, name: Text, fields: Fields, key: &[Text]) -> Result<(), AllocError>
         requires { type_refusal self.now (record { name = name; fields = fields; key = key.now }) ≡ None }
-        ensures ok { OnOk result (self.new ≡ with_type self.old (record { name = name; fields = fields; key = key.now })) }
+        ensures ok { OnOk result (self.new
+            ≡ with_type self.old (record { name = name; fields = fields; key = key.now })) }
         ensures err { OnErr result (self.new ≡ self.old) }
     {
         let alloc = *self.types.allocator();
@@ -238,7 +245,11 @@ impl Schema {
         Ok(())
     }
 
-    /// Adds a type, with the next number. Refused, in this order: `BadName` (a name of the type or of a field isn't 1 to 32 of `a-z A-Z 0-9 _`), `NameTaken` (the type's name stands already, or two fields have one name), `UnknownField` (a key field isn't a field), `BadSchema` (no key field, or one twice), `TooMany` (33 types or fields, or 9 key fields). After a refusal the schema is as before.
+    /// Adds a type, with the next number. Refused, in this order: `BadName` (a name of the type or
+    /// of a field isn't 1 to 32 of `a-z A-Z 0-9 _`), `NameTaken` (the type's name stands already,
+    /// or two fields have one name), `UnknownField` (a key field isn't a field), `BadSchema` (no
+    /// key field, or one twice), `TooMany` (33 types or fields, or 9 key fields). After a refusal
+    /// the schema is as before.
     pub fn add_type(&mut self, request: &TypeRequest) -> Result<(), MetadataError>
         ensures ok { OnOk result (add_type self.old request.now ≡ Ok self.new) }
         ensures refused { IfErr result (λ error. IsRefusedAs error (add_type self.old request.now)) }

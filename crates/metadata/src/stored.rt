@@ -30,7 +30,9 @@ fn cells_in(alloc: Global, value: &[u8]) -> Result<Option<Cells>, AllocError>
 
 // Whether these bytes are the pack of the primary key of the type's number and these cells.
 fn is_key(alloc: Global, number: u64, cells: &Cells, key: &[u8]) -> Result<bool, AllocError>
-    ensures { IfOk result (λ is. MatchBool is (key.now ≡ spelling (key_items number cells.now)) (key.now ≡ spelling (key_items number cells.now) → ⊥)) }
+    ensures { IfOk result (λ is.
+        MatchBool is (key.now ≡ spelling (key_items number cells.now))
+        (key.now ≡ spelling (key_items number cells.now) → ⊥)) }
 {
     let tuple = key_tuple(alloc, number, cells)?;
     let packed = pack(alloc, &tuple)?;
@@ -46,7 +48,8 @@ impl TypeDefinition {
         primary_key: &[u8],
         value: &[u8],
     ) -> Result<Option<Cells>, AllocError>
-        ensures found { IfOk result (λ found. IfSome found (λ cells. IsStoredAs self.now primary_key.now value.now (record { definition = self.now; cells = cells }))) }
+        ensures found { IfOk result (λ found. IfSome found (λ cells.
+            IsStoredAs self.now primary_key.now value.now (record { definition = self.now; cells = cells }))) }
         ensures none { IfOk result (λ found. IfNone found (IsOfNoRecord self.now primary_key.now value.now)) }
     {
         let Some(cells) = cells_in(alloc, value)? else {
@@ -88,9 +91,14 @@ impl Record {
 /// key are of one type and have one primary key. What is stored has a primary key and cells that are
 /// values of their types.
 pub fn records_are_stored_once()
-    ensures once { (type : TypeValue) (key value : List ℕ) (a b : RecordValue) → IsStoredAs type key value a → IsStoredAs type key value b → a ≡ b }
-    ensures apart { (schema : SchemaValue) (type other : TypeValue) (key value another : List ℕ) (a b : RecordValue) → IsLawfulSchema schema → IsTypeOf schema type → IsTypeOf schema other
-        → IsStoredAs type key value a → IsStoredAs other key another b → (type ≡ other) × (primary_key a ≡ primary_key b) }
-    ensures storable { (schema : SchemaValue) (type : TypeValue) (key value : List ℕ) (r : RecordValue) → IsLawfulSchema schema → IsTypeOf schema type → IsStoredAs type key value r → IsStorable r }
-    ensures typed { (schema : SchemaValue) (name : List ℕ) (type : TypeValue) → IsLawfulSchema schema → find_type schema name ≡ Some type → IsTypeOf schema type }
+    ensures once { (type : TypeValue) (key value : List ℕ) (a b : RecordValue) → IsStoredAs type key value a →
+        IsStoredAs type key value b → a ≡ b }
+    ensures apart { (schema : SchemaValue) (type other : TypeValue) (key value another : List ℕ) (a b : RecordValue) →
+        IsLawfulSchema schema → IsTypeOf schema type → IsTypeOf schema other
+        → IsStoredAs type key value a → IsStoredAs other key another b
+        → (type ≡ other) × (primary_key a ≡ primary_key b) }
+    ensures storable { (schema : SchemaValue) (type : TypeValue) (key value : List ℕ) (r : RecordValue) →
+        IsLawfulSchema schema → IsTypeOf schema type → IsStoredAs type key value r → IsStorable r }
+    ensures typed { (schema : SchemaValue) (name : List ℕ) (type : TypeValue) → IsLawfulSchema schema →
+        find_type schema name ≡ Some type → IsTypeOf schema type }
 {}

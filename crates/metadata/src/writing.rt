@@ -2,7 +2,8 @@
 ghost use Rattle.std.specs.Prelude.{◌≡◌, ◌<◌, map, IfOk};
 ghost use Rattle.tuple_codec.specs.Item.{nesting};
 ghost use Rattle.tuple_codec.specs.Elements.{item_in, items_in};
-ghost use Rattle.metadata.specs.Written.{field_item, index_item, index_kind_number, kind_number, nested_item, number_item, summed_item, type_item, written};
+ghost use Rattle.metadata.specs.Written.{field_item, index_item, index_kind_number, kind_number};
+ghost use Rattle.metadata.specs.Written.{nested_item, number_item, summed_item, type_item, written};
 
 use crate::cells::Kind;
 use crate::definition::{Field, TypeDefinition};

@@ -36,7 +36,8 @@ fn tuple_in(alloc: Global, bytes: &[u8]) -> Result<Tuple, MetadataError>
 // The types that a tuple asks for.
 fn types_in(alloc: Global, tuple: &Tuple) -> Result<Option<Schema>, AllocError>
     ensures read { IfOk result (λ found. option_map (λ schema. schema.types) found ≡ types_in tuple.now) }
-    ensures made { IfOk result (λ found. IfSome found (λ schema. (requests : List TypeRequest) × (schema_of requests ≡ Ok schema))) }
+    ensures made { IfOk result (λ found. IfSome found (λ schema.
+        (requests : List TypeRequest) × (schema_of requests ≡ Ok schema))) }
 {
     let Some(requests) = requests_in(alloc, tuple)? else {
         return Ok(None);
@@ -110,8 +111,12 @@ pub fn schemas_are_written_once()
 /// What calls make of lawful schemas is lawful: types that requests make, a type or an index that
 /// is added, and an index that is dropped.
 pub fn schemas_stay_lawful()
-    ensures made { (requests : List TypeRequest) (schema : SchemaValue) → schema_of requests ≡ Ok schema → IsLawfulSchema schema }
-    ensures types { (schema next : SchemaValue) (request : TypeRequest) → IsLawfulSchema schema → add_type schema request ≡ Ok next → IsLawfulSchema next }
-    ensures indexes { (schema next : SchemaValue) (request : IndexRequest) → IsLawfulSchema schema → add_index schema request ≡ Ok next → IsLawfulSchema next }
-    ensures dropped { (schema next : SchemaValue) (name : List ℕ) → IsLawfulSchema schema → drop_index schema name ≡ Ok next → IsLawfulSchema next }
+    ensures made { (requests : List TypeRequest) (schema : SchemaValue) → schema_of requests ≡ Ok schema →
+        IsLawfulSchema schema }
+    ensures types { (schema next : SchemaValue) (request : TypeRequest) → IsLawfulSchema schema →
+        add_type schema request ≡ Ok next → IsLawfulSchema next }
+    ensures indexes { (schema next : SchemaValue) (request : IndexRequest) → IsLawfulSchema schema →
+        add_index schema request ≡ Ok next → IsLawfulSchema next }
+    ensures dropped { (schema next : SchemaValue) (name : List ℕ) → IsLawfulSchema schema →
+        drop_index schema name ≡ Ok next → IsLawfulSchema next }
 {}

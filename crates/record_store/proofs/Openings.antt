@@ -240,7 +240,6 @@ module _ (prefix : List ℕ) where
       all_disabled [] all = tt
       all_disabled (one ∷ left) all = (all.0.state, all_disabled left all.1)
 
-  -- ---- damage
   -- the pairs of a range lie in it
   kept_lie : (range : KeyRange) (es : List Pair) → AllByRecursion (λ (e : Pair). contains range e.0 ≡ true) (filter (λ (e : Pair). contains range e.0) es)
   kept_lie range [] = tt

@@ -30,7 +30,8 @@ pub record IsOpenAs (opened : Opened) (store : Store) : Type 0 where
   pub schema : store.schema ≡ opened.schema
   pub states : store.states ≡ opened.states
 
--- what a call reads of a map, in reading order: the ranges that it asks for, those that it adds to the ranges read, and the pairs
+-- what a call reads of a map, in reading order: the ranges that it asks for, those that it adds to the ranges read, and
+-- the pairs
 pub record Reading : Type 0 where
   pub asked : List KeyRange
   pub added : Map → List KeyRange
@@ -42,9 +43,15 @@ whole ranges = record { asked = ranges; added = λ m. ranges; pairs = λ m. read
 
 -- the first pair of a range is read, if there is one
 abbrev pub first_of : KeyRange → Reading
-first_of range = record { asked = range ∷ []; added = λ m. range_read range 1 false (read_of m range 1 false) ∷ []; pairs = λ m. read_of m range 1 false }
+first_of range =
+    record {
+      asked = range ∷ [];
+      added = λ m. range_read range 1 false (read_of m range 1 false) ∷ [];
+      pairs = λ m. read_of m range 1 false;
+    }
 
--- what a call does that isn't refused: what it reads, and by the store that is there what it answers, the store after it, and exactly what it writes; and whether an answer tells that something was written
+-- what a call does that isn't refused: what it reads, and by the store that is there what it answers, the store after
+-- it, and exactly what it writes; and whether an answer tells that something was written
 pub record Service (A : Type 0) : Type 0 where
   pub reading : Reading
   pub answer : Store → A
@@ -60,15 +67,19 @@ Call A = Result (Service A) Refusal
 abbrev pub AtStore : Opened → Map → (Store → Type 0) → Type 0
 AtStore opened m Fact = (store : Store) → Holds opened.prefix m (Some store) → IsOpenAs opened store → Fact store
 
--- what is so at the store that is there: the answer is the store's, these mutations are exactly what the call writes, no limit refuses them, and they lead to a map that holds the store after it
-pub record IsDone {A : Type 0} (opened : Opened) (service : Service A) (answer : A) (before written : List Mutation) (m : Map) (store : Store) : Type 0 where
+-- what is so at the store that is there: the answer is the store's, these mutations are exactly what the call writes,
+-- no limit refuses them, and they lead to a map that holds the store after it
+pub record IsDone {A : Type 0} (opened : Opened) (service : Service A) (answer : A) (before written : List Mutation)
+    (m : Map) (store : Store) : Type 0 where
   pub answers : answer ≡ service.answer store
   pub wrote : written ≡ service.writes store
   pub allowed : write_all_refusal before written ≡ None
   pub holds : Holds opened.prefix (after_all written m) (Some (service.after store))
 
--- a call was answered: it added to the ranges read those that it reads, in their order, the pairs read are of the written form, and the rest is so at each store that is there
-pub record IsAnswered {A : Type 0} (maps : ℕ → Map) (opened : Opened) (call : Call A) (answer : A) (old new : CommitRequest) : Type 0 where
+-- a call was answered: it added to the ranges read those that it reads, in their order, the pairs read are of the
+-- written form, and the rest is so at each store that is there
+pub record IsAnswered {A : Type 0} (maps : ℕ → Map) (opened : Opened) (call : Call A) (answer : A)
+    (old new : CommitRequest) : Type 0 where
   pub service : Service A
   pub accepted : call ≡ Ok service
   pub added : List KeyRange
@@ -78,27 +89,40 @@ pub record IsAnswered {A : Type 0} (maps : ℕ → Map) (opened : Opened) (call 
       × AllByRecursion (IsRecordPair opened.prefix opened.schema) (service.reading.pairs m)
       × AtStore opened m (IsDone opened service answer old.mutations written m))
 
--- why reads aren't answered: memory is wanting, or a read is refused, in either case behind the first ones; or all were answered, and the first pair read that isn't of the written form has this key, which no store has
+-- why reads aren't answered: memory is wanting, or a read is refused, in either case behind the first ones; or all were
+-- answered, and the first pair read that isn't of the written form has this key, which no store has
 abbrev pub IsUnread : (KeyRange → ReadError → Type 0) → Opened → Reading → StoreError → List KeyRange → Map → Type 0
 IsUnread refuses opened reading Memory added m = IsBeginning added (reading.added m)
-IsUnread refuses opened reading (Read error) added m = IsBeginning added (reading.added m) × IsNextRefused refuses reading.asked added error
+IsUnread refuses opened reading (Read error) added m =
+    IsBeginning added (reading.added m) × IsNextRefused refuses reading.asked added error
 IsUnread refuses opened reading (Corrupt key) added m =
-    (added ≡ reading.added m) × IsFirstBad (IsRecordPair opened.prefix opened.schema) (reading.pairs m) key × AtStore opened m (λ store. ⊥)
+    (added ≡ reading.added m) × IsFirstBad (IsRecordPair opened.prefix opened.schema) (reading.pairs m) key
+    × AtStore opened m (λ store. ⊥)
 IsUnread refuses opened reading error added m = ⊥
 
--- why a service isn't done: its reads aren't answered, or all were, all pairs are of the written form, and a limit refuses what is to be written
-abbrev pub IsFailure : {A : Type 0} → (KeyRange → ReadError → Type 0) → Opened → Service A → StoreError → List Mutation → List KeyRange → Map → Type 0
+-- why a service isn't done: its reads aren't answered, or all were, all pairs are of the written form, and a limit
+-- refuses what is to be written
+abbrev pub IsFailure :
+    {A : Type 0} → (KeyRange → ReadError → Type 0) → Opened → Service A → StoreError → List Mutation → List KeyRange →
+    Map → Type 0
 IsFailure refuses opened service (Write error) before added m =
-    (added ≡ service.reading.added m) × AllByRecursion (IsRecordPair opened.prefix opened.schema) (service.reading.pairs m)
+    (added ≡ service.reading.added m)
+    × AllByRecursion (IsRecordPair opened.prefix opened.schema) (service.reading.pairs m)
     × AtStore opened m (λ store. write_all_refusal before (service.writes store) ≡ Some error)
 IsFailure refuses opened service error before added m = IsUnread refuses opened service.reading error added m
 
 -- a service wasn't done: it added these ranges to those read, and wrote nothing
-pub record IsUndone {A : Type 0} (maps : ℕ → Map) (refuses : KeyRange → ℕ → ReadError → Type 0) (opened : Opened) (service : Service A) (error : StoreError) (old new : CommitRequest) : Type 0 where
+pub record IsUndone {A : Type 0} (maps : ℕ → Map) (refuses : KeyRange → ℕ → ReadError → Type 0) (opened : Opened)
+    (service : Service A) (error : StoreError) (old new : CommitRequest) : Type 0 where
   pub added : List KeyRange
-  pub ran : DidRead maps added old new (IsFailure (λ range. refuses range old.read_version) opened service error old.mutations added)
+  pub ran :
+      DidRead maps added old new
+      (IsFailure (λ range. refuses range old.read_version) opened service error old.mutations added)
 
--- why a call wasn't answered: its own refusal, before it read anything; or what it does wasn't done. Want of memory can come anywhere
-abbrev pub IsRefused : {A : Type 0} → (ℕ → Map) → (KeyRange → ℕ → ReadError → Type 0) → Opened → Call A → StoreError → CommitRequest → CommitRequest → Type 0
+-- why a call wasn't answered: its own refusal, before it read anything; or what it does wasn't done. Want of memory can
+-- come anywhere
+abbrev pub IsRefused :
+    {A : Type 0} → (ℕ → Map) → (KeyRange → ℕ → ReadError → Type 0) → Opened → Call A → StoreError → CommitRequest →
+    CommitRequest → Type 0
 IsRefused maps refuses opened (Err refusal) error old new = ((error ≡ Memory) ⊎ (error ≡ Refused refusal)) × (new ≡ old)
 IsRefused maps refuses opened (Ok service) error old new = IsUndone maps refuses opened service error old new

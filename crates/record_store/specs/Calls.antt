@@ -20,7 +20,8 @@ use Rattle.metadata.specs.Records.{of_type, record_at}
 use Rattle.metadata.specs.Same.{same_type}
 use Rattle.metadata.specs.Schema.{Schema, find_index, find_type}
 use Rattle.metadata.specs.Written.{schema_bytes}
-use Rattle.record_store.specs.Store.{disabled, dropped, extended, indexed, listed_as, new_state, removed, saved, state_in, with_state, without_state}
+use Rattle.record_store.specs.Store.{disabled, dropped, extended, indexed, listed_as, new_state}
+use Rattle.record_store.specs.Store.{removed, saved, state_in, with_state, without_state}
 use Rattle.record_store.specs.Layout.{record_key, schema_key, type_range}
 use Rattle.record_store.specs.IndexWrites.{disable_writes, drop_writes, index_added_writes, remove_writes, save_writes}
 use Rattle.record_store.specs.Call.{Call, Opened, Service, first_of, whole}
@@ -159,11 +160,16 @@ disable_call opened name = done_with (disable_service opened) (index_number (fin
 
 -- the opened store without the index with this number, and with that index disabled
 abbrev pub opened_without : Opened → ℕ → Opened
-opened_without opened number = record opened { schema = without_index opened.schema number; states = without_state number opened.states }
+opened_without opened number =
+    record opened { schema = without_index opened.schema number; states = without_state number opened.states }
 
 abbrev pub opened_disabled : Opened → ℕ → Opened
 opened_disabled opened number = record opened { states = with_state number Disabled opened.states }
 
 -- STATE: the state of the index of this name, or the refusal
 abbrev pub state_named : Opened → List ℕ → Result State Refusal
-state_named opened name = elim (find_index opened.schema name) [ None ↦ Err UnknownIndex | Some index ↦ Ok (state_in opened.states index.number) ]
+state_named opened name =
+    elim (find_index opened.schema name) [
+      | None ↦ Err UnknownIndex
+      | Some index ↦ Ok (state_in opened.states index.number)
+    ]

@@ -36,7 +36,8 @@ abbrev pub AreRising : List (ℕ × State) → Type 0
 AreRising [] = Unit {0}
 AreRising (one ∷ states) = AllByRecursion (λ later. one.0 < later.0) states × AreRising states
 
--- a lawful store: its schema is one that calls make, its records are of the schema, in order, and can be stored, and its states are those of indexes that aren't readable, by rising numbers
+-- a lawful store: its schema is one that calls make, its records are of the schema, in order, and can be stored, and
+-- its states are those of indexes that aren't readable, by rising numbers
 pub record IsLawful (store : Store) : Type 0 where
   pub schema : IsLawfulSchema store.schema
   pub typed : AllByRecursion (IsOfSchema store.schema) store.records
@@ -74,9 +75,11 @@ pub record HoldsStore (prefix : List ℕ) (m : Map) (store : Store) : Type 0 whe
   pub lawful : IsLawful store
   pub schema : get m (schema_key prefix) ≡ Some (schema_bytes store.schema)
   pub records : HasPairs (place prefix 1) (map (record_pair prefix) store.records) m
-  pub entries : AllByRecursion (λ index. HasIndex prefix store.records m index (state_of store index.number)) store.schema.indexes
+  pub entries :
+      AllByRecursion (λ index. HasIndex prefix store.records m index (state_of store index.number)) store.schema.indexes
   pub states : HasPairs (place prefix 5) (map (state_pair prefix) store.states) m
-  pub nothing_else : (key : List ℕ) → BeginsWith prefix key → IsElsewhere prefix store.schema.indexes key → get m key ≡ None
+  pub nothing_else :
+      (key : List ℕ) → BeginsWith prefix key → IsElsewhere prefix store.schema.indexes key → get m key ≡ None
 
 -- under the prefix the map has nothing, or just what stands for the store
 abbrev pub Holds : List ℕ → Map → Serial → Type 0

@@ -1,5 +1,6 @@
 -- What calls on a store with indexes write.
-use Rattle.std.specs.Prelude.{ℕ, Bool, true, false, ◌==◌, ◌&&◌, if◌then◌else◌, List, [], ◌∷◌, Option, Some, None, filter}
+use Rattle.std.specs.Prelude.{ℕ, Bool, true, false, ◌==◌, ◌&&◌, if◌then◌else◌}
+use Rattle.std.specs.Prelude.{List, [], ◌∷◌, Option, Some, None, filter}
 use Rattle.std.specs.List.{flat_map}
 use Rattle.tuple_codec.specs.Item.{Item}
 use Rattle.kv_core.specs.Range.{point}
@@ -30,27 +31,36 @@ store_of opened = record { schema = opened.schema; records = []; states = opened
 abbrev pub readable_indexes : Store → List IndexDefinition
 readable_indexes store = filter (λ index. is_readable (state_of store index.number)) store.schema.indexes
 
--- what is written for one index where a record of the type with this number gives way to another: its changes, where it is of the type and readable
+-- what is written for one index where a record of the type with this number gives way to another: its changes, where it
+-- is of the type and readable
 abbrev pub one_index_writes : Opened → ℕ → Option Record → Option Record → IndexDefinition → List Mutation
-one_index_writes opened number old new index = if index.type_number == number && is_readable (state_in opened.states index.number) then value_changes opened.prefix index old new else []
+one_index_writes opened number old new index =
+    if index.type_number == number && is_readable (state_in opened.states index.number)
+    then value_changes opened.prefix index old new else []
 
--- what is written for the indexes where a record of the type with this number gives way to another: the changes of each readable index of the type
+-- what is written for the indexes where a record of the type with this number gives way to another: the changes of each
+-- readable index of the type
 abbrev pub index_writes : List ℕ → Store → ℕ → Option Record → Option Record → List Mutation
-index_writes prefix store number old new = flat_map (λ index. value_changes prefix index old new) (filter (λ index. index.type_number == number) (readable_indexes store))
+index_writes prefix store number old new =
+    flat_map (λ index. value_changes prefix index old new)
+    (filter (λ index. index.type_number == number) (readable_indexes store))
 
 -- SAVE: the record is put, then its indexes follow
 abbrev pub save_writes : List ℕ → Store → Record → List Mutation
 save_writes prefix store new =
-    Set (record_key prefix (primary_key new)) (record_value new.cells) ∷ index_writes prefix store new.definition.number (record_at (primary_key new) store.records) (Some new)
+    Set (record_key prefix (primary_key new)) (record_value new.cells)
+    ∷ index_writes prefix store new.definition.number (record_at (primary_key new) store.records) (Some new)
 
 -- REMOVE: the record with this primary key is taken out where it is there, then its indexes follow
 abbrev pub remove_writes : List ℕ → Store → List Item → Option Record → List Mutation
 remove_writes prefix store key None = []
-remove_writes prefix store key (Some old) = ClearRange (point (record_key prefix key)) ∷ index_writes prefix store old.definition.number (Some old) None
+remove_writes prefix store key (Some old) =
+    ClearRange (point (record_key prefix key)) ∷ index_writes prefix store old.definition.number (Some old) None
 
 -- DISABLE: the state is put, and the entries are taken out
 abbrev pub disable_writes : List ℕ → ℕ → List Mutation
-disable_writes prefix number = Set (state_key prefix number) (state_value Disabled) ∷ ClearRange (entries_range prefix number) ∷ []
+disable_writes prefix number =
+    Set (state_key prefix number) (state_value Disabled) ∷ ClearRange (entries_range prefix number) ∷ []
 
 -- what is written of a new index's state: nothing where it is readable
 abbrev pub state_writes : List ℕ → ℕ → State → List Mutation
@@ -60,9 +70,11 @@ state_writes prefix number state = Set (state_key prefix number) (state_value st
 -- INDEX: the schema is written with one more index, and the index's state
 abbrev pub index_added_writes : List ℕ → Store → IndexDefinition → List Mutation
 index_added_writes prefix store index =
-    Set (schema_key prefix) (schema_bytes (with_index store.schema index)) ∷ state_writes prefix index.number (new_state (of_type index.type_number store.records))
+    Set (schema_key prefix) (schema_bytes (with_index store.schema index))
+    ∷ state_writes prefix index.number (new_state (of_type index.type_number store.records))
 
 -- DROP: the schema is written without the index, whose entries and state are taken out
 abbrev pub drop_writes : List ℕ → Store → ℕ → List Mutation
 drop_writes prefix store number =
-    Set (schema_key prefix) (schema_bytes (without_index store.schema number)) ∷ ClearRange (entries_range prefix number) ∷ ClearRange (point (state_key prefix number)) ∷ []
+    Set (schema_key prefix) (schema_bytes (without_index store.schema number))
+    ∷ ClearRange (entries_range prefix number) ∷ ClearRange (point (state_key prefix number)) ∷ []

@@ -59,8 +59,13 @@ state_pair prefix listed = (state_key prefix listed.0, state_value listed.1)
 
 -- the range of the entries of the index with this number
 abbrev pub entries_range : List ℕ → ℕ → KeyRange
-entries_range prefix number = record { begin = entries_prefix prefix number; end = entries_prefix prefix number ++ 255 ∷ [] }
+entries_range prefix number =
+    record { begin = entries_prefix prefix number; end = entries_prefix prefix number ++ 255 ∷ [] }
 
 -- the range of the records of the type with this number
 abbrev pub type_range : List ℕ → ℕ → KeyRange
-type_range prefix number = record { begin = record_key prefix (int (pos number) ∷ []); end = record_key prefix (int (pos number) ∷ []) ++ 255 ∷ [] }
+type_range prefix number =
+    record {
+      begin = record_key prefix (int (pos number) ∷ []);
+      end = record_key prefix (int (pos number) ∷ []) ++ 255 ∷ [];
+    }

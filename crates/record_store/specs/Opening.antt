@@ -31,7 +31,8 @@ opening_reach prefix = point (schema_key prefix) ∷ states_range prefix ∷ []
 abbrev pub AtSerials : List ℕ → Map → (Serial → Type 0) → Type 0
 AtSerials prefix m Fact = (serial : Serial) → Holds prefix m serial → Fact serial
 
--- the map has the bytes of this schema, all of whose indexes are VALUE indexes, and the pairs of these states, each of an index that is disabled
+-- the map has the bytes of this schema, all of whose indexes are VALUE indexes, and the pairs of these states, each of
+-- an index that is disabled
 pub record HasSchema (opened : Opened) (m : Map) : Type 0 where
   pub made : IsLawfulSchema opened.schema
   pub kinds : AllByRecursion (λ index. index.kind ≡ Value) opened.schema.indexes
@@ -44,44 +45,65 @@ abbrev pub IsThereAs : Opened → Serial → Type 0
 IsThereAs opened None = ⊥
 IsThereAs opened (Some store) = IsOpenAs opened store
 
--- a store was opened: just what opening reads was read, every map that agrees with it has the store's schema and its states, and what it holds is a store with them
+-- a store was opened: just what opening reads was read, every map that agrees with it has the store's schema and its
+-- states, and what it holds is a store with them
 pub record IsOpened (maps : ℕ → Map) (opened : Opened) (old new : CommitRequest) : Type 0 where
-  pub ran : DidRead maps (opening_reach opened.prefix) old new (λ m. HasSchema opened m × AtSerials opened.prefix m (IsThereAs opened))
+  pub ran :
+      DidRead maps (opening_reach opened.prefix) old new (λ m.
+      HasSchema opened m × AtSerials opened.prefix m (IsThereAs opened))
 
--- why no store is opened: memory is wanting, or a read is refused, in either case behind the first ones; or all was read, and no schema stands there, or a pair does and the first pair read that isn't of the written form has this key, which no store has whose indexes are VALUE indexes, each readable or disabled
+-- why no store is opened: memory is wanting, or a read is refused, in either case behind the first ones; or all was
+-- read, and no schema stands there, or a pair does and the first pair read that isn't of the written form has this key,
+-- which no store has whose indexes are VALUE indexes, each readable or disabled
 abbrev pub IsOpenFailure : (KeyRange → ReadError → Type 0) → List ℕ → StoreError → List KeyRange → Map → Type 0
 IsOpenFailure refuses prefix Memory added m = IsBeginning added (opening_reach prefix)
-IsOpenFailure refuses prefix (Read error) added m = IsBeginning added (opening_reach prefix) × IsNextRefused refuses (opening_reach prefix) added error
+IsOpenFailure refuses prefix (Read error) added m =
+    IsBeginning added (opening_reach prefix) × IsNextRefused refuses (opening_reach prefix) added error
 IsOpenFailure refuses prefix (Refused refusal) added m =
-    (added ≡ opening_reach prefix) × (refusal ≡ NoStore) × (get m (schema_key prefix) ≡ None) × AtSerials prefix m (λ serial. serial ≡ None)
+    (added ≡ opening_reach prefix) × (refusal ≡ NoStore) × (get m (schema_key prefix) ≡ None)
+    × AtSerials prefix m (λ serial. serial ≡ None)
 IsOpenFailure refuses prefix (Corrupt key) added m =
     (added ≡ opening_reach prefix) × (get m (schema_key prefix) ≡ None → ⊥)
-    × IsFirstBad (IsOpeningPair prefix m) (read_in m (opening_reach prefix)) key × AtSerials prefix m (λ serial. IsPlain serial → ⊥)
+    × IsFirstBad (IsOpeningPair prefix m) (read_in m (opening_reach prefix)) key
+    × AtSerials prefix m (λ serial. IsPlain serial → ⊥)
 IsOpenFailure refuses prefix (Write error) added m = ⊥
 
 -- a store wasn't opened: these ranges were added to those read, and nothing was written
-pub record IsUnopened (maps : ℕ → Map) (refuses : KeyRange → ℕ → ReadError → Type 0) (prefix : List ℕ) (error : StoreError) (old new : CommitRequest) : Type 0 where
+pub record IsUnopened (maps : ℕ → Map) (refuses : KeyRange → ℕ → ReadError → Type 0) (prefix : List ℕ)
+    (error : StoreError) (old new : CommitRequest) : Type 0 where
   pub added : List KeyRange
   pub ran : DidRead maps added old new (IsOpenFailure (λ range. refuses range old.read_version) prefix error added)
 
--- a store was made: just what opening reads was read, no schema stood there and nothing was there, its schema is all that was written, within the limits, and a map that holds a new store of it is what comes of that
+-- a store was made: just what opening reads was read, no schema stood there and nothing was there, its schema is all
+-- that was written, within the limits, and a map that holds a new store of it is what comes of that
 pub record IsCreated (maps : ℕ → Map) (opened : Opened) (old new : CommitRequest) : Type 0 where
   pub allowed : write_all_refusal old.mutations (schema_writes opened.prefix opened.schema) ≡ None
   pub ran : Ran maps (opening_reach opened.prefix) old new (schema_writes opened.prefix opened.schema)
       (λ m. (get m (schema_key opened.prefix) ≡ None)
-      × AtSerials opened.prefix m (λ serial. (serial ≡ None) × Holds opened.prefix (after_all (schema_writes opened.prefix opened.schema) m) (Some (created opened.schema))))
+      × AtSerials opened.prefix m (λ serial. (serial ≡ None)
+      × Holds opened.prefix (after_all (schema_writes opened.prefix opened.schema) m)
+      (Some (created opened.schema))))
 
--- why no store is made: memory is wanting, or a read is refused, in either case behind the first ones; or all was read that an opening reads, and a pair stands where a schema does, or a limit refuses the schema
-abbrev pub IsCreateFailure : (KeyRange → ReadError → Type 0) → Opened → StoreError → List Mutation → List KeyRange → Map → Type 0
+-- why no store is made: memory is wanting, or a read is refused, in either case behind the first ones; or all was read
+-- that an opening reads, and a pair stands where a schema does, or a limit refuses the schema
+abbrev pub IsCreateFailure :
+    (KeyRange → ReadError → Type 0) → Opened → StoreError → List Mutation → List KeyRange → Map → Type 0
 IsCreateFailure refuses opened Memory before added m = IsBeginning added (opening_reach opened.prefix)
-IsCreateFailure refuses opened (Read error) before added m = IsBeginning added (opening_reach opened.prefix) × IsNextRefused refuses (opening_reach opened.prefix) added error
+IsCreateFailure refuses opened (Read error) before added m =
+    IsBeginning added (opening_reach opened.prefix) × IsNextRefused refuses (opening_reach opened.prefix) added error
 IsCreateFailure refuses opened (Refused refusal) before added m =
-    (added ≡ opening_reach opened.prefix) × (refusal ≡ AlreadyThere) × (get m (schema_key opened.prefix) ≡ None → ⊥) × AtSerials opened.prefix m (λ serial. serial ≡ None → ⊥)
+    (added ≡ opening_reach opened.prefix) × (refusal ≡ AlreadyThere) × (get m (schema_key opened.prefix) ≡ None → ⊥)
+    × AtSerials opened.prefix m (λ serial. serial ≡ None → ⊥)
 IsCreateFailure refuses opened (Write error) before added m =
-    (added ≡ opening_reach opened.prefix) × (get m (schema_key opened.prefix) ≡ None) × (write_all_refusal before (schema_writes opened.prefix opened.schema) ≡ Some error) × AtSerials opened.prefix m (λ serial. serial ≡ None)
+    (added ≡ opening_reach opened.prefix) × (get m (schema_key opened.prefix) ≡ None)
+    × (write_all_refusal before (schema_writes opened.prefix opened.schema) ≡ Some error)
+    × AtSerials opened.prefix m (λ serial. serial ≡ None)
 IsCreateFailure refuses opened (Corrupt key) before added m = ⊥
 
 -- a store wasn't made: these ranges were added to those read, and nothing was written
-pub record IsUncreated (maps : ℕ → Map) (refuses : KeyRange → ℕ → ReadError → Type 0) (opened : Opened) (error : StoreError) (old new : CommitRequest) : Type 0 where
+pub record IsUncreated (maps : ℕ → Map) (refuses : KeyRange → ℕ → ReadError → Type 0) (opened : Opened)
+    (error : StoreError) (old new : CommitRequest) : Type 0 where
   pub added : List KeyRange
-  pub ran : DidRead maps added old new (IsCreateFailure (λ range. refuses range old.read_version) opened error old.mutations added)
+  pub ran :
+      DidRead maps added old new
+      (IsCreateFailure (λ range. refuses range old.read_version) opened error old.mutations added)

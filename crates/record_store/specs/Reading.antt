@@ -37,7 +37,8 @@ IsReadError refuses asked added (Read error) = IsBeginning added asked × IsNext
 IsReadError refuses asked added error = ⊥
 
 -- reads of these ranges came to an error
-pub record HasNotRead (maps : ℕ → Map) (refuses : KeyRange → ℕ → ReadError → Type 0) (asked : List KeyRange) (error : StoreError) (old new : CommitRequest) : Type 0 where
+pub record HasNotRead (maps : ℕ → Map) (refuses : KeyRange → ℕ → ReadError → Type 0) (asked : List KeyRange)
+    (error : StoreError) (old new : CommitRequest) : Type 0 where
   pub added : List KeyRange
   pub ran : DidRead maps added old new (λ m. IsReadError (λ range. refuses range old.read_version) asked added error)
 
@@ -58,7 +59,9 @@ pub record IsSchema (written : Option (List ℕ)) (schema : Schema) : Type 0 whe
 
 -- the bytes are those of no schema whose indexes are all VALUE indexes
 abbrev pub AreOfNoSchema : List ℕ → Type 0
-AreOfNoSchema bytes = (schema : Schema) → IsLawfulSchema schema → AllByRecursion (λ index. index.kind ≡ Value) schema.indexes → bytes ≡ schema_bytes schema → ⊥
+AreOfNoSchema bytes =
+    (schema : Schema) → IsLawfulSchema schema → AllByRecursion (λ index. index.kind ≡ Value) schema.indexes →
+    bytes ≡ schema_bytes schema → ⊥
 
 -- why bytes are no schema: memory is wanting, or they are those of none
 abbrev pub IsBadSchema : List ℕ → List ℕ → StoreError → Type 0
@@ -72,7 +75,8 @@ IsNoSchema prefix None error = error ≡ Refused NoStore
 IsNoSchema prefix (Some bytes) error = IsBadSchema prefix bytes error
 
 -- a pair is that of the state of one of the indexes
-pub record IsPairOfState (prefix : List ℕ) (indexes : List IndexDefinition) (pair : List ℕ × List ℕ) (listed : ℕ × State) : Type 0 where
+pub record IsPairOfState (prefix : List ℕ) (indexes : List IndexDefinition) (pair : List ℕ × List ℕ)
+    (listed : ℕ × State) : Type 0 where
   pub disabled : IsDisabledOf indexes listed
   pub is : pair ≡ state_pair prefix listed
 
@@ -83,12 +87,14 @@ IsNoState prefix indexes pair (Corrupt key) = (key ≡ pair.0) × (IsStatePair p
 IsNoState prefix indexes pair error = ⊥
 
 -- the pairs are those of these states, each of one of the indexes
-pub record AreStates (prefix : List ℕ) (indexes : List IndexDefinition) (pairs : List (List ℕ × List ℕ)) (states : List (ℕ × State)) : Type 0 where
+pub record AreStates (prefix : List ℕ) (indexes : List IndexDefinition) (pairs : List (List ℕ × List ℕ))
+    (states : List (ℕ × State)) : Type 0 where
   pub disabled : AllByRecursion (IsDisabledOf indexes) states
   pub are : pairs ≡ map (state_pair prefix) states
 
 -- behind pairs of states one isn't
-pub record IsBadStateAmong (prefix : List ℕ) (indexes : List IndexDefinition) (pairs : List (List ℕ × List ℕ)) (error : StoreError) : Type 0 where
+pub record IsBadStateAmong (prefix : List ℕ) (indexes : List IndexDefinition) (pairs : List (List ℕ × List ℕ))
+    (error : StoreError) : Type 0 where
   pub before : List (List ℕ × List ℕ)
   pub bad : List ℕ × List ℕ
   pub behind : List (List ℕ × List ℕ)
@@ -119,13 +125,15 @@ IsNotFound type key at value Memory = Unit {0}
 IsNotFound type key at (Some value) (Corrupt damaged) = (damaged ≡ at) × IsOfNoRecord type key value
 IsNotFound type key at value error = ⊥
 
--- the record of a primary key was read: what was read is of the written form, and this record, or none, is the one that is there
+-- the record of a primary key was read: what was read is of the written form, and this record, or none, is the one that
+-- is there
 abbrev pub IsRead : Opened → List Item → Option Record → Map → Type 0
 IsRead opened key found m =
     AllByRecursion (IsRecordPair opened.prefix opened.schema) (read_in m (point (record_key opened.prefix key) ∷ []))
     × AtStore opened m (λ store. found ≡ record_at key store.records)
 
--- the first record of a type was read, if there is one: this range was added, what was read is of the written form, and a new index over the type has this state
+-- the first record of a type was read, if there is one: this range was added, what was read is of the written form, and
+-- a new index over the type has this state
 abbrev pub IsStateRead : Opened → ℕ → State → KeyRange → Map → Type 0
 IsStateRead opened number state added m =
     (added ≡ range_read (type_range opened.prefix number) 1 false (read_of m (type_range opened.prefix number) 1 false))
@@ -133,17 +141,20 @@ IsStateRead opened number state added m =
     × AtStore opened m (λ store. state ≡ new_state (of_type number store.records))
 
 -- so was the state of a new index
-pub record HasRead (maps : ℕ → Map) (opened : Opened) (number : ℕ) (state : State) (old new : CommitRequest) : Type 0 where
+pub record HasRead (maps : ℕ → Map) (opened : Opened) (number : ℕ) (state : State) (old new : CommitRequest) :
+    Type 0 where
   pub added : KeyRange
   pub ran : DidRead maps (added ∷ []) old new (IsStateRead opened number state added)
 
 -- reads of an open store weren't answered
-pub record HasNotFound (maps : ℕ → Map) (refuses : KeyRange → ℕ → ReadError → Type 0) (opened : Opened) (reading : Reading) (error : StoreError) (old new : CommitRequest) : Type 0 where
+pub record HasNotFound (maps : ℕ → Map) (refuses : KeyRange → ℕ → ReadError → Type 0) (opened : Opened)
+    (reading : Reading) (error : StoreError) (old new : CommitRequest) : Type 0 where
   pub added : List KeyRange
   pub ran : DidRead maps added old new (IsUnread (λ range. refuses range old.read_version) opened reading error added)
 
 -- a pair has the key of a record of the type behind the place of records, and its value
-pub record IsPairOf (records_place : List ℕ) (type : TypeDefinition) (pair : List ℕ × List ℕ) (stored : Record) : Type 0 where
+pub record IsPairOf (records_place : List ℕ) (type : TypeDefinition) (pair : List ℕ × List ℕ) (stored : Record) :
+    Type 0 where
   pub rest : List ℕ
   pub behind : pair.0 ≡ records_place ++ rest
   pub is : IsStoredAs type rest pair.1 stored
@@ -151,17 +162,20 @@ pub record IsPairOf (records_place : List ℕ) (type : TypeDefinition) (pair : L
 -- why a pair is that of no record of the type: memory is wanting, or its key or its value is that of none
 abbrev pub IsPairOfNone : List ℕ → TypeDefinition → List ℕ × List ℕ → StoreError → Type 0
 IsPairOfNone records_place type pair Memory = Unit {0}
-IsPairOfNone records_place type pair (Corrupt key) = (key ≡ pair.0) × ((stored : Record) → IsPairOf records_place type pair stored → ⊥)
+IsPairOfNone records_place type pair (Corrupt key) =
+    (key ≡ pair.0) × ((stored : Record) → IsPairOf records_place type pair stored → ⊥)
 IsPairOfNone records_place type pair error = ⊥
 
 -- records are those of pairs, one for each
 abbrev pub ArePairsOf : List ℕ → TypeDefinition → List (List ℕ × List ℕ) → List Record → Type 0
 ArePairsOf records_place type [] [] = Unit {0}
-ArePairsOf records_place type (pair ∷ pairs) (stored ∷ records) = IsPairOf records_place type pair stored × ArePairsOf records_place type pairs records
+ArePairsOf records_place type (pair ∷ pairs) (stored ∷ records) =
+    IsPairOf records_place type pair stored × ArePairsOf records_place type pairs records
 ArePairsOf records_place type pairs records = ⊥
 
 -- why pairs have no records: memory is wanting, or behind pairs that are those of records one isn't
-pub record IsBadAmong (records_place : List ℕ) (type : TypeDefinition) (pairs : List (List ℕ × List ℕ)) (error : StoreError) : Type 0 where
+pub record IsBadAmong (records_place : List ℕ) (type : TypeDefinition) (pairs : List (List ℕ × List ℕ))
+    (error : StoreError) : Type 0 where
   pub before : List (List ℕ × List ℕ)
   pub bad : List ℕ × List ℕ
   pub behind : List (List ℕ × List ℕ)

@@ -40,7 +40,8 @@ abbrev pub of_metadata : MetadataError → StoreError
 of_metadata meta.Memory = Memory
 of_metadata (meta.Refused refusal) = Refused refusal
 
--- a run read just these ranges, in this order, and wrote nothing, and the fact stands of every map that agrees with what was read
+-- a run read just these ranges, in this order, and wrote nothing, and the fact stands of every map that agrees with
+-- what was read
 abbrev pub DidRead : (ℕ → Map) → List KeyRange → CommitRequest → CommitRequest → (Map → Type 0) → Type 0
 DidRead maps added old new Fact = Ran maps added old new [] Fact
 
@@ -50,7 +51,8 @@ pub record IsBeginning (ranges whole : List KeyRange) : Type 0 where
   pub is : whole ≡ ranges ++ rest
 
 -- of the ranges that were asked for, the one behind as many as were added is refused so
-pub record IsNextRefused (refuses : KeyRange → ReadError → Type 0) (asked added : List KeyRange) (error : ReadError) : Type 0 where
+pub record IsNextRefused (refuses : KeyRange → ReadError → Type 0) (asked added : List KeyRange) (error : ReadError) :
+    Type 0 where
   pub range : KeyRange
   pub rest : List KeyRange
   pub next : drop (length added) asked ≡ range ∷ rest

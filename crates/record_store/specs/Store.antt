@@ -13,7 +13,8 @@ use Rattle.metadata.specs.Schema.{Schema}
 use Rattle.metadata.specs.Record.{Record}
 use Rattle.metadata.specs.Records.{of_type, with_record, without_record}
 
--- a store: its records stand in the order of their primary keys, each key once, and so do the states of the indexes that aren't readable, by the indexes' numbers
+-- a store: its records stand in the order of their primary keys, each key once, and so do the states of the indexes
+-- that aren't readable, by the indexes' numbers
 pub record Store : Type 0 where
   pub schema : Schema
   pub records : List Record
@@ -48,7 +49,8 @@ removed store key = record store { records = without_record key store.records }
 abbrev pub extended : Store → Schema → Store
 extended store schema = record store { schema = schema }
 
--- states with this one for the index with a number, in the place of what was listed for it, and without that of the index
+-- states with this one for the index with a number, in the place of what was listed for it, and without that of the
+-- index
 abbrev pub with_state : ℕ → State → List (ℕ × State) → List (ℕ × State)
 with_state number state states = insert_entry nat_cmp states number state
 
@@ -78,7 +80,8 @@ indexed store index = record store {
 }
 
 abbrev pub dropped : Store → ℕ → Store
-dropped store number = record store { schema = without_index store.schema number; states = without_state number store.states }
+dropped store number =
+    record store { schema = without_index store.schema number; states = without_state number store.states }
 
 abbrev pub disabled : Store → ℕ → Store
 disabled store number = record store { states = with_state number Disabled store.states }

@@ -76,8 +76,11 @@ impl Store {
     ) -> Result<State, StoreError>
         requires { find_type self.now.schema definition.now.name ≡ Some definition.now }
         ensures plain { IfOk result (λ state. state ≡ WriteOnly → ⊥) }
-        ensures found { IfOk result (λ state. HasRead (S.map_at db.now) self.now definition.now.number state tx.old tx.new) }
-        ensures refused { IfErr result (λ error. HasNotFound (S.map_at db.now) (S.may_refuse db.now) self.now (first_of (type_range self.now.prefix definition.now.number)) error tx.old tx.new) }
+        ensures found { IfOk result (λ state.
+            HasRead (S.map_at db.now) self.now definition.now.number state tx.old tx.new) }
+        ensures refused { IfErr result (λ error.
+            HasNotFound (S.map_at db.now) (S.may_refuse db.now) self.now
+            (first_of (type_range self.now.prefix definition.now.number)) error tx.old tx.new) }
     {
         let alloc = self.alloc();
         let range = type_range(alloc, self.prefix(), definition.number)?;
@@ -94,7 +97,9 @@ impl Store {
         number: u64,
         state: State,
     ) -> Result<Vec<Mutation>, AllocError>
-        ensures { IfOk result (λ mutations. mutations.items ≡ Set (schema_key self.now.prefix) (schema_bytes next.now) ∷ state_writes self.now.prefix number state) }
+        ensures { IfOk result (λ mutations.
+            mutations.items ≡ Set (schema_key self.now.prefix) (schema_bytes next.now)
+            ∷ state_writes self.now.prefix number state) }
     {
         let alloc = self.alloc();
         let mut mutations = schema_mutations(alloc, self.prefix(), next)?;
@@ -106,9 +111,12 @@ impl Store {
         Ok(mutations)
     }
 
-    /// Adds a VALUE index to the store's schema, and answers its state: it is readable where no record of its type is there, else disabled. Of the type's records only the first is read.
+    /// Adds a VALUE index to the store's schema, and answers its state: it is readable where no
+    /// record of its type is there, else disabled. Of the type's records only the first is read.
     ///
-    /// Refused as `Schema::add_index` is, before anything is read; then with the snapshot's refusal of the read, with `Corrupt` and the first record's key where its pair isn't of the written form, and last with the write limit that is met. After a refusal the store is as before.
+    /// Refused as `Schema::add_index` is, before anything is read; then with the snapshot's refusal
+    /// of the read, with `Corrupt` and the first record's key where its pair isn't of the written
+    /// form, and last with the write limit that is met. After a refusal the store is as before.
     pub fn add_index<S: Snapshot>(
         &mut self,
         tx: &mut Transaction,
@@ -117,11 +125,14 @@ impl Store {
     ) -> Result<State, StoreError>
         requires kind { request.now.kind ≡ Value }
         requires plain { HasPlainIndexes self.old.schema self.old.states }
-        ensures added { IfOk result (λ state. IsAnswered (S.map_at db.now) self.old (index_call self.old request.now) state tx.old tx.new) }
+        ensures added { IfOk result (λ state.
+            IsAnswered (S.map_at db.now) self.old (index_call self.old request.now) state tx.old tx.new) }
         ensures opened { IfOk result (λ state. IsIndexedAs self.old self.new request.now state) }
         ensures plain { OnOk result (HasPlainIndexes self.new.schema self.new.states) }
         ensures kept { OnErr result (self.new ≡ self.old) }
-        ensures refused { IfErr result (λ error. IsRefused (S.map_at db.now) (S.may_refuse db.now) self.old (index_call self.old request.now) error tx.old tx.new) }
+        ensures refused { IfErr result (λ error.
+            IsRefused (S.map_at db.now) (S.may_refuse db.now) self.old
+            (index_call self.old request.now) error tx.old tx.new) }
     {
         let index = self.schema().new_index(request)?;
         let next = self.with_index(request)?;

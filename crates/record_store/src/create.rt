@@ -44,9 +44,12 @@ pub(crate) fn schema_mutations(
 }
 
 impl Store {
-    /// Makes a store of this schema, all of whose indexes are VALUE indexes, without records, under this prefix, which doesn't begin with the byte FF. Its indexes are readable.
+    /// Makes a store of this schema, all of whose indexes are VALUE indexes, without records, under
+    /// this prefix, which doesn't begin with the byte FF. Its indexes are readable.
     ///
-    /// It reads what opening a store reads. Refused with `AlreadyThere` where a pair stands at the schema's key, with the snapshot's refusal of a read, and with the write limit that the schema meets.
+    /// It reads what opening a store reads. Refused with `AlreadyThere` where a pair stands at the
+    /// schema's key, with the snapshot's refusal of a read, and with the write limit that the
+    /// schema meets.
     pub fn create<S: Snapshot>(
         alloc: Global,
         prefix: &[u8],
@@ -61,7 +64,9 @@ impl Store {
         ensures schema { IfOk result (λ store. store.schema ≡ schema.now) }
         ensures states { IfOk result (λ store. store.states ≡ []) }
         ensures plain { IfOk result (λ store. HasPlainIndexes store.schema store.states) }
-        ensures refused { IfErr result (λ error. IsUncreated (S.map_at db.now) (S.may_refuse db.now) (record { prefix = prefix.now; schema = schema.now; states = [] }) error tx.old tx.new) }
+        ensures refused { IfErr result (λ error.
+            IsUncreated (S.map_at db.now) (S.may_refuse db.now)
+            (record { prefix = prefix.now; schema = schema.now; states = [] }) error tx.old tx.new) }
     {
         let _lawful = schema.types();
         let written = read_schema(alloc, prefix, tx, db)?;

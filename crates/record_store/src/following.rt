@@ -48,7 +48,9 @@ impl Store {
         new: Option<&Record>,
         mutations: &mut Vec<Mutation>,
     ) -> Result<(), AllocError>
-        ensures { OnOk result (mutations.new.items ≡ mutations.old.items ++ one_index_writes self.now number (option_copied old.entry) (option_copied new.entry) index.now) }
+        ensures { OnOk result (mutations.new.items
+            ≡ mutations.old.items ++ one_index_writes self.now number (option_copied old.entry)
+            (option_copied new.entry) index.now) }
     {
         if index.type_number == number && self.is_readable(index.number) {
             ValueIndex::push_changes(self.alloc(), self.prefix(), index, old, new, mutations)?;
@@ -56,7 +58,8 @@ impl Store {
         Ok(())
     }
 
-    // Puts what the readable indexes of the type with this number want written where one record of it gives way to another.
+    // Puts what the readable indexes of the type with this number want written where one record of
+    // it gives way to another.
     pub(crate) fn push_index_changes(
         &self,
         number: u64,
@@ -64,7 +67,9 @@ impl Store {
         new: Option<&Record>,
         mutations: &mut Vec<Mutation>,
     ) -> Result<(), AllocError>
-        ensures { OnOk result (mutations.new.items ≡ mutations.old.items ++ index_writes self.now.prefix (store_of self.now) number (option_copied old.entry) (option_copied new.entry)) }
+        ensures { OnOk result (mutations.new.items
+            ≡ mutations.old.items ++ index_writes self.now.prefix (store_of self.now) number (option_copied old.entry)
+            (option_copied new.entry)) }
     {
         for index in self.schema().indexes() {
             self.push_changes_of(index, number, old, new, mutations)?;

@@ -15,7 +15,8 @@ ghost use Rattle.record_store.specs.Layout.{entries_range, schema_key, state_key
 ghost use Rattle.record_store.specs.Store.{still_listed, with_state};
 ghost use Rattle.txn.specs.Refusing.{NeverRefuses};
 ghost use Rattle.record_store.specs.Call.{IsAnswered, IsRefused};
-ghost use Rattle.record_store.specs.Calls.{disable_call, drop_call, index_number, opened_disabled, opened_without, state_named};
+ghost use Rattle.record_store.specs.Calls.{disable_call, drop_call, index_number};
+ghost use Rattle.record_store.specs.Calls.{opened_disabled, opened_without, state_named};
 
 use crate::create::schema_mutations;
 use crate::error::StoreError;
@@ -27,7 +28,8 @@ use std::alloc::{AllocError, Global};
 use tuple_codec::Text;
 use txn::Transaction;
 
-// Puts a listed state behind others, and before it, where it hasn't its place yet, that of the index with this number. Tells whether that one has its place now.
+// Puts a listed state behind others, and before it, where it hasn't its place yet, that of the
+// index with this number. Tells whether that one has its place now.
 fn push_listed(
     listed: &(u64, State),
     number: u64,
@@ -35,7 +37,9 @@ fn push_listed(
     is_placed: bool,
     states: &mut Vec<(u64, State)>,
 ) -> Result<bool, AllocError>
-    ensures { IfOk result (λ placed. (rest : List (ℕ × State)) → states.old.items ++ still_listed is_placed number state (listed.now ∷ rest) ≡ states.new.items ++ still_listed placed number state rest) }
+    ensures { IfOk result (λ placed.
+        (rest : List (ℕ × State)) → states.old.items ++ still_listed is_placed number state (listed.now ∷ rest)
+        ≡ states.new.items ++ still_listed placed number state rest) }
 {
     if is_placed {
         states.push(*listed)?;
@@ -77,7 +81,8 @@ impl Store {
     // The number of the index of this name.
     fn index_number(&self, name: &Text) -> Result<u64, MetadataError>
         ensures found { IfOk result (λ number. index_number (find_index self.now.schema name.now) ≡ Ok number) }
-        ensures refused { IfErr result (λ error. IsRefusedAs error (index_number (find_index self.now.schema name.now))) }
+        ensures refused { IfErr result (λ error.
+            IsRefusedAs error (index_number (find_index self.now.schema name.now))) }
     {
         match self.schema().index_named(name) {
             Some(index) => Ok(index.number),
@@ -101,7 +106,10 @@ impl Store {
 
     // What dropping the index with this number writes, where this schema is left.
     fn drop_mutations(&self, next: &Schema, number: u64) -> Result<Vec<Mutation>, AllocError>
-        ensures { IfOk result (λ mutations. mutations.items ≡ Set (schema_key self.now.prefix) (schema_bytes next.now) ∷ ClearRange (entries_range self.now.prefix number) ∷ ClearRange (point (state_key self.now.prefix number)) ∷ []) }
+        ensures { IfOk result (λ mutations.
+            mutations.items ≡ Set (schema_key self.now.prefix) (schema_bytes next.now)
+            ∷ ClearRange (entries_range self.now.prefix number)
+            ∷ ClearRange (point (state_key self.now.prefix number)) ∷ []) }
     {
         let alloc = self.alloc();
         let mut mutations = schema_mutations(alloc, self.prefix(), next)?;
@@ -126,7 +134,8 @@ impl Store {
         Ok(mutations)
     }
 
-    /// The state of the index of this name. Refused with `UnknownIndex` where there is no such index. It takes no memory.
+    /// The state of the index of this name. Refused with `UnknownIndex` where there is no such
+    /// index. It takes no memory.
     pub fn state(&self, name: &Text) -> Result<State, Refusal>
         ensures found { IfOk result (λ state. state_named self.now name.now ≡ Ok state) }
         ensures refused { IfErr result (λ refusal. state_named self.now name.now ≡ Err refusal) }
@@ -139,13 +148,18 @@ impl Store {
 
     /// Drops the index of this name: it goes from the schema, and what is kept of it goes too. It reads nothing.
     ///
-    /// Refused with `UnknownIndex` where there is no such index, and last with the write limit that is met. After a refusal the store is as before.
+    /// Refused with `UnknownIndex` where there is no such index, and last with the write limit that
+    /// is met. After a refusal the store is as before.
     pub fn drop_index(&mut self, tx: &mut Transaction, name: &Text) -> Result<(), StoreError>
-        ensures dropped { OnOk result ((maps : ℕ → Map) → IsAnswered maps self.old (drop_call self.old name.now) self.new.schema tx.old tx.new) }
-        ensures opened { OnOk result ((number : ℕ) → index_number (find_index self.old.schema name.now) ≡ Ok number → self.new ≡ opened_without self.old number) }
-        ensures plain { OnOk result (HasPlainIndexes self.old.schema self.old.states → HasPlainIndexes self.new.schema self.new.states) }
+        ensures dropped { OnOk result ((maps : ℕ → Map) →
+            IsAnswered maps self.old (drop_call self.old name.now) self.new.schema tx.old tx.new) }
+        ensures opened { OnOk result ((number : ℕ) → index_number (find_index self.old.schema name.now) ≡ Ok number →
+            self.new ≡ opened_without self.old number) }
+        ensures plain { OnOk result (HasPlainIndexes self.old.schema self.old.states →
+            HasPlainIndexes self.new.schema self.new.states) }
         ensures kept { OnErr result (self.new ≡ self.old) }
-        ensures refused { IfErr result (λ error. (maps : ℕ → Map) → IsRefused maps NeverRefuses self.old (drop_call self.old name.now) error tx.old tx.new) }
+        ensures refused { IfErr result (λ error.
+            (maps : ℕ → Map) → IsRefused maps NeverRefuses self.old (drop_call self.old name.now) error tx.old tx.new) }
     {
         let number = self.index_number(name)?;
         let next = self.schema_without(name, number)?;
@@ -158,13 +172,20 @@ impl Store {
 
     /// Disables the index of this name: its state is written, and its entries go. It reads nothing.
     ///
-    /// Refused with `UnknownIndex` where there is no such index, and last with the write limit that is met. After a refusal the store is as before.
+    /// Refused with `UnknownIndex` where there is no such index, and last with the write limit that
+    /// is met. After a refusal the store is as before.
     pub fn mark_disabled(&mut self, tx: &mut Transaction, name: &Text) -> Result<(), StoreError>
-        ensures disabled { OnOk result ((maps : ℕ → Map) → IsAnswered maps self.old (disable_call self.old name.now) self.new.states tx.old tx.new) }
-        ensures opened { OnOk result ((number : ℕ) → index_number (find_index self.old.schema name.now) ≡ Ok number → self.new ≡ opened_disabled self.old number) }
-        ensures plain { OnOk result (HasPlainIndexes self.old.schema self.old.states → HasPlainIndexes self.new.schema self.new.states) }
+        ensures disabled { OnOk result
+            ((maps : ℕ → Map) → IsAnswered maps self.old
+            (disable_call self.old name.now) self.new.states tx.old tx.new) }
+        ensures opened { OnOk result ((number : ℕ) → index_number (find_index self.old.schema name.now) ≡ Ok number →
+            self.new ≡ opened_disabled self.old number) }
+        ensures plain { OnOk result (HasPlainIndexes self.old.schema self.old.states →
+            HasPlainIndexes self.new.schema self.new.states) }
         ensures kept { OnErr result (self.new ≡ self.old) }
-        ensures refused { IfErr result (λ error. (maps : ℕ → Map) → IsRefused maps NeverRefuses self.old (disable_call self.old name.now) error tx.old tx.new) }
+        ensures refused { IfErr result (λ error.
+            (maps : ℕ → Map) → IsRefused maps NeverRefuses self.old
+            (disable_call self.old name.now) error tx.old tx.new) }
     {
         let number = self.index_number(name)?;
         let next = with_state(

@@ -3,7 +3,8 @@ ghost use Rattle.std.specs.Prelude.{◌≡◌, ◌∷◌, [], All, IfOk, IsTrue,
 ghost use Rattle.tuple_codec.specs.Item.{int};
 ghost use Rattle.kv_core.specs.Bytes.{end_of_keys, key_lt};
 ghost use Rattle.metadata.specs.Cell.{IsCell};
-ghost use Rattle.record_store.specs.Layout.{entries_range, place, record_key, record_value, schema_key, state_key, state_number, state_value, states_range, type_range};
+ghost use Rattle.record_store.specs.Layout.{entries_range, place, record_key, record_value, schema_key};
+ghost use Rattle.record_store.specs.Layout.{state_key, state_number, state_value, states_range, type_range};
 
 use index_maint::entries_prefix;
 use kv_core::{Bytes, KeyRange};

@@ -1,7 +1,7 @@
 //! A store of typed records under a prefix of the keys, used in transactions.
 //!
-//! A call answers `StoreError::Memory` only where memory is wanting. A call that fails writes nothing; the ranges that it
-//! read stay in the transaction.
+//! A call answers `StoreError::Memory` only where memory is wanting. A call that fails writes
+//! nothing; the ranges that it read stay in the transaction.
 #![tactic(auto)]
 
 mod adding;

@@ -11,7 +11,10 @@ use txn::{Snapshot, Transaction};
 impl Store {
     /// The record of the type of this name with these key cells, if it is there.
     ///
-    /// Refused, in this order, before anything is read: `UnknownType`, `WrongKind` (a cell of another kind than its key field, or another number of cells), `NullKey`; then with the snapshot's refusal of the read, and with `Corrupt` and the record's key where its value isn't that of such a record.
+    /// Refused, in this order, before anything is read: `UnknownType`, `WrongKind` (a cell of
+    /// another kind than its key field, or another number of cells), `NullKey`; then with the
+    /// snapshot's refusal of the read, and with `Corrupt` and the record's key where its value
+    /// isn't that of such a record.
     pub fn load<S: Snapshot>(
         &self,
         tx: &mut Transaction,
@@ -19,8 +22,11 @@ impl Store {
         type_name: &Text,
         key: &Cells,
     ) -> Result<Option<Record>, StoreError>
-        ensures found { IfOk result (λ found. IsAnswered (S.map_at db.now) self.now (load_call self.now type_name.now key.now) found tx.old tx.new) }
-        ensures refused { IfErr result (λ error. IsRefused (S.map_at db.now) (S.may_refuse db.now) self.now (load_call self.now type_name.now key.now) error tx.old tx.new) }
+        ensures found { IfOk result (λ found.
+            IsAnswered (S.map_at db.now) self.now (load_call self.now type_name.now key.now) found tx.old tx.new) }
+        ensures refused { IfErr result (λ error.
+            IsRefused (S.map_at db.now) (S.may_refuse db.now) self.now
+            (load_call self.now type_name.now key.now) error tx.old tx.new) }
     {
         let definition = self.definition(type_name)?;
         let primary_key = key_of(self.alloc(), self.schema(), type_name, key)?;

@@ -10,7 +10,8 @@ ghost use Rattle.metadata.specs.Lawful.{IsLawfulSchema};
 ghost use Rattle.metadata.specs.Written.{schema_bytes};
 ghost use Rattle.record_store.specs.Layout.{schema_key, state_pair, states_range};
 ghost use Rattle.record_store.specs.Opening.{IsOpened, IsUnopened};
-ghost use Rattle.record_store.specs.Reading.{AreStates, HasNotRead, HaveNoStates, IsBadSchema, IsNoSchema, IsNoState, IsPairOfState, IsSchema, is_value, same_pair};
+ghost use Rattle.record_store.specs.Reading.{AreStates, HasNotRead, HaveNoStates, IsBadSchema, IsNoSchema};
+ghost use Rattle.record_store.specs.Reading.{IsNoState, IsPairOfState, IsSchema, is_value, same_pair};
 ghost use Rattle.record_store.specs.Holds.{HasPlainIndexes};
 ghost use Rattle.record_store.specs.Steps.{DidRead};
 
@@ -30,8 +31,11 @@ pub(crate) fn read_schema<S: Snapshot>(
     db: &S,
 ) -> Result<Option<Bytes>, StoreError>
     requires { IsTrue (key_lt prefix.now end_of_keys) }
-    ensures read { IfOk result (λ written. DidRead (S.map_at db.now) (point (schema_key prefix.now) ∷ []) tx.old tx.new (λ m. written ≡ value_at m (schema_key prefix.now))) }
-    ensures refused { IfErr result (λ error. HasNotRead (S.map_at db.now) (S.may_refuse db.now) (point (schema_key prefix.now) ∷ []) error tx.old tx.new) }
+    ensures read { IfOk result (λ written.
+        DidRead (S.map_at db.now) (point (schema_key prefix.now) ∷ []) tx.old tx.new (λ m.
+        written ≡ value_at m (schema_key prefix.now))) }
+    ensures refused { IfErr result (λ error.
+        HasNotRead (S.map_at db.now) (S.may_refuse db.now) (point (schema_key prefix.now) ∷ []) error tx.old tx.new) }
 {
     let key = schema_key(alloc, prefix)?;
     let written = tx.get(db, &key)?;
@@ -46,8 +50,10 @@ pub(crate) fn read_states<S: Snapshot>(
     db: &S,
 ) -> Result<Vec<Pair>, StoreError>
     requires { IsTrue (key_lt prefix.now end_of_keys) }
-    ensures read { IfOk result (λ states. DidRead (S.map_at db.now) (states_range prefix.now ∷ []) tx.old tx.new (λ m. states.items ≡ pairs_in m (states_range prefix.now))) }
-    ensures refused { IfErr result (λ error. HasNotRead (S.map_at db.now) (S.may_refuse db.now) (states_range prefix.now ∷ []) error tx.old tx.new) }
+    ensures read { IfOk result (λ states. DidRead (S.map_at db.now) (states_range prefix.now ∷ []) tx.old tx.new (λ m.
+        states.items ≡ pairs_in m (states_range prefix.now))) }
+    ensures refused { IfErr result (λ error.
+        HasNotRead (S.map_at db.now) (S.may_refuse db.now) (states_range prefix.now ∷ []) error tx.old tx.new) }
 {
     let range = states_range(alloc, prefix)?;
     let states = tx.get_all(db, &range)?;
@@ -160,9 +166,14 @@ fn states_found(
 }
 
 impl Store {
-    /// Opens the store under this prefix, which doesn't begin with the byte FF: reads its schema and then the states of its indexes, both before it answers anything but a refused read.
+    /// Opens the store under this prefix, which doesn't begin with the byte FF: reads its schema
+    /// and then the states of its indexes, both before it answers anything but a refused read.
     ///
-    /// Refused with `NoStore` where no schema stands there, with `Corrupt` and its key where the first pair that isn't of the written form is the schema's or a state's, and with the snapshot's refusal of a read. Of the written form are schemas whose indexes are all VALUE indexes, and pairs of those of them that are disabled: where there is an index of another kind, or a pair of another state, `Corrupt` is answered.
+    /// Refused with `NoStore` where no schema stands there, with `Corrupt` and its key where the
+    /// first pair that isn't of the written form is the schema's or a state's, and with the
+    /// snapshot's refusal of a read. Of the written form are schemas whose indexes are all VALUE
+    /// indexes, and pairs of those of them that are disabled: where there is an index of another
+    /// kind, or a pair of another state, `Corrupt` is answered.
     pub fn open<S: Snapshot>(
         alloc: Global,
         prefix: &[u8],
@@ -173,7 +184,8 @@ impl Store {
         ensures opened { IfOk result (λ store. IsOpened (S.map_at db.now) store tx.old tx.new) }
         ensures prefix { IfOk result (λ store. store.prefix ≡ prefix.now) }
         ensures plain { IfOk result (λ store. HasPlainIndexes store.schema store.states) }
-        ensures refused { IfErr result (λ error. IsUnopened (S.map_at db.now) (S.may_refuse db.now) prefix.now error tx.old tx.new) }
+        ensures refused { IfErr result (λ error.
+            IsUnopened (S.map_at db.now) (S.may_refuse db.now) prefix.now error tx.old tx.new) }
     {
         let written = read_schema(alloc, prefix, tx, db)?;
         let pairs = read_states(alloc, prefix, tx, db)?;

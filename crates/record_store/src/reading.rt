@@ -47,8 +47,12 @@ impl Store {
     ) -> Result<Option<Record>, StoreError>
         requires own { find_type self.now.schema definition.now.name ≡ Some definition.now }
         requires key { IsKeyOf definition.now primary_key.now }
-        ensures found { IfOk result (λ found. DidRead (S.map_at db.now) (point (record_key self.now.prefix primary_key.now) ∷ []) tx.old tx.new (IsRead self.now primary_key.now found)) }
-        ensures refused { IfErr result (λ error. HasNotFound (S.map_at db.now) (S.may_refuse db.now) self.now (whole (point (record_key self.now.prefix primary_key.now) ∷ [])) error tx.old tx.new) }
+        ensures found { IfOk result (λ found.
+            DidRead (S.map_at db.now) (point (record_key self.now.prefix primary_key.now) ∷ []) tx.old tx.new
+            (IsRead self.now primary_key.now found)) }
+        ensures refused { IfErr result (λ error.
+            HasNotFound (S.map_at db.now) (S.may_refuse db.now) self.now
+            (whole (point (record_key self.now.prefix primary_key.now) ∷ [])) error tx.old tx.new) }
     {
         let alloc = self.alloc();
         let key = record_key(alloc, self.prefix(), primary_key)?;

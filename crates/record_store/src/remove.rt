@@ -20,7 +20,8 @@ impl Store {
         primary_key: &Tuple,
         found: &Option<Record>,
     ) -> Result<Vec<Mutation>, AllocError>
-        ensures { IfOk result (λ mutations. mutations.items ≡ remove_writes self.now.prefix (store_of self.now) primary_key.now found.now) }
+        ensures { IfOk result (λ mutations.
+            mutations.items ≡ remove_writes self.now.prefix (store_of self.now) primary_key.now found.now) }
     {
         let alloc = self.alloc();
         let mut mutations = Vec::new(alloc);
@@ -34,7 +35,8 @@ impl Store {
         Ok(mutations)
     }
 
-    /// Takes out the record of the type of this name with these key cells, and tells whether there was one; the readable indexes of its type follow. Where there was none nothing is written.
+    /// Takes out the record of the type of this name with these key cells, and tells whether there
+    /// was one; the readable indexes of its type follow. Where there was none nothing is written.
     ///
     /// Refused as `load` is, and last with the write limit that the removal meets.
     pub fn remove<S: Snapshot>(
@@ -45,8 +47,12 @@ impl Store {
         key: &Cells,
     ) -> Result<bool, StoreError>
         requires { HasPlainIndexes self.now.schema self.now.states }
-        ensures removed { IfOk result (λ was_there. IsAnswered (S.map_at db.now) self.now (remove_call self.now type_name.now key.now) was_there tx.old tx.new) }
-        ensures refused { IfErr result (λ error. IsRefused (S.map_at db.now) (S.may_refuse db.now) self.now (remove_call self.now type_name.now key.now) error tx.old tx.new) }
+        ensures removed { IfOk result (λ was_there.
+            IsAnswered (S.map_at db.now) self.now
+            (remove_call self.now type_name.now key.now) was_there tx.old tx.new) }
+        ensures refused { IfErr result (λ error.
+            IsRefused (S.map_at db.now) (S.may_refuse db.now) self.now
+            (remove_call self.now type_name.now key.now) error tx.old tx.new) }
     {
         let definition = self.definition(type_name)?;
         let primary_key = key_of(self.alloc(), self.schema(), type_name, key)?;

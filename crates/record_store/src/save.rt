@@ -24,8 +24,11 @@ use txn::{Snapshot, Transaction};
 impl Store {
     // Refuses a record whose type isn't that of the store's schema.
     fn check_type(&self, new: &Record) -> Result<(), StoreError>
-        ensures own { OnOk result (own_record (find_type self.now.schema new.now.definition.name) new.now ≡ Ok new.now) }
-        ensures refused { IfErr result (λ error. (error ≡ other_schema) × (own_record (find_type self.now.schema new.now.definition.name) new.now ≡ Err OtherSchema)) }
+        ensures own { OnOk result (own_record (find_type self.now.schema new.now.definition.name) new.now
+            ≡ Ok new.now) }
+        ensures refused { IfErr result (λ error.
+            (error ≡ other_schema) × (own_record (find_type self.now.schema new.now.definition.name) new.now
+            ≡ Err OtherSchema)) }
     {
         let definition = new.definition();
         match self.schema().type_named(&definition.name) {
@@ -48,7 +51,10 @@ impl Store {
         primary_key: &Tuple,
     ) -> Result<Vec<Mutation>, AllocError>
         requires { primary_key.now ≡ primary_key_of new.now }
-        ensures mutations { IfOk result (λ mutations. mutations.items ≡ Set (record_key self.now.prefix (primary_key_of new.now)) (record_value new.now.cells) ∷ index_writes self.now.prefix (store_of self.now) new.now.definition.number (option_copied old.entry) (Some new.now)) }
+        ensures mutations { IfOk result (λ mutations.
+            mutations.items ≡ Set (record_key self.now.prefix (primary_key_of new.now)) (record_value new.now.cells)
+            ∷ index_writes self.now.prefix (store_of self.now) new.now.definition.number (option_copied old.entry)
+            (Some new.now)) }
         ensures cells { OnOk result (All IsCell new.now.cells) }
     {
         let alloc = self.alloc();
@@ -61,9 +67,13 @@ impl Store {
         Ok(mutations)
     }
 
-    /// Puts a record in the place of the one with its primary key, which is answered, and has the readable indexes of its type follow.
+    /// Puts a record in the place of the one with its primary key, which is answered, and has the
+    /// readable indexes of its type follow.
     ///
-    /// Refused with `OtherSchema` where the store's schema hasn't the record's type, before anything is read; then with the snapshot's refusal of the read, with `Corrupt` and the record's key where the value that stands there isn't that of such a record, and last with the write limit that the record meets.
+    /// Refused with `OtherSchema` where the store's schema hasn't the record's type, before
+    /// anything is read; then with the snapshot's refusal of the read, with `Corrupt` and the
+    /// record's key where the value that stands there isn't that of such a record, and last with
+    /// the write limit that the record meets.
     pub fn save<S: Snapshot>(
         &self,
         tx: &mut Transaction,
@@ -71,8 +81,11 @@ impl Store {
         new: &Record,
     ) -> Result<Option<Record>, StoreError>
         requires { HasPlainIndexes self.now.schema self.now.states }
-        ensures saved { IfOk result (λ old. IsAnswered (S.map_at db.now) self.now (save_call self.now new.now) old tx.old tx.new) }
-        ensures refused { IfErr result (λ error. IsRefused (S.map_at db.now) (S.may_refuse db.now) self.now (save_call self.now new.now) error tx.old tx.new) }
+        ensures saved { IfOk result (λ old.
+            IsAnswered (S.map_at db.now) self.now (save_call self.now new.now) old tx.old tx.new) }
+        ensures refused { IfErr result (λ error.
+            IsRefused (S.map_at db.now) (S.may_refuse db.now) self.now
+            (save_call self.now new.now) error tx.old tx.new) }
     {
         self.check_type(new)?;
         let primary_key = new.primary_key(self.alloc())?;

@@ -101,15 +101,20 @@ pub(crate) fn records_in(
 impl Store {
     /// The records of the type of this name, in the order of their primary keys.
     ///
-    /// Refused with `UnknownType` before anything is read; then with the snapshot's refusal of the read, and with `Corrupt` and the key of the first record whose pair isn't of the written form.
+    /// Refused with `UnknownType` before anything is read; then with the snapshot's refusal of the
+    /// read, and with `Corrupt` and the key of the first record whose pair isn't of the written
+    /// form.
     pub fn records<S: Snapshot>(
         &self,
         tx: &mut Transaction,
         db: &S,
         type_name: &Text,
     ) -> Result<Records, StoreError>
-        ensures found { IfOk result (λ rows. IsAnswered (S.map_at db.now) self.now (records_call self.now type_name.now) rows tx.old tx.new) }
-        ensures refused { IfErr result (λ error. IsRefused (S.map_at db.now) (S.may_refuse db.now) self.now (records_call self.now type_name.now) error tx.old tx.new) }
+        ensures found { IfOk result (λ rows.
+            IsAnswered (S.map_at db.now) self.now (records_call self.now type_name.now) rows tx.old tx.new) }
+        ensures refused { IfErr result (λ error.
+            IsRefused (S.map_at db.now) (S.may_refuse db.now) self.now
+            (records_call self.now type_name.now) error tx.old tx.new) }
     {
         let definition = self.definition(type_name)?;
         let range = type_range(self.alloc(), self.prefix(), definition.number)?;

@@ -10,7 +10,8 @@ use std::alloc::Global;
 use std::marker::Model;
 use tuple_codec::Text;
 
-/// A store that was opened in a transaction: the prefix of its keys, its schema, and the states of those indexes that aren't readable, by their numbers.
+/// A store that was opened in a transaction: the prefix of its keys, its schema, and the states of
+/// those indexes that aren't readable, by their numbers.
 ///
 /// It is used in the transaction in which it was opened, where nothing else writes under its prefix meanwhile.
 #[derive(Drop)]
@@ -54,7 +55,8 @@ impl Store {
     pub(crate) fn definition(&self, type_name: &Text) -> Result<&TypeDefinition, StoreError>
         ensures found { IfOk result (λ definition. find_type self.now.schema type_name.now ≡ Some definition.now) }
         ensures own { IfOk result (λ definition. find_type self.now.schema definition.now.name ≡ Some definition.now) }
-        ensures refused { IfErr result (λ error. (error ≡ unknown_type) × (find_type self.now.schema type_name.now ≡ None)) }
+        ensures refused { IfErr result (λ error.
+            (error ≡ unknown_type) × (find_type self.now.schema type_name.now ≡ None)) }
     {
         match self.schema().type_named(type_name) {
             Some(definition) => Ok(definition),

@@ -29,18 +29,23 @@ impl Store {
 
     /// Adds a type to the store's schema. It reads nothing.
     ///
-    /// Refused as `Schema::add_type` is, and last with the write limit that the schema meets. After a refusal the store is as before.
+    /// Refused as `Schema::add_type` is, and last with the write limit that the schema meets. After
+    /// a refusal the store is as before.
     pub fn add_type(
         &mut self,
         tx: &mut Transaction,
         request: &TypeRequest,
     ) -> Result<(), StoreError>
-        ensures added { OnOk result ((maps : ℕ → Map) → IsAnswered maps self.old (type_call self.old request.now) self.new.schema tx.old tx.new) }
+        ensures added { OnOk result ((maps : ℕ → Map) →
+            IsAnswered maps self.old (type_call self.old request.now) self.new.schema tx.old tx.new) }
         ensures prefix { OnOk result (self.new.prefix ≡ self.old.prefix) }
         ensures schema { OnOk result (add_type self.old.schema request.now ≡ Ok self.new.schema) }
-        ensures plain { OnOk result (HasPlainIndexes self.old.schema self.old.states → HasPlainIndexes self.new.schema self.new.states) }
+        ensures plain { OnOk result (HasPlainIndexes self.old.schema self.old.states →
+            HasPlainIndexes self.new.schema self.new.states) }
         ensures kept { OnErr result (self.new ≡ self.old) }
-        ensures refused { IfErr result (λ error. (maps : ℕ → Map) → IsRefused maps NeverRefuses self.old (type_call self.old request.now) error tx.old tx.new) }
+        ensures refused { IfErr result (λ error.
+            (maps : ℕ → Map) → IsRefused maps NeverRefuses self.old
+            (type_call self.old request.now) error tx.old tx.new) }
     {
         let next = self.with_type(request)?;
         let mutations = schema_mutations(self.alloc(), self.prefix(), &next)?;

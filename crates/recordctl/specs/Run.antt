@@ -8,11 +8,14 @@ use Rattle.schedule.specs.declared.transcript.Transcript.{Transcript}
 use Rattle.script.specs.Script.{IsScript, explains_script}
 use Rattle.script.specs.declared.error.ScriptError.TheVariants as errors
 use Rattle.recordctl.specs.declared.fault.Fault.{Fault}
-use Rattle.recordctl.specs.declared.fault.Fault.TheVariants.{OutOfMemory, BadScript, BadConfig, CannotRead, BadArgument, Refused}
+use Rattle.recordctl.specs.declared.fault.Fault.TheVariants.{OutOfMemory, BadScript, BadConfig}
+use Rattle.recordctl.specs.declared.fault.Fault.TheVariants.{CannotRead, BadArgument, Refused}
 
--- a fault says why a text that was read isn't run: it is no script, or has a configuration that is refused; memory may be wanting for any
+-- a fault says why a text that was read isn't run: it is no script, or has a configuration that is refused; memory may
+-- be wanting for any
 abbrev pub explains_run : List ℕ → Fault → Type 0
-explains_run text (BadConfig why) = (config : Config) × (steps : List Step) × IsScript text config steps × (config_refusal config ≡ Some why)
+explains_run text (BadConfig why) =
+    (config : Config) × (steps : List Step) × IsScript text config steps × (config_refusal config ≡ Some why)
 explains_run text CannotRead = ⊥
 explains_run text OutOfMemory = Unit {0}
 explains_run text (BadScript number) = explains_script text (errors.BadScript number)

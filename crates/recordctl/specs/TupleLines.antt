@@ -5,7 +5,8 @@ use Rattle.tuple_codec.specs.Item.{Item}
 use Rattle.tuple_codec.specs.Spelling.{Spells, spelling}
 use Rattle.tuple_codec.specs.Refusal.{Refuses}
 use Rattle.recordctl.specs.declared.fault.Fault.{Fault}
-use Rattle.recordctl.specs.declared.fault.Fault.TheVariants.{CannotRead, BadScript, BadConfig, BadArgument, Refused, OutOfMemory}
+use Rattle.recordctl.specs.declared.fault.Fault.TheVariants.{CannotRead, BadScript, BadConfig}
+use Rattle.recordctl.specs.declared.fault.Fault.TheVariants.{BadArgument, Refused, OutOfMemory}
 use Rattle.json_forms.specs.TupleJson.{tuple_of_text}
 
 -- the line of a text
@@ -35,7 +36,8 @@ explains_pack word (BadScript step) = ⊥
 explains_pack word (BadConfig why) = ⊥
 explains_pack word (Refused kind at) = ⊥
 
--- a fault says why a word isn't unpacked: no memory, digits that aren't hexadecimal or not in pairs, or bytes that are refused
+-- a fault says why a word isn't unpacked: no memory, digits that aren't hexadecimal or not in pairs, or bytes that are
+-- refused
 abbrev pub explains_unpack : List ℕ → Fault → Type 0
 explains_unpack word OutOfMemory = Unit {0}
 explains_unpack word BadArgument = IsOk (decode_of word) → ⊥

@@ -1,5 +1,6 @@
 //! The program `recordctl`: runs scripts over a record store, and packs and unpacks tuples.
 #![tactic(auto)]
+
 ghost use Rattle.std.specs.Prelude.{◌≡◌, ◌≤◌};
 ghost use Rattle.std.specs.Process.{exit_status};
 ghost use Rattle.recordctl.specs.Status.{refused_status};

@@ -80,7 +80,8 @@ fn run_script(alloc: Global, text: &[u8]) -> Result<Transcript, Fault>
 // What the steps of the script that is read reply.
 fn transcript_of<R: Read>(alloc: Global, input: &mut R) -> Result<Transcript, Fault>
     ensures ok { IfOk result (λ transcript. IfSome (R.remaining input.old) (λ text. IsTranscriptOf text transcript)) }
-    ensures err { IfErr result (λ fault. (fault ≡ Fault.CannotRead) ⊎ IfSome (R.remaining input.old) (λ text. explains_run text fault)) }
+    ensures err { IfErr result (λ fault.
+        (fault ≡ Fault.CannotRead) ⊎ IfSome (R.remaining input.old) (λ text. explains_run text fault)) }
 {
     let text = read_input(alloc, input)?;
     let transcript = run_script(alloc, text.as_slice())?;

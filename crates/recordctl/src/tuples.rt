@@ -1,4 +1,5 @@
-ghost use Rattle.std.specs.Prelude.{◌≡◌, ◌≤◌, List, ℕ, Some, Ok, IfOk, IfErr, OnOk, MatchOption, MatchResult, string_bytes};
+ghost use Rattle.std.specs.Prelude.{◌≡◌, ◌≤◌, List, ℕ, Some, Ok, IfOk, IfErr};
+ghost use Rattle.std.specs.Prelude.{OnOk, MatchOption, MatchResult, string_bytes};
 ghost use Rattle.std.specs.Io.KnownBytes.{Appends};
 ghost use Rattle.std.specs.Process.{exit_status};
 ghost use Rattle.hex.specs.Hex.{decode_of};
@@ -35,7 +36,8 @@ fn read_tuple(alloc: Global, word: &str) -> Result<Tuple, Fault>
 
 // The line that `pack` prints for a word of the command line.
 fn line_of_pack(alloc: Global, word: &str) -> Result<String, Fault>
-    ensures ok { IfOk result (λ line. MatchOption (tuple_of_text word.now) ⊥ (λ tuple. string_bytes line ≡ packed_line tuple)) }
+    ensures ok { IfOk result (λ line. MatchOption (tuple_of_text word.now) ⊥ (λ tuple.
+        string_bytes line ≡ packed_line tuple)) }
     ensures err { IfErr result (explains_pack word.now) }
 {
     let tuple = read_tuple(alloc, word)?;
@@ -88,7 +90,9 @@ fn print_line<W: Write, E: Write>(
     line: Result<String, Fault>,
 ) -> ExitCode
     ensures status { exit_status result ≤ 1 }
-    ensures printed { exit_status result ≡ 0 → MatchResult line (λ text. Appends (W.contents output.old) (W.contents output.new) (string_bytes text)) (λ _. ⊥) }
+    ensures printed { exit_status result ≡ 0 →
+        MatchResult line (λ text. Appends (W.contents output.old) (W.contents output.new)
+        (string_bytes text)) (λ _. ⊥) }
     ensures quiet { exit_status result ≡ 0 → E.contents errors.new ≡ E.contents errors.old }
 {
     let line = match line {
@@ -112,7 +116,9 @@ pub fn pack<W: Write, E: Write>(
     errors: &mut E,
 ) -> ExitCode
     ensures status { exit_status result ≤ 1 }
-    ensures printed { exit_status result ≡ 0 → MatchOption (tuple_of_text word.now) ⊥ (λ tuple. Appends (W.contents output.old) (W.contents output.new) (packed_line tuple)) }
+    ensures printed { exit_status result ≡ 0 →
+        MatchOption (tuple_of_text word.now) ⊥ (λ tuple.
+        Appends (W.contents output.old) (W.contents output.new) (packed_line tuple)) }
     ensures quiet { exit_status result ≡ 0 → E.contents errors.new ≡ E.contents errors.old }
 {
     print_line(output, errors, line_of_pack(alloc, word))
@@ -129,7 +135,8 @@ pub fn unpack<W: Write, E: Write>(
     errors: &mut E,
 ) -> ExitCode
     ensures status { exit_status result ≤ 1 }
-    ensures printed { exit_status result ≡ 0 → (line : List ℕ) × IsUnpackedLine word.now line × Appends (W.contents output.old) (W.contents output.new) line }
+    ensures printed { exit_status result ≡ 0 →
+        (line : List ℕ) × IsUnpackedLine word.now line × Appends (W.contents output.old) (W.contents output.new) line }
     ensures quiet { exit_status result ≡ 0 → E.contents errors.new ≡ E.contents errors.old }
 {
     print_line(output, errors, line_of_unpack(alloc, word))

@@ -7,7 +7,8 @@ use Rattle.kv_core.specs.declared.change.WriteError.{WriteError}
 use Rattle.kv_core.specs.declared.change.WriteError.TheVariants as write
 use Rattle.cluster_core.specs.declared.answers.ReadError.{ReadError}
 use Rattle.cluster_core.specs.declared.answers.ReadError.TheVariants as read
-use Rattle.metadata.specs.declared.refusal.Refusal.TheVariants.{FutureVersion, TooOld, KeyOutside, KeyTooLarge, ValueTooLarge, TransactionTooLarge}
+use Rattle.metadata.specs.declared.refusal.Refusal.TheVariants.{FutureVersion, TooOld, KeyOutside, KeyTooLarge}
+use Rattle.metadata.specs.declared.refusal.Refusal.TheVariants.{ValueTooLarge, TransactionTooLarge}
 use Rattle.record_store.specs.declared.error.StoreError.{StoreError}
 use Rattle.record_store.specs.declared.error.StoreError.TheVariants.{Memory, Read, Write, Corrupt, Refused}
 use Rattle.schedule.specs.declared.step.Command.{Command}
@@ -42,7 +43,11 @@ abbrev pub removal_reply : Bool → Reply
 removal_reply true = reply.Removed
 removal_reply false = reply.Absent
 
--- why a command was refused: it stopped before it wrote anything, and where the error is a reply it was performed with this reply
-pub record IsRefused (maps : ℕ → Map) (refuses : KeyRange → ℕ → ReadError → Type 0) (command : Command) (error : StoreError) (old new : CommitRequest) : Type 0 where
+-- why a command was refused: it stopped before it wrote anything, and where the error is a reply it was performed with
+-- this reply
+pub record IsRefused (maps : ℕ → Map) (refuses : KeyRange → ℕ → ReadError → Type 0) (command : Command)
+    (error : StoreError) (old new : CommitRequest) : Type 0 where
   pub stopped : IsStopped maps command old new
-  pub replied : (answer : Reply) → reply_of error ≡ Some answer → IsPerformed maps (λ range. refuses range old.read_version) command answer old new
+  pub replied :
+      (answer : Reply) → reply_of error ≡ Some answer →
+      IsPerformed maps (λ range. refuses range old.read_version) command answer old new

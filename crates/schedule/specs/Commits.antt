@@ -7,7 +7,8 @@ use Rattle.schedule.specs.Past.{Open, accepted}
 
 -- what is committed at a version: no store, after the accepted commands of each transaction that is committed up to it
 abbrev pub committed : List CommitEntry → ℕ → Serial
-committed commits version = fold (λ serial one. effects serial one.commands) None (filter (λ one. nat_le one.version version) commits)
+committed commits version =
+    fold (λ serial one. effects serial one.commands) None (filter (λ one. nat_le one.version version) commits)
 
 -- what an open transaction sees: what is committed at its read version, as its own accepted commands change it
 abbrev pub view : List CommitEntry → Open → Serial

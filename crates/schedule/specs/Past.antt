@@ -1,5 +1,6 @@
 -- What the steps so far and their replies say of each client: its open transaction, and what it submitted.
-use Rattle.std.specs.Prelude.{ℕ, Bool, true, false, not, List, [], ◌∷◌, ◌++◌, Option, Some, None, ◌==◌, if◌then◌else◌, map, filter}
+use Rattle.std.specs.Prelude.{ℕ, Bool, true, false, not, List, [], ◌∷◌, ◌++◌}
+use Rattle.std.specs.Prelude.{Option, Some, None, ◌==◌, if◌then◌else◌, map, filter}
 use Rattle.std.specs.List.{list_any}
 use Rattle.std.specs.Option.{option_map}
 use Rattle.schedule.specs.declared.step.Command.{Command}
@@ -49,12 +50,16 @@ is_changed attempts = list_any (λ attempt. not (is_reading attempt.command atte
 
 -- an open transaction with one more command performed
 abbrev pub grown : Attempt → Option Open → Option Open
-grown attempt before = option_map (λ (open_now : Open). record { read_version = open_now.read_version; attempts = open_now.attempts ++ attempt ∷ [] }) before
+grown attempt before =
+    option_map (λ (open_now : Open).
+    record { read_version = open_now.read_version; attempts = open_now.attempts ++ attempt ∷ [] }) before
 
 -- a client's open transaction after one more step
 abbrev pub open_after : ℕ → Step → Reply → Option Open → Option Open
-open_after client (Begin who) (Begun version) before = if who == client then Some (record { read_version = version; attempts = [] }) else before
-open_after client (Perform who command) reply before = if who == client then grown (record { command = command; reply = reply }) before else before
+open_after client (Begin who) (Begun version) before =
+    if who == client then Some (record { read_version = version; attempts = [] }) else before
+open_after client (Perform who command) reply before =
+    if who == client then grown (record { command = command; reply = reply }) before else before
 open_after client (Commit who) reply before = if who == client then None else before
 open_after client (Abandon who) Done before = if who == client then None else before
 open_after client step reply before = before
@@ -77,7 +82,8 @@ submission client version (Some open_now) = record { version = version; client =
 
 -- submissions with what one more step submits
 abbrev pub submitted_after : Step → Reply → Past → List Submission → List Submission
-submitted_after (Commit client) (Submitted version) past before = before ++ submission client version (open_of client past)
+submitted_after (Commit client) (Submitted version) past before =
+    before ++ submission client version (open_of client past)
 submitted_after step reply past before = before
 
 -- what was submitted, in version order

@@ -1,5 +1,6 @@
 -- What a command establishes that was performed on a transaction, whatever map the snapshot turns out to have.
-use Rattle.std.specs.Prelude.{◌≡◌, ◌⊎◌, ℕ, Bool, true, false, List, [], Option, Some, None, Result, Ok, Err, IsTrue, length, ◌==◌, if◌then◌else◌}
+use Rattle.std.specs.Prelude.{◌≡◌, ◌⊎◌, ℕ, Bool, true, false, List, [], Option, Some}
+use Rattle.std.specs.Prelude.{None, Result, Ok, Err, IsTrue, length, ◌==◌, if◌then◌else◌}
 use Rattle.std.specs.List.{AllByRecursion}
 use Rattle.std.specs.FinMap.{get}
 use Rattle.kv_core.specs.Range.{KeyRange, contains, covers}
@@ -13,7 +14,8 @@ use Rattle.cluster_core.specs.declared.answers.ReadError.{ReadError}
 use Rattle.cluster_core.specs.declared.answers.ReadError.TheVariants as reads
 use Rattle.txn.specs.Runs.{Ran}
 use Rattle.metadata.specs.declared.refusal.Refusal.{Refusal}
-use Rattle.metadata.specs.declared.refusal.Refusal.TheVariants.{AlreadyThere, FutureVersion, TooOld, KeyOutside, KeyTooLarge, ValueTooLarge, TransactionTooLarge}
+use Rattle.metadata.specs.declared.refusal.Refusal.TheVariants.{AlreadyThere, FutureVersion, TooOld, KeyOutside}
+use Rattle.metadata.specs.declared.refusal.Refusal.TheVariants.{KeyTooLarge, ValueTooLarge, TransactionTooLarge}
 use Rattle.metadata.specs.declared.index.State.{State}
 use Rattle.metadata.specs.Asked.{schema_asked}
 use Rattle.metadata.specs.Schema.{Schema}
@@ -48,10 +50,12 @@ IsLimited (Some error) serial command answer = IsLimit error answer
 
 -- the reply is the one that the serial store gives to the command in a transaction that wrote these mutations before
 abbrev pub IsServed : List Mutation → Serial → Command → Reply → Type 0
-IsServed before serial command answer = IsLimited (write_all_refusal before (writes serial command)) serial command answer
+IsServed before serial command answer =
+    IsLimited (write_all_refusal before (writes serial command)) serial command answer
 
 -- a read of a range within these is refused so
-pub record IsReadRefusedAs (refuses : KeyRange → ReadError → Type 0) (within : List KeyRange) (error : ReadError) : Type 0 where
+pub record IsReadRefusedAs (refuses : KeyRange → ReadError → Type 0) (within : List KeyRange) (error : ReadError) :
+    Type 0 where
   pub range : KeyRange
   pub inside : (key : List ℕ) → IsTrue (contains range key) → IsTrue (covers within key)
   pub refused : refuses range error
@@ -77,8 +81,10 @@ HasAddedSo false all added = added ≡ all
 abbrev pub HasAdded : Reply → List KeyRange → List KeyRange → Type 0
 HasAdded answer all added = HasAddedSo (is_unread answer) all added
 
--- a command has this reply to what is there, which the map seen before it holds; what it wrote is what the command writes there, and leads to a map that holds what is there after it; and these are the ranges that it reads there
-pub record IsPerformedAt (refuses : KeyRange → ReadError → Type 0) (command : Command) (answer : Reply) (before written : List Mutation) (added : List KeyRange) (m : Map) (serial : Serial) : Type 0 where
+-- a command has this reply to what is there, which the map seen before it holds; what it wrote is what the command
+-- writes there, and leads to a map that holds what is there after it; and these are the ranges that it reads there
+pub record IsPerformedAt (refuses : KeyRange → ReadError → Type 0) (command : Command) (answer : Reply)
+    (before written : List Mutation) (added : List KeyRange) (m : Map) (serial : Serial) : Type 0 where
   pub right : IsServed before serial command answer ⊎ IsReadRefusal refuses (reach (schema_in serial) command) answer
   pub wrote : written ≡ (if is_accepted answer then writes serial command else [])
   pub holds : Stands (after_all written m) (if is_accepted answer then effect serial command else serial)
@@ -89,7 +95,8 @@ pub record IsPerformedAt (refuses : KeyRange → ReadError → Type 0) (command 
 -- the map has this schema, as far as one was read
 abbrev pub HasRead : Option Schema → Map → Type 0
 HasRead None m = Unit {0}
-HasRead (Some schema) m = (states : List (ℕ × State)) × HasSchema (record { prefix = store_prefix; schema = schema; states = states }) m
+HasRead (Some schema) m =
+    (states : List (ℕ × State)) × HasSchema (record { prefix = store_prefix; schema = schema; states = states }) m
 
 -- a store may be made where no pair stands at the schema's key
 abbrev pub IsMade : Reply → Map → Type 0
@@ -102,14 +109,19 @@ IsMadeOf (Err refusal) answer m = Unit {0}
 
 -- all pairs that the command read of the map are of the written form; without a schema, no pair stands where one does
 abbrev pub IsSound : Option Schema → Command → Reply → Map → Type 0
-IsSound (Some schema) command answer m = AllByRecursion (IsRecordPair store_prefix schema) ((own_reading (Some schema) command).pairs m)
+IsSound (Some schema) command answer m =
+    AllByRecursion (IsRecordPair store_prefix schema) ((own_reading (Some schema) command).pairs m)
 IsSound None (Create request) answer m = IsMadeOf (schema_asked request) answer m
 IsSound None command answer m = get m (schema_key store_prefix) ≡ None
 
--- the first pair read that isn't of the written form has this key: one that opening the store reads, where a pair stands at the schema's key, or behind it one of the command's own
+-- the first pair read that isn't of the written form has this key: one that opening the store reads, where a pair
+-- stands at the schema's key, or behind it one of the command's own
 abbrev pub IsDamaged : Option Schema → Command → List ℕ → Map → Type 0
-IsDamaged None command key m = (get m (schema_key store_prefix) ≡ None → ⊥) × IsFirstBad (IsOpeningPair store_prefix m) (read_in m (opening_reach store_prefix)) key
-IsDamaged (Some schema) command key m = IsFirstBad (IsRecordPair store_prefix schema) ((own_reading (Some schema) command).pairs m) key
+IsDamaged None command key m =
+    (get m (schema_key store_prefix) ≡ None → ⊥)
+    × IsFirstBad (IsOpeningPair store_prefix m) (read_in m (opening_reach store_prefix)) key
+IsDamaged (Some schema) command key m =
+    IsFirstBad (IsRecordPair store_prefix schema) ((own_reading (Some schema) command).pairs m) key
 
 -- the pairs are sound, unless a read was refused
 abbrev pub IsSoundSo : Bool → Option Schema → Command → Reply → Map → Type 0
@@ -121,28 +133,36 @@ abbrev pub IsTold : Option Schema → Command → Reply → Map → Type 0
 IsTold schema command (Corrupt key) m = IsDamaged schema command key m
 IsTold schema command answer m = IsSoundSo (is_unread answer) schema command answer m
 
--- by this schema, which the map has, the command read just these ranges of it, and the reply tells of damage only where it is
-pub record IsReadAs (schema : Option Schema) (command : Command) (answer : Reply) (added : List KeyRange) (m : Map) : Type 0 where
+-- by this schema, which the map has, the command read just these ranges of it, and the reply tells of damage only where
+-- it is
+pub record IsReadAs (schema : Option Schema) (command : Command) (answer : Reply) (added : List KeyRange) (m : Map) :
+    Type 0 where
   pub there : HasRead schema m
   pub reads : HasAdded answer (added_by schema command m) added
   pub told : IsTold schema command answer m
 
--- a command was performed: over every map that agrees with what was read, what was read is as the reply says, and it was so for all that this map holds; and it wrote something exactly where the command with this reply changes something
-pub record IsPerformed (maps : ℕ → Map) (refuses : KeyRange → ReadError → Type 0) (command : Command) (answer : Reply) (old new : CommitRequest) : Type 0 where
+-- a command was performed: over every map that agrees with what was read, what was read is as the reply says, and it
+-- was so for all that this map holds; and it wrote something exactly where the command with this reply changes
+-- something
+pub record IsPerformed (maps : ℕ → Map) (refuses : KeyRange → ReadError → Type 0) (command : Command) (answer : Reply)
+    (old new : CommitRequest) : Type 0 where
   pub schema : Option Schema
   pub added : List KeyRange
   pub written : List Mutation
   pub changes : (length written == 0) ≡ is_reading command answer
   pub ran : Ran maps added old new written (λ m. IsReadAs schema command answer added m
-      × ((serial : Serial) → Stands m serial → IsPerformedAt refuses command answer old.mutations written added m serial))
+      × ((serial : Serial) → Stands m serial →
+      IsPerformedAt refuses command answer old.mutations written added m serial))
 
--- by this schema, which the map has, the command read the first ones of its ranges, and so it did for all that this map holds
+-- by this schema, which the map has, the command read the first ones of its ranges, and so it did for all that this map
+-- holds
 pub record IsPartlyRead (schema : Option Schema) (command : Command) (added : List KeyRange) (m : Map) : Type 0 where
   pub there : HasRead schema m
   pub reads : IsBeginning added (added_by schema command m)
   pub held : (serial : Serial) → Stands m serial → IsBeginning added (added_at serial command)
 
--- a command stopped for want of memory: it wrote nothing, and read the first ones of its ranges; a transaction can go on from there
+-- a command stopped for want of memory: it wrote nothing, and read the first ones of its ranges; a transaction can go
+-- on from there
 pub record IsStopped (maps : ℕ → Map) (command : Command) (old new : CommitRequest) : Type 0 where
   pub schema : Option Schema
   pub added : List KeyRange

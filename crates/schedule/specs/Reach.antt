@@ -14,7 +14,8 @@ use Rattle.metadata.specs.IndexChange.{new_index}
 use Rattle.metadata.specs.Schema.{Schema, find_index, find_type}
 use Rattle.metadata.specs.Record.{Record, primary_key, record_of, key_of}
 use Rattle.schedule.specs.declared.step.Command.{Command}
-use Rattle.schedule.specs.declared.step.Command.TheVariants.{Create, «Type», Save, Load, Remove, Query, Index, Drop, Disable}
+use Rattle.schedule.specs.declared.step.Command.TheVariants.{Create, «Type», Save, Load, Remove}
+use Rattle.schedule.specs.declared.step.Command.TheVariants.{Query, Index, Drop, Disable}
 use Rattle.metadata.specs.Records.{of_type, record_at}
 use Rattle.record_store.specs.Store.{Store, Serial, schema_in}
 use Rattle.record_store.specs.Layout.{record_key, record_pair, type_range}
@@ -42,7 +43,8 @@ abbrev pub first_reading : Result IndexDefinition Refusal → Reading
 first_reading (Ok index) = first_of (type_range store_prefix index.type_number)
 first_reading (Err refusal) = whole []
 
--- what a command reads behind the opening of the store: the key of its record, or the records of its type, or the first one
+-- what a command reads behind the opening of the store: the key of its record, or the records of its type, or the first
+-- one
 abbrev pub own_reading : Option Schema → Command → Reading
 own_reading (Some schema) (Save name cells) = whole (record_reach (record_of schema name cells))
 own_reading (Some schema) (Load name cells) = whole (key_reach (key_of schema name cells))
@@ -70,7 +72,9 @@ added_by schema command m = open_reach command ++ (own_reading schema command).a
 
 -- the same by what is there: of a type over which an index is asked for, the keys up to its first record
 abbrev pub first_added : Store → Result IndexDefinition Refusal → List KeyRange
-first_added store (Ok index) = range_read (type_range store_prefix index.type_number) 1 false (take 1 (map (record_pair store_prefix) (of_type index.type_number store.records))) ∷ []
+first_added store (Ok index) =
+    range_read (type_range store_prefix index.type_number) 1 false
+    (take 1 (map (record_pair store_prefix) (of_type index.type_number store.records))) ∷ []
 first_added store (Err refusal) = []
 
 abbrev pub own_added : Serial → Command → List KeyRange

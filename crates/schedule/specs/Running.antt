@@ -1,5 +1,6 @@
 -- What the database of a schedule has, by the steps and replies so far.
-use Rattle.std.specs.Prelude.{◌≡◌, ◌≤◌, ◌<◌, ℕ, ◌+◌, ◌-◌, List, [], ◌∷◌, ◌++◌, Option, Some, None, if◌then◌else◌, All, drop, get_or, map, replicate, true, false, Bool}
+use Rattle.std.specs.Prelude.{◌≡◌, ◌≤◌, ◌<◌, ℕ, ◌+◌, ◌-◌, List, [], ◌∷◌, ◌++◌, Option, Some, None}
+use Rattle.std.specs.Prelude.{if◌then◌else◌, All, drop, get_or, map, replicate, true, false, Bool}
 use Rattle.kv_core.specs.Map.{Map}
 use Rattle.kv_core.specs.declared.change.CommitRequest.{CommitRequest}
 use Rattle.cluster_core.specs.declared.answers.Config.{Config}
@@ -30,7 +31,12 @@ use Rattle.schedule.specs.Turns.{AreSubmitted, IsOpenAs}
 
 -- what is kept of a submission until it is reported
 abbrev pub kept : Submission → Unreported
-kept one = record { client = one.client; read_version = one.transaction.read_version; commands = accepted one.transaction.attempts }
+kept one =
+    record {
+      client = one.client;
+      read_version = one.transaction.read_version;
+      commands = accepted one.transaction.attempts;
+    }
 
 -- the transaction is the open one, and has its accepted commands
 pub record IsOpen (maps : ℕ → Map) (reported : ℕ) (open_now : Open) (transaction : OpenTransaction) : Type 0 where
@@ -45,10 +51,13 @@ IsPlace maps reported before place = ⊥
 
 -- the places have the clients' open transactions
 abbrev pub ArePlaces : (ℕ → Map) → ℕ → (ℕ → Option Open) → List (Option OpenTransaction) → Type 0
-ArePlaces maps reported opens places = (client : ℕ) → client < CLIENTS → IsPlace maps reported (opens client) (get_or places client None)
+ArePlaces maps reported opens places =
+    (client : ℕ) → client < CLIENTS → IsPlace maps reported (opens client) (get_or places client None)
 
 -- beside a cluster there are kept what the clients have open, what isn't reported yet, and what is listed
-pub record IsStandingAt (c : ClusterState) (opens : ℕ → Option Open) (submissions : List Submission) (transactions : List (Option OpenTransaction)) (waiting : List Unreported) (entries : List CommitEntry) : Type 0 where
+pub record IsStandingAt (c : ClusterState) (opens : ℕ → Option Open) (submissions : List Submission)
+    (transactions : List (Option OpenTransaction)) (waiting : List Unreported)
+    (entries : List CommitEntry) : Type 0 where
   pub begun : c.pipeline.start ≤ c.pipeline.reported
   pub given : c.pipeline.reported ≤ submitted c.pipeline
   pub pulled : All (λ clock. clock ≤ submitted c.pipeline) c.pulled
@@ -59,7 +68,9 @@ pub record IsStandingAt (c : ClusterState) (opens : ℕ → Option Open) (submis
 
 -- so it is with the database
 abbrev pub IsStanding : (ℕ → Option Open) → List Submission → Database → Type 0
-IsStanding opens submissions database = IsStandingAt database.cluster opens submissions database.transactions.items database.unreported.items database.commits.items
+IsStanding opens submissions database =
+    IsStandingAt database.cluster opens submissions database.transactions.items database.unreported.items
+    database.commits.items
 
 -- the database is what the steps and replies so far have made
 abbrev pub Stands : Past → Database → Type 0
@@ -75,7 +86,8 @@ pub record IsFirst (config : Config) (database : Database) : Type 0 where
 -- a step replied rightly, moved the cluster as its reply says, and left the database of the longer past
 pub record Steps (past : Past) (step : Step) (reply : Reply) (old new : Database) : Type 0 where
   pub right : IsReplyTo old.cluster past step reply
-  pub moved : (more : List CommitRequest) → stepped (new.cluster.pipeline.requests ++ more) step reply old.cluster ≡ new.cluster
+  pub moved :
+      (more : List CommitRequest) → stepped (new.cluster.pipeline.requests ++ more) step reply old.cluster ≡ new.cluster
   pub added : List CommitRequest
   pub grown : new.cluster.pipeline.requests ≡ old.cluster.pipeline.requests ++ added
   pub after : Stands ((step, reply) ∷ past) new
@@ -85,19 +97,26 @@ abbrev pub IsStepped : Step → Reply → Database → Database → Type 0
 IsStepped step reply old new = (past : Past) → Stands past old → Steps past step reply old new
 
 -- a command was performed in an open transaction, which keeps it where it is accepted
-pub record IsPerformedBy (c : ClusterState) (command : Command) (reply : Reply) (old new : OpenTransaction) : Type 0 where
-  pub performed : IsPerformed (database_at c) (λ range. MayRefuse (tier_of c) range old.transaction.read_version) command reply old.transaction new.transaction
+pub record IsPerformedBy (c : ClusterState) (command : Command) (reply : Reply) (old new : OpenTransaction) :
+    Type 0 where
+  pub performed :
+      IsPerformed (database_at c) (λ range. MayRefuse (tier_of c) range old.transaction.read_version) command reply
+      old.transaction new.transaction
   pub commands : new.commands.items ≡ old.commands.items ++ (if is_accepted reply then command ∷ [] else [])
 
 -- what was submitted, after a commit with this reply
 abbrev pub submitted_by : ℕ → Open → Reply → List Submission → List Submission
-submitted_by client ended (Submitted version) submissions = submissions ++ record { version = version; client = client; transaction = ended } ∷ []
+submitted_by client ended (Submitted version) submissions =
+    submissions ++ record { version = version; client = client; transaction = ended } ∷ []
 submitted_by client ended reply submissions = submissions
 
 -- an ended transaction was submitted, or the reply says why it wasn't
-pub record Submits (opens : ℕ → Option Open) (submissions : List Submission) (client : ℕ) (ended : Open) (reply : Reply) (old new : Database) : Type 0 where
+pub record Submits (opens : ℕ → Option Open) (submissions : List Submission) (client : ℕ) (ended : Open) (reply : Reply)
+    (old new : Database) : Type 0 where
   pub right : reply ≡ commit_reply old.cluster ended
-  pub moved : (more : List CommitRequest) → stepped (new.cluster.pipeline.requests ++ more) (Commit client) reply old.cluster ≡ new.cluster
+  pub moved :
+      (more : List CommitRequest) → stepped (new.cluster.pipeline.requests ++ more) (Commit client) reply old.cluster
+      ≡ new.cluster
   pub added : List CommitRequest
   pub grown : new.cluster.pipeline.requests ≡ old.cluster.pipeline.requests ++ added
   pub after : IsStanding opens (submitted_by client ended reply submissions) new
@@ -106,7 +125,8 @@ pub record Submits (opens : ℕ → Option Open) (submissions : List Submission)
 abbrev pub IsSubmit : ℕ → OpenTransaction → Reply → Database → Database → Type 0
 IsSubmit client transaction reply old new =
     (opens : ℕ → Option Open) (submissions : List Submission) (ended : Open) → IsStanding opens submissions old →
-    IsOpen (database_at old.cluster) old.cluster.pipeline.reported ended transaction → Submits opens submissions client ended reply old new
+    IsOpen (database_at old.cluster) old.cluster.pipeline.reported ended transaction →
+    Submits opens submissions client ended reply old new
 
 -- the reply to a step of a role that there is
 abbrev pub work_reply : Work → Reply
@@ -114,7 +134,8 @@ work_reply works.Done = Done
 work_reply works.NothingToDo = Nothing
 
 -- the next version was reported: whose it was, and what is told of it
-pub record IsTold (opens : ℕ → Option Open) (submissions : List Submission) (told : Told) (old new : Database) : Type 0 where
+pub record IsTold (opens : ℕ → Option Open) (submissions : List Submission) (told : Told) (old new : Database) :
+    Type 0 where
   pub may : may_report old.cluster.pipeline ≡ true
   pub client : told.client ≡ client_of submissions (old.cluster.pipeline.reported + 1)
   pub reported : told.reported ≡ outcome old.cluster.pipeline (old.cluster.pipeline.reported + 1)
@@ -135,26 +156,38 @@ IsReportedAs opens submissions (Some told) old new = IsTold opens submissions to
 
 -- so it was done, whatever stood before
 abbrev pub IsReported : Option Told → Database → Database → Type 0
-IsReported told old new = (opens : ℕ → Option Open) (submissions : List Submission) → IsStanding opens submissions old → IsReportedAs opens submissions told old new
+IsReported told old new =
+    (opens : ℕ → Option Open) (submissions : List Submission) → IsStanding opens submissions old →
+    IsReportedAs opens submissions told old new
 
 -- the next version was reported to its client
-pub record Tells (opens : ℕ → Option Open) (submissions : List Submission) (before : List Report) (done : Bool) (after : List Report) (old new : Database) : Type 0 where
+pub record Tells (opens : ℕ → Option Open) (submissions : List Submission) (before : List Report) (done : Bool)
+    (after : List Report) (old new : Database) : Type 0 where
   pub may : done ≡ may_report old.cluster.pipeline
   pub something : done ≡ true → outcome old.cluster.pipeline (old.cluster.pipeline.reported + 1) ≡ NothingToDo → ⊥
-  pub reports : after ≡ before ++ (if done then report_to (client_of submissions (old.cluster.pipeline.reported + 1)) (outcome old.cluster.pipeline (old.cluster.pipeline.reported + 1)) else [])
+  pub reports :
+      after ≡ before ++ (if done then report_to (client_of submissions (old.cluster.pipeline.reported + 1))
+      (outcome old.cluster.pipeline (old.cluster.pipeline.reported + 1)) else [])
   pub cluster : new.cluster ≡ (if done then with_pipeline (report old.cluster.pipeline) old.cluster else old.cluster)
   pub standing : IsStanding opens submissions new
 
 -- the same, whatever stood before
 abbrev pub IsTelling : List Report → Bool → List Report → Database → Database → Type 0
-IsTelling before done after old new = (opens : ℕ → Option Open) (submissions : List Submission) → IsStanding opens submissions old → Tells opens submissions before done after old new
+IsTelling before done after old new =
+    (opens : ℕ → Option Open) (submissions : List Submission) → IsStanding opens submissions old →
+    Tells opens submissions before done after old new
 
 -- what is listed of a submission that is committed at a version
 abbrev pub entry_of : ℕ → Unreported → CommitEntry
-entry_of version next = record { version = version; client = next.client; read_version = next.read_version; commands = next.commands }
+entry_of version next =
+    record { version = version; client = next.client; read_version = next.read_version; commands = next.commands }
 
--- the steps were done one after another from the start: each reply is right however many requests come later, and the cluster is the one after the steps
+-- the steps were done one after another from the start: each reply is right however many requests come later, and the
+-- cluster is the one after the steps
 pub record HasRun (config : Config) (steps : List Step) (replies : List Reply) (database : Database) : Type 0 where
-  pub right : (more : List CommitRequest) → HasRightReplies config (database.cluster.pipeline.requests ++ more) steps replies
-  pub cluster : (more : List CommitRequest) → cluster_after config (database.cluster.pipeline.requests ++ more) (past_of [] steps replies) ≡ database.cluster
+  pub right :
+      (more : List CommitRequest) → HasRightReplies config (database.cluster.pipeline.requests ++ more) steps replies
+  pub cluster :
+      (more : List CommitRequest) → cluster_after config (database.cluster.pipeline.requests ++ more)
+      (past_of [] steps replies) ≡ database.cluster
   pub stands : Stands (past_of [] steps replies) database

@@ -13,12 +13,14 @@ use Rattle.metadata.specs.Change.{add_type}
 use Rattle.metadata.specs.IndexChange.{new_index}
 use Rattle.metadata.specs.Record.{Record, primary_key, record_of, key_of}
 use Rattle.schedule.specs.declared.step.Command.{Command}
-use Rattle.schedule.specs.declared.step.Command.TheVariants.{Create, «Type», Save, Load, Remove, Query, Index, Drop, Disable, State}
+use Rattle.schedule.specs.declared.step.Command.TheVariants.{Create, «Type», Save, Load, Remove}
+use Rattle.schedule.specs.declared.step.Command.TheVariants.{Query, Index, Drop, Disable, State}
 use Rattle.schedule.specs.declared.reply.Reply.{Reply}
 use Rattle.schedule.specs.declared.reply.Reply.TheVariants as reply
 use Rattle.schedule.specs.declared.reply.Reply.TheVariants.{Refused}
 use Rattle.metadata.specs.Records.{of_type, record_at}
-use Rattle.record_store.specs.Store.{Store, Serial, created, disabled, dropped, extended, indexed, new_state, removed, saved, state_of}
+use Rattle.record_store.specs.Store.{Store, Serial, created, disabled, dropped, extended}
+use Rattle.record_store.specs.Store.{indexed, new_state, removed, saved, state_of}
 use Rattle.record_store.specs.Calls.{index_number}
 use Rattle.schedule.specs.Query.{AreRows}
 
@@ -68,7 +70,8 @@ served_type store schema = (reply.Done, Some (extended store schema))
 
 -- an index is added, and its state replied; an index is dropped, and disabled; its state is asked for
 abbrev pub served_index : Store → IndexDefinition → Served
-served_index store index = (reply.State (new_state (of_type index.type_number store.records)), Some (indexed store index))
+served_index store index =
+    (reply.State (new_state (of_type index.type_number store.records)), Some (indexed store index))
 
 abbrev pub served_drop : Store → ℕ → Served
 served_drop store number = (reply.Done, Some (dropped store number))

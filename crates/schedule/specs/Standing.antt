@@ -1,5 +1,6 @@
 -- How the cluster stands after some steps, and which transactions are committed there.
-use Rattle.std.specs.Prelude.{◌+◌, ◌&&◌, Bool, true, false, if◌then◌else◌, nat_le, List, [], ◌∷◌, length, map, filter, take}
+use Rattle.std.specs.Prelude.{◌+◌, ◌&&◌, Bool, true, false, if◌then◌else◌}
+use Rattle.std.specs.Prelude.{nat_le, List, [], ◌∷◌, length, map, filter, take}
 use Rattle.kv_core.specs.declared.change.CommitRequest.{CommitRequest}
 use Rattle.cluster_core.specs.declared.answers.Config.{Config}
 use Rattle.cluster_core.specs.declared.answers.Reported.{Reported}
@@ -20,7 +21,8 @@ with_next requests p = record p { requests = take (length p.requests + 1) reques
 
 -- the cluster where every role has handled all that is submitted
 abbrev pub settled : ClusterState → ClusterState
-settled c = record { pipeline = all_handled c.pipeline; splits = c.splits; pulled = map (λ _. submitted c.pipeline) c.pulled }
+settled c =
+    record { pipeline = all_handled c.pipeline; splits = c.splits; pulled = map (λ _. submitted c.pipeline) c.pulled }
 
 -- the reply says that the transaction was submitted, that the step was done, that something was reported
 abbrev pub is_submitted : Reply → Bool
@@ -37,7 +39,8 @@ is_reported reply = false
 
 -- the cluster after one more step: what its reply says was done. The requests are those of the whole schedule
 abbrev pub stepped : List CommitRequest → Step → Reply → ClusterState → ClusterState
-stepped requests (Commit client) reply c = if is_submitted reply then with_pipeline (with_next requests c.pipeline) c else c
+stepped requests (Commit client) reply c =
+    if is_submitted reply then with_pipeline (with_next requests c.pipeline) c else c
 stepped requests (Resolve r) reply c = if is_done reply then with_pipeline (resolve r c.pipeline) c else c
 stepped requests (Log l) reply c = if is_done reply then with_pipeline (append l c.pipeline) c else c
 stepped requests (Pull s) reply c = if is_done reply then pull s c else c
@@ -65,7 +68,13 @@ listed p submissions = filter (is_listed p) submissions
 
 -- a committed transaction
 abbrev pub commit_entry : Submission → CommitEntry
-commit_entry one = record { version = one.version; client = one.client; read_version = one.transaction.read_version; commands = accepted one.transaction.attempts }
+commit_entry one =
+    record {
+      version = one.version;
+      client = one.client;
+      read_version = one.transaction.read_version;
+      commands = accepted one.transaction.attempts;
+    }
 
 -- the transactions that are committed, of those that were reported, in version order
 abbrev pub commits_of : PipelineState → List Submission → List CommitEntry

@@ -18,8 +18,10 @@ use Rattle.schedule.specs.Contract.{attempted}
 abbrev pub fresh : ℕ → CommitRequest
 fresh read_version = record { read_version = read_version; reads = []; mutations = [] }
 
--- what an attempt at a command came to where the map seen before it holds this: the part of `IsPerformedAt` that doesn't depend on how far the servers were
-pub record DidAt (attempt : Attempt) (written : List Mutation) (added : List KeyRange) (m : Map) (serial : Serial) : Type 0 where
+-- what an attempt at a command came to where the map seen before it holds this: the part of `IsPerformedAt` that
+-- doesn't depend on how far the servers were
+pub record DidAt (attempt : Attempt) (written : List Mutation) (added : List KeyRange) (m : Map) (serial : Serial) :
+    Type 0 where
   pub replied : is_accepted attempt.reply ≡ true → IsReply serial attempt.command attempt.reply
   pub wrote : written ≡ (if is_accepted attempt.reply then writes serial attempt.command else [])
   pub holds : Stands (after_all written m) (attempted serial attempt)
@@ -30,12 +32,14 @@ pub record Did (maps : ℕ → Map) (attempt : Attempt) (old new : CommitRequest
   pub added : List KeyRange
   pub written : List Mutation
   pub changes : (length written == 0) ≡ is_reading attempt.command attempt.reply
-  pub ran : Ran maps added old new written (λ m. (serial : Serial) → Stands m serial → DidAt attempt written added m serial)
+  pub ran :
+      Ran maps added old new written (λ m. (serial : Serial) → Stands m serial → DidAt attempt written added m serial)
 
 -- attempts were made in turn
 abbrev pub AreDone : (ℕ → Map) → List Attempt → CommitRequest → CommitRequest → Type 0
 AreDone maps [] old new = old ≡ new
-AreDone maps (attempt ∷ attempts) old new = (mid : CommitRequest) × Did maps attempt old mid × AreDone maps attempts mid new
+AreDone maps (attempt ∷ attempts) old new =
+    (mid : CommitRequest) × Did maps attempt old mid × AreDone maps attempts mid new
 
 -- the transaction is what its attempts made of a fresh one, which reads at a version that was reported
 pub record IsOpenAs (maps : ℕ → Map) (reported : ℕ) (open_now : Open) (request : CommitRequest) : Type 0 where
@@ -44,7 +48,8 @@ pub record IsOpenAs (maps : ℕ → Map) (reported : ℕ) (open_now : Open) (req
   pub done : AreDone maps open_now.attempts (fresh open_now.read_version) request
 
 -- the request was submitted as this submission
-pub record IsSubmitted (maps : ℕ → Map) (reported version : ℕ) (one : Submission) (request : CommitRequest) : Type 0 where
+pub record IsSubmitted (maps : ℕ → Map) (reported version : ℕ) (one : Submission) (request : CommitRequest) :
+    Type 0 where
   pub given : one.version ≡ version
   pub below : request.read_version < version
   pub open_as : IsOpenAs maps reported one.transaction request

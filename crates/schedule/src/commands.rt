@@ -30,7 +30,8 @@ pub(crate) fn open<S: Snapshot>(
     ensures opened { IfOk result (λ store. IsOpened (S.map_at db.now) store tx.old tx.new) }
     ensures prefix { IfOk result (λ store. store.prefix ≡ store_prefix) }
     ensures plain { IfOk result (λ store. HasPlainIndexes store.schema store.states) }
-    ensures refused { IfErr result (λ error. IsUnopened (S.map_at db.now) (S.may_refuse db.now) store_prefix error tx.old tx.new) }
+    ensures refused { IfErr result (λ error.
+        IsUnopened (S.map_at db.now) (S.may_refuse db.now) store_prefix error tx.old tx.new) }
 {
     Store::open(alloc, &PREFIX, tx, db)
 }
@@ -43,8 +44,11 @@ pub(crate) fn create<S: Snapshot>(
     request: &SchemaRequest,
 ) -> Result<Reply, StoreError>
     requires { AsksValues (Command.Create request.now) }
-    ensures performed { IfOk result (λ answer. IsPerformed (S.map_at db.now) (λ range. S.may_refuse db.now range tx.old.read_version) (Command.Create request.now) answer tx.old tx.new) }
-    ensures refused { IfErr result (λ error. IsRefused (S.map_at db.now) (S.may_refuse db.now) (Command.Create request.now) error tx.old tx.new) }
+    ensures performed { IfOk result (λ answer.
+        IsPerformed (S.map_at db.now) (λ range. S.may_refuse db.now range tx.old.read_version)
+        (Command.Create request.now) answer tx.old tx.new) }
+    ensures refused { IfErr result (λ error.
+        IsRefused (S.map_at db.now) (S.may_refuse db.now) (Command.Create request.now) error tx.old tx.new) }
 {
     let schema = Schema::of_request(alloc, request)?;
     let _store = Store::create(alloc, &PREFIX, tx, db, &schema)?;
@@ -58,8 +62,11 @@ pub(crate) fn add_type<S: Snapshot>(
     db: &S,
     request: &TypeRequest,
 ) -> Result<Reply, StoreError>
-    ensures performed { IfOk result (λ answer. IsPerformed (S.map_at db.now) (λ range. S.may_refuse db.now range tx.old.read_version) (Command.«Type» request.now) answer tx.old tx.new) }
-    ensures refused { IfErr result (λ error. IsRefused (S.map_at db.now) (S.may_refuse db.now) (Command.«Type» request.now) error tx.old tx.new) }
+    ensures performed { IfOk result (λ answer.
+        IsPerformed (S.map_at db.now) (λ range. S.may_refuse db.now range tx.old.read_version)
+        (Command.«Type» request.now) answer tx.old tx.new) }
+    ensures refused { IfErr result (λ error.
+        IsRefused (S.map_at db.now) (S.may_refuse db.now) (Command.«Type» request.now) error tx.old tx.new) }
 {
     let mut store = open(alloc, tx, db)?;
     store.add_type(tx, request)?;
@@ -98,8 +105,11 @@ pub(crate) fn save<S: Snapshot>(
     type_name: &Text,
     cells: &Cells,
 ) -> Result<Reply, StoreError>
-    ensures performed { IfOk result (λ answer. IsPerformed (S.map_at db.now) (λ range. S.may_refuse db.now range tx.old.read_version) (Command.Save type_name.now cells.now) answer tx.old tx.new) }
-    ensures refused { IfErr result (λ error. IsRefused (S.map_at db.now) (S.may_refuse db.now) (Command.Save type_name.now cells.now) error tx.old tx.new) }
+    ensures performed { IfOk result (λ answer.
+        IsPerformed (S.map_at db.now) (λ range. S.may_refuse db.now range tx.old.read_version)
+        (Command.Save type_name.now cells.now) answer tx.old tx.new) }
+    ensures refused { IfErr result (λ error.
+        IsRefused (S.map_at db.now) (S.may_refuse db.now) (Command.Save type_name.now cells.now) error tx.old tx.new) }
 {
     let store = open(alloc, tx, db)?;
     let new = record_asked(alloc, store.schema(), type_name, cells)?;
@@ -125,8 +135,11 @@ pub(crate) fn load<S: Snapshot>(
     type_name: &Text,
     cells: &Cells,
 ) -> Result<Reply, StoreError>
-    ensures performed { IfOk result (λ answer. IsPerformed (S.map_at db.now) (λ range. S.may_refuse db.now range tx.old.read_version) (Command.Load type_name.now cells.now) answer tx.old tx.new) }
-    ensures refused { IfErr result (λ error. IsRefused (S.map_at db.now) (S.may_refuse db.now) (Command.Load type_name.now cells.now) error tx.old tx.new) }
+    ensures performed { IfOk result (λ answer.
+        IsPerformed (S.map_at db.now) (λ range. S.may_refuse db.now range tx.old.read_version)
+        (Command.Load type_name.now cells.now) answer tx.old tx.new) }
+    ensures refused { IfErr result (λ error.
+        IsRefused (S.map_at db.now) (S.may_refuse db.now) (Command.Load type_name.now cells.now) error tx.old tx.new) }
 {
     let store = open(alloc, tx, db)?;
     let found = store.load(tx, db, type_name, cells)?;
@@ -152,8 +165,12 @@ pub(crate) fn remove<S: Snapshot>(
     type_name: &Text,
     cells: &Cells,
 ) -> Result<Reply, StoreError>
-    ensures performed { IfOk result (λ answer. IsPerformed (S.map_at db.now) (λ range. S.may_refuse db.now range tx.old.read_version) (Command.Remove type_name.now cells.now) answer tx.old tx.new) }
-    ensures refused { IfErr result (λ error. IsRefused (S.map_at db.now) (S.may_refuse db.now) (Command.Remove type_name.now cells.now) error tx.old tx.new) }
+    ensures performed { IfOk result (λ answer.
+        IsPerformed (S.map_at db.now) (λ range. S.may_refuse db.now range tx.old.read_version)
+        (Command.Remove type_name.now cells.now) answer tx.old tx.new) }
+    ensures refused { IfErr result (λ error.
+        IsRefused (S.map_at db.now) (S.may_refuse db.now)
+        (Command.Remove type_name.now cells.now) error tx.old tx.new) }
 {
     let store = open(alloc, tx, db)?;
     let was_there = store.remove(tx, db, type_name, cells)?;
@@ -176,8 +193,11 @@ pub(crate) fn query<S: Snapshot>(
     db: &S,
     query: &Query,
 ) -> Result<Reply, StoreError>
-    ensures performed { IfOk result (λ answer. IsPerformed (S.map_at db.now) (λ range. S.may_refuse db.now range tx.old.read_version) (Command.Query query.now) answer tx.old tx.new) }
-    ensures refused { IfErr result (λ error. IsRefused (S.map_at db.now) (S.may_refuse db.now) (Command.Query query.now) error tx.old tx.new) }
+    ensures performed { IfOk result (λ answer.
+        IsPerformed (S.map_at db.now) (λ range. S.may_refuse db.now range tx.old.read_version)
+        (Command.Query query.now) answer tx.old tx.new) }
+    ensures refused { IfErr result (λ error.
+        IsRefused (S.map_at db.now) (S.may_refuse db.now) (Command.Query query.now) error tx.old tx.new) }
 {
     let store = open(alloc, tx, db)?;
     let records = store.records(tx, db, &query.record_type)?;

@@ -21,8 +21,11 @@ pub(crate) fn add_index<S: Snapshot>(
     request: &IndexRequest,
 ) -> Result<Reply, StoreError>
     requires { AsksValues (Command.Index request.now) }
-    ensures performed { IfOk result (λ answer. IsPerformed (S.map_at db.now) (λ range. S.may_refuse db.now range tx.old.read_version) (Command.Index request.now) answer tx.old tx.new) }
-    ensures refused { IfErr result (λ error. IsRefused (S.map_at db.now) (S.may_refuse db.now) (Command.Index request.now) error tx.old tx.new) }
+    ensures performed { IfOk result (λ answer.
+        IsPerformed (S.map_at db.now) (λ range. S.may_refuse db.now range tx.old.read_version)
+        (Command.Index request.now) answer tx.old tx.new) }
+    ensures refused { IfErr result (λ error.
+        IsRefused (S.map_at db.now) (S.may_refuse db.now) (Command.Index request.now) error tx.old tx.new) }
 {
     let mut store = open(alloc, tx, db)?;
     let state = store.add_index(tx, db, request)?;
@@ -36,8 +39,11 @@ pub(crate) fn drop_index<S: Snapshot>(
     db: &S,
     name: &Text,
 ) -> Result<Reply, StoreError>
-    ensures performed { IfOk result (λ answer. IsPerformed (S.map_at db.now) (λ range. S.may_refuse db.now range tx.old.read_version) (Command.Drop name.now) answer tx.old tx.new) }
-    ensures refused { IfErr result (λ error. IsRefused (S.map_at db.now) (S.may_refuse db.now) (Command.Drop name.now) error tx.old tx.new) }
+    ensures performed { IfOk result (λ answer.
+        IsPerformed (S.map_at db.now) (λ range. S.may_refuse db.now range tx.old.read_version)
+        (Command.Drop name.now) answer tx.old tx.new) }
+    ensures refused { IfErr result (λ error.
+        IsRefused (S.map_at db.now) (S.may_refuse db.now) (Command.Drop name.now) error tx.old tx.new) }
 {
     let mut store = open(alloc, tx, db)?;
     store.drop_index(tx, name)?;
@@ -51,8 +57,11 @@ pub(crate) fn disable_index<S: Snapshot>(
     db: &S,
     name: &Text,
 ) -> Result<Reply, StoreError>
-    ensures performed { IfOk result (λ answer. IsPerformed (S.map_at db.now) (λ range. S.may_refuse db.now range tx.old.read_version) (Command.Disable name.now) answer tx.old tx.new) }
-    ensures refused { IfErr result (λ error. IsRefused (S.map_at db.now) (S.may_refuse db.now) (Command.Disable name.now) error tx.old tx.new) }
+    ensures performed { IfOk result (λ answer.
+        IsPerformed (S.map_at db.now) (λ range. S.may_refuse db.now range tx.old.read_version)
+        (Command.Disable name.now) answer tx.old tx.new) }
+    ensures refused { IfErr result (λ error.
+        IsRefused (S.map_at db.now) (S.may_refuse db.now) (Command.Disable name.now) error tx.old tx.new) }
 {
     let mut store = open(alloc, tx, db)?;
     store.mark_disabled(tx, name)?;
@@ -66,8 +75,11 @@ pub(crate) fn index_state<S: Snapshot>(
     db: &S,
     name: &Text,
 ) -> Result<Reply, StoreError>
-    ensures performed { IfOk result (λ answer. IsPerformed (S.map_at db.now) (λ range. S.may_refuse db.now range tx.old.read_version) (Command.State name.now) answer tx.old tx.new) }
-    ensures refused { IfErr result (λ error. IsRefused (S.map_at db.now) (S.may_refuse db.now) (Command.State name.now) error tx.old tx.new) }
+    ensures performed { IfOk result (λ answer.
+        IsPerformed (S.map_at db.now) (λ range. S.may_refuse db.now range tx.old.read_version)
+        (Command.State name.now) answer tx.old tx.new) }
+    ensures refused { IfErr result (λ error.
+        IsRefused (S.map_at db.now) (S.may_refuse db.now) (Command.State name.now) error tx.old tx.new) }
 {
     let store = open(alloc, tx, db)?;
     match store.state(name) {

@@ -62,8 +62,11 @@ fn answer<S: Snapshot>(
     db: &S,
 ) -> Result<Reply, StoreError>
     requires { AsksValues command.now }
-    ensures performed { IfOk result (λ answer. IsPerformed (S.map_at db.now) (λ range. S.may_refuse db.now range tx.old.read_version) command.now answer tx.old tx.new) }
-    ensures refused { IfErr result (λ error. IsRefused (S.map_at db.now) (S.may_refuse db.now) command.now error tx.old tx.new) }
+    ensures performed { IfOk result (λ answer.
+        IsPerformed (S.map_at db.now) (λ range. S.may_refuse db.now range tx.old.read_version) command.now answer
+        tx.old tx.new) }
+    ensures refused { IfErr result (λ error.
+        IsRefused (S.map_at db.now) (S.may_refuse db.now) command.now error tx.old tx.new) }
 {
     match command {
         Command::Create(request) => create(alloc, tx, db, request),
@@ -93,7 +96,9 @@ pub fn perform<S: Snapshot>(
     db: &S,
 ) -> Result<Reply, AllocError>
     requires { AsksValues command.now }
-    ensures performed { IfOk result (λ answer. IsPerformed (S.map_at db.now) (λ range. S.may_refuse db.now range tx.old.read_version) command.now answer tx.old tx.new) }
+    ensures performed { IfOk result (λ answer.
+        IsPerformed (S.map_at db.now) (λ range. S.may_refuse db.now range tx.old.read_version) command.now answer
+        tx.old tx.new) }
     ensures stopped { OnErr result (IsStopped (S.map_at db.now) command.now tx.old tx.new) }
 {
     match answer(alloc, command, tx, db) {

@@ -44,7 +44,8 @@ fn list_commit(
     next: Unreported,
     reported: &Reported,
 ) -> Result<(), AllocError>
-    ensures { OnOk result (commits.new.items ≡ commits.old.items ++ (if is_told reported.now then entry_of version next ∷ [] else [])) }
+    ensures { OnOk result (commits.new.items
+        ≡ commits.old.items ++ (if is_told reported.now then entry_of version next ∷ [] else [])) }
 {
     if let Reported::Committed(_) = reported {
         commits.push(CommitEntry {

@@ -39,7 +39,8 @@ impl Database {
     pub(crate) fn steps(&mut self, alloc: Global, steps: &[Step]) -> Result<Vec<Reply>, AllocError>
         requires first { (config : Configuration) × IsFirst config self.old }
         requires values { AllByRecursion StepAsksValues steps.now }
-        ensures { IfOk result (λ replies. (config : Configuration) → IsFirst config self.old → HasRun config steps.now replies.items self.new) }
+        ensures { IfOk result (λ replies.
+            (config : Configuration) → IsFirst config self.old → HasRun config steps.now replies.items self.new) }
     {
         let mut replies = Vec::new(alloc);
         for step in steps {
@@ -54,7 +55,9 @@ impl Database {
 pub(crate) fn start(alloc: Global, config: &Config) -> Result<Database, ScheduleError>
     ensures made { IfOk result (λ database. IsFirst config.now database) }
     ensures allowed { OnOk result (IsNone (config_refusal config.now)) }
-    ensures refused { IfErr result (λ error. (error ≡ ScheduleError.Memory) ⊎ ((why : ConfigRefusal) × (error ≡ ScheduleError.Config why) × (config_refusal config.now ≡ Some why))) }
+    ensures refused { IfErr result (λ error.
+        (error ≡ ScheduleError.Memory)
+        ⊎ ((why : ConfigRefusal) × (error ≡ ScheduleError.Config why) × (config_refusal config.now ≡ Some why))) }
 {
     match Database::new(alloc, config) {
         Ok(database) => Ok(database),

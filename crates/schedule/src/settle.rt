@@ -22,7 +22,8 @@ fn has_worked(work: Work) -> bool
 impl Database {
     // Each resolver answers for its next version, and whether one did.
     fn resolve_each(&mut self) -> Result<bool, AllocError>
-        ensures { IfOk result (λ done. HaveWorked resolver_may (length self.old.cluster.pipeline.resolved) done self.old self.new) }
+        ensures { IfOk result (λ done.
+            HaveWorked resolver_may (length self.old.cluster.pipeline.resolved) done self.old self.new) }
     {
         let count = self.cluster.resolvers();
         let mut done = false;
@@ -36,7 +37,8 @@ impl Database {
 
     // Each log appends its next version, and whether one did.
     fn append_each(&mut self) -> Result<bool, AllocError>
-        ensures { IfOk result (λ done. HaveWorked log_may (length self.old.cluster.pipeline.logged) done self.old self.new) }
+        ensures { IfOk result (λ done.
+            HaveWorked log_may (length self.old.cluster.pipeline.logged) done self.old self.new) }
     {
         let count = self.cluster.logs();
         let mut done = false;

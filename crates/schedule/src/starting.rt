@@ -35,7 +35,8 @@ impl Database {
     pub(crate) fn new(alloc: Global, config: &Config) -> Result<Database, ConfigError>
         ensures made { IfOk result (λ database. IsFirst config.now database) }
         ensures allowed { OnOk result (IsNone (config_refusal config.now)) }
-        ensures refused { IfErr result (λ error. (error ≡ ConfigError.Memory) ⊎ (config_refusal config.now ≡ Some error)) }
+        ensures refused { IfErr result (λ error.
+            (error ≡ ConfigError.Memory) ⊎ (config_refusal config.now ≡ Some error)) }
     {
         let cluster = Cluster::new(alloc, config)?;
         let transactions = no_transactions(alloc)?;

@@ -1,5 +1,6 @@
 -- What a script is.
-use Rattle.std.specs.Prelude.{◌≡◌, ◌⊎◌, ℕ, ◌+◌, nat_le, ◌&&◌, List, [], ◌∷◌, ◌++◌, length, codes, Option, Some, None, IsSome, MatchOption, if◌then◌else◌, option_and_then}
+use Rattle.std.specs.Prelude.{◌≡◌, ◌⊎◌, ℕ, ◌+◌, nat_le, ◌&&◌, List, [], ◌∷◌, ◌++◌, length, codes}
+use Rattle.std.specs.Prelude.{Option, Some, None, IsSome, MatchOption, if◌then◌else◌, option_and_then}
 use Rattle.std.specs.Option.{unwrap_or}
 use Rattle.std.specs.Str.{is_utf8}
 use Rattle.cluster_core.specs.declared.answers.Config.{Config}
@@ -31,7 +32,8 @@ value_in text = if nat_le (length text) 4000000 && is_utf8 text then read text e
 
 -- the configuration that a script's text stands for, where its frame is one
 abbrev pub config_of : List ℕ → Option Config
-config_of text = option_and_then (λ script. option_and_then (λ steps. script_config script) (frame_in script)) (value_in text)
+config_of text =
+    option_and_then (λ script. option_and_then (λ steps. script_config script) (frame_in script)) (value_in text)
 
 -- the steps of a script's text, each still as it is written
 abbrev pub script_in : List ℕ → Option (List Data)

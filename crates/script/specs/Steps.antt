@@ -4,7 +4,8 @@ use Rattle.schedule.specs.declared.step.Command.{Command}
 use Rattle.schedule.specs.declared.step.Command.TheVariants as commands
 use Rattle.schedule.specs.declared.step.Query.{Query}
 use Rattle.schedule.specs.declared.step.Step.{Step}
-use Rattle.schedule.specs.declared.step.Step.TheVariants.{Begin, Perform, Commit, Abandon, Resolve, Log, Pull, Report, Lost, Settle}
+use Rattle.schedule.specs.declared.step.Step.TheVariants.{Begin, Perform, Commit, Abandon, Resolve}
+use Rattle.schedule.specs.declared.step.Step.TheVariants.{Log, Pull, Report, Lost, Settle}
 use Rattle.serde_json.specs.Data.{Data}
 use Rattle.serde_json.specs.Find.{as_str}
 use Rattle.json_forms.specs.CellJson.{cells_in}
@@ -19,15 +20,20 @@ query_in d = option_map (λ name. record { record_type = name }) (option_and_the
 abbrev pub command_with : List ℕ → Data → Option Command
 command_with name part =
     option_and_then (λ (reads : Data → Option Command). reads part)
-    (named ((codes "create", λ d. option_map commands.Create (schema_in d)) ∷ (codes "type", λ d. option_map commands.«Type» (type_in d))
-    ∷ (codes "query", λ d. option_map commands.Query (query_in d)) ∷ (codes "index", λ d. option_map commands.Index (index_in d)) ∷ (codes "drop", λ d. option_map commands.Drop (as_str d))
-    ∷ (codes "disable", λ d. option_map commands.Disable (as_str d)) ∷ (codes "state", λ d. option_map commands.State (as_str d)) ∷ []) name)
+    (named ((codes "create", λ d. option_map commands.Create (schema_in d))
+    ∷ (codes "type", λ d. option_map commands.«Type» (type_in d))
+    ∷ (codes "query", λ d. option_map commands.Query (query_in d))
+    ∷ (codes "index", λ d. option_map commands.Index (index_in d))
+    ∷ (codes "drop", λ d. option_map commands.Drop (as_str d))
+    ∷ (codes "disable", λ d. option_map commands.Disable (as_str d))
+    ∷ (codes "state", λ d. option_map commands.State (as_str d)) ∷ []) name)
 
 -- the command of this name with a type's name and cells
 abbrev pub command_on : List ℕ → Data → Data → Option Command
 command_on name type_name cells =
     option_and_then (λ t. option_and_then (λ cs.
-    named ((codes "save", commands.Save t cs) ∷ (codes "load", commands.Load t cs) ∷ (codes "remove", commands.Remove t cs) ∷ []) name)
+    named ((codes "save", commands.Save t cs) ∷ (codes "load", commands.Load t cs)
+    ∷ (codes "remove", commands.Remove t cs) ∷ []) name)
     (cells_in cells)) (as_str type_name)
 
 -- the step of this name with just the number of a client or of a role

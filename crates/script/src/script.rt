@@ -4,7 +4,8 @@ ghost use Rattle.json_forms.specs.Json.{each_in};
 ghost use Rattle.script.specs.Steps.{step_in};
 ghost use Rattle.schedule.specs.Values.{StepAsksValues};
 ghost use Rattle.std.specs.List.{AllByRecursion};
-ghost use Rattle.script.specs.Script.{IsScript, explains_script, explains_step, explains_steps, frame_in, script_config, value_in};
+ghost use Rattle.script.specs.Script.{IsScript, explains_script, explains_step};
+ghost use Rattle.script.specs.Script.{explains_steps, frame_in, script_config, value_in};
 
 use crate::error::ScriptError;
 use crate::step_json::step_of;

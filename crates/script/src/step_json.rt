@@ -1,6 +1,7 @@
 ghost use Rattle.std.specs.Prelude.{◌≡◌, Some, None, IfOk, IfErr, map};
 ghost use Rattle.serde_json.specs.View.{view};
-ghost use Rattle.script.specs.Steps.{command_on, command_with, common_step, numbered_step, query_in, step_in, step_of_number};
+ghost use Rattle.script.specs.Steps.{command_on, command_with, common_step};
+ghost use Rattle.script.specs.Steps.{numbered_step, query_in, step_in, step_of_number};
 ghost use Rattle.schedule.specs.Values.{AsksValues, StepAsksValues};
 
 use json_forms::{

@@ -1,9 +1,11 @@
 // Keys under a prefix.
-ghost use Rattle.std.specs.Prelude.{◌≡◌, ◌↔◌, ◌++◌, ◌<◌, ◌^◌, ◌∷◌, List, ℕ, ℤ, [], All, IfOk, IfErr, Err, None, Some, option_map, true, MatchBool, MatchOption};
+ghost use Rattle.std.specs.Prelude.{◌≡◌, ◌↔◌, ◌++◌, ◌<◌, ◌^◌, ◌∷◌, List, ℕ, ℤ, [], All, IfOk, IfErr};
+ghost use Rattle.std.specs.Prelude.{Err, None, Some, option_map, true, MatchBool, MatchOption};
 ghost use Rattle.tuple_codec.specs.Item.{Item, int, magnitude, IsTuple, AreBytes};
 ghost use Rattle.tuple_codec.specs.Spelling.{spelling};
 ghost use Rattle.tuple_codec.specs.Order.{bytes_cmp, tuple_cmp};
-ghost use Rattle.tuple_codec.specs.Subspace.{BeginsWith, key_of, range_begin, range_end, strinc, IsWithin, SpellsUnder, RefusesUnder, StripFails, StripsTuple, StripsRefusal};
+ghost use Rattle.tuple_codec.specs.Subspace.{BeginsWith, key_of, range_begin, range_end, strinc, IsWithin};
+ghost use Rattle.tuple_codec.specs.Subspace.{SpellsUnder, RefusesUnder, StripFails, StripsTuple, StripsRefusal};
 ghost use Rattle.tuple_codec.specs.declared.UnpackErrorKind.{UnpackErrorKind};
 ghost use Rattle.tuple_codec.specs.declared.StripError.TheVariants.{Outside};
 
@@ -49,7 +51,8 @@ impl Subspace {
         ensures refused { IfErr result (StripFails self.now key.now) }
         ensures outside { (BeginsWith self.now key.now → ⊥) → result ≡ Err Outside }
         ensures reads { (t : List Item) → SpellsUnder self.now t key.now → StripsTuple t result }
-        ensures refuses { (at : ℕ) (kind : UnpackErrorKind) → RefusesUnder self.now key.now at kind → StripsRefusal at kind result }
+        ensures refuses { (at : ℕ) (kind : UnpackErrorKind) → RefusesUnder self.now key.now at kind →
+            StripsRefusal at kind result }
     {
         let Some(rest) = self.behind(key) else {
             return Err(StripError::Outside);
@@ -63,7 +66,8 @@ impl Subspace {
 
     /// The range of the keys of all tuples but the empty one.
     pub fn range(&self, alloc: Global) -> Result<SubspaceRange, AllocError>
-        ensures { IfOk result (λ range. (range.begin.items ≡ range_begin self.now) × (range.end.items ≡ range_end self.now)) }
+        ensures { IfOk result (λ range.
+            (range.begin.items ≡ range_begin self.now) × (range.end.items ≡ range_end self.now)) }
     {
         let mut begin = Vec::from_slice(alloc, &self.prefix)?;
         begin.push(0)?;
@@ -89,7 +93,8 @@ pub fn strinc(alloc: Global, bytes: &[u8]) -> Result<Option<Vec<u8>>, AllocError
     Ok(None)
 }
 
-/// A key spells its tuple behind the prefix, and keys are ordered as their tuples. A subspace's range has the key of every tuple but the empty one.
+/// A key spells its tuple behind the prefix, and keys are ordered as their tuples. A subspace's
+/// range has the key of every tuple but the empty one.
 pub fn keys_are_tuples()
     ensures spelled { (prefix : List ℕ) (t : List Item) → IsTuple t → SpellsUnder prefix t (key_of prefix t) }
     ensures ordered { (prefix : List ℕ) (t u : List Item) → IsTuple t → IsTuple u
@@ -100,10 +105,12 @@ pub fn keys_are_tuples()
 
 /// Of the packs of two different whole numbers neither begins the other.
 pub fn integers_do_not_begin_each_other()
-    ensures { (z w : ℤ) → magnitude z < 2 ^ 64 → magnitude w < 2 ^ 64 → BeginsWith (spelling (int z ∷ [])) (spelling (int w ∷ [])) → z ≡ w }
+    ensures { (z w : ℤ) → magnitude z < 2 ^ 64 → magnitude w < 2 ^ 64 →
+        BeginsWith (spelling (int z ∷ [])) (spelling (int w ∷ [])) → z ≡ w }
 {}
 
-/// The strings that begin with x are those from x on and before `strinc` of x, which is None exactly where all bytes of x are FF.
+/// The strings that begin with x are those from x on and before `strinc` of x, which is None
+/// exactly where all bytes of x are FF.
 pub fn prefixes_are_ranges()
     ensures ranges { (x key : List ℕ) → AreBytes x → AreBytes key → BeginsWith x key ↔ IsWithin x (strinc x) key }
     ensures none { (x : List ℕ) → (strinc x ≡ None) ↔ All (λ b. b ≡ 255) x }

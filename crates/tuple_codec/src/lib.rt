@@ -1,8 +1,9 @@
-//! The tuple encoding of FoundationDB's `design/tuple.md`: the packed form of a tuple of typed elements, whose byte order
-//! is the order of tuples, and the keys under a prefix.
+//! The tuple encoding of FoundationDB's `design/tuple.md`: the packed form of a tuple of typed
+//! elements, whose byte order is the order of tuples, and the keys under a prefix.
 #![tactic(auto)]
 
-ghost use Rattle.std.specs.Prelude.{◌≡◌, ◌<◌, ◌≤◌, ◌^◌, ◌↔◌, ℤ, pos, List, [], ◌∷◌, ◌++◌, map, length, IsSome, IfOk, IfErr, SomeIff, IsTrue, string_bytes};
+ghost use Rattle.std.specs.Prelude.{◌≡◌, ◌<◌, ◌≤◌, ◌^◌, ◌↔◌, ℤ, pos, List, [], ◌∷◌, ◌++◌, map};
+ghost use Rattle.std.specs.Prelude.{length, IsSome, IfOk, IfErr, SomeIff, IsTrue, string_bytes};
 ghost use Rattle.tuple_codec.specs.Item.{magnitude};
 ghost use Rattle.tuple_codec.specs.Writing.{IsSigned};
 ghost use Rattle.tuple_codec.specs.Reading.{signed};

@@ -1,7 +1,8 @@
 -- What follows an attempt.
 use Rattle.std.specs.Prelude.{◌≡◌, ◌⊎◌, ℕ, Bool, nat_lt, if◌then◌else◌, IsTrue}
 use Rattle.txn.specs.declared.retry.Ended.{Ended}
-use Rattle.txn.specs.declared.retry.Ended.TheVariants.{Committed, ReadOnly, Conflict, TooOld, FutureVersion, Unknown, Other}
+use Rattle.txn.specs.declared.retry.Ended.TheVariants.{Committed, ReadOnly, Conflict, TooOld}
+use Rattle.txn.specs.declared.retry.Ended.TheVariants.{FutureVersion, Unknown, Other}
 use Rattle.txn.specs.declared.retry.Next.{Next}
 use Rattle.txn.specs.declared.retry.Next.TheVariants.{Again, Done, GiveUp}
 
@@ -11,7 +12,8 @@ HasSucceeded ended = (ended ≡ Committed) ⊎ (ended ≡ ReadOnly)
 
 -- another attempt does no harm: this one wrote nothing, or it may have written what may be written twice
 abbrev pub MayFollow : Ended → Bool → Type 0
-MayFollow ended repeatable = (ended ≡ Conflict) ⊎ ((ended ≡ TooOld) ⊎ ((ended ≡ FutureVersion) ⊎ ((ended ≡ Unknown) × IsTrue repeatable)))
+MayFollow ended repeatable =
+    (ended ≡ Conflict) ⊎ ((ended ≡ TooOld) ⊎ ((ended ≡ FutureVersion) ⊎ ((ended ≡ Unknown) × IsTrue repeatable)))
 
 -- another attempt where there is one left, and else no more
 abbrev pub again_below : ℕ → ℕ → Next

@@ -15,7 +15,8 @@ first_raised count clocks = map (λ clock. clock + 1) (take count clocks) ++ dro
 
 -- the state where so many of the first resolvers and logs have handled a version more
 abbrev pub first_handled : ℕ → ℕ → PipelineState → PipelineState
-first_handled resolvers logs p = record p { resolved = first_raised resolvers p.resolved; logged = first_raised logs p.logged }
+first_handled resolvers logs p =
+    record p { resolved = first_raised resolvers p.resolved; logged = first_raised logs p.logged }
 
 -- the request with the last version that was given
 abbrev pub newest : CommitRequest → PipelineState → Entry
@@ -25,14 +26,18 @@ newest request p = record { version = submitted p; request = request }
 abbrev pub verdict : CommitRequest → PipelineState → Reported
 verdict request p = told (cause p.splits (entries p) (newest request p)) (submitted p)
 
--- a commit stopped for want of memory: the request stands submitted, and so many of the first resolvers and logs have handled it, a log only where every resolver has, and not every log
+-- a commit stopped for want of memory: the request stands submitted, and so many of the first resolvers and logs have
+-- handled it, a log only where every resolver has, and not every log
 pub record IsHeldAt (request : CommitRequest) (old new : PipelineState) (resolvers logs : ℕ) : Type 0 where
   pub stands : new ≡ first_handled resolvers logs (submit request old)
   pub some_resolvers : resolvers ≤ length old.resolved
   pub some_logs : logs < length old.logged
   pub in_order : resolvers < length old.resolved → logs ≡ 0
 
--- a refused submission leaves all as it was; a commit whose outcome isn't known was submitted, and is handled by some roles and not reported
+-- a refused submission leaves all as it was; a commit whose outcome isn't known was submitted, and is handled by some
+-- roles and not reported
 abbrev pub HeldError : HoldError → CommitRequest → PipelineState → PipelineState → Type 0
-HeldError (Submit error) request old new = (new ≡ old) × ((error ≡ Memory) ⊎ (submit_refusal old request.read_version ≡ Some error))
-HeldError Unknown request old new = (submit_refusal old request.read_version ≡ None) × ((resolvers logs : ℕ) × IsHeldAt request old new resolvers logs)
+HeldError (Submit error) request old new =
+    (new ≡ old) × ((error ≡ Memory) ⊎ (submit_refusal old request.read_version ≡ Some error))
+HeldError Unknown request old new =
+    (submit_refusal old request.read_version ≡ None) × ((resolvers logs : ℕ) × IsHeldAt request old new resolvers logs)

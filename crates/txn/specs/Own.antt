@@ -14,7 +14,8 @@ abbrev pub sum_over : List (List ℕ) → Option (List ℕ) → List ℕ
 sum_over [] before = unwrap_or before []
 sum_over (operand ∷ operands) before = sum_over operands (Some (added before operand))
 
--- the map that own mutations make of nothing, the keys that they clear, and the operands of each key whose value they only add to
+-- the map that own mutations make of nothing, the keys that they clear, and the operands of each key whose value they
+-- only add to
 pub record OwnState : Type 0 where
   pub written : Map
   pub cleared : List KeyRange
@@ -52,4 +53,5 @@ IsUnder own base m = (key : List ℕ) → get m key ≡ under own key (get base 
 -- a map with pairs put over it, each with what it is worth there
 abbrev pub laid_over : List (List ℕ × List (List ℕ)) → List (List ℕ × List ℕ) → Map → Map
 laid_over sums [] m = m
-laid_over sums (pair ∷ pairs) m = laid_over sums pairs (insert m pair.0 (worth pair.1 (sum_at sums pair.0) (get m pair.0)))
+laid_over sums (pair ∷ pairs) m =
+    laid_over sums pairs (insert m pair.0 (worth pair.1 (sum_at sums pair.0) (get m pair.0)))

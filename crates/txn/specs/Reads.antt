@@ -30,7 +30,8 @@ with_mutation mutation tx = with_mutations (mutation ∷ []) tx
 -- the read range of a key decides what is seen at the key
 abbrev pub PointDecides : Type 0
 PointDecides =
-    (tx : CommitRequest) (key : List ℕ) (m n : Map) → Agree (has_read (point key) tx).reads m n → get (seen tx m) key ≡ get (seen tx n) key
+    (tx : CommitRequest) (key : List ℕ) (m n : Map) → Agree (has_read (point key) tx).reads m n →
+    get (seen tx m) key ≡ get (seen tx n) key
 
 -- the range that a read adds decides what the read gives
 abbrev pub RangeDecides : Type 0
@@ -41,13 +42,15 @@ RangeDecides =
 
 -- own writes that stand for a list of mutations: they make of each value what the mutations make of it
 abbrev pub Follow : OwnWrites → List Mutation → Type 0
-Follow own mutations = (key : List ℕ) (before : Option (List ℕ)) → under (state_of own) key before ≡ value_after_all mutations key before
+Follow own mutations =
+    (key : List ℕ) (before : Option (List ℕ)) → under (state_of own) key before ≡ value_after_all mutations key before
 
 -- own writes that stand for the first mutations of a list, as far as they have been noted
 abbrev pub IsNoted : OwnWrites → List Mutation → Type 0
 IsNoted own mutations = (own.noted ≤ length mutations) × Follow own (take own.noted mutations)
 
--- a transaction knows the size of its mutations, which is within the limit, and its own writes are those of the mutations noted so far
+-- a transaction knows the size of its mutations, which is within the limit, and its own writes are those of the
+-- mutations noted so far
 pub record IsTransaction (request : CommitRequest) (size : ℕ) (own : OwnWrites) : Type 0 where
   pub sized : size ≡ size_of_all request.mutations
   pub small : size ≤ MAX_TRANSACTION_BYTES

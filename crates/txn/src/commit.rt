@@ -1,5 +1,6 @@
 ghost use Rattle.std.specs.Prelude.{◌≡◌, ℕ, ◌<◌, ◌≤◌, All, IfOk, IfErr, IsNone, OnOk, OnErr, length};
-ghost use Rattle.cluster_core.specs.Roles.{PipelineState, all_handled, is_caught_up, outcome, submit, submit_refusal, submitted};
+ghost use Rattle.cluster_core.specs.Roles.{PipelineState, all_handled, is_caught_up};
+ghost use Rattle.cluster_core.specs.Roles.{outcome, submit, submit_refusal, submitted};
 ghost use Rattle.txn.specs.Holds.{HeldError, first_handled, verdict};
 
 use cluster_core::{HoldError, Pipeline, Reported};
@@ -32,7 +33,8 @@ pub trait Commit {
 fn resolve_each(pipeline: &mut Pipeline) -> Result<(), AllocError>
     requires { All (λ clock. clock < submitted pipeline.old) pipeline.old.resolved }
     ensures ok { OnOk result (pipeline.new ≡ first_handled (length pipeline.old.resolved) 0 pipeline.old) }
-    ensures err { OnErr result ((count : ℕ) × (count < length pipeline.old.resolved) × (pipeline.new ≡ first_handled count 0 pipeline.old)) }
+    ensures err { OnErr result ((count : ℕ) × (count < length pipeline.old.resolved)
+        × (pipeline.new ≡ first_handled count 0 pipeline.old)) }
 {
     for r in 0..pipeline.resolvers() {
         pipeline.resolve(r)?;
@@ -44,7 +46,8 @@ fn resolve_each(pipeline: &mut Pipeline) -> Result<(), AllocError>
 fn append_each(pipeline: &mut Pipeline) -> Result<(), AllocError>
     requires { All (λ log. All (λ clock. log < clock) pipeline.old.resolved) pipeline.old.logged }
     ensures ok { OnOk result (pipeline.new ≡ first_handled 0 (length pipeline.old.logged) pipeline.old) }
-    ensures err { OnErr result ((count : ℕ) × (count < length pipeline.old.logged) × (pipeline.new ≡ first_handled 0 count pipeline.old)) }
+    ensures err { OnErr result ((count : ℕ) × (count < length pipeline.old.logged)
+        × (pipeline.new ≡ first_handled 0 count pipeline.old)) }
 {
     for l in 0..pipeline.logs() {
         pipeline.append_log(l)?;

@@ -15,7 +15,8 @@ use std::alloc::AllocError;
 impl OwnWrites {
     /// What a value that own mutations make of nothing is worth over a value that was there.
     fn worth(&self, key: &Bytes, value: Bytes, before: Option<&Bytes>) -> Result<Bytes, AllocError>
-        ensures { IfOk result (λ worthy. worthy ≡ worth value (sum_at self.now.sums.entries key.now) (option_copied before.entry)) }
+        ensures { IfOk result (λ worthy.
+            worthy ≡ worth value (sum_at self.now.sums.entries key.now) (option_copied before.entry)) }
     {
         match self.sums.get(key) {
             Some(sum) => sum.over(self.alloc, before),
@@ -47,7 +48,8 @@ impl OwnWrites {
 
     /// The map of the stored pairs whose keys the own mutations don't clear.
     fn left(&self, stored: Vec<Pair>) -> Result<KvMap, AllocError>
-        ensures { IfOk result (λ map. map ≡ from_entries (filter (λ pair. not (covers self.now.cleared pair.0)) stored.items)) }
+        ensures { IfOk result (λ map.
+            map ≡ from_entries (filter (λ pair. not (covers self.now.cleared pair.0)) stored.items)) }
     {
         let mut left = stored;
         left.retain(|pair| !self.cleared.covers(&pair.0));
@@ -78,7 +80,9 @@ impl OwnWrites {
         reverse: bool,
     ) -> Result<Vec<Pair>, AllocError>
         requires { 1 ≤ limit }
-        ensures { IfOk result (λ pairs. (base m : Map) → IsUnder (state_of self.now) base m → Tell self.now.cleared stored.items base range.now → pairs.items ≡ read_of m range.now limit reverse) }
+        ensures { IfOk result (λ pairs.
+            (base m : Map) → IsUnder (state_of self.now) base m → Tell self.now.cleared stored.items base range.now →
+            pairs.items ≡ read_of m range.now limit reverse) }
     {
         let own = self.written.range(range, limit, reverse)?;
         let left = self.left(stored)?;

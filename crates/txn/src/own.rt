@@ -43,7 +43,9 @@ impl OwnWrites {
 
     /// What the mutations come to with one more after them. Where memory runs out it is gone.
     fn with(self, mutation: &Mutation) -> Result<OwnWrites, AllocError>
-        ensures { IfOk result (λ own. (key : List ℕ) (before : Option (List ℕ)) → under (state_of own) key before ≡ value_after mutation.now key (under (state_of self) key before)) }
+        ensures { IfOk result (λ own.
+            (key : List ℕ) (before : Option (List ℕ)) →
+            under (state_of own) key before ≡ value_after mutation.now key (under (state_of self) key before)) }
     {
         let mut own = self;
         match mutation {
@@ -63,7 +65,8 @@ impl OwnWrites {
         ensures written { OnOk result (self.new.written ≡ self.old.written) }
         ensures cleared { OnOk result (self.new.cleared ≡ self.old.cleared) }
         ensures noted { OnOk result (self.new.noted ≡ self.old.noted) }
-        ensures others { OnOk result ((other : List ℕ) → is_eq (key_cmp key.now other) ≡ false → sum_at self.new.sums.entries other ≡ sum_at self.old.sums.entries other) }
+        ensures others { OnOk result ((other : List ℕ) → is_eq (key_cmp key.now other) ≡ false →
+            sum_at self.new.sums.entries other ≡ sum_at self.old.sums.entries other) }
         ensures sum { OnOk result ((before : Option (List ℕ)) →
             worth (added (get self.old.written key.now) operand.now) (sum_at self.new.sums.entries key.now) before ≡
             added (worth_of (get self.old.written key.now) (sum_at self.old.sums.entries key.now) before) operand.now) }
@@ -80,7 +83,9 @@ impl OwnWrites {
 
     /// What the mutations come to with more after them. Where memory runs out it is gone.
     fn with_all(self, mutations: &[Mutation]) -> Result<OwnWrites, AllocError>
-        ensures { IfOk result (λ own. (key : List ℕ) (before : Option (List ℕ)) → under (state_of own) key before ≡ value_after_all mutations.now key (under (state_of self) key before)) }
+        ensures { IfOk result (λ own.
+            (key : List ℕ) (before : Option (List ℕ)) →
+            under (state_of own) key before ≡ value_after_all mutations.now key (under (state_of self) key before)) }
     {
         let mut own = self;
         for mutation in mutations {

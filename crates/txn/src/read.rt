@@ -1,4 +1,5 @@
-ghost use Rattle.std.specs.Prelude.{◌≡◌, ◌⊎◌, ◌≤◌, ℕ, List, None, Some, IsTrue, IfOk, IfErr, OnOk, if◌then◌else◌, length, nat_lt, ◌&&◌};
+ghost use Rattle.std.specs.Prelude.{◌≡◌, ◌⊎◌, ◌≤◌, ℕ, List, None, Some, IsTrue, IfOk};
+ghost use Rattle.std.specs.Prelude.{IfErr, OnOk, if◌then◌else◌, length, nat_lt, ◌&&◌};
 ghost use Rattle.kv_core.specs.Map.{Map};
 ghost use Rattle.kv_core.specs.Range.{contains, has_keys, part_before, part_from};
 ghost use Rattle.kv_core.specs.Read.{last_key, range_read, read_of};
@@ -50,7 +51,8 @@ fn stop(
     stored: &[Pair],
     reverse: bool,
 ) -> Result<Bytes, AllocError>
-    ensures covers { IfOk result (λ place. CoversTo own.now.cleared reverse (last_key range.now.begin stored.now) place) }
+    ensures covers { IfOk result (λ place.
+        CoversTo own.now.cleared reverse (last_key range.now.begin stored.now) place) }
     ensures behind { IfOk result (λ place. IsBehind reverse (last_key range.now.begin stored.now) place) }
 {
     let last = last_key(range.begin(), stored);
@@ -67,8 +69,10 @@ fn parts_at(
     place: &Bytes,
     reverse: bool,
 ) -> Result<(KeyRange, KeyRange), AllocError>
-    ensures near { IfOk result (λ parts. parts.0 ≡ (if reverse then part_from place.now range.now else part_before place.now range.now)) }
-    ensures far { IfOk result (λ parts. parts.1 ≡ (if reverse then part_before place.now range.now else part_from place.now range.now)) }
+    ensures near { IfOk result (λ parts.
+        parts.0 ≡ (if reverse then part_from place.now range.now else part_before place.now range.now)) }
+    ensures far { IfOk result (λ parts.
+        parts.1 ≡ (if reverse then part_before place.now range.now else part_from place.now range.now)) }
 {
     let upto = range.upto(place)?;
     let on = range.starting_at(place)?;
@@ -106,8 +110,12 @@ fn merge_part(
     reverse: bool,
 ) -> Result<Round, AllocError>
     requires { 1 ≤ limit }
-    ensures left { IfOk result (λ round. (base : Map) (asked : ℕ) → 1 ≤ asked → asked ≤ length stored.items → stored.items ≡ read_of base range.now asked reverse → IsLeft base range.now limit round.pairs.items round.rest) }
-    ensures gives { IfOk result (λ round. (base m : Map) (asked : ℕ) → 1 ≤ asked → asked ≤ length stored.items → stored.items ≡ read_of base range.now asked reverse →
+    ensures left { IfOk result (λ round.
+        (base : Map) (asked : ℕ) → 1 ≤ asked → asked ≤ length stored.items →
+        stored.items ≡ read_of base range.now asked reverse →
+        IsLeft base range.now limit round.pairs.items round.rest) }
+    ensures gives { IfOk result (λ round. (base m : Map) (asked : ℕ) → 1 ≤ asked → asked ≤ length stored.items →
+        stored.items ≡ read_of base range.now asked reverse →
         IsUnder (state_of own.now) base m → Gives m range.now limit reverse round.pairs.items round.rest) }
 {
     let place = stop(own, range, stored.as_slice(), reverse)?;
@@ -129,8 +137,11 @@ fn read_round<S: Snapshot>(
 ) -> Result<Round, ReadError>
     requires limit { 1 ≤ limit }
     requires asked { 1 ≤ asked }
-    ensures left { IfOk result (λ round. IsLeft (S.map_at db.now version) range.now limit round.pairs.items round.rest) }
-    ensures gives { IfOk result (λ round. (m : Map) → IsUnder (state_of own.now) (S.map_at db.now version) m → Gives m range.now limit reverse round.pairs.items round.rest) }
+    ensures left { IfOk result (λ round.
+        IsLeft (S.map_at db.now version) range.now limit round.pairs.items round.rest) }
+    ensures gives { IfOk result (λ round.
+        (m : Map) → IsUnder (state_of own.now) (S.map_at db.now version) m →
+        Gives m range.now limit reverse round.pairs.items round.rest) }
     ensures allowed { OnOk result (S.must_refuse db.now range.now version → ⊥) }
     ensures refused { IfErr result (λ error. (error ≡ ReadError.Memory) ⊎ S.may_refuse db.now range.now version error) }
 {
@@ -158,7 +169,9 @@ pub(crate) fn read_under<S: Snapshot>(
     reverse: bool,
 ) -> Result<Vec<Pair>, ReadError>
     requires { 1 ≤ limit }
-    ensures pairs { IfOk result (λ pairs. (m : Map) → IsUnder (state_of own.now) (S.map_at db.now version) m → pairs.items ≡ read_of m range.now limit reverse) }
+    ensures pairs { IfOk result (λ pairs.
+        (m : Map) → IsUnder (state_of own.now) (S.map_at db.now version) m →
+        pairs.items ≡ read_of m range.now limit reverse) }
     ensures allowed { OnOk result (S.must_refuse db.now range.now version → ⊥) }
     ensures refused { IfErr result (λ error. (error ≡ ReadError.Memory) ⊎ S.may_refuse db.now range.now version error) }
 {

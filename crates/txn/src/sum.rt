@@ -55,7 +55,8 @@ impl Sum {
 
     /// The sum with an operand added after the others. Where memory runs out it is gone.
     pub(crate) fn plus(self, alloc: Global, operand: &Bytes) -> Result<Sum, AllocError>
-        ensures { IfOk result (λ sum. (before : Option (List ℕ)) → sum_over sum before ≡ added (Some (sum_over self before)) operand.now) }
+        ensures { IfOk result (λ sum.
+            (before : Option (List ℕ)) → sum_over sum before ≡ added (Some (sum_over self before)) operand.now) }
     {
         let mut operands = self.operands;
         let mut last = operand.copy()?;

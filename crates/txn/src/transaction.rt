@@ -1,4 +1,5 @@
-ghost use Rattle.std.specs.Prelude.{◌≡◌, ◌⊎◌, ℕ, ◌≤◌, [], ◌∷◌, List, IfOk, IfErr, OnOk, OnErr, IsTrue, IsNone, Some, vec_len};
+ghost use Rattle.std.specs.Prelude.{◌≡◌, ◌⊎◌, ℕ, ◌≤◌, [], ◌∷◌, List, IfOk, IfErr};
+ghost use Rattle.std.specs.Prelude.{OnOk, OnErr, IsTrue, IsNone, Some, vec_len};
 ghost use Rattle.std.specs.FinMap.{get as value_at};
 ghost use Rattle.kv_core.specs.Bytes.{key_lt, end_of_keys};
 ghost use Rattle.kv_core.specs.Range.{point};
@@ -79,11 +80,13 @@ impl Transaction {
     pub fn get<S: Snapshot>(&mut self, db: &S, key: &Bytes) -> Result<Option<Bytes>, ReadError>
         requires { IsTrue (key_lt key.now end_of_keys) }
         ensures answer { IfOk result (λ value. (m : Map) →
-            Agree self.new.reads (S.map_at db.now self.old.read_version) m → value ≡ value_at (seen self.old m) key.now) }
+            Agree self.new.reads (S.map_at db.now self.old.read_version) m →
+            value ≡ value_at (seen self.old m) key.now) }
         ensures reads { OnOk result (self.new ≡ has_read (point key.now) self.old) }
         ensures allowed { OnOk result (S.must_refuse db.now (point key.now) self.old.read_version → ⊥) }
         ensures kept { OnErr result (self.new ≡ self.old) }
-        ensures refused { IfErr result (λ error. (error ≡ ReadError.Memory) ⊎ S.may_refuse db.now (point key.now) self.old.read_version error) }
+        ensures refused { IfErr result (λ error.
+            (error ≡ ReadError.Memory) ⊎ S.may_refuse db.now (point key.now) self.old.read_version error) }
     {
         let range = KeyRange::point(self.own.alloc, key)?;
         let found = db.read(&range, self.request.read_version, 1, false)?;
@@ -103,10 +106,12 @@ impl Transaction {
         reverse: bool,
     ) -> Result<Vec<Pair>, ReadError>
         requires { 1 ≤ limit }
-        ensures pairs { IfOk result (λ pairs. pairs.items ≡ read_of (seen self.old (S.map_at db.now self.old.read_version)) range.now limit reverse) }
+        ensures pairs { IfOk result (λ pairs.
+            pairs.items ≡ read_of (seen self.old (S.map_at db.now self.old.read_version)) range.now limit reverse) }
         ensures kept { self.new ≡ self.old }
         ensures allowed { OnOk result (S.must_refuse db.now range.now self.old.read_version → ⊥) }
-        ensures refused { IfErr result (λ error. (error ≡ ReadError.Memory) ⊎ S.may_refuse db.now range.now self.old.read_version error) }
+        ensures refused { IfErr result (λ error.
+            (error ≡ ReadError.Memory) ⊎ S.may_refuse db.now range.now self.old.read_version error) }
     {
         let version = self.request.read_version;
         if self.request.mutations.is_empty() {
@@ -133,11 +138,14 @@ impl Transaction {
     ) -> Result<Vec<Pair>, ReadError>
         requires { 1 ≤ limit }
         ensures answer { IfOk result (λ pairs. (m : Map) →
-            Agree self.new.reads (S.map_at db.now self.old.read_version) m → pairs.items ≡ read_of (seen self.old m) range.now limit reverse) }
-        ensures reads { IfOk result (λ pairs. self.new ≡ has_read (range_read range.now limit reverse pairs.items) self.old) }
+            Agree self.new.reads (S.map_at db.now self.old.read_version) m →
+            pairs.items ≡ read_of (seen self.old m) range.now limit reverse) }
+        ensures reads { IfOk result (λ pairs.
+            self.new ≡ has_read (range_read range.now limit reverse pairs.items) self.old) }
         ensures allowed { OnOk result (S.must_refuse db.now range.now self.old.read_version → ⊥) }
         ensures kept { OnErr result (self.new ≡ self.old) }
-        ensures refused { IfErr result (λ error. (error ≡ ReadError.Memory) ⊎ S.may_refuse db.now range.now self.old.read_version error) }
+        ensures refused { IfErr result (λ error.
+            (error ≡ ReadError.Memory) ⊎ S.may_refuse db.now range.now self.old.read_version error) }
     {
         let pairs = self.seen_pairs(db, range, limit, reverse)?;
         let read = range_read(range, limit, reverse, pairs.as_slice())?;
@@ -151,11 +159,13 @@ impl Transaction {
     /// refusal leaves the transaction as it was.
     pub fn get_all<S: Snapshot>(&mut self, db: &S, range: &KeyRange) -> Result<Vec<Pair>, ReadError>
         ensures answer { IfOk result (λ pairs. (m : Map) →
-            Agree self.new.reads (S.map_at db.now self.old.read_version) m → pairs.items ≡ pairs_in (seen self.old m) range.now) }
+            Agree self.new.reads (S.map_at db.now self.old.read_version) m →
+            pairs.items ≡ pairs_in (seen self.old m) range.now) }
         ensures reads { OnOk result (self.new ≡ has_read range.now self.old) }
         ensures allowed { OnOk result (S.must_refuse db.now range.now self.old.read_version → ⊥) }
         ensures kept { OnErr result (self.new ≡ self.old) }
-        ensures refused { IfErr result (λ error. (error ≡ ReadError.Memory) ⊎ S.may_refuse db.now range.now self.old.read_version error) }
+        ensures refused { IfErr result (λ error.
+            (error ≡ ReadError.Memory) ⊎ S.may_refuse db.now range.now self.old.read_version error) }
     {
         let pairs = self.get_range(db, range, usize::MAX, false)?;
         Ok(pairs)
@@ -166,7 +176,8 @@ impl Transaction {
         ensures ok { OnOk result (self.new ≡ with_mutation mutation self.old) }
         ensures allowed { OnOk result (IsNone (write_refusal self.old.mutations mutation)) }
         ensures kept { OnErr result (self.new ≡ self.old) }
-        ensures refused { IfErr result (λ error. (error ≡ WriteError.Memory) ⊎ (write_refusal self.old.mutations mutation ≡ Some error)) }
+        ensures refused { IfErr result (λ error.
+            (error ≡ WriteError.Memory) ⊎ (write_refusal self.old.mutations mutation ≡ Some error)) }
     {
         let size = mutation.size()?;
         let total = self.size + size;
@@ -188,7 +199,8 @@ impl Transaction {
         ensures ok { OnOk result (self.new ≡ with_mutation (Mutation.Set key value) self.old) }
         ensures allowed { OnOk result (IsNone (write_refusal self.old.mutations (Mutation.Set key value))) }
         ensures kept { OnErr result (self.new ≡ self.old) }
-        ensures refused { IfErr result (λ error. (error ≡ WriteError.Memory) ⊎ (write_refusal self.old.mutations (Mutation.Set key value) ≡ Some error)) }
+        ensures refused { IfErr result (λ error.
+            (error ≡ WriteError.Memory) ⊎ (write_refusal self.old.mutations (Mutation.Set key value) ≡ Some error)) }
     {
         self.write(Mutation::Set { key, value })
     }
@@ -198,7 +210,8 @@ impl Transaction {
         ensures ok { OnOk result (self.new ≡ with_mutation (Mutation.ClearRange range) self.old) }
         ensures allowed { OnOk result (IsNone (write_refusal self.old.mutations (Mutation.ClearRange range))) }
         ensures kept { OnErr result (self.new ≡ self.old) }
-        ensures refused { IfErr result (λ error. (error ≡ WriteError.Memory) ⊎ (write_refusal self.old.mutations (Mutation.ClearRange range) ≡ Some error)) }
+        ensures refused { IfErr result (λ error.
+            (error ≡ WriteError.Memory) ⊎ (write_refusal self.old.mutations (Mutation.ClearRange range) ≡ Some error)) }
     {
         self.write(Mutation::ClearRange(range))
     }
@@ -211,7 +224,8 @@ impl Transaction {
         ensures ok { OnOk result (self.new ≡ with_mutations mutations.items self.old) }
         ensures allowed { OnOk result (IsNone (write_all_refusal self.old.mutations mutations.items)) }
         ensures kept { OnErr result (self.new ≡ self.old) }
-        ensures refused { IfErr result (λ error. (error ≡ WriteError.Memory) ⊎ (write_all_refusal self.old.mutations mutations.items ≡ Some error)) }
+        ensures refused { IfErr result (λ error.
+            (error ≡ WriteError.Memory) ⊎ (write_all_refusal self.old.mutations mutations.items ≡ Some error)) }
     {
         let total = total_size(self.size, mutations.as_slice())?;
         self.request.mutations.append(mutations)?;

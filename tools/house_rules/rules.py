@@ -1,0 +1,94 @@
+"""The house's rules: each answers how many things it was held against, and the place and the kind of each fault."""
+import os
+import re
+from sources import bodies, comments, data, files, line_at, lines_of, public_items, read, wide_lines
+
+README_LINES, README_COLUMNS = 80, 100
+FILE_LINES, BODY_LINES, COLUMNS = 400, 40, 120
+
+RATTLE = "crates/*/src/**/*.rt"
+SPECS = "crates/*/specs/**/*.antt"
+PROOFS = "crates/*/proofs/**/*.antt"
+PYTHON = "tools/**/*.py"
+DOCUMENTS = ("*.md", "docs/**/*.md", "crates/*/README.md")
+EDITS = ("crates/*/wrong-bodies/*.edit", "crates/*/must-fail/*.edit")
+OTHERS = ("crates.txt", "cases/**/*", "examples/**/*")
+
+# what leans on a text outside, wherever it stands
+CITED = re.compile(
+    r"\bdocument \d|\bpapers?\b|\bissues?\b|\barxiv\b|\bet al\b|\bdoi\b|\bthesis\b|§ ?\d|\bpull request\b", re.I
+)
+# what only a text outside tells: in comments and documents
+LABELS = re.compile(r"\b[DTRW]\d+\b|\b(?:TODO|FIXME|XXX)\b|(?<![\w&(])#\d+\b")
+
+
+def readme_is_short(root):
+    """README.md has few lines and few columns."""
+    paths, faults = files(root, "README.md"), []
+    for path in paths:
+        text = read(root, path)
+        if len(lines_of(text)) > README_LINES:
+            faults.append((path, f"{len(lines_of(text))} lines, above {README_LINES}"))
+        faults += [(f"{path}:{it}", f"above {README_COLUMNS} columns") for it in wide_lines(text, README_COLUMNS)]
+    return len(paths), faults
+
+
+def files_are_short(root):
+    """No file of Rattle, of a specification, a proof or Python has many lines."""
+    paths = files(root, RATTLE, SPECS, PROOFS, PYTHON)
+    counted = [(path, len(lines_of(read(root, path)))) for path in paths]
+    return len(paths), [(path, f"{it} lines, above {FILE_LINES}") for path, it in counted if it > FILE_LINES]
+
+
+def bodies_are_short(root):
+    """No body of a function has many lines."""
+    found = [(path, *it) for path in files(root, RATTLE) for it in bodies(read(root, path))]
+    return len(found), [(f"{path}:{line}", f"the body of `{name}` has {count} lines, above {BODY_LINES}")
+                        for path, name, line, count in found if count > BODY_LINES]
+
+
+def lines_are_narrow(root):
+    """No line of Rattle, of a specification or of Python has many columns, but for data."""
+    seen, faults = 0, []
+    for path in files(root, RATTLE, SPECS, PYTHON):
+        text = read(root, path)
+        seen += len(lines_of(text))
+        wide = wide_lines(text, COLUMNS, data(text) if path.endswith(".rt") else ())
+        faults += [(f"{path}:{it}", f"above {COLUMNS} columns") for it in wide]
+    return seen, faults
+
+
+def public_items_are_documented(root):
+    """Each public item has a doc comment."""
+    found = [(path, *it) for path in files(root, RATTLE) for it in public_items(read(root, path))]
+    return len(found), [(f"{path}:{line}", f"{kind} `{name}` has no doc comment")
+                        for path, kind, name, line, is_told in found if not is_told]
+
+
+def crates_have_readmes(root):
+    """Each crate of crates.txt has a README.md."""
+    listed = [line.split("#")[0].partition(":") for line in lines_of(read(root, "crates.txt"))]
+    readmes = [f"crates/{name.split()[0]}/README.md" for name, colon, _ in listed if colon]
+    return len(readmes), [(it, "isn't there") for it in readmes if not os.path.isfile(os.path.join(root, it))]
+
+
+def nothing_is_cited(root):
+    """No file leans on a text outside the repository, or on a mark that only such a text tells."""
+    paths, faults = files(root, RATTLE, SPECS, PROOFS, PYTHON, *DOCUMENTS, *EDITS, *OTHERS), []
+    for path in paths:
+        text = read(root, path)
+        found = [(it.start(), it[0]) for it in CITED.finditer(text)]
+        found += [(at + it.start(), it[0]) for at, told in comments(path, text) for it in LABELS.finditer(told)]
+        faults += [(f"{path}:{line_at(text, at)}", f"'{word}' cites what isn't here") for at, word in sorted(found)]
+    return len(paths), faults
+
+
+RULES = {
+    "README.md is short": readme_is_short,
+    "files are short": files_are_short,
+    "bodies are short": bodies_are_short,
+    "lines are narrow": lines_are_narrow,
+    "public items are documented": public_items_are_documented,
+    "crates have a README.md": crates_have_readmes,
+    "nothing is cited": nothing_is_cited,
+}

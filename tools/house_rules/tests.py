@@ -1,0 +1,137 @@
+"""Tests of house_rules: small repositories, over which each rule passes and fails."""
+import os
+import subprocess
+import sys
+import tempfile
+import unittest
+from rules import RULES
+from sources import bodies, data, is_documented, public_items, wide_lines
+
+HERE = os.path.dirname(os.path.abspath(__file__))
+SOURCE, SPEC, PROOF = "crates/low/src/lib.rt", "crates/low/specs/Low.antt", "crates/low/proofs/Low.antt"
+# in two parts, so that these tests break no rule themselves
+PUBLISHED, LABEL = "pa" + "per", "D" + "12"
+
+RIGHT = {
+    "README.md": "# A store\n\nIt is small.\n",
+    "crates.txt": "# each crate\nlow:\n",
+    "crates/low/README.md": "# low\n",
+    SOURCE: "/// The next number.\npub fn next(n: u64) -> u64\n    ensures { result ≡ n + 1 }\n{\n    n + 1\n}\n",
+    SPEC: "-- the next number\nabbrev pub next : ℕ → ℕ\nnext n = n + 1\n",
+    PROOF: f"-- {'a wide line of a proof ' * 10}\n",
+    "tools/one.py": '"""A tool."""\n',
+}
+
+# For each rule, texts that break it, by the file that has them in the place of the right ones.
+WRONG = {
+    "README.md is short": [("README.md", "line\n" * 81), ("README.md", "a" * 101 + "\n")],
+    "files are short": [(path, "\n" * 401) for path in (SOURCE, SPEC, PROOF, "tools/one.py")],
+    "bodies are short": [(SOURCE, "fn long()\n    ensures { a }\n{\n" + "    a();\n" * 39 + "}\n")],
+    "lines are narrow": [
+        (SOURCE, f"// {'é' * 118}\n"), (SPEC, f"-- {'é' * 118}\n"), ("tools/one.py", f'"""{"a" * 118}"""\n'),
+        (SOURCE, f'static TABLE: [u8; 2] = [1, 2];\nfn say() {{ print("{"a" * 60}"); print({"a" * 60}, "b") }}\n'),
+    ],
+    "public items are documented": [
+        (SOURCE, "#[derive(Clone)]\npub struct Low;\n"), (SOURCE, "/// A type.\npub struct Low {\n}\npub fn a() {}\n"),
+        (SOURCE, "// A trait.\npub trait Low {}\n"), (SOURCE, "/// Of low.\nimpl Low {\n    pub const fn a() {}\n}\n"),
+    ],
+    "crates have a README.md": [("crates.txt", "low:\nhigh: low\n")],
+    "nothing is cited": [
+        ("README.md", f"As the {PUBLISHED} has it.\n"), (SOURCE, f"// as in {LABEL}\n"), (PROOF, f"-- {LABEL}\n"),
+        ("crates/low/must-fail/one.edit", f"file: src/lib.rt\nold: a\nnew: a // the {PUBLISHED}\n"),
+    ],
+}
+
+# Texts that break none, in the same manner.
+ALSO_RIGHT = [
+    ("README.md", "a" * 100 + "\n" + "line\n" * 79),
+    (SOURCE, "\n" * 400),
+    (SOURCE, "fn short()\n    ensures {\n" + "        a\n" * 50 + "    }\n{\n" + "    a();\n" * 38 + "}\n"),
+    (SOURCE, f'// {"é" * 117}\nfn say() {{ print("{"a" * 120}") }}\n'),
+    (SOURCE, f'static TABLE: [(u8, &str); 1] = [\n    (1, "a", {"1 + " * 40} 1),\n];\n'),
+    (SOURCE, "/// A type.\n#[derive(Clone)]\npub struct Low;\nimpl Next for Low {\n    pub fn next() {}\n}\n"),
+    (SOURCE, "/// A type.\npub struct Low;\nimpl Low {\n    pub(crate) fn a() {}\n}\npub use low::a;\n"),
+    (SOURCE, f"const {LABEL}: u64 = 1;\n// a wallpa" + "pers' T\n"),
+]
+
+
+def write(root, path, text):
+    path = os.path.join(root, path)
+    os.makedirs(os.path.dirname(path), exist_ok=True)
+    with open(path, "w", encoding="utf-8") as file:
+        file.write(text)
+
+
+def broken(changes=()):
+    """The rules that a repository breaks that has these texts in the place of the right ones."""
+    with tempfile.TemporaryDirectory() as root:
+        for path, text in {**RIGHT, **dict(changes)}.items():
+            write(root, path, text)
+        return [name for name, rule in RULES.items() if rule(root)[1]]
+
+
+class Rules(unittest.TestCase):
+    def test_each_passes(self):
+        self.assertEqual(broken(), [])
+        for change in ALSO_RIGHT:
+            self.assertEqual(broken([change]), [], change)
+
+    def test_each_fails(self):
+        self.assertEqual(list(WRONG), list(RULES))
+        for name, changes in WRONG.items():
+            for change in changes:
+                self.assertEqual(broken([change]), [name], change)
+
+    def test_what_is_built_is_left_out(self):
+        self.assertEqual(broken([("crates/low/src/out/all.rt", "\n" * 401)]), [])
+
+
+class Command(unittest.TestCase):
+    def ran(self, root, *words):
+        done = subprocess.run(
+            [sys.executable, HERE, *words], cwd=root, capture_output=True, text=True, check=False)
+        return done.returncode, done.stdout.rstrip("\n").split("\n")
+
+    def test_what_is_printed(self):
+        with tempfile.TemporaryDirectory() as root:
+            for path, text in RIGHT.items():
+                write(root, path, text)
+            self.assertEqual(self.ran(root)[0], 0)
+            self.assertEqual(self.ran(root)[1][-1], f"{len(RULES)} passed, 0 failed")
+            write(root, "crates.txt", "low:\nhigh:\n")
+            status, lines = self.ran(root, "--only", "README")
+            self.assertEqual((status, lines), (1, [
+                "crates/high/README.md: isn't there", "passed: README.md is short: 0 of 1",
+                "FAILED: crates have a README.md: 1 of 2", "1 passed, 1 failed"]))
+
+    def test_nothing_to_look_at(self):
+        with tempfile.TemporaryDirectory() as root:
+            write(root, "crates.txt", "")
+            status, lines = self.ran(root)
+            # crates.txt itself is a file that may cite
+            self.assertEqual((status, lines[-1]), (1, f"1 passed, {len(RULES) - 1} failed"))
+
+
+class Reading(unittest.TestCase):
+    def test_bodies(self):
+        text = 'fn one() { say("}"); }\ntrait Of {\n    fn none(&self);\n'
+        text += "    fn two()\n        where A: B\n    {\n    }\n}\n"
+        text += "fn three()\n    requires { a } ensures b { c {\n} };\nfn four()\n    ensures { a }\n{ '{' }\n"
+        self.assertEqual(list(bodies(text)), [("one", 1, 1), ("two", 4, 2), ("four", 12, 1)])
+
+    def test_data(self):
+        text = 'static ROWS: [u8; 2] = [\n    1,\n];\nlet x = r#"a;"b"#; // "c"\n'
+        self.assertEqual([text[begin:end] for begin, end in data(text)],
+                         ["static ROWS: [u8; 2] = [\n    1,\n]", 'r#"a;"b"#'])
+        self.assertEqual(list(wide_lines("aa\naaa\naaaa", 2)), [2, 3])
+        self.assertEqual(list(wide_lines("aa\naaa\naaaa", 2, [(5, 6)])), [3])
+
+    def test_items(self):
+        text = "/// One.\npub enum One {}\n// pub fn no() {}\nimpl A for B {\n    pub fn of() {}\n}\npub use a::b;\n"
+        self.assertEqual(list(public_items(text)), [("enum", "One", 2, True)])
+        self.assertFalse(is_documented(["/// One.", "", "#[derive(Clone)]", ""], 3))
+        self.assertTrue(is_documented(["/// One.", "#[derive(Clone)]", "#[other]", ""], 3))
+
+
+if __name__ == "__main__":
+    unittest.main()
