@@ -10,7 +10,7 @@ import subprocess
 import sys
 import tempfile
 from cases import cases_in, example_cases
-from edges import MANY_STEPS, MEMORY_LIMITS, SETTLE, byte_cases, command_line_cases, long_cases
+from edges import MANY_STEPS, MEMORY_LIMITS, SETTLE, byte_cases, command_line_cases, long_cases, long_line
 
 SECONDS = 60
 
@@ -46,19 +46,24 @@ def closed_output_fault(program, words, given):
     return None if (done.returncode, done.stderr) == (1, b"") else f"status {done.returncode}: {done.stderr[:200]!r}"
 
 
-def memory_fault(program):
-    """What is wrong where memory is wanting: all is printed, or nothing but 'out of memory', and either happens."""
-    script, lines = MANY_STEPS
-    endings = set()
+def memory_fault(program, script, lines, is_begun):
+    """What is wrong where memory is wanting: all is printed, or 'out of memory' is told behind the first lines at most.
+
+    Either happens, and where a line takes more memory than its script, the first lines alone are printed too.
+    """
+    kinds = set()
     for megabytes in MEMORY_LIMITS:
-        limit = megabytes << 20
         done = subprocess.run(
             [program, "run"], input=script, capture_output=True, timeout=SECONDS, check=False,
-            preexec_fn=lambda it=limit: resource.setrlimit(resource.RLIMIT_AS, (it, it)))
-        endings.add((done.returncode, done.stdout, done.stderr))
-    wanted = {(0, lines, b""), (1, b"", b"out of memory\n")}
-    strange = sorted((status, output[:80], errors[:200]) for status, output, errors in endings - wanted)
-    return None if endings == wanted else f"{len(endings)} endings; not wanted: {strange!r}"
+            preexec_fn=lambda it=megabytes << 20: resource.setrlimit(resource.RLIMIT_AS, (it, it)))
+        if (done.returncode, done.stdout, done.stderr) == (0, lines, b""):
+            kinds.add("all")
+        elif (done.returncode, done.stderr) == (1, b"out of memory\n") and lines.startswith(done.stdout):
+            kinds.add("a beginning" if done.stdout else "nothing")
+        else:
+            return f"{megabytes} MB: status {done.returncode}: {done.stderr[:200]!r}"
+    wanted = {"all", "nothing", "a beginning"} if is_begun else {"all", "nothing"}
+    return None if kinds == wanted else f"only {sorted(kinds)} were printed"
 
 
 def faults(program, folder):
@@ -68,7 +73,8 @@ def faults(program, folder):
         yield case.shows, fault_of(program, case)
     for words, given in ([["run"], SETTLE.encode()], [["pack", "[1]"], b""], [["unpack", "14"], b""]):
         yield f"output that can't be written: {words[0]}", closed_output_fault(program, words, given)
-    yield "want of memory", memory_fault(program)
+    yield "want of memory for a script", memory_fault(program, *MANY_STEPS, False)
+    yield "want of memory for a line", memory_fault(program, *long_line(), True)
 
 
 def main(programs):

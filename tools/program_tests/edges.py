@@ -11,7 +11,23 @@ MANY_STEPS = (
     (b'{"steps":[' + b",".join([b'["settle"]'] * 50_000) + b"]}").ljust(4_000_000),
     b"".join(b"%d nothing\n" % it for it in range(1, 50_001)),
 )
-MEMORY_LIMITS = [4, 6, 8, 12, 16, 24, 32, 48, 64, 128, 512]
+MEMORY_LIMITS = [4, 8, 12, 16, 24, 32, 40, 44, 48, 52, 56, 60, 64, 80, 128, 192, 512]
+
+
+def long_line():
+    """A script that takes less memory than the last line that it prints: of requests that all read one long key."""
+    reads, text = 300, "n" * 9_900
+    key = "15011501150102" + "6e" * 9_900 + "00"
+    reader = [BEGIN, f'["load",0,"v",["{text}"]]', '["save",0,"v",["a"]]', '["commit",0]']
+    steps = [
+        created('{"name":"v","fields":[["k","text"]],"key":["k"]}'), '["commit",0]', '["settle"]',
+        BEGIN, f'["save",0,"v",["{text}"]]', '["commit",0]', *reader * reads, '["settle"]']
+    told = ["begun 0", "ok", "submitted 1", "client 0 committed 1", "begun 1", "saved new", "submitted 2"]
+    for number in range(reads):
+        told += ["begun 1", "none", "saved new", f"submitted {number + 3}"]
+    told.append(", ".join(["client 0 committed 2", *[f"client 0 conflict 2 {key}..{key}00"] * reads]))
+    lines = "".join(f"{number} {line}\n" for number, line in enumerate(told, 1))
+    return f'{{"steps":[{",".join(steps)}]}}'.encode(), lines.encode()
 
 
 def run_case(shows, given, output):
