@@ -13,6 +13,7 @@ use command_line::{CommandLineError, Request, request_of};
 use fault::Fault;
 use run::{refuse, run};
 use std::fs::File;
+use std::io::{Read, Write};
 use std::process::ExitCode;
 use std::{env, io};
 use tuples::{pack, unpack};
@@ -21,56 +22,50 @@ use tuples::{pack, unpack};
 const BAD_COMMAND_LINE: u8 = 2;
 
 // Prints why the command line isn't taken, or the help that it asks for; answers the exit status.
-fn refuse_command_line(rt: &HostRuntime, error: &CommandLineError) -> ExitCode
+fn refuse_command_line<E: Write>(errors: &mut E, error: &CommandLineError) -> ExitCode
     ensures { exit_status result ≡ refused_status error.now }
 {
     match error {
         CommandLineError::NotTaken(text) => {
-            let _ = rt.eprint(text.as_str());
+            let _ = write!(errors, "{text}");
             ExitCode::from(BAD_COMMAND_LINE)
         }
-        CommandLineError::OutOfMemory => refuse(&mut rt.stderr(), Fault::OutOfMemory),
+        CommandLineError::OutOfMemory => refuse(errors, Fault::OutOfMemory),
     }
 }
 
 // Runs the script in a file.
-fn run_file(rt: &HostRuntime, path: &str) -> ExitCode
+fn run_file<W: Write, E: Write>(
+    rt: &HostRuntime,
+    path: &str,
+    output: &mut W,
+    errors: &mut E,
+) -> ExitCode
     ensures { exit_status result ≤ 1 }
 {
     match File::open(rt, path) {
-        Ok(mut file) => run(rt.alloc(), &mut file, &mut rt.stdout(), &mut rt.stderr()),
-        Err(_) => refuse(&mut rt.stderr(), Fault::CannotRead),
+        Ok(mut file) => run(rt.alloc(), &mut file, output, errors),
+        Err(_) => refuse(errors, Fault::CannotRead),
     }
 }
 
-// Runs the script on standard input.
-fn run_standard_input(rt: &HostRuntime) -> ExitCode
-    ensures { exit_status result ≤ 1 }
-{
-    run(
-        rt.alloc(),
-        &mut rt.stdin(),
-        &mut rt.stdout(),
-        &mut rt.stderr(),
-    )
-}
-
-// Does what the words of the command line ask for.
-fn perform(rt: &HostRuntime, words: &[String]) -> ExitCode
+// Does what the words of the command line ask for, where a script that isn't in a file is read from the input.
+fn perform<R: Read, W: Write, E: Write>(
+    rt: &HostRuntime,
+    words: &[String],
+    input: &mut R,
+    output: &mut W,
+    errors: &mut E,
+) -> ExitCode
     ensures { exit_status result ≤ 2 }
 {
     let alloc = rt.alloc();
     match request_of(alloc, words) {
-        Ok(Request::Run(Some(path))) => run_file(rt, path.as_str()),
-        Ok(Request::Run(None)) => run_standard_input(rt),
-        Ok(Request::Pack(word)) => pack(alloc, word.as_str(), &mut rt.stdout(), &mut rt.stderr()),
-        Ok(Request::Unpack(word)) => unpack(
-            alloc,
-            word.as_str(),
-            &mut rt.stdout(),
-            &mut rt.stderr(),
-        ),
-        Err(error) => refuse_command_line(rt, &error),
+        Ok(Request::Run(Some(path))) => run_file(rt, path.as_str(), output, errors),
+        Ok(Request::Run(None)) => run(alloc, input, output, errors),
+        Ok(Request::Pack(word)) => pack(alloc, word.as_str(), output, errors),
+        Ok(Request::Unpack(word)) => unpack(alloc, word.as_str(), output, errors),
+        Err(error) => refuse_command_line(errors, &error),
     }
 }
 
@@ -82,7 +77,13 @@ fn words_of(rt: &HostRuntime) -> io::Result<Vec<String>> {
 
 fn main(rt: HostRuntime) -> ExitCode {
     match words_of(&rt) {
-        Ok(words) => perform(&rt, words.as_slice()),
+        Ok(words) => perform(
+            &rt,
+            words.as_slice(),
+            &mut rt.stdin(),
+            &mut rt.stdout(),
+            &mut rt.stderr(),
+        ),
         Err(error) if error.kind() == io::ErrorKind::OutOfMemory => refuse(
             &mut rt.stderr(),
             Fault::OutOfMemory,
