@@ -22,3 +22,9 @@ pub mod TierStarts
 pub mod PulledMaps
 pub mod ClusterSteps
 pub mod Ordered
+pub mod Segmented
+pub mod Overlaid
+pub mod Rising
+pub mod Putting
+pub mod Asked
+pub mod Waiting
