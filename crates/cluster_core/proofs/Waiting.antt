@@ -3,7 +3,7 @@ use Rattle.std.proofs.Common.{◌≡◌, ℕ, ◌+◌, ◌-◌, ◌<◌, ◌≤�
 use Rattle.std.proofs.Math.Logic.{∥∥₁_map}
 use Rattle.std.proofs.lemmas.Bool.{cases_order, false≢true, le-leb}
 use Rattle.std.proofs.lemmas.Option.{get_or_from_slice_get, slice_get_within}
-use Rattle.std.specs.List.{filter, list_all, slice_get}
+use Rattle.std.specs.List.{filter, slice_get}
 use Rattle.std.specs.Option.{option_map_or}
 use Rattle.kv_core.specs.declared.change.CommitRequest.{CommitRequest}
 use Rattle.cluster_core.specs.History.{Entry}
@@ -50,32 +50,18 @@ module _ (owner : Owned) (start : ℕ) (requests : List CommitRequest) (least up
       }
 
   -- what is old was dropped
-  pub forgotten : (left : List ℕ) → ((key : Key) (place : ℕ) → Holds new key place → Holds old key place) →
+  pub forgotten : ((key : Key) (place : ℕ) → Holds new key place → Holds old key place) →
       ((key : Key) (place : ℕ) → least ≤ place → IsCovered old key place → IsCovered new key place) →
-      rise_between ordered upto left ≡ true → list_all (agreed_at owner start requests) left ≡ true →
-      ((place : ℕ) → least ≤ place → has_place pending place ≡ true → has_place left place ≡ true) →
-      KnowsWriters owner start requests least upto (record { segments = new; ordered = ordered; pending = left })
-  forgotten left holds kept rises agreed has = record {
+      KnowsWriters owner start requests least upto (record { segments = new; ordered = ordered; pending = filter (nat_le least) pending })
+  forgotten holds kept = record {
     keys = record {
       sound = λ key place h. was.keys.sound key place (holds key place h);
       settled = λ key place from before agrees own wrote. ∥∥₁_map (was.keys.settled key place from before agrees own wrote) (λ h. kept key place from h);
     };
-    in_order = rises;
-    agreed = agreed;
-    waiting = λ place from past before agrees. has place from (was.waiting place from past before agrees);
+    in_order = rise_filter (nat_le least) ordered upto pending was.in_order;
+    agreed = all_filter (agreed_at owner start requests) (nat_le least) pending was.agreed;
+    waiting = λ place from past before agrees. has_filter (nat_le least) pending place (le-leb least place from) (was.waiting place from past before agrees);
   }
-
-  pub forgotten_here : ((key : Key) (place : ℕ) → Holds new key place → Holds old key place) →
-      ((key : Key) (place : ℕ) → least ≤ place → IsCovered old key place → IsCovered new key place) →
-      KnowsWriters owner start requests least upto (record { segments = new; ordered = ordered; pending = pending })
-  forgotten_here holds kept = forgotten pending holds kept was.in_order was.agreed (λ place from h. h)
-
-  pub forgotten_both : ((key : Key) (place : ℕ) → Holds new key place → Holds old key place) →
-      ((key : Key) (place : ℕ) → least ≤ place → IsCovered old key place → IsCovered new key place) →
-      KnowsWriters owner start requests least upto (record { segments = new; ordered = ordered; pending = filter (nat_le least) pending })
-  forgotten_both holds kept =
-      forgotten (filter (nat_le least) pending) holds kept (rise_filter (nat_le least) ordered upto pending was.in_order) (all_filter (agreed_at owner start requests) (nat_le least) pending was.agreed)
-      (λ place from h. has_filter (nat_le least) pending place (le-leb least place from) h)
 
 -- once all is put in order nothing waits
 pub all_ordered : (owner : Owned) (start : ℕ) (requests : List CommitRequest) (least upto : ℕ) (segments : Run) → KnowsKeys owner start requests least upto upto segments →

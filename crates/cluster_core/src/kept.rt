@@ -174,7 +174,7 @@ pub(crate) struct Writers {
     segments: Segments,
     ordered: usize,
     pending: Vec<usize>,
-    room: usize,
+    dropped: usize,
 }
 
 impl Model for Writers {
@@ -194,22 +194,23 @@ impl Writers {
             segments: Segments::new(alloc),
             ordered: 0,
             pending: Vec::new(alloc),
-            room: 0,
+            dropped: 0,
         }
     }
 
-    /// May drop what stands under a place before this one: it does once there is as much as there is
-    /// room for, which is then made twice what is left.
-    fn forget(&mut self, least: usize)
+    /// Drops what stands under a place before this one, if a window has passed since the last time.
+    /// So each entry is looked at no more than twice, and is gone after two windows.
+    fn forget(&mut self, least: usize, window: usize)
         ensures { (owner : Owned) (start : ℕ) (requests : List CommitRequest) (upto : ℕ) →
             KnowsWriters owner start requests least upto self.old →
             KnowsWriters owner start requests least upto self.new }
     {
-        self.segments.forget(least);
-        if self.pending.len() >= self.room {
-            self.pending.retain(|place| *place >= least);
-            self.room = self.pending.len().saturating_mul(2).max(16);
+        if least.saturating_sub(self.dropped) < window {
+            return;
         }
+        self.segments.drop_before(least);
+        self.pending.retain(|place| *place >= least);
+        self.dropped = least;
     }
 
     /// Puts in order what waits, of the requests before a place.
@@ -296,7 +297,7 @@ impl Writers {
         ensures kept { OnErr result
             (KnowsWriters part.now start requests.now (place - window) place self.new) }
     {
-        self.forget(place.saturating_sub(window as usize));
+        self.forget(place.saturating_sub(window as usize), window as usize);
         let cause = self.decide(part, start, requests, place)?;
         if cause.is_none() {
             self.pending.push(place)?;

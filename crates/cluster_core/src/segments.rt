@@ -167,13 +167,11 @@ fn drop_before(segments: &mut BTreeMap<Bytes, Segment>, least: usize)
 /// was dropped since.
 ///
 /// A search for a key takes logarithmic time, and one for a range goes on over the segments that
-/// begin there. Old segments are dropped once there are as many as there is room for, which is then
-/// made twice what is left.
+/// begin there.
 #[derive(Debug, Drop)]
 pub(crate) struct Segments {
     alloc: Global,
     segments: BTreeMap<Bytes, Segment>,
-    room: usize,
 }
 
 impl Model for Segments {
@@ -196,7 +194,6 @@ impl Segments {
         Segments {
             alloc,
             segments: BTreeMap::new(alloc),
-            room: 0,
         }
     }
 
@@ -220,16 +217,12 @@ impl Segments {
         newest_between(&self.segments, begin, end)
     }
 
-    /// May drop what stands under a place before this one.
-    pub fn forget(&mut self, least: usize)
+    /// Drops what stands under a place before this one.
+    pub fn drop_before(&mut self, least: usize)
         ensures holds { (key : List ℕ) (place : ℕ) → Holds self.new key place → Holds self.old key place }
         ensures kept { (key : List ℕ) (place : ℕ) → least ≤ place → IsCovered self.old key place →
             IsCovered self.new key place }
     {
-        if self.segments.len() < self.room {
-            return;
-        }
         drop_before(&mut self.segments, least);
-        self.room = self.segments.len().saturating_mul(2).max(16);
     }
 }

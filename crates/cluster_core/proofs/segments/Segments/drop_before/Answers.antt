@@ -1,7 +1,7 @@
 use Rattle.std.proofs.Common.{subst, sym}
 use Rattle.cluster_core.specs.Segments.{Holds, IsCovered}
 use Rattle.cluster_core.proofs.Overlaid.{dropped_holds, dropped_kept}
-use Rattle.cluster_core.proofs.segments.Segments.forget.Goals as goal
+use Rattle.cluster_core.proofs.segments.Segments.drop_before.Goals as goal
 
 pub invariant_of-self : goal.invariant_of-self
 invariant_of-self c = λ begin segment there. c.self.invariant begin segment ((c.drop_before.ensures.dropped begin segment).0 there).0
