@@ -9,6 +9,7 @@ use Rattle.cluster_core.specs.Configuration.{first_pipeline}
 use Rattle.cluster_core.specs.Decision.{Owned, owners}
 use Rattle.cluster_core.specs.Progress.{ResolverState, fresh, state_of}
 use Rattle.cluster_core.specs.Roles.{PipelineState, append, report, resolve}
+use Rattle.cluster_core.proofs.Telling.{map-set_same}
 
 lt-add : (start n m : ℕ) → nat_lt (start + n) (start + m) ≡ nat_lt n m
 lt-add start n m = by (nat_lt n m) refl
@@ -58,6 +59,11 @@ module _ (splits : List (List ℕ)) (window start : ℕ) (requests : List Commit
   pub state_resolved : (i : ℕ) (new d : ResolverState) → i < length resolvers → length new.causes ≡ length (get_or resolvers i d).causes + 1 →
       state_of splits window start requests (set resolvers i new) logs reported ≡ resolve i (state_of splits window start requests resolvers logs reported)
   state_resolved i new d inside more = ap (λ clocks. record old { resolved = clocks }) (raised_clock start (λ r. length r.causes) resolvers i new d inside more)
+
+  -- after a resolver kept something else
+  pub state_kept : (i : ℕ) (new d : ResolverState) → i < length resolvers → length new.causes ≡ length (get_or resolvers i d).causes →
+      state_of splits window start requests (set resolvers i new) logs reported ≡ state_of splits window start requests resolvers logs reported
+  state_kept i new d inside same = ap (λ clocks. record old { resolved = clocks }) (map-set_same (λ r. start + length r.causes) resolvers i new d (ap (λ n. start + n) same))
 
   -- after one more request in a log
   pub state_appended : (i : ℕ) (new d : List Bool) → i < length logs → length new ≡ length (get_or logs i d) + 1 →

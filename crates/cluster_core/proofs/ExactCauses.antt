@@ -114,7 +114,7 @@ module _ (owner : Owned) (es : List Entry) (c : Entry) (rising : IsRising es) (b
       let upto : w.version ≤ c.version - 1 = a.2 in
       record { stands = Contains-from es w a.0; after = after; before = omega (arith, after, upto); agreed = a.3 }
 
-  abbrev writer_in : KeyRange → Option Entry
+  abbrev pub writer_in : KeyRange → Option Entry
   writer_in range = find (λ e. writes_in owner range e.request) (newer_agreed owner es c)
 
   unwritten_from : (range : KeyRange) → writer_in range ≡ None → IsUnwritten owner es c range
@@ -138,7 +138,7 @@ module _ (owner : Owned) (es : List Entry) (c : Entry) (rising : IsRising es) (b
       }
 
   -- who writes in a range that is unwritten doesn't count
-  none_from : (range : KeyRange) → IsUnwritten owner es c range → writer_in range ≡ None
+  pub none_from : (range : KeyRange) → IsUnwritten owner es c range → writer_in range ≡ None
   none_from range unwritten = by (writer_in range) refl
     where
       by : (o : Option Entry) → writer_in range ≡ o → writer_in range ≡ None
@@ -146,7 +146,7 @@ module _ (owner : Owned) (es : List Entry) (c : Entry) (rising : IsRising es) (b
       by (Some w) found = let n = newest_from range w found in absurd (true≢false (sym n.writes ∙ not-true (writes_in owner range n.writer.request) (unwritten n.writer n.counts)))
 
   -- the newest version is the found entry's
-  seen_from : (range : KeyRange) (version : ℕ) → IsNewestIn owner es c range version → (w : Entry) × (writer_in range ≡ Some w) × (w.version ≡ version)
+  pub seen_from : (range : KeyRange) (version : ℕ) → IsNewestIn owner es c range version → (w : Entry) × (writer_in range ≡ Some w) × (w.version ≡ version)
   seen_from range version newest = by (writer_in range) refl
     where
       by : (o : Option Entry) → writer_in range ≡ o → (w : Entry) × (writer_in range ≡ Some w) × (w.version ≡ version)

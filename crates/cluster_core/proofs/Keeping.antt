@@ -1,25 +1,21 @@
 -- What a resolver and a log keep, after one step of a role.
-use Rattle.std.proofs.Common.{◌≡◌, ℕ, zero, suc, ◌+◌, ◌-◌, ◌<◌, ◌≤◌, ◌^◌, Bool, is_none, Option, None, Some, List, [], ◌∷◌, ◌++◌, length, map, reverse, set, inl, inr, refl, sym, ap, subst, ◌∙◌, arith}
-use Rattle.std.proofs.lemmas.Bool.{cases_order}
-use Rattle.std.proofs.lemmas.List.{length_push, length-set, reverse-reverse}
-use Rattle.std.proofs.lemmas.List.Elements.{All-from_recursion, All-weaker}
-use Rattle.std.proofs.lemmas.Option.{slice_get_within}
-use Rattle.std.specs.List.{AllByRecursion, All, slice_get}
+use Rattle.std.proofs.Common.{◌≡◌, ℕ, zero, suc, ◌+◌, ◌-◌, ◌<◌, ◌≤◌, Bool, true, false, nat_le, not, is_none, Option, None, Some, List, [], ◌∷◌, ◌++◌, length, set, inl, inr, refl, sym, ap, subst, ◌∙◌, arith}
+use Rattle.std.proofs.lemmas.Bool.{and_from, and_parts, cases_order}
+use Rattle.std.proofs.lemmas.List.{length_push, length-set}
+use Rattle.std.specs.List.{list_all, slice_get}
+use Rattle.std.specs.Option.{option_map_or}
+use Rattle.kv_core.specs.Change.{write_ranges}
+use Rattle.kv_core.specs.Range.{covers}
 use Rattle.kv_core.specs.declared.change.CommitRequest.{CommitRequest}
-use Rattle.kv_core.proofs.Pairs.{All-reverse}
 use Rattle.cluster_core.specs.History.{Entry, until}
-use Rattle.cluster_core.specs.Decision.{Cause, agreed_above, earlier, first_disturbed, is_committed, numbered}
-use Rattle.cluster_core.specs.Kept.{AreAt}
+use Rattle.cluster_core.specs.Decision.{Cause, Owned, agreed_above, agrees, disturbs, earlier, first_disturbed, is_committed, numbered}
+use Rattle.cluster_core.specs.Kept.{KnowsWriters, WritersState, agreed_at, rise_between, writes_key}
 use Rattle.cluster_core.specs.Progress.{ResolverState, IsResolver, IsLog, answer_of}
-use Rattle.cluster_core.proofs.Bridge.{version_at}
+use Rattle.cluster_core.proofs.Bridge.{entry_here, version_at}
 use Rattle.cluster_core.proofs.Causes.{cause_decides}
 use Rattle.cluster_core.proofs.Growth.{numbered-push, until-push, later_changes_nothing}
-
--- the entry of the request at a place
-pub entry_here : (start : ℕ) (requests : List CommitRequest) (place : ℕ) → place < length requests → (entry : Entry) × (slice_get (numbered start requests) place ≡ Some entry)
-entry_here start [] place inside = absurd (omega (arith, inside))
-entry_here start (q ∷ requests) zero inside = (record { version = start + 1; request = q }, refl)
-entry_here start (q ∷ requests) (suc place) inside = entry_here (start + 1) requests place (omega (arith, inside))
+use Rattle.cluster_core.proofs.Rising.{rise_le}
+use Rattle.cluster_core.proofs.Waiting.{known_later}
 
 pub length-numbered : (start : ℕ) (requests : List CommitRequest) → length (numbered start requests) ≡ length requests
 length-numbered start [] = refl
@@ -35,82 +31,31 @@ get_before (x ∷ xs) ys zero inside = refl
 get_before (x ∷ xs) ys (suc i) inside = get_before xs ys i (omega (arith, inside))
 
 -- a resolver that has its next answer
-pub answered_next : (start : ℕ) (requests : List CommitRequest) (reported : ℕ) (old : ResolverState) (agreed : List ℕ) (why : Option Cause) →
-    IsResolver start requests reported old → length old.causes < length requests →
-    ((entry : Entry) → slice_get (numbered start requests) (length old.causes) ≡ Some entry →
-    AreAt (numbered start requests) old.agreed (agreed_above old.owner 0 (earlier (numbered start requests) entry.version)) →
-    why ≡ answer_of old.owner (numbered start requests) entry) →
-    ((entry : Entry) → slice_get (numbered start requests) (length old.causes) ≡ Some entry →
-    AreAt (numbered start requests) old.agreed (agreed_above old.owner 0 (earlier (numbered start requests) entry.version)) →
-    AreAt (numbered start requests) agreed (agreed_above old.owner 0 (earlier (numbered start requests) (entry.version + 1)))) →
-    IsResolver start requests reported (record { owner = old.owner; agreed = agreed; causes = old.causes ++ why ∷ [] })
-answered_next start requests reported old agreed why was inside is grown =
-    let here = entry_here start requests (length old.causes) inside in
-    let number = version_at start requests (length old.causes) here.0 here.1 in
-    let more = length_push old.causes why in
-    let next : here.0.version + 1 ≡ start + length (old.causes ++ why ∷ []) + 1 = omega (arith, number, more) in
+pub answered_next : (window start : ℕ) (requests : List CommitRequest) (reported : ℕ) (old : ResolverState) (writers : WritersState) (causes : List (Option Cause)) (why : Option Cause) →
+    IsResolver window start requests reported old → length old.causes < length requests → causes ≡ old.causes ++ why ∷ [] →
+    ((entry : Entry) → slice_get (numbered start requests) (length old.causes) ≡ Some entry → why ≡ answer_of old.owner (numbered start requests) entry) →
+    KnowsWriters old.owner start requests (length old.causes - window) (length old.causes + 1) writers →
+    IsResolver window start requests reported (record { owner = old.owner; writers = writers; causes = causes })
+answered_next window start requests reported old writers causes why was inside items is knows =
+    subst (λ xs. IsResolver window start requests reported (record { owner = old.owner; writers = writers; causes = xs })) (sym items)
+    (let more = length_push old.causes why in
     record {
       within = omega (arith, inside, more);
-      kept = subst (λ v. AreAt es agreed (agreed_above old.owner 0 (earlier es v))) next (grown here.0 here.1 (kept_at here.0 here.1));
+      knows =
+          subst (λ n. KnowsWriters old.owner start requests (n - window) n writers) (sym more)
+          (known_later old.owner start requests (length old.causes - window) (length old.causes + 1 - window) (length old.causes + 1) writers (omega arith) knows);
       answers = λ place entry after below there. elim (cases_order place (length old.causes)) [
-        | inl same ↦
-            let there' : slice_get es (length old.causes) ≡ Some entry = subst (λ i. slice_get es i ≡ Some entry) same there in
-            ap (slice_get (old.causes ++ why ∷ [])) same ∙ get_last old.causes why ∙ ap Some (is entry there' (kept_at entry there'))
+        | inl same ↦ ap (slice_get (old.causes ++ why ∷ [])) same ∙ get_last old.causes why ∙ ap Some (is entry (subst (λ i. slice_get (numbered start requests) i ≡ Some entry) same there))
         | inr (inl before) ↦ get_before old.causes (why ∷ []) place before ∙ was.answers place entry after before there
         | inr (inr past) ↦ absurd (omega (arith, past, below, more))
       ];
-    }
-  where
-    es : List Entry
-    es = numbered start requests
-
-    kept_at : (entry : Entry) → slice_get (numbered start requests) (length old.causes) ≡ Some entry →
-        AreAt (numbered start requests) old.agreed (agreed_above old.owner 0 (earlier (numbered start requests) entry.version))
-    kept_at entry here =
-        subst (λ v. AreAt (numbered start requests) old.agreed (agreed_above old.owner 0 (earlier (numbered start requests) v))) (sym (version_at start requests (length old.causes) entry here)) was.kept
-
-pub answered_at : (start : ℕ) (requests : List CommitRequest) (reported : ℕ) (old : ResolverState) (place : ℕ) (agreed : List ℕ) (causes : List (Option Cause)) (why : Option Cause) →
-    IsResolver start requests reported old → length old.causes < length requests → place ≡ length old.causes → causes ≡ old.causes ++ why ∷ [] →
-    ((entry : Entry) → slice_get (numbered start requests) place ≡ Some entry →
-    AreAt (numbered start requests) old.agreed (agreed_above old.owner 0 (earlier (numbered start requests) entry.version)) →
-    why ≡ answer_of old.owner (numbered start requests) entry) →
-    ((entry : Entry) → slice_get (numbered start requests) place ≡ Some entry →
-    AreAt (numbered start requests) old.agreed (agreed_above old.owner 0 (earlier (numbered start requests) entry.version)) →
-    AreAt (numbered start requests) agreed (agreed_above old.owner 0 (earlier (numbered start requests) (entry.version + 1)))) →
-    IsResolver start requests reported (record { owner = old.owner; agreed = agreed; causes = causes })
-answered_at start requests reported old place agreed causes why was inside number items is grown =
-    subst (λ xs. IsResolver start requests reported (record { owner = old.owner; agreed = agreed; causes = xs })) (sym items)
-    (answered_next start requests reported old agreed why was inside (λ entry there. is entry (here entry there)) (λ entry there. grown entry (here entry there)))
-  where
-    here : (entry : Entry) → slice_get (numbered start requests) (length old.causes) ≡ Some entry → slice_get (numbered start requests) place ≡ Some entry
-    here entry there = ap (slice_get (numbered start requests)) number ∙ there
-
-abbrev first_option : List (Option Entry) → Option Entry
-first_option [] = None
-first_option (x ∷ xs) = x
-
-abbrev other_options : List (Option Entry) → List (Option Entry)
-other_options [] = []
-other_options (x ∷ xs) = xs
-
--- what stands at places stands there after more
-at_more : (es fs : List Entry) (places : List ℕ) (kept : List Entry) → map (slice_get es) places ≡ map Some kept → map (slice_get (es ++ fs)) places ≡ map Some kept
-at_more es fs [] kept at = at
-at_more es fs (p ∷ places) [] at = let l : suc (length (map (slice_get es) places)) ≡ 0 = ap length at in absurd (omega (arith, l))
-at_more es fs (p ∷ places) (k ∷ kept) at =
-    let here : slice_get es p ≡ Some k = ap first_option at in
-    λ i. (get_before es fs p (slice_get_within es p k here) ∙ here) i ∷ at_more es fs places kept (ap other_options at) i
-
-places_in : (es : List Entry) (places : List ℕ) (kept : List Entry) → map (slice_get es) places ≡ map Some kept → AllByRecursion (λ p. p < length es) places
-places_in es [] kept at = tt
-places_in es (p ∷ places) [] at = let l : suc (length (map (slice_get es) places)) ≡ 0 = ap length at in absurd (omega (arith, l))
-places_in es (p ∷ places) (k ∷ kept) at = (slice_get_within es p k (ap first_option at), places_in es places kept (ap other_options at))
+    })
 
 earlier-push : (start : ℕ) (requests : List CommitRequest) (q : CommitRequest) (v : ℕ) → v ≤ start + length requests + 1 →
     earlier (numbered start (requests ++ q ∷ [])) v ≡ earlier (numbered start requests) v
 earlier-push start requests q v upto =
-    ap (λ es. reverse (until (v - 1) es)) (numbered-push start requests q)
-    ∙ ap reverse (until-push (v - 1) (numbered start requests) (record { version = start + length requests + 1; request = q }) (omega (arith, upto)))
+    ap (λ es. Rattle.std.proofs.Common.reverse (until (v - 1) es)) (numbered-push start requests q)
+    ∙ ap Rattle.std.proofs.Common.reverse (until-push (v - 1) (numbered start requests) (record { version = start + length requests + 1; request = q }) (omega (arith, upto)))
 
 -- an entry that stands after one more request stands before it, at each earlier place
 there_before : (start : ℕ) (requests : List CommitRequest) (q : CommitRequest) (place : ℕ) (entry : Entry) → place < length requests →
@@ -120,19 +65,65 @@ there_before start requests q place entry inside there =
     sym (ap (λ es. slice_get es place) (numbered-push start requests q)
     ∙ get_before (numbered start requests) (record { version = start + length requests + 1; request = q } ∷ []) place (omega (arith, inside, len))) ∙ there
 
+-- what is said of an earlier request stands after one more
+module _ (owner : Owned) (start : ℕ) (requests : List CommitRequest) (q : CommitRequest) where
+  abbrev more_requests : List CommitRequest
+  more_requests = requests ++ q ∷ []
+
+  agreed_same : (place : ℕ) → place < length requests → agreed_at owner start more_requests place ≡ agreed_at owner start requests place
+  agreed_same place inside =
+      let here = entry_here start requests place inside in
+      let e = here.0 in
+      let len = length-numbered start requests in
+      let number = version_at start requests place e here.1 in
+      let there : slice_get (numbered start more_requests) place ≡ Some e =
+      ap (λ es. slice_get es place) (numbered-push start requests q)
+      ∙ get_before (numbered start requests) (record { version = start + length requests + 1; request = q } ∷ []) place (omega (arith, inside, len)) ∙ here.1 in
+      ap (λ o. option_map_or (agrees owner (numbered start more_requests)) o false) there
+      ∙ ap (λ xs. list_all (λ newer. not (disturbs owner newer.request e.request)) (agreed_above owner e.request.read_version xs)) (earlier-push start requests q e.version (omega (arith, number, inside)))
+      ∙ sym (ap (λ o. option_map_or (agrees owner (numbered start requests)) o false) here.1)
+
+  writes_same : (place : ℕ) (key : List ℕ) → place < length requests → writes_key more_requests place key ≡ writes_key requests place key
+  writes_same place key inside = ap (λ o. option_map_or (λ (r : CommitRequest). covers (write_ranges r.mutations) key) o false) (get_before requests (q ∷ []) place inside)
+
+  all_same : (low upto : ℕ) (ps : List ℕ) → upto ≤ length requests → rise_between low upto ps ≡ true → list_all (agreed_at owner start requests) ps ≡ true →
+      list_all (agreed_at owner start more_requests) ps ≡ true
+  all_same low upto [] within rises all = refl
+  all_same low upto (p ∷ ps) within rises all =
+      let r = and_parts (nat_le low p) (rise_between (p + 1) upto ps) rises in
+      let a = and_parts (agreed_at owner start requests p) (list_all (agreed_at owner start requests) ps) all in
+      let below = rise_le (p + 1) upto ps r.1 in
+      and_from (agreed_at owner start more_requests p) (list_all (agreed_at owner start more_requests) ps) (agreed_same p (omega (arith, below, within)) ∙ a.0)
+      (all_same (p + 1) upto ps within r.1 a.1)
+
+  known_submitted : (least upto : ℕ) (writers : WritersState) → upto ≤ length requests → KnowsWriters owner start requests least upto writers →
+      KnowsWriters owner start more_requests least upto writers
+  known_submitted least upto writers within was =
+      let ordered = rise_le writers.ordered upto writers.pending was.in_order in
+      record {
+        keys = record {
+          sound = λ key place h.
+              let s = was.keys.sound key place h in
+              let before = s.0 in
+              (before, agreed_same place (omega (arith, before, within)) ∙ s.1, writes_same place key (omega (arith, before, within)) ∙ s.2);
+          settled = λ key place from before agreed own wrote.
+              was.keys.settled key place from before (sym (agreed_same place (omega (arith, before, ordered, within))) ∙ agreed) own
+              (sym (writes_same place key (omega (arith, before, ordered, within))) ∙ wrote);
+        };
+        in_order = was.in_order;
+        agreed = all_same writers.ordered upto writers.pending within was.in_order was.agreed;
+        waiting = λ place from past before agreed. was.waiting place from past before (sym (agreed_same place (omega (arith, before, within))) ∙ agreed);
+      }
+
 -- one more request changes nothing of what a resolver keeps
-pub resolver_submitted : (start : ℕ) (requests : List CommitRequest) (q : CommitRequest) (reported : ℕ) (resolver : ResolverState) →
-    IsResolver start requests reported resolver → IsResolver start (requests ++ q ∷ []) reported resolver
-resolver_submitted start requests q reported resolver was =
+pub resolver_submitted : (window start : ℕ) (requests : List CommitRequest) (q : CommitRequest) (reported : ℕ) (resolver : ResolverState) →
+    IsResolver window start requests reported resolver → IsResolver window start (requests ++ q ∷ []) reported resolver
+resolver_submitted window start requests q reported resolver was =
     let more = length_push requests q in
     let within = was.within in
-    let v = start + length resolver.causes + 1 in
     record {
       within = omega (arith, more, within);
-      kept =
-          ap (λ es. map (slice_get es) (reverse resolver.agreed)) (numbered-push start requests q)
-          ∙ at_more (numbered start requests) _ (reverse resolver.agreed) (agreed_above resolver.owner 0 (earlier (numbered start requests) v)) was.kept
-          ∙ sym (ap (λ xs. map Some (agreed_above resolver.owner 0 xs)) (earlier-push start requests q v (omega (arith, within))));
+      knows = known_submitted resolver.owner start requests q (length resolver.causes - window) (length resolver.causes) resolver.writers within was.knows;
       answers = λ place entry after below there.
           let inside : place < length requests = omega (arith, below, within) in
           let there' = there_before start requests q place entry inside there in
@@ -142,20 +133,11 @@ resolver_submitted start requests q reported resolver was =
           (sym (earlier-push start requests q entry.version (omega (arith, number, inside))));
     }
 
--- the places that a resolver keeps are versions in 64 bits
-pub places_fit : (start : ℕ) (requests : List CommitRequest) (reported : ℕ) (resolver : ResolverState) → IsResolver start requests reported resolver →
-    start + length requests < 2 ^ 64 → All (λ place. start + place + 1 < 2 ^ 64) resolver.agreed
-places_fit start requests reported resolver is small =
-    All-weaker (λ place. place < length (numbered start requests)) (λ place. start + place + 1 < 2 ^ 64) (λ place inside. let len = length-numbered start requests in omega (arith, inside, len, small)) resolver.agreed
-    (subst (All (λ place. place < length (numbered start requests))) (reverse-reverse resolver.agreed)
-    (All-from_recursion (λ place. place < length (numbered start requests)) (reverse (reverse resolver.agreed))
-    (All-reverse (λ place. place < length (numbered start requests)) (reverse resolver.agreed) (places_in (numbered start requests) (reverse resolver.agreed) _ is.kept))))
-
 -- what isn't reported after one more report wasn't before
-pub resolver_weaker : (start : ℕ) (requests : List CommitRequest) (reported : ℕ) (resolver : ResolverState) →
-    IsResolver start requests reported resolver → IsResolver start requests (reported + 1) resolver
-resolver_weaker start requests reported resolver was =
-    record { within = was.within; kept = was.kept; answers = λ place entry after below there. was.answers place entry (omega (arith, after)) below there }
+pub resolver_weaker : (window start : ℕ) (requests : List CommitRequest) (reported : ℕ) (resolver : ResolverState) →
+    IsResolver window start requests reported resolver → IsResolver window start requests (reported + 1) resolver
+resolver_weaker window start requests reported resolver was =
+    record { within = was.within; knows = was.knows; answers = λ place entry after below there. was.answers place entry (omega (arith, after)) below there }
 
 get-set_other : {X : Type 0} (xs : List X) (i j : ℕ) (x : X) → i < j → slice_get (set xs i x) j ≡ slice_get xs j
 get-set_other [] i j x below = refl
@@ -165,14 +147,14 @@ get-set_other (y ∷ xs) (suc i) zero x below = absurd (omega (arith, below))
 get-set_other (y ∷ xs) (suc i) (suc j) x below = get-set_other xs i j x (omega (arith, below))
 
 -- a resolver whose answer to the request that is reported next was taken
-pub resolver_taken : (start : ℕ) (requests : List CommitRequest) (place : ℕ) (resolver : ResolverState) →
-    IsResolver start requests place resolver → IsResolver start requests (place + 1) (record resolver { causes = set resolver.causes place None })
-resolver_taken start requests place resolver was =
+pub resolver_taken : (window start : ℕ) (requests : List CommitRequest) (place : ℕ) (resolver : ResolverState) →
+    IsResolver window start requests place resolver → IsResolver window start requests (place + 1) (record resolver { causes = set resolver.causes place None })
+resolver_taken window start requests place resolver was =
     let same = length-set resolver.causes place None in
     let within = was.within in
     record {
       within = omega (arith, same, within);
-      kept = subst (λ n. AreAt (numbered start requests) resolver.agreed (agreed_above resolver.owner 0 (earlier (numbered start requests) (start + n + 1)))) (sym same) was.kept;
+      knows = subst (λ n. KnowsWriters resolver.owner start requests (n - window) n resolver.writers) (sym same) was.knows;
       answers = λ p entry after below there.
           get-set_other resolver.causes place p None (omega (arith, after)) ∙ was.answers p entry (omega (arith, after)) (omega (arith, below, same)) there;
     }

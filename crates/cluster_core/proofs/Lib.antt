@@ -23,3 +23,9 @@ pub mod PulledLogs
 pub mod PulledMaps
 pub mod ClusterSteps
 pub mod Ordered
+pub mod Segmented
+pub mod Overlaid
+pub mod Rising
+pub mod Putting
+pub mod Asked
+pub mod Waiting

@@ -8,7 +8,7 @@ use Rattle.cluster_core.specs.Roles.{AreInOrder}
 use Rattle.cluster_core.proofs.Standing.{some_resolver}
 
 module _ (splits : List (List ℕ)) (window start : ℕ) (requests : List CommitRequest) (resolvers : List ResolverState) (logs : List (List Bool)) (reported : ℕ)
-    (was : IsPipeline splits start requests resolvers logs reported) where
+    (was : IsPipeline splits window start requests resolvers logs reported) where
   abbrev answered_by : ResolverState → ℕ
   answered_by resolver = start + length resolver.causes
 
@@ -23,7 +23,7 @@ module _ (splits : List (List ℕ)) (window start : ℕ) (requests : List Commit
 
   pub in_order : AreInOrder (state_of splits window start requests resolvers logs reported)
   in_order =
-      let some = some_resolver _ _ _ _ _ _ was in
+      let some = some_resolver _ _ _ _ _ _ _ was in
       let log = was.some_log in
       let resolvers_same = length-map resolvers answered_by in
       let logs_same = length-map logs logged_by in record {
@@ -31,7 +31,7 @@ module _ (splits : List (List ℕ)) (window start : ℕ) (requests : List Commit
         some_log = omega (arith, log, logs_same);
         given =
             All-map (λ clock. clock ≤ start + length requests) answered_by resolvers
-            (All-weaker (IsResolver start requests reported) (λ resolver. start + length resolver.causes ≤ start + length requests)
+            (All-weaker (IsResolver window start requests reported) (λ resolver. start + length resolver.causes ≤ start + length requests)
             (λ resolver is. let within = is.within in omega (arith, within)) resolvers was.resolving);
         answered =
             All-map (λ log. All (λ clock. log ≤ clock) (map answered_by resolvers)) logged_by logs

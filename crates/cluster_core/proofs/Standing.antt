@@ -13,13 +13,15 @@ use Rattle.cluster_core.specs.Decision.{Owned, owners, owners_from, agrees, newe
 use Rattle.cluster_core.specs.Laws.{ReadsBelow}
 use Rattle.cluster_core.specs.Progress.{ResolverState, IsResolver, IsLog, IsPipeline, answer_of, fresh, has_agreed, first_kept, state_of}
 use Rattle.cluster_core.specs.Roles.{PipelineState, outcome, told, told_of}
-use Rattle.cluster_core.proofs.Bridge.{entry_of, numbered_at, version_at}
+use Rattle.cluster_core.specs.Kept.{ReadsWithin}
+use Rattle.cluster_core.proofs.Bridge.{entry_here, entry_of, numbered_at, version_at}
 use Rattle.cluster_core.proofs.Causes.{agrees-none}
 use Rattle.cluster_core.proofs.Growth.{numbered-push}
 use Rattle.cluster_core.proofs.Legality.{committed_is_legal}
 use Rattle.cluster_core.proofs.Versions.{rising-numbered}
-use Rattle.cluster_core.proofs.Keeping.{entry_here, log_appended, log_submitted, resolver_submitted}
+use Rattle.cluster_core.proofs.Keeping.{log_appended, log_submitted, resolver_submitted}
 use Rattle.cluster_core.proofs.Telling.{map-set_same}
+use Rattle.cluster_core.proofs.Waiting.{nothing_known}
 
 -- what all pass is passed by each
 each_passes : {X : Type 0} (p : X → Bool) (xs : List X) → list_all p xs ≡ true → AllByRecursion (λ x. p x ≡ true) xs
@@ -40,8 +42,8 @@ some_owner : (from : List ℕ) (splits : List (List ℕ)) → 1 ≤ length (owne
 some_owner from [] = omega arith
 some_owner from (split ∷ splits) = omega arith
 
-module _ (splits : List (List ℕ)) (start : ℕ) (requests : List CommitRequest) (resolvers : List ResolverState) (logs : List (List Bool)) (reported : ℕ)
-    (was : IsPipeline splits start requests resolvers logs reported) where
+module _ (splits : List (List ℕ)) (window start : ℕ) (requests : List CommitRequest) (resolvers : List ResolverState) (logs : List (List Bool)) (reported : ℕ)
+    (was : IsPipeline splits window start requests resolvers logs reported) where
   abbrev es : List Entry
   es = numbered start requests
 
@@ -56,9 +58,9 @@ module _ (splits : List (List ℕ)) (start : ℕ) (requests : List CommitRequest
   legal = committed_is_legal splits es (rising-numbered start requests) was.reads
 
   -- after one more request
-  pub stands_submitted : (q : CommitRequest) → start + length requests + 1 < 2 ^ 64 → q.read_version ≤ start + length requests →
-      IsPipeline splits start (requests ++ q ∷ []) resolvers logs reported
-  stands_submitted q small reads =
+  pub stands_submitted : (q : CommitRequest) → start + length requests + 1 < 2 ^ 64 → q.read_version ≤ start + length requests → start + length requests ≤ q.read_version + window →
+      IsPipeline splits window start (requests ++ q ∷ []) resolvers logs reported
+  stands_submitted q small reads recent =
       let more = length_push requests q in
       let told = was.told in
       record {
@@ -66,24 +68,28 @@ module _ (splits : List (List ℕ)) (start : ℕ) (requests : List CommitRequest
         reads =
             subst ReadsBelow (sym (numbered-push start requests q))
             (All-push (λ e. e.request.read_version < e.version) es (record { version = start + length requests + 1; request = q }) was.reads (omega (arith, reads)));
+        recent =
+            subst (ReadsWithin window) (sym (numbered-push start requests q))
+            (All-push (λ e. e.version ≤ e.request.read_version + window + 1) es (record { version = start + length requests + 1; request = q }) was.recent (omega (arith, recent)));
         owned = was.owned;
-        resolving = All-weaker (IsResolver start requests reported) (IsResolver start (requests ++ q ∷ []) reported) (resolver_submitted start requests q reported) resolvers was.resolving;
+        resolving = All-weaker (IsResolver window start requests reported) (IsResolver window start (requests ++ q ∷ []) reported) (resolver_submitted window start requests q reported) resolvers was.resolving;
         some_log = was.some_log;
         logging = All-weaker (IsLog splits start requests reported) (IsLog splits start (requests ++ q ∷ []) reported) (log_submitted splits start requests q reported) logs was.logging;
         ordered = was.ordered;
         told = omega (arith, more, told);
       }
 
-  -- after one more answer of a resolver
+  -- after one more answer of a resolver, or none
   pub stands_resolved : (i : ℕ) (new d : ResolverState) → i < length resolvers → new.owner ≡ (get_or resolvers i d).owner →
-      length new.causes ≡ length (get_or resolvers i d).causes + 1 → IsResolver start requests reported new →
-      IsPipeline splits start requests (set resolvers i new) logs reported
+      length (get_or resolvers i d).causes ≤ length new.causes → IsResolver window start requests reported new →
+      IsPipeline splits window start requests (set resolvers i new) logs reported
   stands_resolved i new d inside owner counted is =
       record {
         versions = was.versions;
         reads = was.reads;
+        recent = was.recent;
         owned = map-set_same (λ r. r.owner) resolvers i new d owner ∙ was.owned;
-        resolving = All-set (IsResolver start requests reported) resolvers i new is was.resolving;
+        resolving = All-set (IsResolver window start requests reported) resolvers i new is was.resolving;
         some_log = was.some_log;
         logging = was.logging;
         ordered =
@@ -131,12 +137,12 @@ module _ (splits : List (List ℕ)) (start : ℕ) (requests : List CommitRequest
   -- after one more request in a log
   pub stands_appended : (i : ℕ) (new d : List Bool) (passes : Bool) → i < length logs → new ≡ get_or logs i d ++ passes ∷ [] →
       list_all (λ r. nat_lt (length (get_or logs i d)) (length r.causes)) resolvers ≡ true → passes ≡ list_all (has_agreed (length (get_or logs i d))) resolvers →
-      IsPipeline splits start requests resolvers (set logs i new) reported
+      IsPipeline splits window start requests resolvers (set logs i new) reported
   stands_appended i new d passes inside items past agreed =
       let old = get_or logs i d in
       let before : IsLog splits start requests reported old = All-get_or (IsLog splits start requests reported) logs i d inside was.logging in
       let answered = each_past (length old) (λ r. length r.causes) resolvers past in
-      let some = some_of (λ r. (length old < length r.causes) × IsResolver start requests reported r) resolvers some_resolver (λ k e below. (answered k e below, was.resolving k e below)) in
+      let some = some_of (λ r. (length old < length r.causes) × IsResolver window start requests reported r) resolvers some_resolver (λ k e below. (answered k e below, was.resolving k e below)) in
       let here : length old < length requests = (let a = some.1.0 in let b = some.1.1.within in omega (arith, a, b)) in
       let grown : IsLog splits start requests reported (old ++ passes ∷ []) =
       log_appended splits start requests reported old passes before here (λ entry there. agreed ∙ all_agree (length old) entry before.behind answered there) in
@@ -146,6 +152,7 @@ module _ (splits : List (List ℕ)) (start : ℕ) (requests : List CommitRequest
       record {
         versions = was.versions;
         reads = was.reads;
+        recent = was.recent;
         owned = was.owned;
         resolving = was.resolving;
         some_log = omega (arith, set_len, some_log);
@@ -168,7 +175,7 @@ module _ (splits : List (List ℕ)) (start : ℕ) (requests : List CommitRequest
 
   pub past_requests : list_all (λ passes. nat_lt reported (length passes)) logs ≡ true → reported < length requests
   past_requests all =
-      let some = some_of (λ r. (reported < length r.causes) × IsResolver start requests reported r) resolvers some_resolver (λ k d below. (past_logs all k d below, was.resolving k d below)) in
+      let some = some_of (λ r. (reported < length r.causes) × IsResolver window start requests reported r) resolvers some_resolver (λ k d below. (past_logs all k d below, was.resolving k d below)) in
       let a = some.1.0 in
       let b = some.1.1.within in
       omega (arith, a, b)
@@ -176,14 +183,15 @@ module _ (splits : List (List ℕ)) (start : ℕ) (requests : List CommitRequest
   -- after one more report
   pub stands_reported : (after : List ResolverState) → list_all (λ passes. nat_lt reported (length passes)) logs ≡ true →
       map (λ r. r.owner) after ≡ map (λ r. r.owner) resolvers → map (λ r. length r.causes) after ≡ map (λ r. length r.causes) resolvers →
-      All (IsResolver start requests (reported + 1)) after →
-      IsPipeline splits start requests after logs (reported + 1)
+      All (IsResolver window start requests (reported + 1)) after →
+      IsPipeline splits window start requests after logs (reported + 1)
   stands_reported after all same_owners same_counts resolving =
       let inside = past_requests all in
       let logged = each_past reported (λ passes. length passes) logs all in
       record {
         versions = was.versions;
         reads = was.reads;
+        recent = was.recent;
         owned = same_owners ∙ was.owned;
         resolving = resolving;
         some_log = was.some_log;
@@ -228,9 +236,9 @@ module _ (splits : List (List ℕ)) (start : ℕ) (requests : List CommitRequest
       slice_get-map (logged (is_committed splits es)) es place ∙ ap (option_map (logged (is_committed splits es))) here.1 ∙ ap (λ b. Some (cond b here.0.request.mutations [])) (sym test)
 
   -- what is told is the outcome of the request that is reported next
-  pub told_next : (window : ℕ) → list_all (λ passes. nat_lt reported (length passes)) logs ≡ true →
+  pub told_next : list_all (λ passes. nat_lt reported (length passes)) logs ≡ true →
       told (first_kept reported resolvers) (start + reported + 1) ≡ outcome (state_of splits window start requests resolvers logs reported) (start + reported + 1)
-  told_next window all =
+  told_next all =
       let here = entry_here start requests reported (past_requests all) in
       let number : start + reported + 1 ≡ here.0.version = sym (version_at start requests reported here.0 here.1) in
       let place : reported ≡ (start + reported + 1) - start - 1 = omega arith in
@@ -240,14 +248,15 @@ module _ (splits : List (List ℕ)) (start : ℕ) (requests : List CommitRequest
       ∙ ap (λ n. told_of p (slice_get es n)) place
 
 -- the pipeline at the start
-pub stands_first : (splits : List (List ℕ)) (start count : ℕ) → start < 2 ^ 64 → 1 ≤ count → IsPipeline splits start [] (map fresh (owners splits)) (replicate count []) 0
-stands_first splits start count small some =
+pub stands_first : (splits : List (List ℕ)) (window start count : ℕ) → start < 2 ^ 64 → 1 ≤ count → IsPipeline splits window start [] (map fresh (owners splits)) (replicate count []) 0
+stands_first splits window start count small some =
     let len = length-replicate count (let none : List Bool = [] in none) in
     record {
       versions = omega (arith, small);
       reads = All-from_recursion (λ e. e.request.read_version < e.version) [] tt;
+      recent = All-from_recursion (λ e. e.version ≤ e.request.read_version + window + 1) [] tt;
       owned = same (owners splits);
-      resolving = All-from_recursion (IsResolver start [] 0) (map fresh (owners splits)) (each (owners splits));
+      resolving = All-from_recursion (IsResolver window start [] 0) (map fresh (owners splits)) (each (owners splits));
       some_log = omega (arith, len, some);
       logging = All-replicate (IsLog splits start [] 0) count [] (record { behind = omega arith; within = omega arith; answers = λ place entry below there. absurd (omega (arith, below)) });
       ordered = All-replicate (λ passes. All (λ r. length passes ≤ length r.causes) (map fresh (owners splits))) count []
@@ -259,10 +268,10 @@ stands_first splits start count small some =
     same [] = refl
     same (owner ∷ all) = ap (λ xs. owner ∷ xs) (same all)
 
-    each : (all : List Owned) → AllByRecursion (IsResolver start [] 0) (map fresh all)
+    each : (all : List Owned) → AllByRecursion (IsResolver window start [] 0) (map fresh all)
     each [] = tt
     each (owner ∷ all) =
-        (record { within = omega arith; kept = refl; answers = λ place entry after below there. absurd (omega (arith, below)) }, each all)
+        (record { within = omega arith; knows = nothing_known owner start (0 - window); answers = λ place entry after below there. absurd (omega (arith, below)) }, each all)
 
     all_above : (all : List Owned) → AllByRecursion (λ r. 0 ≤ length r.causes) (map fresh all)
     all_above [] = tt

@@ -36,9 +36,9 @@ taken_none place resolvers i taken d new none =
 -- each resolver keeps what isn't reported yet
 pub taken_all : (place : ℕ) (resolvers : List ResolverState) (i : ℕ) (taken d : ResolverState) → i < length resolvers →
     taken ≡ record (get_or resolvers i d) { causes = set (get_or resolvers i d).causes place None } →
-    (start : ℕ) (requests : List CommitRequest) → All (IsResolver start requests place) resolvers → All (IsResolver start requests (place + 1)) (set resolvers i taken)
-taken_all place resolvers i taken d inside new start requests was =
-    All-set (IsResolver start requests (place + 1)) resolvers i taken
-    (subst (IsResolver start requests (place + 1)) (sym new)
-    (resolver_taken start requests place (get_or resolvers i d) (All-get_or (IsResolver start requests place) resolvers i d inside was)))
-    (All-weaker (IsResolver start requests place) (IsResolver start requests (place + 1)) (resolver_weaker start requests place) resolvers was)
+    (window start : ℕ) (requests : List CommitRequest) → All (IsResolver window start requests place) resolvers → All (IsResolver window start requests (place + 1)) (set resolvers i taken)
+taken_all place resolvers i taken d inside new window start requests was =
+    All-set (IsResolver window start requests (place + 1)) resolvers i taken
+    (subst (IsResolver window start requests (place + 1)) (sym new)
+    (resolver_taken window start requests place (get_or resolvers i d) (All-get_or (IsResolver window start requests place) resolvers i d inside was)))
+    (All-weaker (IsResolver window start requests place) (IsResolver window start requests (place + 1)) (resolver_weaker window start requests place) resolvers was)

@@ -6,6 +6,7 @@ pub mod Roles
 pub mod Tier
 pub mod Configuration
 pub mod Cluster
+pub mod Segments
 pub mod Kept
 pub mod Progress
 pub mod Server

@@ -1,25 +1,25 @@
 -- What the resolvers and the logs keep of the requests, by their places in version order.
-use Rattle.std.specs.Prelude.{◌≡◌, ℕ, ◌+◌, ◌<◌, ◌≤◌, ◌^◌, Bool, false, is_none, Option, Some}
+use Rattle.std.specs.Prelude.{◌≡◌, ℕ, ◌+◌, ◌-◌, ◌<◌, ◌≤◌, ◌^◌, Bool, false, is_none, Option, Some}
 use Rattle.std.specs.Prelude.{None, unwrap_or, List, [], ◌∷◌, length, map, slice_get, All}
 use Rattle.std.specs.Option.{option_or, option_map_or}
 use Rattle.kv_core.specs.declared.change.CommitRequest.{CommitRequest}
 use Rattle.cluster_core.specs.History.{Entry}
-use Rattle.cluster_core.specs.Decision.{Owned, Cause, owners, numbered, agreed_above}
-use Rattle.cluster_core.specs.Decision.{newer_agreed, earlier, first_disturbed, is_committed}
+use Rattle.cluster_core.specs.Decision.{Owned, Cause, owners, numbered}
+use Rattle.cluster_core.specs.Decision.{newer_agreed, first_disturbed, is_committed}
 use Rattle.cluster_core.specs.Laws.{ReadsBelow}
-use Rattle.cluster_core.specs.Kept.{AreAt}
+use Rattle.cluster_core.specs.Kept.{KnowsWriters, ReadsWithin, WritersState, no_writers}
 use Rattle.cluster_core.specs.Roles.{PipelineState}
 
--- the owner that a resolver answers for, the places of the requests to which it agreed, and its answer for each request
--- so far
+-- the owner that a resolver answers for, what it keeps of the requests to which it agreed, and its answer for each
+-- request so far
 pub record ResolverState : Type 0 where
   pub owner : Owned
-  pub agreed : List ℕ
+  pub writers : WritersState
   pub causes : List (Option Cause)
 
 -- a resolver that has answered for no request
 abbrev pub fresh : Owned → ResolverState
-fresh owner = record { owner = owner; agreed = []; causes = [] }
+fresh owner = record { owner = owner; writers = no_writers; causes = [] }
 
 -- the owners that resolvers answer for
 abbrev pub owners_of : List ResolverState → List Owned
@@ -43,15 +43,18 @@ first_kept place [] = None
 first_kept place (resolver ∷ others) =
     option_or (unwrap_or (slice_get resolver.causes place) None) (first_kept place others)
 
--- these are the places of the entries before a version to which the owner agrees
-abbrev pub AgreedBefore : Owned → List Entry → List ℕ → ℕ → Type 0
-AgreedBefore owner entries places version = AreAt entries places (agreed_above owner 0 (earlier entries version))
+-- what a resolver knows of the requests to which it agreed, as far back as a later request may have read
+abbrev pub Knows : ℕ → ℕ → List CommitRequest → ResolverState → Type 0
+Knows window start requests resolver =
+    KnowsWriters resolver.owner start requests (length resolver.causes - window) (length resolver.causes)
+    resolver.writers
 
--- a resolver knows to which of the requests it agreed, and keeps its answer for each of them that isn't reported yet
-pub record IsResolver (start : ℕ) (requests : List CommitRequest) (reported : ℕ) (resolver : ResolverState) :
+-- a resolver knows to which of the requests within the window it agreed, and keeps its answer for each request that
+-- isn't reported yet
+pub record IsResolver (window start : ℕ) (requests : List CommitRequest) (reported : ℕ) (resolver : ResolverState) :
     Type 0 where
   pub within : length resolver.causes ≤ length requests
-  pub kept : AgreedBefore resolver.owner (numbered start requests) resolver.agreed (start + length resolver.causes + 1)
+  pub knows : Knows window start requests resolver
   pub answers :
       (place : ℕ) (entry : Entry) → reported ≤ place → place < length resolver.causes →
       slice_get (numbered start requests) place ≡ Some entry →
@@ -67,12 +70,13 @@ pub record IsLog (splits : List (List ℕ)) (start : ℕ) (requests : List Commi
       slice_get passes place ≡ Some (is_committed splits (numbered start requests) entry)
 
 -- the roles stand in their order: a log has only what every resolver answered for, and only what a log has is reported
-pub record IsPipeline (splits : List (List ℕ)) (start : ℕ) (requests : List CommitRequest)
+pub record IsPipeline (splits : List (List ℕ)) (window start : ℕ) (requests : List CommitRequest)
     (resolvers : List ResolverState) (logs : List (List Bool)) (reported : ℕ) : Type 0 where
   pub versions : start + length requests < 2 ^ 64
   pub reads : ReadsBelow (numbered start requests)
+  pub recent : ReadsWithin window (numbered start requests)
   pub owned : owners_of resolvers ≡ owners splits
-  pub resolving : All (IsResolver start requests reported) resolvers
+  pub resolving : All (IsResolver window start requests reported) resolvers
   pub some_log : 1 ≤ length logs
   pub logging : All (IsLog splits start requests reported) logs
   pub ordered : All (λ passes. All (λ resolver. length passes ≤ length resolver.causes) resolvers) logs

@@ -1,14 +1,20 @@
-ghost use Rattle.std.specs.Prelude.{◌≡◌, ◌+◌, ◌<◌, ◌^◌, List, ℕ, length, reverse};
-ghost use Rattle.std.specs.Prelude.{slice_get, Some, IfOk, OnOk, OnErr, All};
-ghost use Rattle.std.specs.List.{find};
+ghost use Rattle.std.specs.Prelude.{◌≡◌, ◌+◌, ◌-◌, ◌<◌, ◌≤◌, ◌^◌, List, ℕ, zero, IsTrue, IfOk};
+ghost use Rattle.std.specs.Prelude.{OnOk, OnErr, false, length, Option, slice_get, Some};
+ghost use Rattle.kv_core.specs.Change.{write_range, write_ranges};
+ghost use Rattle.kv_core.specs.Range.{contains, covers, point};
 ghost use Rattle.cluster_core.specs.History.{Entry};
-ghost use Rattle.cluster_core.specs.Decision.{numbered};
-ghost use Rattle.cluster_core.specs.Kept.{first_at, writes_at};
-ghost use Rattle.cluster_core.specs.Progress.{AgreedBefore, answer_of};
+ghost use Rattle.cluster_core.specs.Decision.{cut, numbered, Owned, owns};
+ghost use Rattle.cluster_core.specs.Kept.{has_place, KnowsKeys, KnowsWriters, least_of};
+ghost use Rattle.cluster_core.specs.Kept.{no_writers, PutsEach, ReadsWithin, rise_between, since};
+ghost use Rattle.cluster_core.specs.Kept.{writes_key};
+ghost use Rattle.cluster_core.specs.Laws.{ReadsBelow};
+ghost use Rattle.cluster_core.specs.Progress.{answer_of};
+ghost use Rattle.cluster_core.specs.Segments.{IsCovered, IsNewestOver, Overlays};
 
 use crate::part::Part;
-use kv_core::{CommitRequest, KeyRange};
-use std::alloc::AllocError;
+use crate::segments::Segments;
+use kv_core::{Bytes, CommitRequest, KeyRange, Mutation};
+use std::alloc::{AllocError, Global};
 use std::marker::Model;
 
 /// Why a request is refused: a range that it read, and the greatest version that wrote there since.
@@ -26,61 +32,132 @@ impl Model for Cause {
     ghost view = { λ a. record { seen = a.seen; range = a.range } };
 }
 
-/// Whether the request at a place writes a key of the range that is the owner's.
-fn is_writer(
+/// Puts a key under a place, if it is the owner's.
+fn put_key(
+    segments: &mut Segments,
     part: &Part,
-    range: &KeyRange,
-    requests: &[CommitRequest],
-    least: usize,
+    key: &Bytes,
     place: usize,
-) -> bool
-    ensures { result ≡ writes_at part.now range.now requests.now least place }
+) -> Result<(), AllocError>
+    ensures overlays { Overlays (contains (point key.now)) place segments.old segments.new }
+    ensures covered { OnOk result ((own : List ℕ) → IsTrue (owns part.now own) →
+        IsTrue (contains (point key.now) own) → IsCovered segments.new own place) }
 {
-    if place < least {
-        return false;
+    if !part.owns(key) {
+        return Ok(());
     }
-    match requests.get(place) {
-        Some(request) => part.writes_in(range, request),
-        None => false,
-    }
+    segments.put(key.copy()?, key.next()?, place)
 }
 
-/// The last of the places whose request writes a key of the range that is the owner's.
-fn last_writer(
+/// Puts the keys that a mutation writes under a place, if any of them is the owner's.
+fn put_mutation(
+    segments: &mut Segments,
     part: &Part,
-    range: &KeyRange,
-    requests: &[CommitRequest],
-    least: usize,
-    places: &[usize],
-) -> Option<usize>
-    ensures { result ≡ find (writes_at part.now range.now requests.now least) (reverse places.now) }
+    mutation: &Mutation,
+    place: usize,
+) -> Result<(), AllocError>
+    ensures overlays { Overlays (contains (write_range mutation.now)) place segments.old segments.new }
+    ensures covered { OnOk result ((key : List ℕ) → IsTrue (owns part.now key) →
+        IsTrue (contains (write_range mutation.now) key) → IsCovered segments.new key place) }
 {
-    let count = places.len();
-    for passed in 0..count {
-        let place = places[count - 1 - passed];
-        if is_writer(part, range, requests, least, place) {
-            return Some(place);
-        }
+    match mutation {
+        Mutation::Set { key, value: _ } => put_key(segments, part, key, place),
+        Mutation::Add { key, operand: _ } => put_key(segments, part, key, place),
+        Mutation::ClearRange(range) => if part.meets(range) {
+            segments.put(range.begin().copy()?, range.end().copy()?, place)
+        } else {
+            Ok(())
+        },
     }
-    None
 }
 
-/// The first of the ranges in which the request at one of the places wrote a key that is the
-/// owner's, and the newest version that did.
-fn first_cause(
+/// Puts the keys of the owner that mutations write under a place.
+fn put_all(
+    segments: &mut Segments,
+    part: &Part,
+    mutations: &[Mutation],
+    place: usize,
+) -> Result<(), AllocError>
+    ensures overlays { Overlays (covers (write_ranges mutations.now)) place segments.old segments.new }
+    ensures covered { OnOk result ((key : List ℕ) → IsTrue (owns part.now key) →
+        IsTrue (covers (write_ranges mutations.now) key) → IsCovered segments.new key place) }
+{
+    for mutation in mutations {
+        put_mutation(segments, part, mutation, place)?;
+    }
+    Ok(())
+}
+
+/// Puts the keys of the owner that the request at a place writes under that place.
+fn put_request(
+    segments: &mut Segments,
+    part: &Part,
+    requests: &[CommitRequest],
+    place: usize,
+) -> Result<(), AllocError>
+    requires { place < length requests.now }
+    ensures overlays { Overlays (writes_key requests.now place) place segments.old segments.new }
+    ensures covered { OnOk result ((key : List ℕ) → IsTrue (owns part.now key) →
+        IsTrue (writes_key requests.now place key) → IsCovered segments.new key place) }
+{
+    let request = &requests[place];
+    put_all(segments, part, request.mutations.as_slice(), place)?;
+    Ok(())
+}
+
+/// Puts the keys of the owner that the requests at these places write under their places.
+fn put_each(
+    segments: &mut Segments,
+    part: &Part,
+    requests: &[CommitRequest],
+    places: &[usize],
+) -> Result<(), AllocError>
+    requires { IsTrue (rise_between zero (length requests.now) places.now) }
+    ensures puts { PutsEach requests.now places.now segments.old segments.new }
+    ensures covered { OnOk result ((key : List ℕ) (place : ℕ) →
+        IsTrue (has_place places.now place) → IsTrue (owns part.now key) →
+        IsTrue (writes_key requests.now place key) → IsCovered segments.new key place) }
+{
+    for place in places {
+        put_request(segments, part, requests, *place)?;
+    }
+    Ok(())
+}
+
+/// The newest place from the least one on under which a key of the range stands that is the owner's.
+fn newest_since(segments: &Segments, part: &Part, range: &KeyRange, least: usize) -> Option<usize>
+    ensures { (newest : Option ℕ)
+        × IsNewestOver segments.now (cut part.now range.now) newest × (result ≡ since least newest) }
+{
+    match segments.newest_between(part.begin_in(range), part.end_in(range)) {
+        Some(place) => if place < least { None } else { Some(place) },
+        None => None,
+    }
+}
+
+/// The cause against the request at a place by an owner, from the segments of what the requests
+/// before it wrote to which the owner agreed; None where the owner agrees to it.
+fn cause_against(
+    segments: &Segments,
     part: &Part,
     start: u64,
     requests: &[CommitRequest],
-    least: usize,
-    places: &[usize],
-    reads: &[KeyRange],
+    place: usize,
 ) -> Result<Option<Cause>, AllocError>
-    requires { All (λ place. start + place + 1 < 2 ^ 64) places.now }
-    ensures { IfOk result (λ cause. cause ≡ first_at part.now start requests.now least places.now reads.now) }
+    requires inside { place < length requests.now }
+    requires fits { start + length requests.now < 2 ^ 64 }
+    requires below { ReadsBelow (numbered start requests.now) }
+    requires knows { let least = least_of start requests.now place in
+        KnowsKeys part.now start requests.now least place place segments.now }
+    ensures { let entries = numbered start requests.now in
+        IfOk result (λ cause. (entry : Entry) → slice_get entries place ≡ Some entry →
+        cause ≡ answer_of part.now entries entry) }
 {
-    for range in reads {
-        if let Some(place) = last_writer(part, range, requests, least, places) {
-            let seen = start + place as u64 + 1;
+    let request = &requests[place];
+    let least = request.read_version.saturating_sub(start) as usize;
+    for range in request.reads.as_slice() {
+        if let Some(newest) = newest_since(segments, part, range, least) {
+            let seen = start + newest as u64 + 1;
             let range = range.copy()?;
             return Ok(Some(Cause { seen, range }));
         }
@@ -88,57 +165,143 @@ fn first_cause(
     Ok(None)
 }
 
-/// The cause against the request at a place by one owner, from the places of the earlier requests
-/// to which the owner agreed; None where the owner agrees to it.
-fn decide(
-    part: &Part,
-    start: u64,
-    requests: &[CommitRequest],
-    agreed: &[usize],
-    place: usize,
-) -> Result<Option<Cause>, AllocError>
-    requires inside { place < length requests.now }
-    requires fits { All (λ earlier. start + earlier + 1 < 2 ^ 64) agreed.now }
-    ensures { let entries = numbered start requests.now in
-        IfOk result (λ cause. (entry : Entry) → slice_get entries place ≡ Some entry →
-        AgreedBefore part.now entries agreed.now entry.version → cause ≡ answer_of part.now entries entry) }
-{
-    let request = &requests[place];
-    let least = request.read_version.saturating_sub(start) as usize;
-    let cause = first_cause(
-        part,
-        start,
-        requests,
-        least,
-        agreed,
-        request.reads.as_slice(),
-    )?;
-    Ok(cause)
+/// What an owner keeps of the requests to which it agreed, as far back as the window.
+///
+/// What a request wrote is put in order only when a later one asks that has read before it. Until
+/// then its place waits, so where each request has read what the others wrote nothing is put.
+#[derive(Debug, Drop)]
+pub(crate) struct Writers {
+    segments: Segments,
+    ordered: usize,
+    pending: Vec<usize>,
+    dropped: usize,
 }
 
-/// Has an owner answer for the request at a place: the cause against it, or else its place joins
-/// those of the requests to which the owner agreed.
-pub(crate) fn answer(
-    part: &Part,
-    start: u64,
-    requests: &[CommitRequest],
-    agreed: &mut Vec<usize>,
-    place: usize,
-) -> Result<Option<Cause>, AllocError>
-    requires inside { place < length requests.now }
-    requires fits { All (λ earlier. start + earlier + 1 < 2 ^ 64) agreed.old.items }
-    ensures cause { let entries = numbered start requests.now in
-        IfOk result (λ cause. (entry : Entry) → slice_get entries place ≡ Some entry →
-        AgreedBefore part.now entries agreed.old.items entry.version → cause ≡ answer_of part.now entries entry) }
-    ensures grown { let entries = numbered start requests.now in
-        OnOk result ((entry : Entry) → slice_get entries place ≡ Some entry →
-        AgreedBefore part.now entries agreed.old.items entry.version →
-        AgreedBefore part.now entries agreed.new.items (entry.version + 1)) }
-    ensures unchanged { OnErr result (agreed.new.items ≡ agreed.old.items) }
-{
-    let cause = decide(part, start, requests, agreed.as_slice(), place)?;
-    if cause.is_none() {
-        agreed.push(place)?;
+impl Model for Writers {
+    ghost use Rattle.cluster_core.specs.Kept.{WritersState};
+
+    ghost Value = { WritersState };
+
+    ghost view = { λ a. record { segments = a.segments; ordered = a.ordered; pending = a.pending.items } };
+}
+
+impl Writers {
+    /// Nothing kept, which takes no memory.
+    pub fn new(alloc: Global) -> Writers
+        ensures { result ≡ no_writers }
+    {
+        Writers {
+            segments: Segments::new(alloc),
+            ordered: 0,
+            pending: Vec::new(alloc),
+            dropped: 0,
+        }
     }
-    Ok(cause)
+
+    /// Drops what stands under a place before this one, if a window has passed since the last time.
+    /// So each entry is looked at no more than twice, and is gone after two windows.
+    fn forget(&mut self, least: usize, window: usize)
+        ensures { (owner : Owned) (start : ℕ) (requests : List CommitRequest) (upto : ℕ) →
+            KnowsWriters owner start requests least upto self.old →
+            KnowsWriters owner start requests least upto self.new }
+    {
+        if least.saturating_sub(self.dropped) < window {
+            return;
+        }
+        self.segments.drop_before(least);
+        self.pending.retain(|place| *place >= least);
+        self.dropped = least;
+    }
+
+    /// Puts in order what waits, of the requests before a place.
+    fn put_in_order(
+        &mut self,
+        part: &Part,
+        requests: &[CommitRequest],
+        upto: usize,
+    ) -> Result<(), AllocError>
+        requires inside { upto ≤ length requests.now }
+        requires in_order { IsTrue (rise_between self.old.ordered upto self.old.pending) }
+        ensures ok { OnOk result ((start least : ℕ) →
+            KnowsWriters part.now start requests.now least upto self.old →
+            KnowsKeys part.now start requests.now least upto upto self.new.segments) }
+        ensures kept { (start least : ℕ) →
+            KnowsWriters part.now start requests.now least upto self.old →
+            KnowsWriters part.now start requests.now least upto self.new }
+    {
+        put_each(&mut self.segments, part, requests, self.pending.as_slice())?;
+        self.pending.clear();
+        self.ordered = upto;
+        Ok(())
+    }
+
+    /// Whether a request that is kept may stand at the least place or after it.
+    fn may_meet(&self, least: usize) -> bool
+        requires { (upto : ℕ) × IsTrue (rise_between self.now.ordered upto self.now.pending) }
+        ensures { result ≡ false → IsTrue (rise_between self.now.ordered least self.now.pending) }
+    {
+        match self.pending.last() {
+            Some(place) => least <= *place,
+            None => least < self.ordered,
+        }
+    }
+
+    /// The cause against the request at a place by an owner, or None where the owner agrees to it.
+    fn decide(
+        &mut self,
+        part: &Part,
+        start: u64,
+        requests: &[CommitRequest],
+        place: usize,
+    ) -> Result<Option<Cause>, AllocError>
+        requires inside { place < length requests.now }
+        requires fits { start + length requests.now < 2 ^ 64 }
+        requires below { ReadsBelow (numbered start requests.now) }
+        requires knows { let least = least_of start requests.now place in
+            KnowsWriters part.now start requests.now least place self.old }
+        ensures cause { let entries = numbered start requests.now in
+            IfOk result (λ cause. (entry : Entry) → slice_get entries place ≡ Some entry →
+            cause ≡ answer_of part.now entries entry) }
+        ensures kept { (least : ℕ) →
+            KnowsWriters part.now start requests.now least place self.old →
+            KnowsWriters part.now start requests.now least place self.new }
+    {
+        let least = requests[place].read_version.saturating_sub(start) as usize;
+        if !self.may_meet(least) {
+            return Ok(None);
+        }
+        self.put_in_order(part, requests, place)?;
+        cause_against(&self.segments, part, start, requests, place)
+    }
+
+    /// Has an owner answer for the request at a place: the cause against it, or else it is kept.
+    /// Where memory runs out, what is kept stands for the same requests as before.
+    pub fn answer(
+        &mut self,
+        part: &Part,
+        start: u64,
+        window: u64,
+        requests: &[CommitRequest],
+        place: usize,
+    ) -> Result<Option<Cause>, AllocError>
+        requires inside { place < length requests.now }
+        requires fits { start + length requests.now < 2 ^ 64 }
+        requires below { ReadsBelow (numbered start requests.now) }
+        requires recent { ReadsWithin window (numbered start requests.now) }
+        requires knows { KnowsWriters part.now start requests.now (place - window) place self.old }
+        ensures cause { let entries = numbered start requests.now in
+            IfOk result (λ cause. (entry : Entry) → slice_get entries place ≡ Some entry →
+            cause ≡ answer_of part.now entries entry) }
+        ensures grown { OnOk result
+            (KnowsWriters part.now start requests.now (place - window) (place + 1) self.new) }
+        ensures kept { OnErr result
+            (KnowsWriters part.now start requests.now (place - window) place self.new) }
+    {
+        self.forget(place.saturating_sub(window as usize), window as usize);
+        let cause = self.decide(part, start, requests, place)?;
+        if cause.is_none() {
+            self.pending.push(place)?;
+        }
+        Ok(cause)
+    }
 }

@@ -10,6 +10,7 @@ mod log;
 mod part;
 mod pipeline;
 mod resolver;
+mod segments;
 mod server;
 mod tier;
 

@@ -73,7 +73,7 @@ impl Model for Pipeline {
         state_of a.splits a.window a.start a.requests.items a.resolvers.items a.logs.items a.reported };
 
     ghost invariant = { λ a.
-        IsPipeline a.splits a.start a.requests.items a.resolvers.items a.logs.items a.reported };
+        IsPipeline a.splits a.window a.start a.requests.items a.resolvers.items a.logs.items a.reported };
 }
 
 /// A resolver for the keys between each two neighbours of the splits, in key order.
@@ -129,9 +129,9 @@ fn take_cause(resolvers: &mut [Resolver], place: usize) -> Option<Cause>
     ensures cause { result ≡ first_kept place resolvers.old }
     ensures owners { owners_of resolvers.new ≡ owners_of resolvers.old }
     ensures counts { counts_of resolvers.new ≡ counts_of resolvers.old }
-    ensures kept { (start : ℕ) (requests : List CommitRequest) →
-        All (IsResolver start requests place) resolvers.old →
-        All (IsResolver start requests (place + 1)) resolvers.new }
+    ensures kept { (window start : ℕ) (requests : List CommitRequest) →
+        All (IsResolver window start requests place) resolvers.old →
+        All (IsResolver window start requests (place + 1)) resolvers.new }
 {
     for resolver in resolvers.iter_mut() {
         if let Some(cause) = resolver.take_cause(place) {
@@ -272,7 +272,7 @@ impl Pipeline {
         if self.resolvers[r].answered() == self.requests.len() {
             return Ok(Work::NothingToDo);
         }
-        self.resolvers[r].answer_next(self.start, self.requests.as_slice())?;
+        self.resolvers[r].answer_next(self.start, self.window, self.requests.as_slice())?;
         Ok(Work::Done)
     }
 

@@ -1,8 +1,11 @@
-ghost use Rattle.std.specs.Prelude.{◌≡◌, ℕ, ◌+◌, ◌<◌, ◌^◌, [], length, slice_index_or};
-ghost use Rattle.std.specs.Prelude.{slice_set, None, OnOk, OnErr, IfNone, IfSome, All};
-ghost use Rattle.cluster_core.specs.Progress.{IsResolver, fresh, has_agreed};
+ghost use Rattle.std.specs.Prelude.{◌≡◌, ℕ, ◌+◌, ◌<◌, ◌^◌, length, slice_index_or};
+ghost use Rattle.std.specs.Prelude.{slice_set, None, OnOk, OnErr};
+ghost use Rattle.cluster_core.specs.Decision.{numbered};
+ghost use Rattle.cluster_core.specs.Kept.{ReadsWithin};
+ghost use Rattle.cluster_core.specs.Laws.{ReadsBelow};
+ghost use Rattle.cluster_core.specs.Progress.{IsResolver, Knows, fresh, has_agreed};
 
-use crate::kept::{Cause, answer};
+use crate::kept::{Cause, Writers};
 use crate::part::Part;
 use kv_core::CommitRequest;
 use std::alloc::{AllocError, Global};
@@ -13,7 +16,7 @@ use std::marker::Model;
 #[derive(Debug, Drop)]
 pub(crate) struct Resolver {
     part: Part,
-    agreed: Vec<usize>,
+    writers: Writers,
     causes: Vec<Option<Cause>>,
 }
 
@@ -22,7 +25,7 @@ impl Model for Resolver {
 
     ghost Value = { ResolverState };
 
-    ghost view = { λ a. record { owner = a.part; agreed = a.agreed.items; causes = a.causes.items } };
+    ghost view = { λ a. record { owner = a.part; writers = a.writers; causes = a.causes.items } };
 }
 
 impl Resolver {
@@ -32,7 +35,7 @@ impl Resolver {
     {
         Resolver {
             part,
-            agreed: Vec::new(alloc),
+            writers: Writers::new(alloc),
             causes: Vec::new(alloc),
         }
     }
@@ -54,23 +57,30 @@ impl Resolver {
         }
     }
 
-    /// Answers for the next request, unless memory runs out, which leaves the resolver as it was.
+    /// Answers for the next request, unless memory runs out, which leaves the answers as they were
+    /// and what is kept of the requests standing for the same.
     pub(crate) fn answer_next(
         &mut self,
         start: u64,
+        window: u64,
         requests: &[CommitRequest],
     ) -> Result<(), AllocError>
         requires inside { length self.old.causes < length requests.now }
-        requires fits { All (λ place. start + place + 1 < 2 ^ 64) self.old.agreed }
-        ensures owner { OnOk result (self.new.owner ≡ self.old.owner) }
+        requires fits { start + length requests.now < 2 ^ 64 }
+        requires below { ReadsBelow (numbered start requests.now) }
+        requires recent { ReadsWithin window (numbered start requests.now) }
+        requires knows { Knows window start requests.now self.old }
+        ensures owner { self.new.owner ≡ self.old.owner }
         ensures counted { OnOk result (length self.new.causes ≡ length self.old.causes + 1) }
-        ensures kept { OnOk result ((reported : ℕ) →
-            IsResolver start requests.now reported self.old → IsResolver start requests.now reported self.new) }
-        ensures unchanged { OnErr result (self.new ≡ self.old) }
+        ensures unchanged { OnErr result (self.new.causes ≡ self.old.causes) }
+        ensures kept { (reported : ℕ) → IsResolver window start requests.now reported self.old →
+            IsResolver window start requests.now reported self.new }
     {
         self.causes.reserve(1)?;
         let place = self.causes.len();
-        let cause = answer(&self.part, start, requests, &mut self.agreed, place)?;
+        let cause = self
+            .writers
+            .answer(&self.part, start, window, requests, place)?;
         match self.causes.push(cause) {
             Ok(()) => Ok(()),
             Err(_) => unreachable!(),

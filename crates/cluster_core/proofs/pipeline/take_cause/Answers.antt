@@ -26,10 +26,10 @@ returns-in-Some-clause-counts c =
     ∙ ap (map (λ r. length r.causes)) c.loop-resolver.invariant.same
 
 pub returns-in-Some-clause-kept : goal.returns-in-Some-clause-kept
-returns-in-Some-clause-kept c = λ start requests was.
+returns-in-Some-clause-kept c = λ window start requests was.
     let inside : c.loop-resolver.resolver-index < length c.loop-resolver.resolvers = search rules in
     taken_all c.args.place c.loop-resolver.resolvers c.loop-resolver.resolver-index c.take_cause.new.self c.resolver-item.result inside c.in-Some.ensures.taken
-    start requests (subst (All (IsResolver start requests c.args.place)) (sym c.loop-resolver.invariant.same) was)
+    window start requests (subst (All (IsResolver window start requests c.args.place)) (sym c.loop-resolver.invariant.same) was)
 
 pub loop-resolver-preserved : goal.loop-resolver-preserved
 loop-resolver-preserved c =

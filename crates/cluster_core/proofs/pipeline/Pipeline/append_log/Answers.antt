@@ -26,7 +26,7 @@ invariant_of-self-2 c =
     let e = c.index_mut.result.now in
     let inside = within_clocks c.self.inside.start (λ passes. length passes) c.self.inside.logs.items c.args.l (subst (λ p. c.args.l < length p.logged) (sym c.self.view_is) c.requires) in
     let place : c.len-place.result ≡ length (get_or c.self.inside.logs.items c.args.l d) = c.len-place.ensures ∙ ap (λ passes. length passes) c.index.ensures in
-    stands_appended _ _ _ _ _ _ c.self.invariant c.args.l c.push.new.self d c.all_agree-passes.result inside
+    stands_appended _ _ _ _ _ _ _ c.self.invariant c.args.l c.push.new.self d c.all_agree-passes.result inside
     (c.in_ok-push.ensures.ok ∙ ap (λ passes. passes ++ c.all_agree-passes.result ∷ []) (c.index_mut.ensures.value ∙ get_or_default c.self.inside.logs.items c.args.l e d inside))
     (sym (c.all_answered.ensures ∙ ap (list_all (λ r. nat_lt c.len-place.result (length r.causes))) c.as_slice.ensures.value
     ∙ ap (λ n. list_all (λ r. nat_lt n (length r.causes)) c.self.inside.resolvers.items) place)

@@ -12,7 +12,7 @@ returns-then-passes c =
     let below = below_clock c.self.inside.start (λ passes. length passes) c.self.inside.logs.items c.args.l c.args.place d inside
     (subst (λ p. p.start + c.args.place < get_or p.logged c.args.l 0) (sym c.self.view_is) c.requires.place) in
     subst (λ p. slice_get (log p.splits (entries p)) c.args.place ≡ Some c.as_slice.result.now) c.self.view_is
-    (logged_here _ _ _ _ _ _ c.self.invariant c.args.l c.args.place d c.index-then-passes.result.now true inside below c.index-then-passes.ensures
+    (logged_here _ _ _ _ _ _ _ c.self.invariant c.args.l c.args.place d c.index-then-passes.result.now true inside below c.index-then-passes.ensures
     (sym c.if-passes.true ∙ c.passes.ensures ∙ ap (λ passes. get_or passes c.args.place true) c.index.ensures)
     ∙ ap Some (sym c.as_slice.ensures))
 
@@ -23,5 +23,5 @@ returns-else-passes c =
     let below = below_clock c.self.inside.start (λ passes. length passes) c.self.inside.logs.items c.args.l c.args.place d inside
     (subst (λ p. p.start + c.args.place < get_or p.logged c.args.l 0) (sym c.self.view_is) c.requires.place) in
     subst (λ p. slice_get (log p.splits (entries p)) c.args.place ≡ Some []) c.self.view_is
-    (logged_nothing _ _ _ _ _ _ c.self.invariant c.args.l c.args.place d inside below
+    (logged_nothing _ _ _ _ _ _ _ c.self.invariant c.args.l c.args.place d inside below
     (sym c.if-passes.false ∙ c.passes.ensures ∙ ap (λ passes. get_or passes c.args.place true) c.index.ensures))

@@ -12,7 +12,7 @@ use Rattle.cluster_core.proofs.pipeline.Pipeline.report_next.Goals.{in-Some, in-
 pub take_cause-cause-requires : goal.take_cause-cause-requires
 take_cause-cause-requires c =
     let all = sym (all_past c.self.inside.start c.self.inside.reported (λ passes. length passes) c.self.inside.logs.items) ∙ ap may_report c.self.view_is ∙ c.requires in
-    subst (All (λ r. c.self.inside.reported < length r.causes)) (sym c.as_mut_slice.ensures.value) (past_logs _ _ _ _ _ _ c.self.invariant all)
+    subst (All (λ r. c.self.inside.reported < length r.causes)) (sym c.as_mut_slice.ensures.value) (past_logs _ _ _ _ _ _ _ c.self.invariant all)
 
 pub invariant_of-self : goal.invariant_of-self
 invariant_of-self c =
@@ -20,13 +20,13 @@ invariant_of-self c =
     let is = c.self.invariant in
     let taken = c.take_cause-cause.ensures in
     let len : length c.take_cause-cause.new.resolvers ≡ c.self.inside.resolvers.len = search rules in
-    subst (λ rs. IsPipeline c.self.inside.splits c.self.inside.start c.self.inside.requests.items rs c.self.inside.logs.items (c.self.inside.reported + 1))
+    subst (λ rs. IsPipeline c.self.inside.splits c.self.inside.window c.self.inside.start c.self.inside.requests.items rs c.self.inside.logs.items (c.self.inside.reported + 1))
     (sym (with_items_is c.self.inside.resolvers c.take_cause-cause.new.resolvers len))
-    (stands_reported _ _ _ _ _ _ is c.take_cause-cause.new.resolvers all
+    (stands_reported _ _ _ _ _ _ _ is c.take_cause-cause.new.resolvers all
     (taken.owners ∙ ap (map (λ r. r.owner)) c.as_mut_slice.ensures.value)
     (taken.counts ∙ ap (map (λ r. length r.causes)) c.as_mut_slice.ensures.value)
-    (taken.kept c.self.inside.start c.self.inside.requests.items
-    (subst (All (IsResolver c.self.inside.start c.self.inside.requests.items c.self.inside.reported)) (sym c.as_mut_slice.ensures.value) is.resolving)))
+    (taken.kept c.self.inside.window c.self.inside.start c.self.inside.requests.items
+    (subst (All (IsResolver c.self.inside.window c.self.inside.start c.self.inside.requests.items c.self.inside.reported)) (sym c.as_mut_slice.ensures.value) is.resolving)))
 
 pub returns-clause-told : goal.returns-clause-told
 returns-clause-told c =
@@ -38,7 +38,7 @@ returns-clause-told c =
       | in-None w ↦ w.result-is ∙ ap (λ o. told o version) (sym w.in-None.is)
     ] in
     is ∙ ap (λ o. told o version) cause
-    ∙ told_next _ _ _ _ _ _ c.self.invariant c.self.inside.window all
+    ∙ told_next _ _ _ _ _ _ _ c.self.invariant all
     ∙ ap (λ p. outcome p (p.reported + 1)) c.self.view_is
 
 pub returns-clause-step : goal.returns-clause-step

@@ -1,0 +1,30 @@
+use Rattle.std.proofs.Common.{◌≡◌, arith, length, subst, sym, true}
+use Rattle.cluster_core.specs.Kept.{KnowsWriters, PutsEach, has_place, rise_between}
+use Rattle.cluster_core.proofs.Rising.{rise_weaker}
+use Rattle.cluster_core.proofs.Waiting.{all_ordered, put_some, put_whole}
+use Rattle.cluster_core.proofs.kept.Writers.put_in_order.Goals as goal
+
+pub put_each-requires : goal.put_each-requires
+put_each-requires c =
+    let rising = subst (λ w. rise_between w.ordered c.args.upto w.pending ≡ true) (sym c.self.view_is) c.requires.in_order in
+    subst (λ ps. rise_between 0 (length c.args.requests.now) ps ≡ true) (sym c.as_slice.ensures.value)
+    (rise_weaker c.self.inside.ordered 0 c.args.upto (length c.args.requests.now) c.self.inside.pending.items (omega arith) c.requires.inside rising)
+
+pub returns-in_err-put_each-clause-kept : goal.returns-in_err-put_each-clause-kept
+returns-in_err-put_each-clause-kept c = λ start least was.
+    put_some _ _ _ _ _ _ _ _ _ (subst (KnowsWriters c.args.part.now start c.args.requests.now least c.args.upto) (sym c.self.view_is) was)
+    (subst (λ ps. PutsEach c.args.requests.now ps c.self.inside.segments c.put_each.new.segments) c.as_slice.ensures.value c.put_each.ensures.puts)
+
+pub returns-clause-ok : goal.returns-clause-ok
+returns-clause-ok c = λ start least was.
+    put_whole _ _ _ _ _ _ _ _ _ (subst (KnowsWriters c.args.part.now start c.args.requests.now least c.args.upto) (sym c.self.view_is) was)
+    (subst (λ ps. PutsEach c.args.requests.now ps c.self.inside.segments c.put_each.new.segments) c.as_slice.ensures.value c.put_each.ensures.puts)
+    (λ key place has own wrote. c.in_ok-put_each.ensures.covered key place (subst (λ ps. has_place ps place ≡ true) (sym c.as_slice.ensures.value) has) own wrote)
+
+pub returns-clause-kept : goal.returns-clause-kept
+returns-clause-kept c = λ start least was.
+    subst (λ ps. KnowsWriters c.args.part.now start c.args.requests.now least c.args.upto (record { segments = c.put_each.new.segments; ordered = c.args.upto; pending = ps })) (sym c.clear.ensures.items)
+    (all_ordered _ _ _ _ _ _
+    (put_whole _ _ _ _ _ _ _ _ _ (subst (KnowsWriters c.args.part.now start c.args.requests.now least c.args.upto) (sym c.self.view_is) was)
+    (subst (λ ps. PutsEach c.args.requests.now ps c.self.inside.segments c.put_each.new.segments) c.as_slice.ensures.value c.put_each.ensures.puts)
+    (λ key place has own wrote. c.in_ok-put_each.ensures.covered key place (subst (λ ps. has_place ps place ≡ true) (sym c.as_slice.ensures.value) has) own wrote)))
