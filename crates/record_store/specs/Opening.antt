@@ -11,13 +11,14 @@ use Rattle.cluster_core.specs.declared.answers.ReadError.{ReadError}
 use Rattle.txn.specs.Runs.{Ran}
 use Rattle.metadata.specs.declared.index.IndexKind.TheVariants.{Value}
 use Rattle.metadata.specs.Lawful.{IsLawfulSchema}
+use Rattle.metadata.specs.Schema.{Schema}
 use Rattle.metadata.specs.Written.{schema_bytes}
 use Rattle.record_store.specs.declared.error.StoreError.{StoreError}
 use Rattle.record_store.specs.declared.error.StoreError.TheVariants.{Memory, Read, Write, Corrupt, NoStore}
 use Rattle.record_store.specs.declared.error.StoreError.TheVariants.{AlreadyThere}
 use Rattle.record_store.specs.Store.{Serial, created}
 use Rattle.record_store.specs.Layout.{schema_key, state_pair, states_range}
-use Rattle.record_store.specs.Holds.{Holds, IsPlain}
+use Rattle.record_store.specs.Holds.{HasPlainIndexes, Holds, IsPlain}
 use Rattle.record_store.specs.Form.{IsDisabledOf, IsFirstBad, IsOpeningPair, read_in}
 use Rattle.record_store.specs.Call.{IsOpenAs, Opened}
 use Rattle.record_store.specs.Calls.{schema_writes}
@@ -83,6 +84,20 @@ pub record IsCreated (maps : ℕ → Map) (opened : Opened) (old new : CommitReq
       × AtSerials opened.prefix m (λ serial. (serial ≡ None)
       × Holds opened.prefix (after_all (schema_writes opened.prefix opened.schema) m)
       (Some (created opened.schema))))
+
+-- what is answered where a store is made
+pub record IsNewStore (maps : ℕ → Map) (prefix : List ℕ) (schema : Schema) (old new : CommitRequest) (store : Opened) :
+    Type 0 where
+  -- it was made in the transaction
+  pub created : IsCreated maps store old new
+  -- under this prefix
+  pub prefix_is : store.prefix ≡ prefix
+  -- of this schema
+  pub schema_is : store.schema ≡ schema
+  -- all of whose indexes are readable
+  pub readable : store.states ≡ []
+  -- and records can be saved in it
+  pub plain : HasPlainIndexes store.schema store.states
 
 -- why no store is made: memory is wanting, or a read is refused, in either case behind the first ones; or all was read
 -- that an opening reads, and a pair stands where a schema does, or a limit refuses the schema

@@ -3,8 +3,7 @@ ghost use Rattle.std.specs.List.{AllByRecursion};
 ghost use Rattle.kv_core.specs.Bytes.{end_of_keys, key_lt};
 ghost use Rattle.metadata.specs.declared.index.IndexKind.TheVariants.{Value};
 ghost use Rattle.record_store.specs.Calls.{schema_writes};
-ghost use Rattle.record_store.specs.Holds.{HasPlainIndexes};
-ghost use Rattle.record_store.specs.Opening.{IsCreated, IsUncreated};
+ghost use Rattle.record_store.specs.Opening.{IsNewStore, IsUncreated};
 ghost use Rattle.record_store.specs.Reading.{IsThere};
 
 use crate::error::StoreError;
@@ -59,11 +58,7 @@ impl Store {
     ) -> Result<Store, StoreError>
         requires below { IsTrue (key_lt prefix.now end_of_keys) }
         requires kinds { AllByRecursion (λ index. index.kind ≡ Value) schema.now.indexes }
-        ensures created { IfOk result (λ store. IsCreated (S.map_at db.now) store tx.old tx.new) }
-        ensures prefix { IfOk result (λ store. store.prefix ≡ prefix.now) }
-        ensures schema { IfOk result (λ store. store.schema ≡ schema.now) }
-        ensures states { IfOk result (λ store. store.states ≡ []) }
-        ensures plain { IfOk result (λ store. HasPlainIndexes store.schema store.states) }
+        ensures made { IfOk result (IsNewStore (S.map_at db.now) prefix.now schema.now tx.old tx.new) }
         ensures refused { IfErr result (λ error.
             IsUncreated (S.map_at db.now) (S.may_refuse db.now)
             (record { prefix = prefix.now; schema = schema.now; states = [] }) error tx.old tx.new) }

@@ -19,5 +19,5 @@ returns-in_err-_store-clause-refused g c =
 
 pub returns-clause-performed : goal.returns-clause-performed
 returns-clause-performed g c =
-    created_now c.args.request.now c.in_ok-_store._store c.in_ok-schema.schema c.in_ok-_store.ensures.prefix c.in_ok-_store.ensures.schema c.in_ok-_store.ensures.states c.in_ok-schema.ensures.made
-    (asked_kinds c.args.request.now c.in_ok-schema.schema c.requires c.in_ok-schema.ensures.made) c.in_ok-_store.ensures.created
+    created_now c.args.request.now c.in_ok-_store._store c.in_ok-schema.schema c.in_ok-_store.ensures.made.prefix_is c.in_ok-_store.ensures.made.schema_is c.in_ok-_store.ensures.made.readable c.in_ok-schema.ensures.made
+    (asked_kinds c.args.request.now c.in_ok-schema.schema c.requires c.in_ok-schema.ensures.made) c.in_ok-_store.ensures.made.created

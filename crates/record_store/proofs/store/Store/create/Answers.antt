@@ -29,12 +29,22 @@ returns-in_err-write_all-clause-refused g c =
     (uncreated_limit c.args.prefix.now c.args.schema.now c.in_ok-written.written c.in_ok-written.ensures.read c.in_ok-_states.ensures.read c.in_ok-mutations.mutations.items c.in_err-write_all.field-0.0
     c.in_ok-refuse_store.ensures.none c.in_ok-mutations.ensures c.in_err-write_all.ensures.kept c.in_err-write_all.ensures.refused)
 
-pub returns-clause-created : goal.returns-clause-created
-returns-clause-created g c =
-    subst (λ ss. IsCreated (g.S.Snapshot.map_at c.args.db.now) (record { prefix = c.in_ok-own_prefix.own_prefix.items; schema = c.in_ok-own_schema.own_schema; states = ss }) c.args.tx.now c.write_all.new.self) (sym c.new.ensures.items)
-    (subst₂ (λ p s. IsCreated (g.S.Snapshot.map_at c.args.db.now) (record { prefix = p; schema = s; states = [] }) c.args.tx.now c.write_all.new.self) (sym c.in_ok-own_prefix.ensures.items) (sym c.in_ok-own_schema.ensures)
-    (created_now c.args.prefix.now c.args.schema.now c.in_ok-written.written c.in_ok-written.ensures.read c.in_ok-_states.ensures.read c.in_ok-mutations.mutations.items c.types-lawful.ensures.lawful
-    c.in_ok-refuse_store.ensures.none c.in_ok-mutations.ensures c.in_ok-write_all.ensures.ok c.in_ok-write_all.ensures.allowed))
+pub returns-clause-made : goal.returns-clause-made
+returns-clause-made g c =
+    record {
+      created = made;
+      prefix_is = c.in_ok-own_prefix.ensures.items;
+      schema_is = c.in_ok-own_schema.ensures;
+      readable = c.new.ensures.items;
+      plain = subst₂ (λ s ss. HasPlainIndexes s ss) (sym c.in_ok-own_schema.ensures) (sym c.new.ensures.items) (created_plain c.args.schema.now c.requires.kinds);
+    }
+  where
+    made : IsCreated (g.S.Snapshot.map_at c.args.db.now) (record { prefix = c.in_ok-own_prefix.own_prefix.items; schema = c.in_ok-own_schema.own_schema; states = c.new.result.items }) c.args.tx.now c.write_all.new.self
+    made =
+        subst (λ ss. IsCreated (g.S.Snapshot.map_at c.args.db.now) (record { prefix = c.in_ok-own_prefix.own_prefix.items; schema = c.in_ok-own_schema.own_schema; states = ss }) c.args.tx.now c.write_all.new.self) (sym c.new.ensures.items)
+        (subst₂ (λ p s. IsCreated (g.S.Snapshot.map_at c.args.db.now) (record { prefix = p; schema = s; states = [] }) c.args.tx.now c.write_all.new.self) (sym c.in_ok-own_prefix.ensures.items) (sym c.in_ok-own_schema.ensures)
+        (created_now c.args.prefix.now c.args.schema.now c.in_ok-written.written c.in_ok-written.ensures.read c.in_ok-_states.ensures.read c.in_ok-mutations.mutations.items c.types-lawful.ensures.lawful
+        c.in_ok-refuse_store.ensures.none c.in_ok-mutations.ensures c.in_ok-write_all.ensures.ok c.in_ok-write_all.ensures.allowed))
 
 pub returns-in_err-own_prefix-clause-refused : goal.returns-in_err-own_prefix-clause-refused
 returns-in_err-own_prefix-clause-refused g c =
@@ -50,7 +60,3 @@ pub returns-in_err-mutations-clause-refused : goal.returns-in_err-mutations-clau
 returns-in_err-mutations-clause-refused g c =
     exit_with c.from_residual-in_err-mutations.result no_memory _ c.from_residual-in_err-mutations.ensures
     (uncreated_memory c.args.prefix.now c.args.schema.now c.in_ok-written.written c.in_ok-written.ensures.read c.in_ok-_states.ensures.read)
-
-pub returns-clause-plain : goal.returns-clause-plain
-returns-clause-plain g c =
-    subst₂ (λ s ss. HasPlainIndexes s ss) (sym c.in_ok-own_schema.ensures) (sym c.new.ensures.items) (created_plain c.args.schema.now c.requires.kinds)
