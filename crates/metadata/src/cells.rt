@@ -72,8 +72,8 @@ impl Cell {
         }
     }
 
-    // Does nothing: its clause tells that the cell is a value of its type.
-    fn known(&self)
+    /// Does nothing: its clause tells a caller's proof that the cell is a value of its type.
+    pub fn known(&self)
         ensures { IsCell self.now }
     {
         match self {

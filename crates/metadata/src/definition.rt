@@ -1,8 +1,11 @@
 ghost use Rattle.std.specs.Prelude.{◌≡◌, IfOk};
-ghost use Rattle.metadata.specs.Schema.{field_kinds, key_kinds, kind_at};
+ghost use Rattle.std.specs.Str.{bytes_eq};
+ghost use Rattle.metadata.specs.Change.{has_twice};
+ghost use Rattle.metadata.specs.Schema.{field_kinds, key_kinds, kind_at, place_of};
 
 use crate::cells::Kind;
 use crate::index::IndexRequest;
+use crate::names::{has_twice, place_of};
 use std::alloc::{AllocError, Global};
 use std::marker::Model;
 use tuple_codec::Text;
@@ -55,6 +58,13 @@ impl Fields {
         ensures { result.now ≡ self.now }
     {
         self.fields.as_slice()
+    }
+
+    /// The place of the field of this name.
+    pub fn place_of(&self, name: &Text) -> Option<usize>
+        ensures { result ≡ place_of self.now name.now }
+    {
+        place_of(self.as_slice(), name)
     }
 
     // The kind of the field at this place.
@@ -189,6 +199,13 @@ impl Names {
         ensures { result.now ≡ self.now }
     {
         self.names.as_slice()
+    }
+
+    /// Whether a name stands twice.
+    pub fn has_twice(&self) -> bool
+        ensures { result ≡ has_twice bytes_eq self.now }
+    {
+        has_twice(self.as_slice())
     }
 
     /// Equal names.
