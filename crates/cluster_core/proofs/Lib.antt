@@ -22,3 +22,10 @@ pub mod TierStarts
 pub mod PulledMaps
 pub mod ClusterSteps
 pub mod Ordered
+pub mod Links
+pub mod ChainMaps
+pub mod Shown
+pub mod Written
+pub mod ServerChains
+pub mod ServerMaps
+pub mod ServerSteps

@@ -11,3 +11,4 @@ pub mod Progress
 pub mod Server
 pub mod TierCode
 pub mod Pulled
+pub mod Chains
