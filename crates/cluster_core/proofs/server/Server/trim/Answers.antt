@@ -1,4 +1,4 @@
-use Rattle.std.proofs.Common.{◌≡◌, ◌∙◌, ◌∷◌, ◌++◌, ◌+◌, ◌-◌, ◌<◌, ◌≤◌, [], List, ℕ, arith, ap, cond, length, map, refl, subst, sym}
+use Rattle.std.proofs.Common.{◌≡◌, ◌∙◌, ◌∷◌, ◌++◌, ◌+◌, ◌-◌, ◌≤◌, [], List, ℕ, arith, ap, cond, length, map, refl, sym}
 use Rattle.std.proofs.lemmas.List.{length_push, map-append}
 use Rattle.kv_core.specs.Bytes.{has_key}
 use Rattle.cluster_core.specs.Chains.{links_at, needed}
@@ -6,7 +6,10 @@ use Rattle.cluster_core.proofs.ServerSteps.{rest_falling, trimmed_kept, trimmed_
 use Rattle.cluster_core.proofs.server.Server.trim.Goals as goal
 
 within : (c : goal.Then-len-window) → length c.args.self.now.recent.items ≤ c.args.window
-within c = subst (λ n. n ≤ c.args.window) (c.len.ensures ∙ c.args.self.now.recent.ok.0) c.if-len-window.true
+within c =
+    let count : c.len.result ≡ length c.args.self.now.recent.items = c.len.ensures ∙ c.args.self.now.recent.ok.0 in
+    let upto = c.if-len-window.true in
+    omega (arith, count, upto)
 
 pub returns-then-len-window-clause-state : goal.returns-then-len-window-clause-state
 returns-then-len-window-clause-state c = λ i. record { version = c.args.self.now.version; maps = sym (within_state c.args.self.now c.args.window (within c)) i }
@@ -20,9 +23,10 @@ settle-requires c = rest_falling c.args.self.now c.requires.rest
 one_less : (c : goal.After-drop-keys) → length c.pop_back.new.self.items ≡ c.args.window
 one_less c =
     let more : length c.args.self.now.recent.items ≡ length c.pop_back.new.self.items + 1 = ap length c.in-Some.ensures.items ∙ length_push c.pop_back.new.self.items c.in-Some.keys in
-    let past : c.args.window < length c.args.self.now.recent.items = subst (λ n. c.args.window < n) (c.len.ensures ∙ c.args.self.now.recent.ok.0) c.if-len-window.false in
+    let count : c.len.result ≡ length c.args.self.now.recent.items = c.len.ensures ∙ c.args.self.now.recent.ok.0 in
+    let past = c.if-len-window.false in
     let upto = c.requires.depth in
-    omega (arith, more, past, upto)
+    omega (arith, more, count, past, upto)
 
 last_out : (c : goal.After-drop-keys) → map (λ keys. keys.items) c.args.self.now.recent.items ≡ map (λ keys. keys.items) c.pop_back.new.self.items ++ c.in-Some.keys.items ∷ []
 last_out c = ap (map (λ keys. keys.items)) c.in-Some.ensures.items ∙ map-append (λ keys. keys.items) c.pop_back.new.self.items (c.in-Some.keys ∷ [])
