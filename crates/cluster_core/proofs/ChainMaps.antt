@@ -8,6 +8,7 @@ use Rattle.kv_core.proofs.Order.{tied_keys}
 use Rattle.cluster_core.specs.declared.chain.Chain.{Chain}
 use Rattle.cluster_core.specs.declared.chain.Link.{Link}
 use Rattle.cluster_core.specs.Chains.{links_at, links_in}
+use Rattle.cluster_core.proofs.OwnMaps.{either_way}
 
 abbrev Tree : Type 0
 Tree = BTreeMap (List ℕ) Chain
@@ -46,10 +47,6 @@ changes_twice key f g h old mid new first second is own = second own ∙ elim (c
       ap (λ b. cond b (g (links_at mid own)) (links_at mid own)) other ∙ first own ∙ ap (λ b. cond b (f (links_at old own)) (links_at old own)) other
       ∙ sym (ap (λ b. cond b (h (links_at old own)) (links_at old own)) other)
 ]
-
-either_way : {X : Type 0} (b : Bool) (x : X) → cond b x x ≡ x
-either_way true x = refl
-either_way false x = refl
 
 pub changes_nothing : (key : List ℕ) (old new : Tree) (w : Option Chain) → UpdatesBy key_cmp (key_cmp key) old new w → links_in w ≡ links_at old key →
     (own : List ℕ) → links_at new own ≡ links_at old own

@@ -18,7 +18,7 @@ use Rattle.cluster_core.specs.Tier.{part}
 use Rattle.cluster_core.proofs.Ownership.{meets_within-from, meets_within-point}
 use Rattle.cluster_core.proofs.StorageMaps.{part-after_all, part-empty}
 
-either_way : {X : Type 0} (b : Bool) (x : X) → cond b x x ≡ x
+pub either_way : {X : Type 0} (b : Bool) (x : X) → cond b x x ≡ x
 either_way true x = refl
 either_way false x = refl
 

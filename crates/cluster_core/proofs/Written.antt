@@ -7,6 +7,7 @@ use Rattle.std.specs.BTreeMap.{BTreeMap}
 use Rattle.std.specs.Ordering.{is_eq}
 use Rattle.kv_core.specs.Bytes.{has_key, key_cmp}
 use Rattle.kv_core.proofs.Order.{tied_swap}
+use Rattle.kv_core.proofs.Stored.{taken_more}
 use Rattle.cluster_core.specs.declared.chain.Chain.{Chain}
 use Rattle.cluster_core.specs.declared.chain.Link.{Link}
 use Rattle.cluster_core.specs.Chains.{AreBelow, AreFalling, Falls, IsFalling, Writes, links_at, needed, present, put, value_at, without}
@@ -111,19 +112,12 @@ pub cleared_more : (v : ℕ) (keys : List (List ℕ)) (i : ℕ) (k : List ℕ) (
     ((q : List ℕ) → value_at v (links_at old q) ≡ cond (has_key (take i keys) q) None (value_at v (links_at first q))) → ChangesAt k (put v None) old new →
     (q : List ℕ) → value_at v (links_at new q) ≡ cond (has_key (take (i + 1) keys) q) None (value_at v (links_at first q))
 cleared_more v keys i k first old new below is before changes q =
-    ap (value_at v) (changes q)
+    taken_more keys i k q (value_at v (links_at first q)) (value_at v (links_at old q)) (value_at v (links_at new q)) below is (before q)
+    (ap (value_at v) (changes q)
     ∙ elim (is_eq (key_cmp k q)) as (λ b. value_at v (cond b (put v None (links_at old q)) (links_at old q)) ≡ cond b None (value_at v (links_at old q))) [
       | true ↦ value_at-put v None (links_at old q)
       | false ↦ refl
-    ]
-    ∙ ap (cond (is_eq (key_cmp k q)) None) (before q) ∙ both (is_eq (key_cmp k q)) (has_key (take i keys) q) (value_at v (links_at first q))
-    ∙ ap (λ b. cond b None (value_at v (links_at first q))) (sym (has_more keys i k q below is))
-  where
-    both : (a b : Bool) (o : Option (List ℕ)) → cond a None (cond b None o) ≡ cond (b || (a || false)) None o
-    both true true o = refl
-    both true false o = refl
-    both false true o = refl
-    both false false o = refl
+    ])
 
 pub without_again : (version : ℕ) (links : List Link) → Falls version links → without version links ≡ links
 without_again version [] falls = refl
