@@ -1,14 +1,15 @@
 """Counts what breaks the house's rules, in the files of a repository. It is run at the top of the repository.
 
 1. README.md is short and narrow.
-2. No source file is long.
-3. No body of a function of Rattle is long, from its `{` to its `}`.
-4. No line of Rattle, of a specification or of Python is wide, counted in characters. Data may be: in a file of Rattle a
+2. The code in README.md stands in a source file.
+3. No source file is long.
+4. No body of a function of Rattle is long, from its `{` to its `}`.
+5. No line of Rattle, of a specification or of Python is wide, counted in characters. Data may be: in a file of Rattle a
    line whose first character too many stands in a text or in the table of a static. The files of proofs/ aren't held
    to it, since proof terms are laid out by the formatter, which breaks no line of its own.
-5. Each public item of a crate has a doc comment.
-6. Each crate of crates.txt has a README.md.
-7. No document, code, specification or edit leans on a text outside the repository, or on a mark that only one tells.
+6. Each public item of a crate has a doc comment.
+7. Each crate of crates.txt has a README.md.
+8. No document, code, specification or edit leans on a text outside the repository, or on a mark that only one tells.
 
 A line is printed for each fault, and then one for each rule, with the number of things that it was held against. A rule
 passes where nothing breaks it and there was something to break it. The last line is 'N passed, M failed'; the status is

@@ -14,6 +14,9 @@ DOCUMENTS = ("*.md", "docs/**/*.md", "crates/*/README.md")
 EDITS = ("crates/*/wrong-bodies/*.edit", "crates/*/must-fail/*.edit")
 OTHERS = ("crates.txt", "cases/**/*", "examples/**/*")
 
+# a block of code in a document
+CODE = re.compile(r"^```rust\n(.*?)^```$", re.M | re.S)
+
 # what leans on a text outside, wherever it stands
 CITED = re.compile(
     r"\bdocument \d|\bpapers?\b|\bissues?\b|\barxiv\b|\bet al\b|\bdoi\b|\bthesis\b|§ ?\d|\bpull request\b", re.I
@@ -31,6 +34,15 @@ def readme_is_short(root):
             faults.append((path, f"{len(lines_of(text))} lines, above {README_LINES}"))
         faults += [(f"{path}:{it}", f"above {README_COLUMNS} columns") for it in wide_lines(text, README_COLUMNS)]
     return len(paths), faults
+
+
+def readme_code_stands(root):
+    """Each part of the code in README.md, up to a blank line, stands in a file of Rattle."""
+    code = "\n\n".join(it for path in files(root, "README.md") for it in CODE.findall(read(root, path)))
+    parts = [part.strip("\n") for part in code.split("\n\n") if part.strip()]
+    sources = ["\n" + read(root, path) for path in files(root, RATTLE)]
+    gone = [part for part in parts if not any(f"\n{part}\n" in source for source in sources)]
+    return len(parts), [("README.md", f"no file has the code at '{lines_of(part)[0].strip()}'") for part in gone]
 
 
 def files_are_short(root):
@@ -85,6 +97,7 @@ def nothing_is_cited(root):
 
 RULES = {
     "README.md is short": readme_is_short,
+    "the code of README.md stands": readme_code_stands,
     "files are short": files_are_short,
     "bodies are short": bodies_are_short,
     "lines are narrow": lines_are_narrow,

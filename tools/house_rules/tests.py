@@ -9,14 +9,16 @@ from sources import bodies, data, is_documented, public_items, wide_lines
 
 HERE = os.path.dirname(os.path.abspath(__file__))
 SOURCE, SPEC, PROOF = "crates/low/src/lib.rt", "crates/low/specs/Low.antt", "crates/low/proofs/Low.antt"
+SHOWN = "crates/low/src/shown.rt"
 # in two parts, so that these tests break no rule themselves
 PUBLISHED, LABEL = "pa" + "per", "D" + "12"
 
 RIGHT = {
-    "README.md": "# A store\n\nIt is small.\n",
+    "README.md": "# A store\n\nIt is small.\n\n```rust\n    n + 1\n```\n",
     "crates.txt": "# each crate\nlow:\n",
     "crates/low/README.md": "# low\n",
     SOURCE: "/// The next number.\npub fn next(n: u64) -> u64\n    ensures { result ≡ n + 1 }\n{\n    n + 1\n}\n",
+    SHOWN: "fn shown(n: u64) -> u64\n    ensures { result ≡ n + 1 }\n{\n    n + 1\n}\n",
     SPEC: "-- the next number\nabbrev pub next : ℕ → ℕ\nnext n = n + 1\n",
     PROOF: f"-- {'a wide line of a proof ' * 10}\n",
     "tools/one.py": '"""A tool."""\n',
@@ -25,6 +27,9 @@ RIGHT = {
 # For each rule, texts that break it, by the file that has them in the place of the right ones.
 WRONG = {
     "README.md is short": [("README.md", "line\n" * 81), ("README.md", "a" * 101 + "\n")],
+    "the code of README.md stands": [
+        ("README.md", "```rust\nn + 1\n```\n"), ("README.md", "```rust\n    n + 1\n\n    n + 2\n```\n"),
+    ],
     "files are short": [(path, "\n" * 401) for path in (SOURCE, SPEC, PROOF, "tools/one.py")],
     "bodies are short": [(SOURCE, "fn long()\n    ensures { a }\n{\n" + "    a();\n" * 39 + "}\n")],
     "lines are narrow": [
@@ -45,6 +50,7 @@ WRONG = {
 # Texts that break none, in the same manner.
 ALSO_RIGHT = [
     ("README.md", "a" * 100 + "\n" + "line\n" * 79),
+    ("README.md", "```rust\n{\n    n + 1\n}\n\n    ensures { result ≡ n + 1 }\n```\n\n    n + 2\n"),
     (SOURCE, "\n" * 400),
     (SOURCE, "fn short()\n    ensures {\n" + "        a\n" * 50 + "    }\n{\n" + "    a();\n" * 38 + "}\n"),
     (SOURCE, f'// {"é" * 117}\nfn say() {{ print("{"a" * 120}") }}\n'),
@@ -102,7 +108,8 @@ class Command(unittest.TestCase):
             status, lines = self.ran(root, "--only", "README")
             self.assertEqual((status, lines), (1, [
                 "crates/high/README.md: isn't there", "passed: README.md is short: 0 of 1",
-                "FAILED: crates have a README.md: 1 of 2", "1 passed, 1 failed"]))
+                "passed: the code of README.md stands: 0 of 1", "FAILED: crates have a README.md: 1 of 2",
+                "2 passed, 1 failed"]))
 
     def test_nothing_to_look_at(self):
         with tempfile.TemporaryDirectory() as root:

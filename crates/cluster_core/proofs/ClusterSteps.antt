@@ -10,7 +10,7 @@ use Rattle.kv_core.specs.Range.{KeyRange}
 use Rattle.kv_core.specs.Read.{read_of}
 use Rattle.kv_core.specs.declared.change.CommitRequest.{CommitRequest}
 use Rattle.kv_core.specs.declared.change.Mutation.{Mutation}
-use Rattle.cluster_core.specs.Cluster.{ClusterState, database_at, maps_back, may_pull, pull, server_at, servers_at, tier_of}
+use Rattle.cluster_core.specs.Cluster.{ClusterState, HasSameServers, database_at, maps_back, may_pull, pull, server_at, servers_at, tier_of}
 use Rattle.cluster_core.specs.Configuration.{config_refusal, first_cluster, first_pipeline, first_tier}
 use Rattle.cluster_core.specs.Decision.{Owned, log, owners}
 use Rattle.cluster_core.specs.History.{map_at}
@@ -191,4 +191,12 @@ starts-cluster config allowed =
       started = subst (AllByRecursion (λ clock. config.start ≤ clock)) (sym clocks) (all-same (λ clock. config.start ≤ clock) config.start os (omega arith));
       given = subst (AllByRecursion (λ clock. clock ≤ submitted (first_pipeline config))) (sym clocks)
           (all-same (λ clock. clock ≤ submitted (first_pipeline config)) config.start os (omega arith));
+    }
+
+-- a pull leaves as many roles as there were
+pub roles_stay : (old new : ClusterState) (s : ℕ) → new ≡ pull s old → HasSameServers old new
+roles_stay old new s is =
+    record {
+      pipeline = record { resolvers = ap (λ c. length c.pipeline.resolved) is; logs = ap (λ c. length c.pipeline.logged) is };
+      servers = ap (λ c. length c.pulled) is ∙ length-set old.pulled s (slice_index old.pulled s + 1);
     }

@@ -19,6 +19,7 @@ pub mod OwnMaps
 pub mod JoinedPairs
 pub mod TierReads
 pub mod TierStarts
+pub mod PulledLogs
 pub mod PulledMaps
 pub mod ClusterSteps
 pub mod Ordered

@@ -1,12 +1,12 @@
 -- The whole cluster: the pipeline, and how far each server has pulled what the logs have.
-use Rattle.std.specs.Prelude.{◌≡◌, ℕ, zero, suc, ◌-◌, ◌%◌, Bool, true, false}
-use Rattle.std.specs.Prelude.{nat_lt, min, List, [], ◌∷◌, length, slice_index}
+use Rattle.std.specs.Prelude.{◌≡◌, ℕ, zero, suc, ◌-◌, ◌%◌, ◌<◌, ◌≤◌, All, Bool, true, false}
+use Rattle.std.specs.Prelude.{nat_lt, max, min, List, [], ◌∷◌, length, slice_index}
 use Rattle.kv_core.specs.Map.{Map}
 use Rattle.cluster_core.specs.declared.answers.Work.{Work}
 use Rattle.cluster_core.specs.declared.answers.Work.TheVariants.{Done, NothingToDo}
 use Rattle.cluster_core.specs.History.{map_at}
 use Rattle.cluster_core.specs.Decision.{Owned, owners}
-use Rattle.cluster_core.specs.Roles.{PipelineState, history, raised}
+use Rattle.cluster_core.specs.Roles.{HasSameRoles, PipelineState, history, raised}
 use Rattle.cluster_core.specs.Tier.{ServerState, TierState, part}
 
 -- the pipeline, the splits between the servers, and the clock of each server
@@ -48,6 +48,31 @@ may_pull c s = nat_lt (slice_index c.pulled s) (log_of c s)
 
 abbrev pub pull : ℕ → ClusterState → ClusterState
 pull s c = record c { pulled = raised c.pulled s }
+
+-- there are as many resolvers, logs and servers as before
+pub record HasSameServers (old new : ClusterState) : Type 0 where
+  pub pipeline : HasSameRoles old.pipeline new.pipeline
+  pub servers : length new.pulled ≡ length old.pulled
+
+-- each server has pulled as far as before or further, and no further than its log; nothing else has changed
+pub record HasPulled (old new : ClusterState) : Type 0 where
+  pub pipeline : new.pipeline ≡ old.pipeline
+  pub splits : new.splits ≡ old.splits
+  pub count : length new.pulled ≡ length old.pulled
+  pub on : (s : ℕ) → slice_index old.pulled s ≤ slice_index new.pulled s
+  pub within : (s : ℕ) → slice_index new.pulled s ≤ max (slice_index old.pulled s) (log_of old s)
+
+-- this server has all that its log has
+abbrev pub HasWholeLog : ClusterState → ℕ → Type 0
+HasWholeLog c s = log_of c s ≤ slice_index c.pulled s
+
+-- every server has all that its log has
+abbrev pub IsAllPulled : ClusterState → Type 0
+IsAllPulled c = (s : ℕ) → s < length c.pulled → HasWholeLog c s
+
+-- every server has all that is reported, so that no read at the last reported version is one of the future
+abbrev pub IsReadable : ClusterState → Type 0
+IsReadable c = All (λ clock. c.pipeline.reported ≤ clock) c.pulled
 
 -- a role did its next step where it might, and else left the state as it was
 abbrev pub Did : {State : Type 0} → Work → Bool → State → State → State → Type 0

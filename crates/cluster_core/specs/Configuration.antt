@@ -44,6 +44,10 @@ config_refusal config =
     if not (has_good_counts config) then Some BadCount
     else (if are_splits config.resolver_splits && are_splits config.storage_splits then None else Some BadSplits)
 
+-- one of each role, and a window of 1000 versions
+abbrev pub single : Config
+single = record { resolver_splits = []; storage_splits = []; logs = 1; window = 1000; start = 0; places = 4 }
+
 -- the sequencer, the resolvers and the logs at the start: every clock stands at `start`
 abbrev pub first_pipeline : Config → PipelineState
 first_pipeline config =

@@ -1,10 +1,11 @@
-ghost use Rattle.std.specs.Prelude.{◌≡◌, IfOk};
+ghost use Rattle.std.specs.Prelude.{◌≡◌, IfOk, IsNone};
+ghost use Rattle.cluster_core.specs.Configuration.{config_refusal, single};
 ghost use Rattle.cluster_core.specs.declared.answers.ConfigError.TheVariants.{Memory as ConfigMemory};
 ghost use Rattle.cluster_core.specs.declared.answers.ReadError.TheVariants.{Memory};
 ghost use Rattle.cluster_core.specs.declared.answers.SubmitError.TheVariants.{Memory as SubmitMemory};
 
 use kv_core::{Bytes, KeyRange};
-use std::alloc::{AllocError, AllocFailed};
+use std::alloc::{AllocError, AllocFailed, Global};
 use std::marker::Model;
 use thiserror::Error;
 
@@ -17,6 +18,23 @@ pub struct Config {
     pub window: u64,
     pub start: u64,
     pub places: u64,
+}
+
+impl Config {
+    /// A resolver, a log and a storage server, a window of 1000 versions, the first version 0.
+    pub fn single(alloc: Global) -> Config
+        ensures value { result ≡ single }
+        ensures accepted { IsNone (config_refusal result) }
+    {
+        Config {
+            resolver_splits: Splits::new(Vec::new(alloc)),
+            storage_splits: Splits::new(Vec::new(alloc)),
+            logs: 1,
+            window: 1000,
+            start: 0,
+            places: 4,
+        }
+    }
 }
 
 /// Keys between which roles own the keys.
@@ -141,15 +159,4 @@ pub enum Work {
     Done,
     /// There was nothing to do.
     NothingToDo,
-}
-
-/// Why a commit has no answer.
-#[derive(Clone, Copy, Debug, PartialEq, Eq, Error)]
-pub enum HoldError {
-    /// The request wasn't given a version.
-    #[error("{0}")]
-    Submit(SubmitError),
-    /// The request has a version, and memory ran out before it was reported.
-    #[error("out of memory before the request was reported")]
-    Unknown,
 }

@@ -1,7 +1,8 @@
 ghost use Rattle.std.specs.Prelude.{◌≡◌, ◌⊎◌, ◌+◌, ◌<◌, ◌≤◌, Some, IsNone, IfOk};
 ghost use Rattle.std.specs.Prelude.{IfErr, OnOk, OnErr, if◌then◌else◌, length};
 ghost use Rattle.kv_core.specs.Read.{read_of};
-ghost use Rattle.cluster_core.specs.Cluster.{Did, database_at, may_pull, pull as with_pulled, tier_of, with_pipeline};
+ghost use Rattle.cluster_core.specs.Cluster.{Did, HasPulled, HasSameServers, HasWholeLog, IsAllPulled};
+ghost use Rattle.cluster_core.specs.Cluster.{database_at, may_pull, pull as with_pulled, tier_of, with_pipeline};
 ghost use Rattle.cluster_core.specs.Configuration.{config_refusal, first_cluster};
 ghost use Rattle.cluster_core.specs.History.{IsLegal};
 ghost use Rattle.cluster_core.specs.Roles.{AreInOrder, append as with_appended, history, may_append, may_report};
@@ -91,7 +92,8 @@ impl Cluster {
         self.tier.servers()
     }
 
-    /// Gives the request the next version, as `Pipeline::submit` does.
+    /// Gives the request the next version, as `Pipeline::submit` does: it read at a version that
+    /// is reported, at most the `read_version` of now.
     pub fn submit(&mut self, request: CommitRequest) -> Result<Ticket, SubmitError>
         requires { request.read_version ≤ self.old.pipeline.reported }
         ensures given { IfOk result (λ ticket.
@@ -101,6 +103,7 @@ impl Cluster {
         ensures unchanged { OnErr result (self.new ≡ self.old) }
         ensures refused { IfErr result (λ error.
             (error ≡ SubmitError.Memory) ⊎ (submit_refusal self.old.pipeline request.read_version ≡ Some error)) }
+        ensures roles { HasSameServers self.old self.new }
     {
         let ticket = self.pipeline.submit(request)?;
         Ok(ticket)
@@ -114,6 +117,7 @@ impl Cluster {
             Did work (may_resolve self.old.pipeline r) self.old self.new
             (with_pipeline (with_resolved r self.old.pipeline) self.old)) }
         ensures unchanged { OnErr result (self.new ≡ self.old) }
+        ensures roles { HasSameServers self.old self.new }
     {
         let work = self.pipeline.resolve(r)?;
         Ok(work)
@@ -127,6 +131,7 @@ impl Cluster {
             Did work (may_append self.old.pipeline l) self.old self.new
             (with_pipeline (with_appended l self.old.pipeline) self.old)) }
         ensures unchanged { OnErr result (self.new ≡ self.old) }
+        ensures roles { HasSameServers self.old self.new }
     {
         let work = self.pipeline.append_log(l)?;
         Ok(work)
@@ -138,14 +143,16 @@ impl Cluster {
             then outcome self.old.pipeline (self.old.pipeline.reported + 1) else Reported.NothingToDo) }
         ensures step { self.new ≡ (if may_report self.old.pipeline
             then with_pipeline (with_reported self.old.pipeline) self.old else self.old) }
+        ensures roles { HasSameServers self.old self.new }
     {
         self.pipeline.report()
     }
 
     /// Reports the next version to nobody: the same step as `report`, which takes no memory.
     pub fn report_lost(&mut self) -> Work
-        ensures { Did result (may_report self.old.pipeline) self.old self.new
+        ensures step { Did result (may_report self.old.pipeline) self.old self.new
             (with_pipeline (with_reported self.old.pipeline) self.old) }
+        ensures roles { HasSameServers self.old self.new }
     {
         self.pipeline.report_lost()
     }
@@ -156,6 +163,7 @@ impl Cluster {
         requires { s < length self.old.pulled }
         ensures step { IfOk result (λ work. Did work (may_pull self.old s) self.old self.new (with_pulled s self.old)) }
         ensures unchanged { OnErr result (self.new ≡ self.old) }
+        ensures roles { HasSameServers self.old self.new }
     {
         let log = s % self.pipeline.logs();
         let version = self.tier.version(s);
@@ -164,6 +172,28 @@ impl Cluster {
         };
         self.tier.pull(s, mutations)?;
         Ok(Work::Done)
+    }
+
+    /// Has a server apply all that its log has. Where memory runs out it has applied some of it.
+    fn pull_log(&mut self, s: usize) -> Result<(), AllocError>
+        requires { s < length self.old.pulled }
+        ensures pulled { HasPulled self.old self.new }
+        ensures whole { OnOk result (HasWholeLog self.new s) }
+    {
+        while self.pull(s)? == Work::Done {}
+        Ok(())
+    }
+
+    /// Has every server apply all that its log has. Where memory runs out some of it is applied,
+    /// and another call goes on from there.
+    pub fn pull_all(&mut self) -> Result<(), AllocError>
+        ensures pulled { HasPulled self.old self.new }
+        ensures all { OnOk result (IsAllPulled self.new) }
+    {
+        for s in 0..self.servers() {
+            self.pull_log(s)?;
+        }
+        Ok(())
     }
 
     /// The pairs of the range in the database at a version: the first ones in the order of their

@@ -15,7 +15,7 @@ mod resolver;
 mod server;
 mod tier;
 
-pub use answers::{Config, ConfigError, HoldError, ReadError, Reported, Splits, SubmitError, Work};
+pub use answers::{Config, ConfigError, ReadError, Reported, Splits, SubmitError, Work};
 pub use cluster::Cluster;
 pub use laws::{
     agreement_by_versions, cause_is_exact, history_is_legal, history_only_grows,

@@ -6,7 +6,8 @@ ghost use Rattle.cluster_core.specs.History.{IsLegal};
 ghost use Rattle.cluster_core.specs.Decision.{log, owners};
 ghost use Rattle.cluster_core.specs.Configuration.{config_refusal, first_pipeline};
 ghost use Rattle.cluster_core.specs.Cluster.{Did};
-ghost use Rattle.cluster_core.specs.Roles.{AreInOrder, PipelineState, entries, history, submitted, submit_refusal};
+ghost use Rattle.cluster_core.specs.Roles.{AreInOrder, HasSameRoles, PipelineState, entries, history};
+ghost use Rattle.cluster_core.specs.Roles.{submitted, submit_refusal};
 ghost use Rattle.cluster_core.specs.Roles.{submit as with_submitted, may_resolve, resolve as with_resolved, may_append};
 ghost use Rattle.cluster_core.specs.Roles.{append as with_appended, may_report, report as with_reported, outcome};
 ghost use Rattle.cluster_core.specs.Progress.{IsResolver, counts_of, first_kept};
@@ -232,7 +233,8 @@ impl Pipeline {
         self.start + self.requests.len() as u64
     }
 
-    /// Gives the request the next version.
+    /// Gives the request the next version. It read at a version that is reported: at most the
+    /// `read_version` of now, which never goes down.
     ///
     /// It is refused with `VersionsExhausted` where there is no version left, else with `TooOld`
     /// where it read longer ago than the window allows, and else with `Memory` where memory runs
@@ -245,6 +247,7 @@ impl Pipeline {
         ensures unchanged { OnErr result (self.new ≡ self.old) }
         ensures refused { IfErr result (λ error.
             (error ≡ SubmitError.Memory) ⊎ (submit_refusal self.old request.read_version ≡ Some error)) }
+        ensures roles { HasSameRoles self.old self.new }
     {
         let last = self.submitted();
         if last == u64::MAX {
@@ -264,6 +267,7 @@ impl Pipeline {
         ensures step { IfOk result (λ work.
             Did work (may_resolve self.old r) self.old self.new (with_resolved r self.old)) }
         ensures unchanged { OnErr result (self.new ≡ self.old) }
+        ensures roles { HasSameRoles self.old self.new }
     {
         if self.resolvers[r].answered() == self.requests.len() {
             return Ok(Work::NothingToDo);
@@ -279,6 +283,7 @@ impl Pipeline {
         ensures step { IfOk result (λ work.
             Did work (may_append self.old l) self.old self.new (with_appended l self.old)) }
         ensures unchanged { OnErr result (self.new ≡ self.old) }
+        ensures roles { HasSameRoles self.old self.new }
     {
         let place = self.logs[l].len();
         if !all_answered(self.resolvers.as_slice(), place) {
@@ -321,6 +326,7 @@ impl Pipeline {
         ensures told { result ≡ (if may_report self.old then outcome self.old (self.old.reported + 1)
             else Reported.NothingToDo) }
         ensures step { self.new ≡ (if may_report self.old then with_reported self.old else self.old) }
+        ensures roles { HasSameRoles self.old self.new }
     {
         if self.may_report() {
             self.report_next()
@@ -331,7 +337,8 @@ impl Pipeline {
 
     /// Reports the next version to nobody: the step of `report`, whose answer is lost.
     pub fn report_lost(&mut self) -> Work
-        ensures { Did result (may_report self.old) self.old self.new (with_reported self.old) }
+        ensures step { Did result (may_report self.old) self.old self.new (with_reported self.old) }
+        ensures roles { HasSameRoles self.old self.new }
     {
         if !self.may_report() {
             return Work::NothingToDo;

@@ -6,6 +6,7 @@ ghost use Rattle.kv_core.specs.Bytes.{key_cmp, key_lt, key_le, end_of_keys, next
 
 use std::alloc::{AllocError, Global};
 use std::cmp::Ordering;
+use std::fmt;
 use std::marker::Model;
 
 /// Where the keys end: every key comes before this byte string.
@@ -61,6 +62,16 @@ impl Ord for Bytes {
 
     fn cmp(&self, other: &Bytes) -> Ordering {
         self.compare(other)
+    }
+}
+
+/// The bytes in lower-case hexadecimal, two digits each.
+impl fmt::Display for Bytes {
+    fn fmt<W: fmt::Write>(&self, f: &mut fmt::Formatter<W>) -> fmt::Result {
+        for byte in self.as_slice() {
+            write!(f, "{byte:02x}")?;
+        }
+        Ok(())
     }
 }
 

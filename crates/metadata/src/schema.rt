@@ -1,7 +1,8 @@
 ghost use Rattle.std.specs.Prelude.{◌≡◌, ◌∷◌, ◌==◌, ◌||◌, not, is_some, nat_lt};
 ghost use Rattle.std.specs.Prelude.{length, None, Ok, true, IfOk, IfErr, OnOk, OnErr};
 ghost use Rattle.std.specs.Option.{option_copied};
-ghost use Rattle.std.specs.List.{list_all};
+ghost use Rattle.std.specs.List.{AllByRecursion, list_all};
+ghost use Rattle.metadata.specs.declared.index.IndexKind.TheVariants.{Value};
 ghost use Rattle.std.specs.Str.{bytes_eq};
 ghost use Rattle.metadata.specs.Schema.{find_type};
 ghost use Rattle.metadata.specs.Asked.{add_indexes, schema_asked};
@@ -125,6 +126,8 @@ impl Schema {
     /// indexes. The refusal is that of the first `add_type` or `add_index` that refuses.
     pub fn of_request(alloc: Global, request: &SchemaRequest) -> Result<Schema, MetadataError>
         ensures made { IfOk result (λ schema. schema_asked request.now ≡ Ok schema) }
+        ensures kinds { IfOk result (λ schema. AllByRecursion (λ one. one.kind ≡ Value) request.now.indexes →
+            AllByRecursion (λ index. index.kind ≡ Value) schema.indexes) }
         ensures refused { IfErr result (λ error. IsRefusedAs error (schema_asked request.now)) }
     {
         let mut schema = Schema::new(alloc);

@@ -21,20 +21,19 @@ use Rattle.metadata.specs.declared.definition.TypeDefinition.{TypeDefinition}
 use Rattle.metadata.specs.declared.refusal.MetadataError.{MetadataError}
 use Rattle.metadata.specs.declared.refusal.MetadataError.TheVariants as meta
 use Rattle.metadata.specs.declared.refusal.Refusal.{Refusal}
-use Rattle.metadata.specs.declared.refusal.Refusal.TheVariants.{OtherSchema, UnknownType}
+use Rattle.metadata.specs.declared.refusal.Refusal.TheVariants.{UnknownType}
 use Rattle.metadata.specs.Answers.{IsRefusedAs}
 use Rattle.metadata.specs.Cell.{all_fit, is_null}
 use Rattle.metadata.specs.Record.{Record, key_items, key_of, record_in}
-use Rattle.metadata.specs.Same.{same_type}
 use Rattle.metadata.specs.Schema.{Schema, find_type, key_kinds}
 use Rattle.metadata.proofs.SameTypes.{same_type-Decides}
 use Rattle.record_store.specs.declared.error.StoreError.{StoreError}
-use Rattle.record_store.specs.declared.error.StoreError.TheVariants.{Memory, Read, Write, Corrupt, Refused}
+use Rattle.record_store.specs.declared.error.StoreError.TheVariants.{Memory, Read, Write, Corrupt, Refused, NoStore, AlreadyThere, OtherSchema}
 use Rattle.record_store.specs.Store.{Store}
 use Rattle.record_store.specs.Holds.{Holds, IsOfSchema}
 use Rattle.record_store.specs.Form.{IsRecordPair}
 use Rattle.record_store.specs.Call.{AtStore, Call, IsAnswered, IsFailure, IsOpenAs, IsRefused, IsUndone, IsUnread, Opened, Service}
-use Rattle.record_store.specs.Calls.{done_with, own_record}
+use Rattle.record_store.specs.Calls.{done_with, is_own}
 use Rattle.record_store.specs.Reading.{HasNotFound, IsKeyOf}
 use Rattle.record_store.specs.Steps.{DidRead, IsBeginning, no_memory, of_metadata, of_write}
 use Rattle.record_store.proofs.Stopping.{all_begin, none_begin}
@@ -78,19 +77,15 @@ key_given schema name cells type key found given tuple = record { cells = cells;
         by_fit true fit is = by_null (list_any is_null cells) refl fit is
 
 -- a record of the schema's own type: its type is found by its name
-pub own_found : (schema : Schema) (r : Record) → own_record (find_type schema r.definition.name) r ≡ Ok r → find_type schema r.definition.name ≡ Some r.definition
+pub own_found : (schema : Schema) (r : Record) → is_own (find_type schema r.definition.name) r ≡ true → find_type schema r.definition.name ≡ Some r.definition
 own_found schema r is = by_type (find_type schema r.definition.name) refl is
   where
-    by_test : (type : TypeDefinition) (b : Bool) → same_type type r.definition ≡ b → ◌≡◌ {A = Result Record Refusal} (elim b [ true ↦ Ok r | false ↦ Err OtherSchema ]) (Ok r) → type ≡ r.definition
-    by_test type true same made = (same_type-Decides type r.definition).0 same
-    by_test type false same made = absurd (cc)
-
-    by_type : (o : Option TypeDefinition) → find_type schema r.definition.name ≡ o → own_record o r ≡ Ok r → o ≡ Some r.definition
+    by_type : (o : Option TypeDefinition) → find_type schema r.definition.name ≡ o → is_own o r ≡ true → o ≡ Some r.definition
     by_type None none made = absurd (cc)
-    by_type (Some type) some made = ap Some (by_test type (same_type type r.definition) refl made)
+    by_type (Some type) some made = ap Some ((same_type-Decides type r.definition).0 made)
 
 -- it is a record of the schema
-pub own_typed : (schema : Schema) (r : Record) → own_record (find_type schema r.definition.name) r ≡ Ok r → record_in r.definition r.cells ≡ Ok r → IsOfSchema schema r
+pub own_typed : (schema : Schema) (r : Record) → is_own (find_type schema r.definition.name) r ≡ true → record_in r.definition r.cells ≡ Ok r → IsOfSchema schema r
 own_typed schema r is made = ap (λ t. elim t [ None ↦ Err UnknownType | Some one ↦ record_in one r.cells ]) (own_found schema r is) ∙ made
 
 -- ---- calls
@@ -114,6 +109,9 @@ refused_anyway maps refuses opened (Ok service) error old new is = record { adde
     by_error (Write error) ranges m says = says
     by_error (Corrupt key) ranges m says = says
     by_error (Refused refusal) ranges m says = says
+    by_error NoStore ranges m says = says
+    by_error AlreadyThere ranges m says = says
+    by_error OtherSchema ranges m says = says
 
 module _ {A : Type 0} (maps : ℕ → Map) (refuses : KeyRange → ℕ → ReadError → Type 0) (opened : Opened) where
   -- OWN REFUSAL: the call's own, before it read anything
@@ -131,6 +129,9 @@ module _ {A : Type 0} (maps : ℕ → Map) (refuses : KeyRange → ℕ → ReadE
   failure_of refused service (Corrupt key) before added m says = says
   failure_of refused service (Write error) before added m says = absurd says
   failure_of refused service (Refused refusal) before added m says = absurd says
+  failure_of refused service NoStore before added m says = absurd says
+  failure_of refused service AlreadyThere before added m says = absurd says
+  failure_of refused service OtherSchema before added m says = absurd says
 
   pub refused_unread : {old new : CommitRequest} (call : Call A) (service : Service A) (error : StoreError) → call ≡ Ok service → HasNotFound maps refuses opened service.reading error old new →
       IsRefused maps refuses opened call error old new

@@ -15,7 +15,7 @@ use Rattle.txn.proofs.Running.{ran_because, ran_then, ran_write}
 use Rattle.metadata.specs.Lawful.{IsLawfulSchema}
 use Rattle.metadata.specs.Schema.{Schema}
 use Rattle.record_store.specs.declared.error.StoreError.{StoreError}
-use Rattle.record_store.specs.declared.error.StoreError.TheVariants.{Memory, Read, Write, Corrupt, Refused}
+use Rattle.record_store.specs.declared.error.StoreError.TheVariants.{Memory, Read, Write, Corrupt, Refused, NoStore, AlreadyThere, OtherSchema}
 use Rattle.record_store.specs.Store.{Serial, created}
 use Rattle.record_store.specs.Layout.{schema_key, states_range}
 use Rattle.record_store.specs.Holds.{Holds}
@@ -56,6 +56,9 @@ module _ (prefix : List ℕ) (schema : Schema) where
   create_error refuses added (Write error) before m says = absurd says
   create_error refuses added (Corrupt key) before m says = absurd says
   create_error refuses added (Refused refusal) before m says = absurd says
+  create_error refuses added NoStore before m says = absurd says
+  create_error refuses added AlreadyThere before m says = absurd says
+  create_error refuses added OtherSchema before m says = absurd says
 
   -- READS: one came to an error
   pub uncreated : {maps : ℕ → Map} {refuses : KeyRange → ℕ → ReadError → Type 0} {old new : CommitRequest} (error : StoreError) → HasNotRead maps refuses (opening_reach prefix) error old new → IsUncreated maps refuses made error old new
@@ -73,7 +76,6 @@ module _ (prefix : List ℕ) (schema : Schema) where
         subst (λ e. IsUncreated maps refuses made e old new) (sym says.0) (record {
           added = opening_reach prefix;
           ran = ran_because (both_read prefix one two) (λ m found. (
-            refl,
             refl,
             λ none. says.1 (found.0 ∙ none),
             λ serial holds none. says.1 (found.0 ∙ no_schema_held prefix m (subst (Holds prefix m) none holds)),

@@ -4,6 +4,7 @@ pub mod Kept
 pub mod Changed
 pub mod RecordPairs
 pub mod Stopping
+pub mod OneRecord
 pub mod Openings
 pub mod Creating
 pub mod Answered

@@ -6,46 +6,38 @@ use Rattle.std.proofs.lemmas.Result.{err_from_is_err_and}
 use Rattle.std.proofs.lemmas.Bool.{and_parts}
 use Rattle.std.specs.List.{AllByRecursion, filter, list_all}
 use Rattle.std.specs.FinMap.{entries, get}
-use Rattle.tuple_codec.specs.Item.{Item, IsTuple, int}
-use Rattle.tuple_codec.specs.Spelling.{int_spelling, spelling}
+use Rattle.tuple_codec.specs.Item.{int}
 use Rattle.kv_core.specs.Range.{KeyRange, contains, point}
-use Rattle.kv_core.specs.Map.{Map, Agree, pairs_in}
+use Rattle.kv_core.specs.Map.{Map, pairs_in}
 use Rattle.kv_core.specs.declared.change.CommitRequest.{CommitRequest}
 use Rattle.kv_core.proofs.Pairs.{entries-kept}
 use Rattle.cluster_core.specs.declared.answers.ReadError.{ReadError}
-use Rattle.txn.specs.Reads.{seen, has_read}
-use Rattle.txn.proofs.Running.{ran_added, ran_because, ran_then, ran_read}
-use Rattle.metadata.specs.declared.definition.TypeDefinition.{TypeDefinition}
+use Rattle.txn.proofs.Running.{ran_because, ran_then}
 use Rattle.metadata.specs.declared.index.IndexDefinition.{IndexDefinition}
 use Rattle.metadata.specs.declared.index.IndexKind.{IndexKind}
 use Rattle.metadata.specs.declared.index.IndexKind.TheVariants.{Value, Count, Sum}
 use Rattle.metadata.specs.declared.index.State.{State}
 use Rattle.metadata.specs.declared.index.State.TheVariants.{Disabled}
 use Rattle.metadata.specs.Lawful.{IsLawfulSchema}
-use Rattle.metadata.specs.Record.{Record}
-use Rattle.metadata.specs.Records.{record_at}
-use Rattle.metadata.specs.Schema.{Schema, find_type}
-use Rattle.metadata.specs.Stored.{IsOfNoRecord, IsStoredAs, IsTypeOf}
+use Rattle.metadata.specs.Schema.{Schema}
 use Rattle.metadata.specs.Written.{schema_bytes}
 use Rattle.metadata.proofs.OneSchema.{written_once}
-use Rattle.metadata.proofs.StoredApart.{named_typed}
 use Rattle.record_store.specs.declared.error.StoreError.{StoreError}
-use Rattle.record_store.specs.declared.error.StoreError.TheVariants.{Memory, Read, Write, Corrupt, Refused}
+use Rattle.record_store.specs.declared.error.StoreError.TheVariants.{Memory, Read, Write, Corrupt, Refused, NoStore, AlreadyThere, OtherSchema}
 use Rattle.record_store.specs.Store.{Serial}
-use Rattle.record_store.specs.Layout.{record_key, schema_key, state_pair, states_range}
+use Rattle.record_store.specs.Layout.{schema_key, state_pair, states_range}
 use Rattle.record_store.specs.Holds.{HasPlainIndexes, Holds, IsListed, IsPlain}
-use Rattle.record_store.specs.Form.{IsDisabledOf, IsFirstBad, IsOpeningPair, IsRecordPair, IsSchemaPair, IsStatePair, read_in}
-use Rattle.record_store.specs.Call.{IsUnread, Opened, whole}
+use Rattle.record_store.specs.Form.{IsDisabledOf, IsFirstBad, IsOpeningPair, IsSchemaPair, IsStatePair, read_in}
 use Rattle.record_store.specs.Opening.{HasSchema, IsOpenFailure, IsOpened, IsThereAs, IsUnopened, opening_reach}
 use Rattle.record_store.proofs.Stopping.{all_begin, error_behind, error_more}
-use Rattle.record_store.specs.Reading.{AreOfNoSchema, AreStates, HasNotFound, HasNotRead, HaveNoStates, IsBadSchema, IsBadStateAmong, IsFound, IsKeyOf, IsNoSchema, IsNoState, IsNotFound, IsRead, IsReadError, IsSchema, is_value}
+use Rattle.record_store.specs.Reading.{AreOfNoSchema, AreStates, HasNotRead, HaveNoStates, IsBadSchema, IsBadStateAmong, IsNoSchema, IsNoState, IsReadError, IsSchema, is_value}
 use Rattle.record_store.specs.Steps.{DidRead, no_memory}
 use Rattle.record_store.proofs.Held.{no_schema_held, no_schema_state, no_states, schema_held}
 use Rattle.record_store.proofs.IndexChanges.{not_readable}
 use Rattle.record_store.proofs.Kept.{itself, other_place}
 use Rattle.record_store.proofs.StatePairs.{same_states, states_held}
 use Rattle.record_store.proofs.States.{schema_apart, states_low}
-use Rattle.record_store.proofs.RecordPairs.{at_key, key_form, no_record_pair, none_bad, none_there, of_stored, pairs_at, record_there}
+use Rattle.record_store.proofs.RecordPairs.{at_key, none_bad, pairs_at}
 
 abbrev Pair : Type 0
 Pair = List ℕ × List ℕ
@@ -55,95 +47,6 @@ pub exit_with : {T : Type 0} (r : Result T StoreError) (error : StoreError) (P :
 exit_with r error P says p =
     let (made, is, same) = err_from_is_err_and r says.1 in
     subst (λ x. IfErr x P) (sym is) (subst P (sym same) p)
-
--- ---- one record
--- the pairs read at one key
-read_at : (m : Map) (key : List ℕ) (value : Option (List ℕ)) → get m key ≡ value → read_in m (point key ∷ []) ≡ at_key key value
-read_at m key value is = append-nil (pairs_in m (point key)) ∙ pairs_at m key value is
-
-module _ (opened : Opened) (type : TypeDefinition) (key : List Item) (lawful : IsLawfulSchema opened.schema) (found_type : find_type opened.schema type.name ≡ Some type) (key_of : IsKeyOf type key) where
-  own : IsTypeOf opened.schema type
-  own = named_typed opened.schema type.name type lawful found_type
-
-  -- what is stored at the key is of the written form
-  stored_form : (value : List ℕ) (r : Record) → IsStoredAs type (spelling key) value r → IsRecordPair opened.prefix opened.schema (record_key opened.prefix key, value)
-  stored_form value r put =
-      let good = of_stored opened.schema type (spelling key) value r lawful found_type put in record {
-        stored = r;
-        typed = good.0;
-        storable = good.1;
-        is = λ i. (opened.prefix ++ (int_spelling (pos 1) ++ put.has_key i), put.has_value i);
-      }
-
-  -- READ: the record, or none, that was found
-  read_there : (m : Map) (value : Option (List ℕ)) (found : Option Record) → get m (record_key opened.prefix key) ≡ value → IsFound type (spelling key) value found → IsRead opened key found m
-  read_there m None found is says = (
-    subst (AllByRecursion (IsRecordPair opened.prefix opened.schema)) (sym (read_at m (record_key opened.prefix key) None is)) tt,
-    λ store holds same. says ∙ none_there opened.prefix m store holds key key_of.tuple is,
-  )
-  read_there m (Some value) None is says = absurd says
-  read_there m (Some value) (Some r) is says = (
-    subst (AllByRecursion (IsRecordPair opened.prefix opened.schema)) (sym (read_at m (record_key opened.prefix key) (Some value) is)) (stored_form value r says, tt),
-    λ store holds same.
-        subst (λ k. Some r ≡ record_at k store.records) (sym key_of.is)
-        (record_there opened.prefix m store holds type key_of.cells value r (subst (λ s. IsTypeOf s type) (sym same.schema) own) (subst IsTuple key_of.is key_of.tuple)
-        (ap (λ k. get m (record_key opened.prefix k)) (sym key_of.is) ∙ is) (subst (λ k. IsStoredAs type (spelling k) value r) key_of.is says)),
-  )
-
-  -- UNREAD: what was found is none of the type's
-  unread_there : (refuses : KeyRange → ReadError → Type 0) (m : Map) (value : Option (List ℕ)) (error : StoreError) → get m (record_key opened.prefix key) ≡ value →
-      IsNotFound type (spelling key) (record_key opened.prefix key) value error → IsUnread refuses opened (whole (point (record_key opened.prefix key) ∷ [])) error (point (record_key opened.prefix key) ∷ []) m
-  unread_there refuses m value Memory is says = all_begin (point (record_key opened.prefix key) ∷ [])
-  unread_there refuses m None (Read error) is says = absurd says
-  unread_there refuses m None (Write error) is says = absurd says
-  unread_there refuses m None (Refused refusal) is says = absurd says
-  unread_there refuses m None (Corrupt at) is says = absurd says
-  unread_there refuses m (Some value) (Read error) is says = absurd says
-  unread_there refuses m (Some value) (Write error) is says = absurd says
-  unread_there refuses m (Some value) (Refused refusal) is says = absurd says
-  unread_there refuses m (Some value) (Corrupt at) is says = (
-    refl,
-    bad,
-    λ store holds same.
-        none_bad (read_in m (point (record_key opened.prefix key) ∷ [])) at
-        (subst (AllByRecursion (IsRecordPair opened.prefix opened.schema)) (sym (append-nil (pairs_in m (point (record_key opened.prefix key)))))
-        (subst (λ s. AllByRecursion (IsRecordPair opened.prefix s) (pairs_in m (point (record_key opened.prefix key)))) same.schema (key_form opened.prefix m store holds key key_of.tuple))) bad,
-  )
-    where
-      none : IsRecordPair opened.prefix opened.schema (record_key opened.prefix key, value) → ⊥
-      none pair =
-          no_record_pair opened.prefix opened.schema type key_of.cells value lawful own (subst IsTuple key_of.is key_of.tuple)
-          (subst (λ k. IsOfNoRecord type (spelling k) value) key_of.is says.1) (subst (λ k. IsRecordPair opened.prefix opened.schema (record_key opened.prefix k, value)) key_of.is pair)
-
-      bad : IsFirstBad (IsRecordPair opened.prefix opened.schema) (read_in m (point (record_key opened.prefix key) ∷ [])) at
-      bad = record {
-        before = [];
-        bad = (record_key opened.prefix key, value);
-        behind = [];
-        split = read_at m (record_key opened.prefix key) (Some value) is;
-        good = tt;
-        malformed = none;
-        at = says.0;
-      }
-
-  -- RECORD: a record was read, or wasn't
-  pub record_read : {maps : ℕ → Map} {old new : CommitRequest} (k packed : List ℕ) (value : Option (List ℕ)) (found : Option Record) → k ≡ record_key opened.prefix key → packed ≡ spelling key →
-      new ≡ has_read (point k) old → ((m : Map) → Agree new.reads (maps old.read_version) m → value ≡ get (seen old m) k) → IsFound type packed value found →
-      DidRead maps (point (record_key opened.prefix key) ∷ []) old new (IsRead opened key found)
-  record_read {old = old} k packed value found is pack read answer says =
-      ran_added (ap (λ at. point at ∷ []) is)
-      (ran_read (point k) read (λ m agree. read_there (seen old m) value found (sym (answer m agree ∙ ap (get (seen old m)) is)) (subst (λ p. IsFound type p value found) pack says)))
-
-  pub record_unread : {maps : ℕ → Map} {refuses : KeyRange → ℕ → ReadError → Type 0} {old new : CommitRequest} (k packed : List ℕ) (value : Option (List ℕ)) (error : StoreError) → k ≡ record_key opened.prefix key → packed ≡ spelling key →
-      new ≡ has_read (point k) old → ((m : Map) → Agree new.reads (maps old.read_version) m → value ≡ get (seen old m) k) → IsNotFound type packed k value error →
-      HasNotFound maps refuses opened (whole (point (record_key opened.prefix key) ∷ [])) error old new
-  record_unread {refuses = refuses} {old = old} k packed value error is pack read answer says = record {
-    added = point (record_key opened.prefix key) ∷ [];
-    ran =
-        ran_added (ap (λ at. point at ∷ []) is)
-        (ran_read (point k) read (λ m agree. unread_there (λ range. refuses range old.read_version) (seen old m) value error (sym (answer m agree ∙ ap (get (seen old m)) is))
-        (subst (λ p. IsNotFound type p (record_key opened.prefix key) value error) pack (subst (λ j. IsNotFound type packed j value error) is says))));
-  }
 
 -- ---- the schema
 -- indexes that are told to be VALUE indexes are
@@ -179,6 +82,9 @@ module _ (prefix : List ℕ) where
   open_error refuses added (Write error) m says = absurd says
   open_error refuses added (Corrupt key) m says = absurd says
   open_error refuses added (Refused refusal) m says = absurd says
+  open_error refuses added NoStore m says = absurd says
+  open_error refuses added AlreadyThere m says = absurd says
+  open_error refuses added OtherSchema m says = absurd says
 
   -- the first read of an opening came to an error, or the second did
   pub first_failed : {maps : ℕ → Map} {refuses : KeyRange → ℕ → ReadError → Type 0} {old new : CommitRequest} (error : StoreError) → HasNotRead maps refuses (point (schema_key prefix) ∷ []) error old new →
@@ -296,6 +202,9 @@ module _ (prefix : List ℕ) where
   bad_schema refuses m bytes pairs (Read error) found listed says = absurd says
   bad_schema refuses m bytes pairs (Write error) found listed says = absurd says
   bad_schema refuses m bytes pairs (Refused refusal) found listed says = absurd says
+  bad_schema refuses m bytes pairs NoStore found listed says = absurd says
+  bad_schema refuses m bytes pairs AlreadyThere found listed says = absurd says
+  bad_schema refuses m bytes pairs OtherSchema found listed says = absurd says
   bad_schema refuses m bytes pairs (Corrupt key) found listed says =
       damaged refuses m bytes key found (record {
         before = [];
@@ -355,6 +264,9 @@ module _ (prefix : List ℕ) where
         by_error (Read reason) says = absurd says
         by_error (Write reason) says = absurd says
         by_error (Refused refusal) says = absurd says
+        by_error NoStore says = absurd says
+        by_error AlreadyThere says = absurd says
+        by_error OtherSchema says = absurd says
         by_error (Corrupt key) says = damaged refuses m bytes key found (bad_state error key among says)
 
   -- nothing is there
@@ -366,7 +278,7 @@ module _ (prefix : List ℕ) where
   schema_failure : (refuses : KeyRange → ReadError → Type 0) (m : Map) (written : Option (List ℕ)) (pairs : List Pair) (error : StoreError) → written ≡ get m (schema_key prefix) → pairs ≡ pairs_in m (states_range prefix) →
       IsNoSchema prefix written error → IsOpenFailure refuses prefix error (opening_reach prefix) m
   schema_failure refuses m None pairs error found listed says =
-      subst (λ e. IsOpenFailure refuses prefix e (opening_reach prefix) m) (sym says) (refl, refl, sym found, λ serial holds. nothing_there m serial found holds)
+      subst (λ e. IsOpenFailure refuses prefix e (opening_reach prefix) m) (sym says) (refl, sym found, λ serial holds. nothing_there m serial found holds)
   schema_failure refuses m (Some bytes) pairs error found listed bad = bad_schema refuses m bytes pairs error found listed bad
 
   all_failure : (refuses : KeyRange → ReadError → Type 0) (m : Map) (written : Option (List ℕ)) (pairs : List Pair) (schema : Schema) (error : StoreError) → IsSchema written schema → written ≡ get m (schema_key prefix) → pairs ≡ pairs_in m (states_range prefix) →

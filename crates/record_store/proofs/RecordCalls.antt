@@ -19,7 +19,8 @@ use Rattle.metadata.specs.Schema.{Schema, find_type}
 use Rattle.record_store.specs.Store.{Store, saved, removed, extended}
 use Rattle.record_store.specs.Holds.{Holds, IsOfSchema}
 use Rattle.record_store.specs.Call.{AtStore, IsOpenAs, Opened, whole}
-use Rattle.record_store.specs.Calls.{load_service, records_service, remove_service, save_service, schema_service, schema_writes, own_record, save_call, done_with}
+use Rattle.record_store.specs.declared.error.StoreError.TheVariants.{OtherSchema}
+use Rattle.record_store.specs.Calls.{load_service, records_service, remove_service, save_service, schema_service, schema_writes, is_own, save_call}
 use Rattle.record_store.specs.Reading.{IsRead}
 use Rattle.record_store.proofs.Answered.{IsServed, as_added, own_typed}
 use Rattle.record_store.proofs.Changed.{extended_holds}
@@ -102,8 +103,8 @@ removal_changes opened key (Some r) was_there list wrote there =
     ap (λ ms. length ms == 0) wrote ∙ filled (ClearRange (point (record_key opened.prefix key))) (index_writes opened.prefix (store_of opened) r.definition.number (Some r) None) ∙ sym (ap not there)
 
 -- a record of the schema's own type is accepted
-pub save_accepted : (opened : Opened) (r : Record) → own_record (find_type opened.schema r.definition.name) r ≡ Ok r → save_call opened r ≡ Ok (save_service opened r)
-save_accepted opened r own = ap (done_with (save_service opened)) own
+pub save_accepted : (opened : Opened) (r : Record) → is_own (find_type opened.schema r.definition.name) r ≡ true → save_call opened r ≡ Ok (save_service opened r)
+save_accepted opened r own = ap (λ b. cond b (Ok (save_service opened r)) (Err OtherSchema)) own
 
 -- ---- a type more
 
@@ -169,7 +170,7 @@ save_read opened new key old {maps = maps} {before = before} {after = now} same 
     as_added (subst (λ k. DidRead maps (point (record_key opened.prefix k) ∷ []) before now (IsRead opened k old)) same ran)
 
 pub save_serves : (opened : Opened) (new : Record) (old : Option Record) (list : List Mutation) (key : List Item) → list ≡ replacement opened new old →
-    own_record (find_type opened.schema new.definition.name) new ≡ Ok new → record_in new.definition new.cells ≡ Ok new → key ≡ primary_key new → IsTuple key →
+    is_own (find_type opened.schema new.definition.name) new ≡ true → record_in new.definition new.cells ≡ Ok new → key ≡ primary_key new → IsTuple key →
     All IsCell new.cells →
     (m : Map) (store : Store) → Holds opened.prefix m (Some store) → IsOpenAs opened store → old ≡ record_at (primary_key new) store.records → IsServed opened (save_service opened new) old list m store
 save_serves opened new old list key wrote own made same tuple cells m store holds schema is =

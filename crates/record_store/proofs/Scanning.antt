@@ -21,7 +21,7 @@ use Rattle.metadata.specs.Stored.{IsStoredAs, IsTypeOf, IsOfNoRecord}
 use Rattle.metadata.proofs.StoredApart.{named_typed, number_small}
 use Rattle.metadata.proofs.StoredOnce.{made_is, stored_once}
 use Rattle.record_store.specs.declared.error.StoreError.{StoreError}
-use Rattle.record_store.specs.declared.error.StoreError.TheVariants.{Memory, Read, Write, Corrupt, Refused}
+use Rattle.record_store.specs.declared.error.StoreError.TheVariants.{Memory, Read, Write, Corrupt, Refused, NoStore, AlreadyThere, OtherSchema}
 use Rattle.record_store.specs.Layout.{place, record_key, record_pair, record_value, type_range}
 use Rattle.record_store.specs.Store.{Store}
 use Rattle.record_store.specs.Holds.{Holds, IsOfSchema}
@@ -183,6 +183,9 @@ module _ (opened : Opened) (type : TypeDefinition) (lawful : IsLawfulSchema open
       by_error (Read reason) says = absurd says
       by_error (Write reason) says = absurd says
       by_error (Refused refusal) says = absurd says
+      by_error NoStore says = absurd says
+      by_error AlreadyThere says = absurd says
+      by_error OtherSchema says = absurd says
       by_error (Corrupt key) says = (all, first key says, λ store holds same. none_bad (reading.pairs m) key (all_good store holds same) (first key says))
 
   -- ---- all of them

@@ -11,9 +11,8 @@ use Rattle.cluster_core.specs.declared.answers.ReadError.{ReadError}
 use Rattle.txn.specs.Runs.{Ran}
 use Rattle.metadata.specs.declared.index.State.{State}
 use Rattle.metadata.specs.Schema.{Schema}
-use Rattle.metadata.specs.declared.refusal.Refusal.{Refusal}
 use Rattle.record_store.specs.declared.error.StoreError.{StoreError}
-use Rattle.record_store.specs.declared.error.StoreError.TheVariants.{Memory, Read, Write, Corrupt, Refused}
+use Rattle.record_store.specs.declared.error.StoreError.TheVariants.{Memory, Read, Write, Corrupt}
 use Rattle.record_store.specs.Store.{Store}
 use Rattle.record_store.specs.Holds.{Holds}
 use Rattle.record_store.specs.Form.{IsFirstBad, IsRecordPair, read_in}
@@ -61,7 +60,7 @@ pub record Service (A : Type 0) : Type 0 where
 
 -- a call: what it does, or its own refusal
 abbrev pub Call : Type 0 → Type 0
-Call A = Result (Service A) Refusal
+Call A = Result (Service A) StoreError
 
 -- the fact stands of each store that the map holds and that was opened so
 abbrev pub AtStore : Opened → Map → (Store → Type 0) → Type 0
@@ -124,5 +123,5 @@ pub record IsUndone {A : Type 0} (maps : ℕ → Map) (refuses : KeyRange → �
 abbrev pub IsRefused :
     {A : Type 0} → (ℕ → Map) → (KeyRange → ℕ → ReadError → Type 0) → Opened → Call A → StoreError → CommitRequest →
     CommitRequest → Type 0
-IsRefused maps refuses opened (Err refusal) error old new = ((error ≡ Memory) ⊎ (error ≡ Refused refusal)) × (new ≡ old)
+IsRefused maps refuses opened (Err refusal) error old new = ((error ≡ Memory) ⊎ (error ≡ refusal)) × (new ≡ old)
 IsRefused maps refuses opened (Ok service) error old new = IsUndone maps refuses opened service error old new

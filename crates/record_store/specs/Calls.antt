@@ -1,5 +1,6 @@
 -- The calls on an open store, one by one: what each reads, answers, leaves and writes.
-use Rattle.std.specs.Prelude.{◌≡◌, ℕ, Bool, true, false, List, [], ◌∷◌, Option, Some, None, Result, Ok, Err, is_some}
+use Rattle.std.specs.Prelude.{◌≡◌, ℕ, Bool, true, false, List, [], ◌∷◌, Option, Some, None, Result, Ok, Err}
+use Rattle.std.specs.Prelude.{is_some, if◌then◌else◌}
 use Rattle.tuple_codec.specs.Item.{Item}
 use Rattle.kv_core.specs.Range.{point}
 use Rattle.kv_core.specs.declared.change.Mutation.{Mutation}
@@ -12,7 +13,8 @@ use Rattle.metadata.specs.declared.index.IndexRequest.{IndexRequest}
 use Rattle.metadata.specs.declared.index.State.{State}
 use Rattle.metadata.specs.declared.index.State.TheVariants.{Disabled}
 use Rattle.metadata.specs.declared.refusal.Refusal.{Refusal}
-use Rattle.metadata.specs.declared.refusal.Refusal.TheVariants.{OtherSchema, UnknownIndex, UnknownType}
+use Rattle.metadata.specs.declared.refusal.Refusal.TheVariants.{UnknownIndex, UnknownType}
+use Rattle.record_store.specs.declared.error.StoreError.TheVariants.{Refused, OtherSchema}
 use Rattle.metadata.specs.Change.{add_type}
 use Rattle.metadata.specs.IndexChange.{new_index, with_index, without_index}
 use Rattle.metadata.specs.Record.{Record, key_of, primary_key}
@@ -26,10 +28,10 @@ use Rattle.record_store.specs.Layout.{record_key, schema_key, type_range}
 use Rattle.record_store.specs.IndexWrites.{disable_writes, drop_writes, index_added_writes, remove_writes, save_writes}
 use Rattle.record_store.specs.Call.{Call, Opened, Service, first_of, whole}
 
--- what is done with a value, or the refusal
+-- what is done with a value, or the refusal that the schema or the record meets
 abbrev pub done_with : {K A : Type 0} → (K → Service A) → Result K Refusal → Call A
 done_with service (Ok value) = Ok (service value)
-done_with service (Err refusal) = Err refusal
+done_with service (Err refusal) = Err (Refused refusal)
 
 -- LOAD: the record of a primary key is answered
 abbrev pub load_service : Opened → List Item → Service (Option Record)
@@ -54,13 +56,14 @@ save_service opened r = record {
   changes = λ old. true;
 }
 
--- the record, whose type is to be that of the schema
-abbrev pub own_record : Option TypeDefinition → Record → Result Record Refusal
-own_record None r = Err OtherSchema
-own_record (Some type) r = elim (same_type type r.definition) [ true ↦ Ok r | false ↦ Err OtherSchema ]
+-- whether the record's type is the one of that name in the schema
+abbrev pub is_own : Option TypeDefinition → Record → Bool
+is_own None r = false
+is_own (Some type) r = same_type type r.definition
 
 abbrev pub save_call : Opened → Record → Call (Option Record)
-save_call opened r = done_with (save_service opened) (own_record (find_type opened.schema r.definition.name) r)
+save_call opened r =
+    if is_own (find_type opened.schema r.definition.name) r then Ok (save_service opened r) else Err OtherSchema
 
 -- REMOVE: the record of a primary key is taken out, where it is there, and its indexes follow
 abbrev pub remove_service : Opened → List Item → Service Bool

@@ -12,9 +12,9 @@ use Rattle.txn.specs.Runs.{Ran}
 use Rattle.metadata.specs.declared.index.IndexKind.TheVariants.{Value}
 use Rattle.metadata.specs.Lawful.{IsLawfulSchema}
 use Rattle.metadata.specs.Written.{schema_bytes}
-use Rattle.metadata.specs.declared.refusal.Refusal.TheVariants.{AlreadyThere, NoStore}
 use Rattle.record_store.specs.declared.error.StoreError.{StoreError}
-use Rattle.record_store.specs.declared.error.StoreError.TheVariants.{Memory, Read, Write, Corrupt, Refused}
+use Rattle.record_store.specs.declared.error.StoreError.TheVariants.{Memory, Read, Write, Corrupt, NoStore}
+use Rattle.record_store.specs.declared.error.StoreError.TheVariants.{AlreadyThere}
 use Rattle.record_store.specs.Store.{Serial, created}
 use Rattle.record_store.specs.Layout.{schema_key, state_pair, states_range}
 use Rattle.record_store.specs.Holds.{Holds, IsPlain}
@@ -59,14 +59,14 @@ abbrev pub IsOpenFailure : (KeyRange → ReadError → Type 0) → List ℕ → 
 IsOpenFailure refuses prefix Memory added m = IsBeginning added (opening_reach prefix)
 IsOpenFailure refuses prefix (Read error) added m =
     IsBeginning added (opening_reach prefix) × IsNextRefused refuses (opening_reach prefix) added error
-IsOpenFailure refuses prefix (Refused refusal) added m =
-    (added ≡ opening_reach prefix) × (refusal ≡ NoStore) × (get m (schema_key prefix) ≡ None)
+IsOpenFailure refuses prefix NoStore added m =
+    (added ≡ opening_reach prefix) × (get m (schema_key prefix) ≡ None)
     × AtSerials prefix m (λ serial. serial ≡ None)
 IsOpenFailure refuses prefix (Corrupt key) added m =
     (added ≡ opening_reach prefix) × (get m (schema_key prefix) ≡ None → ⊥)
     × IsFirstBad (IsOpeningPair prefix m) (read_in m (opening_reach prefix)) key
     × AtSerials prefix m (λ serial. IsPlain serial → ⊥)
-IsOpenFailure refuses prefix (Write error) added m = ⊥
+IsOpenFailure refuses prefix error added m = ⊥
 
 -- a store wasn't opened: these ranges were added to those read, and nothing was written
 pub record IsUnopened (maps : ℕ → Map) (refuses : KeyRange → ℕ → ReadError → Type 0) (prefix : List ℕ)
@@ -91,14 +91,14 @@ abbrev pub IsCreateFailure :
 IsCreateFailure refuses opened Memory before added m = IsBeginning added (opening_reach opened.prefix)
 IsCreateFailure refuses opened (Read error) before added m =
     IsBeginning added (opening_reach opened.prefix) × IsNextRefused refuses (opening_reach opened.prefix) added error
-IsCreateFailure refuses opened (Refused refusal) before added m =
-    (added ≡ opening_reach opened.prefix) × (refusal ≡ AlreadyThere) × (get m (schema_key opened.prefix) ≡ None → ⊥)
+IsCreateFailure refuses opened AlreadyThere before added m =
+    (added ≡ opening_reach opened.prefix) × (get m (schema_key opened.prefix) ≡ None → ⊥)
     × AtSerials opened.prefix m (λ serial. serial ≡ None → ⊥)
 IsCreateFailure refuses opened (Write error) before added m =
     (added ≡ opening_reach opened.prefix) × (get m (schema_key opened.prefix) ≡ None)
     × (write_all_refusal before (schema_writes opened.prefix opened.schema) ≡ Some error)
     × AtSerials opened.prefix m (λ serial. serial ≡ None)
-IsCreateFailure refuses opened (Corrupt key) before added m = ⊥
+IsCreateFailure refuses opened error before added m = ⊥
 
 -- a store wasn't made: these ranges were added to those read, and nothing was written
 pub record IsUncreated (maps : ℕ → Map) (refuses : KeyRange → ℕ → ReadError → Type 0) (opened : Opened)

@@ -15,7 +15,6 @@ use Rattle.metadata.specs.declared.index.IndexDefinition.{IndexDefinition}
 use Rattle.metadata.specs.declared.index.IndexKind.{IndexKind}
 use Rattle.metadata.specs.declared.index.IndexKind.TheVariants.{Value}
 use Rattle.metadata.specs.declared.index.State.{State}
-use Rattle.metadata.specs.declared.refusal.Refusal.TheVariants.{AlreadyThere, NoStore}
 use Rattle.metadata.specs.Lawful.{IsLawfulSchema}
 use Rattle.metadata.specs.Record.{Record, key_items}
 use Rattle.metadata.specs.Records.{of_type, record_at}
@@ -23,7 +22,7 @@ use Rattle.metadata.specs.Schema.{Schema}
 use Rattle.metadata.specs.Stored.{IsOfNoRecord, IsStoredAs}
 use Rattle.metadata.specs.Written.{schema_bytes}
 use Rattle.record_store.specs.declared.error.StoreError.{StoreError}
-use Rattle.record_store.specs.declared.error.StoreError.TheVariants.{Memory, Read, Corrupt, Refused}
+use Rattle.record_store.specs.declared.error.StoreError.TheVariants.{Memory, Read, Corrupt, NoStore, AlreadyThere}
 use Rattle.record_store.specs.Layout.{record_key, schema_key, state_pair, type_range}
 use Rattle.record_store.specs.Form.{IsDisabledOf, IsRecordPair, IsStatePair, read_in}
 use Rattle.record_store.specs.Call.{AtStore, IsUnread, Opened, Reading}
@@ -71,7 +70,7 @@ IsBadSchema prefix bytes error = ⊥
 
 -- why what was found is no schema: nothing was found, or bytes of no schema
 abbrev pub IsNoSchema : List ℕ → Option (List ℕ) → StoreError → Type 0
-IsNoSchema prefix None error = error ≡ Refused NoStore
+IsNoSchema prefix None error = error ≡ NoStore
 IsNoSchema prefix (Some bytes) error = IsBadSchema prefix bytes error
 
 -- a pair is that of the state of one of the indexes
@@ -189,4 +188,4 @@ HaveNoRecords records_place type pairs error = (error ≡ Memory) ⊎ IsBadAmong
 
 -- why a store isn't made where a pair was found at the schema's key
 abbrev pub IsThere : Option (List ℕ) → StoreError → Type 0
-IsThere written error = (error ≡ Refused AlreadyThere) × (written ≡ None → ⊥)
+IsThere written error = (error ≡ AlreadyThere) × (written ≡ None → ⊥)

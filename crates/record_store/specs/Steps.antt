@@ -9,7 +9,7 @@ use Rattle.cluster_core.specs.declared.answers.ReadError.{ReadError}
 use Rattle.cluster_core.specs.declared.answers.ReadError.TheVariants as read
 use Rattle.metadata.specs.declared.refusal.MetadataError.{MetadataError}
 use Rattle.metadata.specs.declared.refusal.MetadataError.TheVariants as meta
-use Rattle.metadata.specs.declared.refusal.Refusal.TheVariants.{OtherSchema, UnknownType}
+use Rattle.metadata.specs.declared.refusal.Refusal.TheVariants.{UnknownType}
 use Rattle.txn.specs.Runs.{Ran}
 use Rattle.record_store.specs.declared.error.StoreError.{StoreError}
 use Rattle.record_store.specs.declared.error.StoreError.TheVariants.{Memory, Read, Write, Refused}
@@ -18,12 +18,9 @@ use Rattle.record_store.specs.declared.error.StoreError.TheVariants.{Memory, Rea
 abbrev pub no_memory : StoreError
 no_memory = Memory
 
--- the errors that a name of no type and a record of another schema are
+-- the error that a name of no type is
 abbrev pub unknown_type : StoreError
 unknown_type = Refused UnknownType
-
-abbrev pub other_schema : StoreError
-other_schema = Refused OtherSchema
 
 -- the error that a refused read is
 abbrev pub of_read : ReadError → StoreError

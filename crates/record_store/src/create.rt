@@ -12,7 +12,7 @@ use crate::layout::schema_key;
 use crate::opening::{read_schema, read_states};
 use crate::store::Store;
 use kv_core::{Bytes, Mutation};
-use metadata::{Refusal, Schema};
+use metadata::Schema;
 use std::alloc::{AllocError, Global};
 use txn::{Snapshot, Transaction};
 
@@ -23,7 +23,7 @@ fn refuse_store(written: &Option<Bytes>) -> Result<(), StoreError>
 {
     match written {
         None => Ok(()),
-        Some(_) => Err(StoreError::Refused(Refusal::AlreadyThere)),
+        Some(_) => Err(StoreError::AlreadyThere),
     }
 }
 

@@ -8,18 +8,32 @@ use std::alloc::{AllocError, AllocFailed};
 use thiserror::Error;
 
 /// Why a call on the store isn't answered.
-#[derive(Drop)]
+#[derive(Debug, Drop, Error)]
 pub enum StoreError {
     /// Memory is wanting.
+    #[error("out of memory")]
     Memory,
     /// A read is refused.
+    #[error("{0}")]
     Read(ReadError),
     /// A write is refused.
+    #[error("{0}")]
     Write(WriteError),
     /// The pair of this key isn't one that a store has there.
+    #[error("the pair of the key {0} isn't one that a store has there")]
     Corrupt(Bytes),
-    /// The call's own refusal.
+    /// What is asked of the schema or of a record is refused.
+    #[error("{0}")]
     Refused(Refusal),
+    /// There is no store.
+    #[error("there is no store")]
+    NoStore,
+    /// The store is there already.
+    #[error("the store is there already")]
+    AlreadyThere,
+    /// The record's type isn't that of the store's schema.
+    #[error("the record's type isn't that of the store's schema")]
+    OtherSchema,
 }
 
 impl From<AllocError> for StoreError {

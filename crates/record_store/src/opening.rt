@@ -19,7 +19,7 @@ use crate::error::StoreError;
 use crate::layout::{schema_key, state_key, state_value, states_range};
 use crate::store::Store;
 use kv_core::{Bytes, Pair};
-use metadata::{IndexDefinition, IndexKind, MetadataError, Refusal, Schema, State};
+use metadata::{IndexDefinition, IndexKind, MetadataError, Schema, State};
 use std::alloc::{AllocError, Global};
 use txn::{Snapshot, Transaction};
 
@@ -106,7 +106,7 @@ fn schema_found(alloc: Global, prefix: &[u8], written: Option<Bytes>) -> Result<
     ensures refused { IfErr result (IsNoSchema prefix.now written) }
 {
     match written {
-        None => Err(StoreError::Refused(Refusal::NoStore)),
+        None => Err(StoreError::NoStore),
         Some(bytes) => decode_schema(alloc, prefix, &bytes),
     }
 }

@@ -1,45 +1,33 @@
-ghost use Rattle.std.specs.Prelude.{◌≡◌, ◌∷◌, All, Err, Ok, Some, IfOk, IfErr, OnOk};
+ghost use Rattle.std.specs.Prelude.{◌≡◌, ◌∷◌, All, Some, IfOk, IfErr, OnOk};
 ghost use Rattle.std.specs.Option.{option_copied};
 ghost use Rattle.metadata.specs.Cell.{IsCell};
-ghost use Rattle.metadata.specs.declared.refusal.Refusal.TheVariants.{OtherSchema};
 ghost use Rattle.metadata.specs.Record.{primary_key as primary_key_of};
 ghost use Rattle.metadata.specs.Schema.{find_type};
 ghost use Rattle.record_store.specs.Call.{IsAnswered, IsRefused};
 ghost use Rattle.kv_core.specs.declared.change.Mutation.TheVariants.{Set};
-ghost use Rattle.record_store.specs.Calls.{own_record, save_call};
+ghost use Rattle.record_store.specs.Calls.{is_own, save_call};
 ghost use Rattle.record_store.specs.Holds.{HasPlainIndexes};
 ghost use Rattle.record_store.specs.IndexWrites.{index_writes, store_of};
 ghost use Rattle.record_store.specs.Layout.{record_key, record_value};
-ghost use Rattle.record_store.specs.Steps.{other_schema};
 
 use crate::error::StoreError;
 use crate::layout::{record_key, record_value};
 use crate::store::Store;
 use kv_core::Mutation;
-use metadata::{Record, Refusal};
+use metadata::Record;
 use std::alloc::AllocError;
 use tuple_codec::Tuple;
 use txn::{Snapshot, Transaction};
 
 impl Store {
-    // Refuses a record whose type isn't that of the store's schema.
-    fn check_type(&self, new: &Record) -> Result<(), StoreError>
-        ensures own { OnOk result (own_record (find_type self.now.schema new.now.definition.name) new.now
-            ≡ Ok new.now) }
-        ensures refused { IfErr result (λ error.
-            (error ≡ other_schema) × (own_record (find_type self.now.schema new.now.definition.name) new.now
-            ≡ Err OtherSchema)) }
+    // Whether the record's type is that of the store's schema.
+    fn is_own(&self, new: &Record) -> bool
+        ensures { result ≡ is_own (find_type self.now.schema new.now.definition.name) new.now }
     {
         let definition = new.definition();
         match self.schema().type_named(&definition.name) {
-            Some(own) => {
-                if own.is_same(definition) {
-                    Ok(())
-                } else {
-                    Err(StoreError::Refused(Refusal::OtherSchema))
-                }
-            }
-            None => Err(StoreError::Refused(Refusal::OtherSchema)),
+            Some(own) => own.is_same(definition),
+            None => false,
         }
     }
 
@@ -87,7 +75,9 @@ impl Store {
             IsRefused (S.map_at db.now) (S.may_refuse db.now) self.now
             (save_call self.now new.now) error tx.old tx.new) }
     {
-        self.check_type(new)?;
+        if !self.is_own(new) {
+            return Err(StoreError::OtherSchema);
+        }
         let primary_key = new.primary_key(self.alloc())?;
         let old = self.read_record(tx, db, new.definition(), &primary_key)?;
         let mutations = self.replacement(new, old.as_ref(), &primary_key)?;

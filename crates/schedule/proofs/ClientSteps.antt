@@ -2,7 +2,7 @@
 use Rattle.std.proofs.Common.{◌≡◌, ℕ, ◌<◌, cond, List, [], ◌∷◌, ◌++◌, length, get_or, refl, sym, ap, subst, subst₂, ◌∙◌, Option, Some, None, append-nil, arith}
 use Rattle.std.specs.Prelude.{slice_set}
 use Rattle.kv_core.specs.declared.change.CommitRequest.{CommitRequest}
-use Rattle.metadata.specs.declared.refusal.Refusal.TheVariants.{NoTransaction}
+use Rattle.schedule.specs.declared.refusal.Refusal.TheVariants.{NoTransaction}
 use Rattle.cluster_core.specs.Cluster.{ClusterState, database_at}
 use Rattle.cluster_core.specs.History.{IsLegal}
 use Rattle.cluster_core.specs.Roles.{history}

@@ -10,8 +10,10 @@ use Rattle.cluster_core.specs.declared.answers.ReadError.{ReadError}
 use Rattle.txn.proofs.Running.{ran_still, ran_because}
 use Rattle.metadata.specs.declared.refusal.MetadataError.{MetadataError}
 use Rattle.metadata.specs.declared.refusal.MetadataError.TheVariants as meta
-use Rattle.metadata.specs.declared.refusal.Refusal.{Refusal}
-use Rattle.metadata.specs.declared.refusal.Refusal.TheVariants.{AlreadyThere, KeyOutside, KeyTooLarge, ValueTooLarge, TransactionTooLarge}
+use Rattle.metadata.specs.declared.refusal.Refusal.{Refusal as SchemaRefusal}
+use Rattle.schedule.specs.declared.refusal.Refusal.{Refusal}
+use Rattle.schedule.specs.Refusals.{of_schema}
+use Rattle.schedule.specs.declared.refusal.Refusal.TheVariants.{AlreadyThere, KeyOutside, KeyTooLarge, ValueTooLarge, TransactionTooLarge}
 use Rattle.kv_core.specs.declared.change.WriteError.{WriteError}
 use Rattle.kv_core.specs.declared.change.WriteError.TheVariants as write
 use Rattle.metadata.specs.Answers.{IsRefusedAs}
@@ -21,6 +23,7 @@ use Rattle.metadata.specs.declared.index.IndexKind.TheVariants.{Value}
 use Rattle.metadata.specs.Schema.{Schema}
 use Rattle.record_store.specs.declared.error.StoreError.{StoreError}
 use Rattle.record_store.specs.declared.error.StoreError.TheVariants.{Memory, Read, Write, Corrupt, Refused}
+use Rattle.record_store.specs.declared.error.StoreError.TheVariants as fault
 use Rattle.record_store.specs.Store.{Store, Serial, created, schema_in}
 use Rattle.record_store.specs.Holds.{Holds}
 use Rattle.record_store.specs.Call.{Opened}
@@ -46,7 +49,7 @@ abbrev fresh_at : Schema → Opened
 fresh_at schema = record { prefix = store_prefix; schema = schema; states = [] }
 
 -- REQUEST: no schema is made, and nothing was read
-refusal_replies : (request : SchemaRequest) (serial : Serial) (refusal : Refusal) → schema_asked request ≡ Err refusal → IsReply serial (Create request) (reply.Refused refusal) × (writes serial (Create request) ≡ [])
+refusal_replies : (request : SchemaRequest) (serial : Serial) (refusal : SchemaRefusal) → schema_asked request ≡ Err refusal → IsReply serial (Create request) (reply.Refused (of_schema refusal)) × (writes serial (Create request) ≡ [])
 refusal_replies request None refusal is = (sym (ap (λ o. (served_create None o).0) is), ap schema_written is)
 refusal_replies request (Some store) refusal is = (sym (ap (λ o. (served_create (Some store) o).0) is), refl)
 
@@ -56,10 +59,10 @@ refused_request {refuses = refuses} {old = old} request (meta.Refused refusal) i
     refused_by (Create request) None (Refused refusal) [] (ran_still refl (λ m. record {
       there = tt;
       reads = reads_nothing;
-      told = λ answer same. told_refused None (Create request) refusal answer m same (subst (λ o. IsMadeOf o (reply.Refused refusal) m) (sym is) tt);
+      told = λ answer same. told_refused None (Create request) (of_schema refusal) answer m same (subst (λ o. IsMadeOf o (reply.Refused (of_schema refusal)) m) (sym is) tt);
       held = λ serial stands.
           let says = refusal_replies request serial refusal is in
-          (own_right (λ range. refuses range old.read_version) (Create request) old.mutations refusal serial says.0 says.1, reads_nothing ∙ same_added m serial);
+          (own_right (λ range. refuses range old.read_version) (Create request) old.mutations (Refused refusal) (of_schema refusal) serial refl says.0 says.1, reads_nothing ∙ same_added m serial);
     }))
   where
     reads_nothing : [] ≡ make_reach (schema_asked request) ++ []
@@ -112,10 +115,12 @@ uncreated_at {refuses = refuses} {old = old} request schema error made is = refu
         λ answer same. inr (read_right refused (reach (schema_in serial) (Create request)) reason answer same
         (next_within refused (opening_reach store_prefix) ranges (reach (schema_in serial) (Create request)) reason (opening_asked (schema_in serial) (Create request) opened) says.1))
     right (Corrupt key) ranges m says serial stands = absurd says
-    right (Refused refusal) ranges m says None stands = absurd (says.3 None stands.held refl)
-    right (Refused refusal) ranges m says (Some store) stands =
-        subst (λ r. IsRight refused (Create request) old.mutations (Refused r) (Some store)) (sym says.1)
-        (own_right refused (Create request) old.mutations AlreadyThere (Some store) (sym (ap (λ o. (served_create (Some store) o).0) made)) refl)
+    right (Refused refusal) ranges m says serial stands = absurd says
+    right fault.NoStore ranges m says serial stands = absurd says
+    right fault.OtherSchema ranges m says serial stands = absurd says
+    right fault.AlreadyThere ranges m says None stands = absurd (says.2 None stands.held refl)
+    right fault.AlreadyThere ranges m says (Some store) stands =
+        own_right refused (Create request) old.mutations fault.AlreadyThere AlreadyThere (Some store) refl (sym (ap (λ o. (served_create (Some store) o).0) made)) refl
     right (Write reason) ranges m says None stands =
         limit_right refused (Create request) old.mutations reason None (ap (write_all_refusal old.mutations) (writes_none request schema made) ∙ says.2)
     right (Write reason) ranges m says (Some store) stands = let none : ◌≡◌ {A = Option Store} (Some store) None = says.3 (Some store) stands.held in absurd (cc)
@@ -129,11 +134,14 @@ uncreated_at {refuses = refuses} {old = old} request schema error made is = refu
       held = λ serial stands. (right (Read reason) ranges m says serial stands, subst (IsBeginning ranges) (added_there request serial) (begin_open (Create request) [] opened says.0));
     }
     stop (Corrupt key) ranges m says = absurd says
-    stop (Refused refusal) ranges m says = record {
+    stop (Refused refusal) ranges m says = absurd says
+    stop fault.NoStore ranges m says = absurd says
+    stop fault.OtherSchema ranges m says = absurd says
+    stop fault.AlreadyThere ranges m says = record {
       there = tt;
       reads = all ranges says.0;
-      told = λ answer same. told_refused None (Create request) refusal answer m same (sound m refusal (subst (λ r. IsMade (reply.Refused r) m) (sym says.1) says.2));
-      held = λ serial stands. (right (Refused refusal) ranges m says serial stands, all ranges says.0 ∙ added_there request serial);
+      told = λ answer same. told_refused None (Create request) AlreadyThere answer m same (sound m AlreadyThere says.1);
+      held = λ serial stands. (right fault.AlreadyThere ranges m says serial stands, all ranges says.0 ∙ added_there request serial);
     }
     stop (Write reason) ranges m says = record {
       there = tt;

@@ -6,7 +6,7 @@ use Rattle.metadata.specs.declared.cells.Cell.TheVariants.{Null, Int, Text}
 use Rattle.metadata.specs.declared.cells.Kind.TheVariants as kind
 use Rattle.metadata.specs.declared.definition.Field.{Field}
 use Rattle.metadata.specs.declared.definition.TypeRequest.{TypeRequest}
-use Rattle.metadata.specs.declared.refusal.Refusal.TheVariants.{AlreadyThere, NoStore, UnknownType, WrongKind, NullKey, BadName, NameTaken, UnknownField, BadSchema, TooMany, NoSuchRole, TooOld}
+use Rattle.schedule.specs.declared.refusal.Refusal.TheVariants.{AlreadyThere, NoStore, UnknownType, WrongKind, NullKey, BadName, NameTaken, UnknownField, BadSchema, TooMany, NoSuchRole, TooOld}
 use Rattle.schedule.specs.declared.step.Command.{Command}
 use Rattle.schedule.specs.declared.step.Command.TheVariants.{Create, «Type», Save, Load, Remove}
 use Rattle.schedule.specs.declared.step.Step.{Step}

@@ -7,7 +7,7 @@ use Rattle.metadata.specs.declared.definition.Field.{Field}
 use Rattle.metadata.specs.declared.index.IndexKind.TheVariants.{Value}
 use Rattle.metadata.specs.declared.index.IndexRequest.{IndexRequest}
 use Rattle.metadata.specs.declared.index.State.TheVariants.{Readable, Disabled}
-use Rattle.metadata.specs.declared.refusal.Refusal.TheVariants.{BadSchema, NameTaken, UnknownField, UnknownIndex, UnknownType}
+use Rattle.schedule.specs.declared.refusal.Refusal.TheVariants.{BadSchema, NameTaken, UnknownField, UnknownIndex, UnknownType}
 use Rattle.kv_core.specs.Bytes.{next_key}
 use Rattle.kv_core.specs.Range.{point}
 use Rattle.kv_core.specs.declared.change.Mutation.TheVariants.{Set, ClearRange}

@@ -11,11 +11,13 @@ use Rattle.txn.specs.Runs.{Ran}
 use Rattle.txn.proofs.Running.{ran_because, ran_then}
 use Rattle.metadata.specs.declared.refusal.MetadataError.{MetadataError}
 use Rattle.metadata.specs.declared.refusal.MetadataError.TheVariants as meta
-use Rattle.metadata.specs.declared.refusal.Refusal.{Refusal}
-use Rattle.metadata.specs.declared.refusal.Refusal.TheVariants.{NoStore}
+use Rattle.metadata.specs.declared.refusal.Refusal.{Refusal as SchemaRefusal}
+use Rattle.schedule.specs.Refusals.{of_schema}
+use Rattle.schedule.specs.declared.refusal.Refusal.TheVariants.{NoStore}
 use Rattle.metadata.specs.Answers.{IsRefusedAs}
 use Rattle.record_store.specs.declared.error.StoreError.{StoreError}
 use Rattle.record_store.specs.declared.error.StoreError.TheVariants.{Memory, Read, Write, Corrupt, Refused}
+use Rattle.record_store.specs.declared.error.StoreError.TheVariants as fault
 use Rattle.record_store.specs.Store.{Store, Serial, schema_in}
 use Rattle.record_store.specs.Holds.{HasPlainIndexes, Holds, IsLawful}
 use Rattle.record_store.specs.Call.{AtStore, Call, IsAnswered, IsDone, IsFailure, IsOpenAs, Opened, Reading, Service, whole}
@@ -45,8 +47,8 @@ refused_unopened {refuses = refuses} {old = old} command error opens is none uno
     refused : KeyRange → ReadError → Type 0
     refused range = refuses range old.read_version
 
-    nothing : (serial : Serial) → serial ≡ None → IsRight refused command old.mutations (Refused NoStore) serial
-    nothing serial there = subst (IsRight refused command old.mutations (Refused NoStore)) (sym there) (own_right refused command old.mutations NoStore None is none)
+    nothing : (serial : Serial) → serial ≡ None → IsRight refused command old.mutations fault.NoStore serial
+    nothing serial there = subst (IsRight refused command old.mutations fault.NoStore) (sym there) (own_right refused command old.mutations fault.NoStore NoStore None refl is none)
 
     stop : (error : StoreError) (ranges : List KeyRange) (m : Map) → IsOpenFailure refused store_prefix error ranges m → IsStop refused None command old.mutations error ranges m
     stop Memory ranges m says =
@@ -67,15 +69,18 @@ refused_unopened {refuses = refuses} {old = old} command error opens is none uno
       told = λ answer same. told_damage None command key answer m same (says.1, says.2);
       held = λ serial stands. absurd (says.3 serial stands.held stands.plain);
     }
-    stop (Refused refusal) ranges m says = subst (λ r. IsStop refused None command old.mutations (Refused r) ranges m) (sym says.1) (record {
+    stop fault.NoStore ranges m says = record {
       there = tt;
       reads = says.0 ∙ opening_added None command m opens (alone command);
-      told = λ answer same. told_refused None command NoStore answer m same (sound_none command m says.2);
+      told = λ answer same. told_refused None command NoStore answer m same (sound_none command m says.1);
       held = λ serial stands. (
-        nothing serial (says.3 serial stands.held),
-        says.0 ∙ opening_added None command m opens (alone command) ∙ ap (λ (s : Serial). added_by (schema_in s) command m) (sym (says.3 serial stands.held)) ∙ added_held m command serial stands.held,
+        nothing serial (says.2 serial stands.held),
+        says.0 ∙ opening_added None command m opens (alone command) ∙ ap (λ (s : Serial). added_by (schema_in s) command m) (sym (says.2 serial stands.held)) ∙ added_held m command serial stands.held,
       );
-    })
+    }
+    stop (Refused refusal) ranges m says = absurd says
+    stop fault.AlreadyThere ranges m says = absurd says
+    stop fault.OtherSchema ranges m says = absurd says
 
 -- ---- calls on an open store
 
@@ -91,16 +96,16 @@ pub record Serves {A : Type 0} (opened : Opened) (command : Command) (service : 
   pub plain : (store : Store) → IsOpenAs opened store → HasPlainIndexes store.schema store.states → HasPlainIndexes (service.after store).schema (service.after store).states
 
 -- what a command is that is refused by the schema: it reads nothing behind the opening, at each store that was opened so this is its reply, and it writes nothing
-pub record Refuses (opened : Opened) (command : Command) (refusal : Refusal) : Type 0 where
+pub record Refuses (opened : Opened) (command : Command) (refusal : SchemaRefusal) : Type 0 where
   pub opens : open_reach command ≡ opening_reach store_prefix
   pub reads : own_reading (Some opened.schema) command ≡ whole []
-  pub replies : (store : Store) → IsOpenAs opened store → IsReply (Some store) command (reply.Refused refusal)
+  pub replies : (store : Store) → IsOpenAs opened store → IsReply (Some store) command (reply.Refused (of_schema refusal))
   pub idle : (store : Store) → IsOpenAs opened store → writes (Some store) command ≡ []
 
 -- what a command is by its call
 abbrev pub Meets : {A : Type 0} → Opened → Command → Call A → (A → Reply) → Type 0
 Meets opened command (Ok service) told = Serves opened command service told
-Meets opened command (Err refusal) told = Refuses opened command refusal
+Meets opened command (Err error) told = (refusal : SchemaRefusal) × (error ≡ Refused refusal) × Refuses opened command refusal
 
 -- nothing is written when a store is opened
 unwritten : {maps : ℕ → Map} {old new : CommitRequest} (opened : Opened) → IsOpened maps (at opened) old new → new.mutations ≡ old.mutations
@@ -115,13 +120,13 @@ begin_serial : (opened : Opened) (command : Command) (m : Map) (serial : Serial)
 begin_serial opened command m serial ranges holds has begin = subst (IsBeginning ranges) (ap (λ s. added_by s command m) (sym (schema_is (at opened) serial has)) ∙ added_held m command serial holds) begin
 
 -- OWN: a store was opened, and the command is refused by its schema
-pub refused_own : {maps : ℕ → Map} {refuses : KeyRange → ℕ → ReadError → Type 0} {old mid : CommitRequest} (opened : Opened) (command : Command) (refusal : Refusal) →
+pub refused_own : {maps : ℕ → Map} {refuses : KeyRange → ℕ → ReadError → Type 0} {old mid : CommitRequest} (opened : Opened) (command : Command) (refusal : SchemaRefusal) →
     Refuses (at opened) command refusal → IsOpened maps (at opened) old mid → IsRefused maps refuses command (Refused refusal) old mid
 refused_own {refuses = refuses} {old = old} opened command refusal so is =
     refused_by command (Some opened.schema) (Refused refusal) (opening_reach store_prefix) (ran_because is.ran (λ m has. record {
       there = (opened.states, has.0);
       reads = opening_added (Some opened.schema) command m so.opens so.reads;
-      told = λ answer same. told_refused (Some opened.schema) command refusal answer m same (sound_by opened.schema command (reply.Refused refusal) m (whole []) so.reads tt);
+      told = λ answer same. told_refused (Some opened.schema) command (of_schema refusal) answer m same (sound_by opened.schema command (reply.Refused (of_schema refusal)) m (whole []) so.reads tt);
       held = λ serial stands. (
         right serial (has.1 serial stands.held),
         at_serial opened command m serial (opening_reach store_prefix) stands.held (has.1 serial stands.held) (opening_added (Some opened.schema) command m so.opens so.reads),
@@ -130,7 +135,7 @@ refused_own {refuses = refuses} {old = old} opened command refusal so is =
   where
     right : (serial : Serial) → IsThereAs (at opened) serial → IsRight (λ range. refuses range old.read_version) command old.mutations (Refused refusal) serial
     right None has = absurd has
-    right (Some store) has = own_right (λ range. refuses range old.read_version) command old.mutations refusal (Some store) (so.replies store has) (so.idle store has)
+    right (Some store) has = own_right (λ range. refuses range old.read_version) command old.mutations (Refused refusal) (of_schema refusal) (Some store) refl (so.replies store has) (so.idle store has)
 
 module _ {A : Type 0} (opened : Opened) (command : Command) (service : Service A) (told : A → Reply) (serves : Serves (at opened) command service told) (ranges : List KeyRange) (m : Map) where
   -- the ranges of the opening, and behind them those of the call
@@ -181,10 +186,10 @@ performed_at {refuses = refuses} {old = old} {mid = mid} {A = A} opened command 
 -- NOT ANSWERED: a store was opened, and a call on it was refused
 refused_at : {maps : ℕ → Map} {refuses : KeyRange → ℕ → ReadError → Type 0} {old mid new : CommitRequest} {A : Type 0} (opened : Opened) (command : Command) (asked : Call A) (told : A → Reply) (error : StoreError) →
     open_reach command ≡ opening_reach store_prefix → Meets (at opened) command asked told → IsOpened maps (at opened) old mid → call.IsRefused maps refuses (at opened) asked error mid new → IsRefused maps refuses command error old new
-refused_at {maps = maps} {refuses = refuses} {old = old} {mid = mid} {new = new} opened command (Err refusal) told error opens meets is_opened is =
+refused_at {maps = maps} {refuses = refuses} {old = old} {mid = mid} {new = new} opened command (Err refusal) told error opens (asked, same, meets) is_opened is =
     subst (λ (t : CommitRequest). IsRefused maps refuses command error old t) (sym is.1) (elim is.0 [
       | inl memory ↦ subst (λ e. IsRefused maps refuses command e old mid) (sym memory) (memory_opened opened command opens is_opened)
-      | inr own ↦ subst (λ e. IsRefused maps refuses command e old mid) (sym own) (refused_own opened command refusal meets is_opened)
+      | inr own ↦ subst (λ e. IsRefused maps refuses command e old mid) (sym (own ∙ same)) (refused_own opened command asked meets is_opened)
     ])
 refused_at {refuses = refuses} {old = old} {mid = mid} opened command (Ok service) told error opens serves is_opened is =
     refused_by command (Some opened.schema) error (opening_reach store_prefix ++ is.added) (ran_then is_opened.ran is.ran (λ m has says. stop error is.added m has says))
@@ -238,6 +243,9 @@ refused_at {refuses = refuses} {old = old} {mid = mid} opened command (Ok servic
             limit_right refused command old.mutations reason (Some store)
             (ap (λ ms. write_all_refusal ms (writes (Some store) command)) (sym (unwritten opened is_opened)) ∙ ap (write_all_refusal mid.mutations) (serves.wrote store same) ∙ says.2 store holds same)
     stop (Refused refusal) ranges m has says = absurd says
+    stop fault.NoStore ranges m has says = absurd says
+    stop fault.AlreadyThere ranges m has says = absurd says
+    stop fault.OtherSchema ranges m has says = absurd says
 
 -- ---- the same where the opened store stands at the store's prefix
 
@@ -260,9 +268,9 @@ refused {maps = maps} {refuses = refuses} {old = old} {mid = mid} {new = new} op
     (subst (λ o. call.IsRefused maps refuses o (asked o) error mid new) (located opened here) is)
 
 -- OWN REFUSAL: what the command asks for is refused by the schema, before a call is made
-pub refused_asked : {maps : ℕ → Map} {refuses : KeyRange → ℕ → ReadError → Type 0} {old mid : CommitRequest} {A : Type 0} (opened : Opened) (command : Command) (outcome : Result A Refusal) (error : MetadataError) →
+pub refused_asked : {maps : ℕ → Map} {refuses : KeyRange → ℕ → ReadError → Type 0} {old mid : CommitRequest} {A : Type 0} (opened : Opened) (command : Command) (outcome : Result A SchemaRefusal) (error : MetadataError) →
     open_reach command ≡ opening_reach store_prefix → opened.prefix ≡ store_prefix →
-    ((refusal : Refusal) → outcome ≡ Err refusal → Refuses (at opened) command refusal) → IsOpened maps opened old mid → IsRefusedAs error outcome → IsRefused maps refuses command (of_metadata error) old mid
+    ((refusal : SchemaRefusal) → outcome ≡ Err refusal → Refuses (at opened) command refusal) → IsOpened maps opened old mid → IsRefusedAs error outcome → IsRefused maps refuses command (of_metadata error) old mid
 refused_asked {maps = maps} {old = old} {mid = mid} opened command outcome meta.Memory opens here so is_opened is = memory_opened opened command opens (subst (λ o. IsOpened maps o old mid) (located opened here) is_opened)
 refused_asked {maps = maps} {old = old} {mid = mid} opened command outcome (meta.Refused refusal) opens here so is_opened is =
     refused_own opened command refusal (so refusal is) (subst (λ o. IsOpened maps o old mid) (located opened here) is_opened)

@@ -4,7 +4,7 @@ use Rattle.std.specs.Prelude.{is_some, slice_set}
 use Rattle.std.proofs.lemmas.Bool.{eqb-true, eqb-false, ltb-true, ltb-false, true≢false}
 use Rattle.std.proofs.lemmas.List.{get_or_default, get_or-replicate, get_or-set_same, get_or-set_other, set-get_or}
 use Rattle.kv_core.specs.Map.{Map}
-use Rattle.metadata.specs.declared.refusal.Refusal.TheVariants.{NoSuchClient}
+use Rattle.schedule.specs.declared.refusal.Refusal.TheVariants.{NoSuchClient}
 use Rattle.schedule.specs.declared.step.TheConstants.{CLIENTS}
 use Rattle.schedule.specs.declared.reply.Reply.{Reply}
 use Rattle.schedule.specs.declared.reply.Reply.TheVariants.{Refused}

@@ -10,8 +10,9 @@ use Rattle.kv_core.specs.Map.{Map}
 use Rattle.kv_core.specs.Read.{range_read}
 use Rattle.cluster_core.specs.declared.answers.ReadError.{ReadError}
 use Rattle.metadata.specs.declared.index.IndexDefinition.{IndexDefinition}
-use Rattle.metadata.specs.declared.refusal.Refusal.{Refusal}
-use Rattle.metadata.specs.declared.refusal.Refusal.TheVariants.{NoStore}
+use Rattle.metadata.specs.declared.refusal.Refusal.{Refusal as SchemaRefusal}
+use Rattle.schedule.specs.declared.refusal.Refusal.{Refusal}
+use Rattle.schedule.specs.declared.refusal.Refusal.TheVariants.{NoStore}
 use Rattle.metadata.specs.Asked.{schema_asked}
 use Rattle.metadata.specs.IndexChange.{new_index}
 use Rattle.metadata.specs.Records.{of_type}
@@ -74,7 +75,7 @@ next_within refuses asked added far error wider next =
 
 -- ---- what is added
 
-first_is : (m : Map) (store : Store) (o : Result IndexDefinition Refusal) → ((index : IndexDefinition) → o ≡ Ok index → Rattle.kv_core.specs.Map.pairs_in m (type_range store_prefix index.type_number) ≡ map (record_pair store_prefix) (of_type index.type_number store.records)) →
+first_is : (m : Map) (store : Store) (o : Result IndexDefinition SchemaRefusal) → ((index : IndexDefinition) → o ≡ Ok index → Rattle.kv_core.specs.Map.pairs_in m (type_range store_prefix index.type_number) ≡ map (record_pair store_prefix) (of_type index.type_number store.records)) →
     (first_reading o).added m ≡ first_added store o
 first_is m store (Ok index) held = ap (λ ps. range_read (type_range store_prefix index.type_number) 1 false (take 1 ps) ∷ []) (held index refl)
 first_is m store (Err refusal) held = refl
@@ -148,7 +149,7 @@ told_accepted schema command (reply.Reported reports) m is sound = sound
 pub sound_none : (command : Command) (m : Map) → get m (schema_key store_prefix) ≡ None → IsSound None command (reply.Refused NoStore) m
 sound_none (Create request) m none = by_schema (schema_asked request)
   where
-    by_schema : (o : Result Schema Refusal) → IsMadeOf o (reply.Refused NoStore) m
+    by_schema : (o : Result Schema SchemaRefusal) → IsMadeOf o (reply.Refused NoStore) m
     by_schema (Ok schema) = none
     by_schema (Err refusal) = tt
 sound_none («Type» request) m none = none

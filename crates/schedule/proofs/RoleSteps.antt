@@ -7,7 +7,7 @@ use Rattle.cluster_core.specs.declared.answers.Work.{Work}
 use Rattle.cluster_core.specs.declared.answers.Work.TheVariants as works
 use Rattle.cluster_core.specs.Cluster.{ClusterState, Did, log_of, may_pull, pull, with_pipeline}
 use Rattle.cluster_core.specs.Roles.{AreInOrder, PipelineState, append, may_append, may_resolve, raised, resolve, submitted}
-use Rattle.metadata.specs.declared.refusal.Refusal.TheVariants.{NoSuchRole}
+use Rattle.schedule.specs.declared.refusal.Refusal.TheVariants.{NoSuchRole}
 use Rattle.schedule.specs.declared.step.Step.TheVariants.{Resolve, Log, Pull}
 use Rattle.schedule.specs.declared.reply.Reply.{Reply}
 use Rattle.schedule.specs.declared.reply.Reply.TheVariants.{Done, Nothing, Refused}

@@ -28,12 +28,14 @@ use Rattle.record_store.specs.Store.{Store}
 use Rattle.record_store.specs.Holds.{IsLawful}
 use Rattle.record_store.proofs.Plain.{removed_plain, saved_plain}
 use Rattle.record_store.specs.Call.{IsOpenAs, Opened, Service, whole}
-use Rattle.record_store.specs.Calls.{done_with, load_call, load_service, number_of, own_record, records_call, records_service, remove_call, remove_service, save_call, save_service, schema_service, type_call}
+use Rattle.record_store.specs.declared.error.StoreError.TheVariants.{OtherSchema}
+use Rattle.record_store.specs.Calls.{done_with, load_call, load_service, number_of, is_own, records_call, records_service, remove_call, remove_service, save_call, save_service, schema_service, type_call}
 use Rattle.schedule.specs.declared.step.Command.{Command}
 use Rattle.schedule.specs.declared.step.Command.TheVariants.{«Type», Save, Load, Remove, Query}
 use Rattle.schedule.specs.declared.step.Query as asked
 use Rattle.schedule.specs.declared.reply.Reply.{Reply}
 use Rattle.schedule.specs.declared.reply.Reply.TheVariants as reply
+use Rattle.schedule.specs.Refusals.{of_schema}
 use Rattle.schedule.specs.Serve.{served_by, served_save, served_load, served_remove, served_type, cells_in, reply_to_save, reply_to_load, reply_to_remove, IsQueryReply}
 use Rattle.schedule.specs.Past.{is_accepted, is_reading}
 use Rattle.schedule.specs.Query.{Allows}
@@ -48,7 +50,7 @@ pub done_meets : {K A : Type 0} (opened : Opened) (command : Command) (service :
     ((value : K) → outcome ≡ Ok value → Serves opened command (service value) told) → ((refusal : Refusal) → outcome ≡ Err refusal → Refuses opened command refusal) →
     Meets opened command (done_with service outcome) told
 done_meets opened command service told (Ok value) serves refuses = serves value refl
-done_meets opened command service told (Err refusal) serves refuses = refuses refusal refl
+done_meets opened command service told (Err refusal) serves refuses = (refusal, refl, refuses refusal refl)
 
 -- ---- load
 
@@ -178,12 +180,11 @@ found_passes test (one ∷ types) type is = by_test (test one) refl is (found_pa
     by_test false fails later rest = rest later
 
 -- a record that a schema makes is one of its own
-own : (schema : Schema) (name : List ℕ) (cells : List Cell) (r : Record) → record_of schema name cells ≡ Ok r → own_record (find_type schema r.definition.name) r ≡ Ok r
+own : (schema : Schema) (name : List ℕ) (cells : List Cell) (r : Record) → record_of schema name cells ≡ Ok r → is_own (find_type schema r.definition.name) r ≡ true
 own schema name cells r is =
     let found : find_type schema name ≡ Some r.definition = made_type cells r (find_type schema name) is in
     let named : r.definition.name ≡ name = (bytes_eq-Decides r.definition.name name).0 (found_passes (λ (type : TypeDefinition). bytes_eq type.name name) schema.types r.definition found) in
-    ap (λ n. own_record (find_type schema n) r) named ∙ ap (λ o. own_record o r) found
-    ∙ ap (λ b. elim b [ true ↦ Ok r | false ↦ Err Rattle.metadata.specs.declared.refusal.Refusal.TheVariants.OtherSchema ]) ((same_type-Decides r.definition r.definition).1 refl)
+    ap (λ n. is_own (find_type schema n) r) named ∙ ap (λ o. is_own o r) found ∙ (same_type-Decides r.definition r.definition).1 refl
 
 pub save_refuses : (opened : Opened) (name : List ℕ) (cells : List Cell) (refusal : Refusal) → record_of opened.schema name cells ≡ Err refusal → Refuses (at opened) (Save name cells) refusal
 save_refuses opened name cells refusal is = record {
@@ -194,7 +195,7 @@ save_refuses opened name cells refusal is = record {
 }
 
 pub save_meets : (opened : Opened) (name : List ℕ) (cells : List Cell) (r : Record) → record_of opened.schema name cells ≡ Ok r → Meets (at opened) (Save name cells) (save_call (at opened) r) told_save
-save_meets opened name cells r is = subst (λ o. Meets (at opened) (Save name cells) (done_with (save_service (at opened)) o) told_save) (sym (own opened.schema name cells r is)) serves
+save_meets opened name cells r is = subst (λ b. Meets (at opened) (Save name cells) (cond b (Ok (save_service (at opened) r)) (Err OtherSchema)) told_save) (sym (own opened.schema name cells r is)) serves
   where
     here : (store : Store) → IsOpenAs (at opened) store → record_of store.schema name cells ≡ Ok r
     here store same = ap (λ s. record_of s name cells) same.schema ∙ is
@@ -301,8 +302,8 @@ query_meets opened query = done_meets (at opened) (Query query) (records_service
           shown = ap (λ n. map (λ r. r.cells) (of_type n store.records)) same;
         }
 
-    unknown : (refusal : Refusal) (store : Store) (type : Option TypeDefinition) → number_of type ≡ Err refusal → IsQueryReply store type (reply.Refused refusal)
-    unknown refusal store None none = let same : refusal ≡ UnknownType = cc in ap reply.Refused same
+    unknown : (refusal : Refusal) (store : Store) (type : Option TypeDefinition) → number_of type ≡ Err refusal → IsQueryReply store type (reply.Refused (of_schema refusal))
+    unknown refusal store None none = let same : refusal ≡ UnknownType = cc in ap (λ r. reply.Refused (of_schema r)) same
     unknown refusal store (Some type) known = absurd (cc)
 
     serves : (number : ℕ) → number_of (find_type opened.schema query.record_type) ≡ Ok number → Serves (at opened) (Query query) (records_service (at opened) number) told_query

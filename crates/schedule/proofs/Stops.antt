@@ -14,11 +14,12 @@ use Rattle.cluster_core.specs.declared.answers.ReadError.{ReadError}
 use Rattle.cluster_core.specs.declared.answers.ReadError.TheVariants as read
 use Rattle.txn.specs.Runs.{Ran}
 use Rattle.txn.proofs.Running.{ran_because, ran_still}
-use Rattle.metadata.specs.declared.refusal.Refusal.{Refusal}
-use Rattle.metadata.specs.declared.refusal.Refusal.TheVariants.{AlreadyThere, FutureVersion, TooOld, KeyOutside, KeyTooLarge, ValueTooLarge, TransactionTooLarge}
+use Rattle.schedule.specs.declared.refusal.Refusal.{Refusal}
+use Rattle.schedule.specs.declared.refusal.Refusal.TheVariants.{AlreadyThere, NoStore, OtherSchema, FutureVersion, TooOld, KeyOutside, KeyTooLarge, ValueTooLarge, TransactionTooLarge}
 use Rattle.metadata.specs.Schema.{Schema}
 use Rattle.record_store.specs.declared.error.StoreError.{StoreError}
 use Rattle.record_store.specs.declared.error.StoreError.TheVariants.{Memory, Read, Write, Corrupt, Refused}
+use Rattle.record_store.specs.declared.error.StoreError.TheVariants as fault
 use Rattle.record_store.specs.Store.{Serial, schema_in}
 use Rattle.record_store.specs.Call.{Opened}
 use Rattle.record_store.specs.Opening.{IsOpened, IsThereAs, opening_reach}
@@ -34,6 +35,7 @@ use Rattle.schedule.specs.Past.{is_accepted, is_reading}
 use Rattle.schedule.specs.Holds.{Stands}
 use Rattle.schedule.specs.Reach.{added, added_by, open_reach, own_added, own_reading, reach, writes}
 use Rattle.schedule.specs.Performed.{HasAdded, HasRead, IsDamaged, IsLimit, IsLimited, IsReadRefusal, IsReadRefusedAs, IsServed, IsSound, IsTold}
+use Rattle.schedule.specs.Refusals.{of_schema}
 use Rattle.schedule.specs.Calls.{IsRefused, reply_of}
 use Rattle.schedule.proofs.Reached.{all_added, begin_open, told_refusal}
 
@@ -92,7 +94,10 @@ error_refuses command (Write write.Memory) answer is = absurd (cc)
 error_refuses command (Corrupt key) answer is =
     let same : reply.Corrupt key ≡ answer = cc in
     subst (λ a. (is_accepted a ≡ false) × (is_reading command a ≡ true)) same (refl, corrupts_all command key)
-error_refuses command (Refused refusal) answer is = refusing command refusal answer is
+error_refuses command (Refused refusal) answer is = refusing command (of_schema refusal) answer is
+error_refuses command fault.NoStore answer is = refusing command NoStore answer is
+error_refuses command fault.AlreadyThere answer is = refusing command AlreadyThere answer is
+error_refuses command fault.OtherSchema answer is = refusing command OtherSchema answer is
 
 -- what is there, by what was opened
 pub schema_is : (opened : Opened) (serial : Serial) → IsThereAs opened serial → schema_in serial ≡ Some opened.schema
@@ -111,6 +116,9 @@ stopped_begin (Read reason) has = has
 stopped_begin (Write reason) {ranges = ranges} has = subst (IsBeginning ranges) has (all_begin ranges)
 stopped_begin (Corrupt key) {ranges = ranges} has = subst (IsBeginning ranges) has (all_begin ranges)
 stopped_begin (Refused refusal) {ranges = ranges} has = subst (IsBeginning ranges) has (all_begin ranges)
+stopped_begin fault.NoStore {ranges = ranges} has = subst (IsBeginning ranges) has (all_begin ranges)
+stopped_begin fault.AlreadyThere {ranges = ranges} has = subst (IsBeginning ranges) has (all_begin ranges)
+stopped_begin fault.OtherSchema {ranges = ranges} has = subst (IsBeginning ranges) has (all_begin ranges)
 
 stopped_added : (error : StoreError) (answer : Reply) (all ranges : List KeyRange) → reply_of error ≡ Some answer → HasStopped error all ranges → HasAdded answer all ranges
 stopped_added Memory answer all ranges is has = absurd (cc)
@@ -120,6 +128,9 @@ stopped_added (Read read.Memory) answer all ranges is has = absurd (cc)
 stopped_added (Write reason) answer all ranges is has = all_added answer has
 stopped_added (Corrupt key) answer all ranges is has = all_added answer has
 stopped_added (Refused refusal) answer all ranges is has = all_added answer has
+stopped_added fault.NoStore answer all ranges is has = all_added answer has
+stopped_added fault.AlreadyThere answer all ranges is has = all_added answer has
+stopped_added fault.OtherSchema answer all ranges is has = all_added answer has
 
 -- why the reply of an error is right at what is there
 abbrev pub IsRight : (KeyRange → ReadError → Type 0) → Command → List Mutation → StoreError → Serial → Type 0
@@ -196,7 +207,7 @@ pub told_damage : (schema : Option Schema) (command : Command) (key : List ℕ) 
 told_damage schema command key answer m is damaged = let same : reply.Corrupt key ≡ answer = cc in subst (λ a. IsTold schema command a m) same damaged
 
 -- the reply that a refusal is
-pub told_refused : (schema : Option Schema) (command : Command) (refusal : Refusal) (answer : Reply) (m : Map) → reply_of (Refused refusal) ≡ Some answer → IsSound schema command (reply.Refused refusal) m → IsTold schema command answer m
+pub told_refused : (schema : Option Schema) (command : Command) (refusal : Refusal) (answer : Reply) (m : Map) → ◌≡◌ {A = Option Reply} (Some (reply.Refused refusal)) (Some answer) → IsSound schema command (reply.Refused refusal) m → IsTold schema command answer m
 told_refused schema command refusal answer m is sound = let same : reply.Refused refusal ≡ answer = cc in subst (λ a. IsTold schema command a m) same (told_refusal schema command refusal m sound)
 
 -- the reply that a limit is
@@ -212,9 +223,9 @@ served_idle : (before : List Mutation) (serial : Serial) (command : Command) (an
 served_idle before serial command answer none is = subst (λ ms. IsLimited (write_all_refusal before ms) serial command answer) (sym none) is
 
 -- a refusal of the command's own, where it writes nothing
-pub own_right : (refuses : KeyRange → ReadError → Type 0) (command : Command) (before : List Mutation) (refusal : Refusal) (serial : Serial) → IsReply serial command (reply.Refused refusal) → writes serial command ≡ [] →
-    IsRight refuses command before (Refused refusal) serial
-own_right refuses command before refusal serial is none =
+pub own_right : (refuses : KeyRange → ReadError → Type 0) (command : Command) (before : List Mutation) (error : StoreError) (refusal : Refusal) (serial : Serial) → reply_of error ≡ Some (reply.Refused refusal) → IsReply serial command (reply.Refused refusal) →
+    writes serial command ≡ [] → IsRight refuses command before error serial
+own_right refuses command before error refusal serial replied is none =
     λ answer same. let that : reply.Refused refusal ≡ answer = cc in inl (subst (IsServed before serial command) that (served_idle before serial command (reply.Refused refusal) none is))
 
 -- a limit is the reply that it is

@@ -10,8 +10,8 @@ use Rattle.cluster_core.specs.declared.answers.SubmitError.{SubmitError}
 use Rattle.cluster_core.specs.declared.answers.SubmitError.TheVariants as submitting
 use Rattle.cluster_core.specs.Cluster.{ClusterState, database_at, with_pipeline}
 use Rattle.cluster_core.specs.Roles.{PipelineState, submit, submit_refusal, submitted}
-use Rattle.metadata.specs.declared.refusal.Refusal.{Refusal}
-use Rattle.metadata.specs.declared.refusal.Refusal.TheVariants.{TooOld, VersionsExhausted}
+use Rattle.schedule.specs.declared.refusal.Refusal.{Refusal}
+use Rattle.schedule.specs.declared.refusal.Refusal.TheVariants.{TooOld, VersionsExhausted}
 use Rattle.schedule.specs.declared.reply.Reply.TheVariants.{ReadOnly, Refused, Submitted}
 use Rattle.schedule.specs.declared.database.Database.{Database}
 use Rattle.schedule.specs.declared.database.OpenTransaction.{OpenTransaction}

@@ -7,14 +7,17 @@ use Rattle.kv_core.specs.declared.change.WriteError.{WriteError}
 use Rattle.kv_core.specs.declared.change.WriteError.TheVariants as write
 use Rattle.cluster_core.specs.declared.answers.ReadError.{ReadError}
 use Rattle.cluster_core.specs.declared.answers.ReadError.TheVariants as read
-use Rattle.metadata.specs.declared.refusal.Refusal.TheVariants.{FutureVersion, TooOld, KeyOutside, KeyTooLarge}
-use Rattle.metadata.specs.declared.refusal.Refusal.TheVariants.{ValueTooLarge, TransactionTooLarge}
+use Rattle.schedule.specs.declared.refusal.Refusal.TheVariants.{FutureVersion, TooOld, KeyOutside, KeyTooLarge}
+use Rattle.schedule.specs.declared.refusal.Refusal.TheVariants.{ValueTooLarge, TransactionTooLarge}
+use Rattle.schedule.specs.declared.refusal.Refusal.TheVariants.{NoStore, AlreadyThere}
+use Rattle.schedule.specs.declared.refusal.Refusal.TheVariants.{OtherSchema}
 use Rattle.record_store.specs.declared.error.StoreError.{StoreError}
-use Rattle.record_store.specs.declared.error.StoreError.TheVariants.{Memory, Read, Write, Corrupt, Refused}
+use Rattle.record_store.specs.declared.error.StoreError.TheVariants as store
 use Rattle.schedule.specs.declared.step.Command.{Command}
 use Rattle.schedule.specs.declared.reply.Reply.{Reply}
 use Rattle.schedule.specs.declared.reply.Reply.TheVariants as reply
 use Rattle.schedule.specs.Performed.{IsPerformed, IsStopped}
+use Rattle.schedule.specs.Refusals.{of_schema}
 
 -- the reply that a refused read is; want of memory is none
 abbrev pub read_reply : ReadError → Option Reply
@@ -32,11 +35,14 @@ write_reply write.Memory = None
 
 -- the reply that an error is; want of memory is none
 abbrev pub reply_of : StoreError → Option Reply
-reply_of Memory = None
-reply_of (Read error) = read_reply error
-reply_of (Write error) = write_reply error
-reply_of (Corrupt key) = Some (reply.Corrupt key)
-reply_of (Refused refusal) = Some (reply.Refused refusal)
+reply_of store.Memory = None
+reply_of (store.Read error) = read_reply error
+reply_of (store.Write error) = write_reply error
+reply_of (store.Corrupt key) = Some (reply.Corrupt key)
+reply_of (store.Refused refusal) = Some (reply.Refused (of_schema refusal))
+reply_of store.NoStore = Some (reply.Refused NoStore)
+reply_of store.AlreadyThere = Some (reply.Refused AlreadyThere)
+reply_of store.OtherSchema = Some (reply.Refused OtherSchema)
 
 -- the reply to a removal that took a record out, or found none
 abbrev pub removal_reply : Bool → Reply

@@ -16,8 +16,8 @@ use Rattle.cluster_core.specs.History.{IsLegal}
 use Rattle.cluster_core.specs.Roles.{PipelineState, history, may_append, may_report}
 use Rattle.cluster_core.specs.Roles.{may_resolve, outcome, submit_refusal, submitted}
 use Rattle.txn.specs.Refusing.{MayRefuse}
-use Rattle.metadata.specs.declared.refusal.Refusal.TheVariants.{NoSuchClient, NoSuchRole, Busy}
-use Rattle.metadata.specs.declared.refusal.Refusal.TheVariants.{NoTransaction, TooOld, VersionsExhausted}
+use Rattle.schedule.specs.declared.refusal.Refusal.TheVariants.{NoSuchClient, NoSuchRole, Busy}
+use Rattle.schedule.specs.declared.refusal.Refusal.TheVariants.{NoTransaction, TooOld, VersionsExhausted}
 use Rattle.schedule.specs.declared.step.Command.{Command}
 use Rattle.schedule.specs.declared.step.Step.{Step}
 use Rattle.schedule.specs.declared.step.Step.TheVariants.{Begin, Perform, Commit, Abandon, Resolve}

@@ -1,4 +1,5 @@
 pub mod Query
+pub mod Refusals
 pub mod Serve
 pub mod Values
 pub mod Past

@@ -14,8 +14,8 @@ use Rattle.cluster_core.specs.declared.answers.ReadError.{ReadError}
 use Rattle.cluster_core.specs.declared.answers.ReadError.TheVariants as reads
 use Rattle.txn.specs.Runs.{Ran}
 use Rattle.metadata.specs.declared.refusal.Refusal.{Refusal}
-use Rattle.metadata.specs.declared.refusal.Refusal.TheVariants.{AlreadyThere, FutureVersion, TooOld, KeyOutside}
-use Rattle.metadata.specs.declared.refusal.Refusal.TheVariants.{KeyTooLarge, ValueTooLarge, TransactionTooLarge}
+use Rattle.schedule.specs.declared.refusal.Refusal.TheVariants.{AlreadyThere, FutureVersion, TooOld, KeyOutside}
+use Rattle.schedule.specs.declared.refusal.Refusal.TheVariants.{KeyTooLarge, ValueTooLarge, TransactionTooLarge}
 use Rattle.metadata.specs.declared.index.State.{State}
 use Rattle.metadata.specs.Asked.{schema_asked}
 use Rattle.metadata.specs.Schema.{Schema}

@@ -5,8 +5,10 @@ use Rattle.tuple_codec.specs.Item.{Item}
 use Rattle.metadata.specs.declared.cells.Cell.{Cell}
 use Rattle.metadata.specs.declared.definition.TypeDefinition.{TypeDefinition}
 use Rattle.metadata.specs.declared.index.IndexDefinition.{IndexDefinition}
-use Rattle.metadata.specs.declared.refusal.Refusal.{Refusal}
-use Rattle.metadata.specs.declared.refusal.Refusal.TheVariants.{AlreadyThere, NoStore, UnknownType}
+use Rattle.metadata.specs.declared.refusal.Refusal.{Refusal as SchemaRefusal}
+use Rattle.schedule.specs.declared.refusal.Refusal.{Refusal}
+use Rattle.schedule.specs.Refusals.{of_schema}
+use Rattle.schedule.specs.declared.refusal.Refusal.TheVariants.{AlreadyThere, NoStore, UnknownType}
 use Rattle.metadata.specs.Schema.{Schema, find_index, find_type}
 use Rattle.metadata.specs.Asked.{schema_asked}
 use Rattle.metadata.specs.Change.{add_type}
@@ -33,9 +35,9 @@ abbrev pub refused : Serial → Refusal → Served
 refused serial refusal = (Refused refusal, serial)
 
 -- what is made of an outcome, or its refusal without effect
-abbrev pub served_by : {A : Type 0} → Store → (A → Served) → Result A Refusal → Served
+abbrev pub served_by : {A : Type 0} → Store → (A → Served) → Result A SchemaRefusal → Served
 served_by store accepted (Ok value) = accepted value
-served_by store accepted (Err refusal) = refused (Some store) refusal
+served_by store accepted (Err refusal) = refused (Some store) (of_schema refusal)
 
 -- the cells of a record that may be there
 abbrev pub cells_in : Option Record → Option (List Cell)
@@ -96,8 +98,8 @@ served_in store (State name) = served_by store (served_state store) (index_numbe
 served_in store (Query query) = (reply.Nothing, Some store)
 
 -- a store is made where there is none, once its schema is accepted
-abbrev pub served_create : Serial → Result Schema Refusal → Served
-served_create serial (Err refusal) = refused serial refusal
+abbrev pub served_create : Serial → Result Schema SchemaRefusal → Served
+served_create serial (Err refusal) = refused serial (of_schema refusal)
 served_create None (Ok schema) = (reply.Done, Some (created schema))
 served_create (Some store) (Ok schema) = refused (Some store) AlreadyThere
 

@@ -5,12 +5,12 @@ ghost use Rattle.schedule.specs.Values.{AsksValues};
 
 use crate::database::{Database, OpenTransaction, Unreported};
 use crate::performing::perform;
+use crate::refusal::Refusal;
 use crate::reply::Reply;
 use crate::starting::laws_of;
 use crate::step::{CLIENTS, Command, Step};
 use crate::transcript::Commands;
 use cluster_core::{Cluster, SubmitError};
-use metadata::Refusal;
 use std::alloc::{AllocError, Global};
 use txn::Transaction;
 

@@ -13,6 +13,7 @@ mod commands;
 mod database;
 mod index_commands;
 mod performing;
+mod refusal;
 mod reply;
 mod reporting;
 mod roles;
@@ -25,6 +26,7 @@ mod values;
 
 use cluster_core::Config;
 pub use performing::perform;
+pub use refusal::Refusal;
 pub use reply::{Reply, Report, Reports, Rows};
 use running::start;
 use starting::laws_of;

@@ -5,11 +5,11 @@ ghost use Rattle.schedule.specs.Calls.{IsRefused, read_reply, reply_of, write_re
 
 use crate::commands::{add_type, create, load, query, remove, save};
 use crate::index_commands::{add_index, disable_index, drop_index, index_state};
+use crate::refusal::Refusal;
 use crate::reply::Reply;
 use crate::step::Command;
 use cluster_core::ReadError;
 use kv_core::WriteError;
-use metadata::Refusal;
 use record_store::StoreError;
 use std::alloc::{AllocError, Global};
 use txn::{Snapshot, Transaction};
@@ -50,7 +50,10 @@ fn reply_of(error: StoreError) -> Result<Reply, AllocError>
         StoreError::Read(error) => read_reply(error),
         StoreError::Write(error) => write_reply(error),
         StoreError::Corrupt(key) => Ok(Reply::Corrupt(key)),
-        StoreError::Refused(refusal) => Ok(Reply::Refused(refusal)),
+        StoreError::Refused(refusal) => Ok(Reply::Refused(Refusal::from(refusal))),
+        StoreError::NoStore => Ok(Reply::Refused(Refusal::NoStore)),
+        StoreError::AlreadyThere => Ok(Reply::Refused(Refusal::AlreadyThere)),
+        StoreError::OtherSchema => Ok(Reply::Refused(Refusal::OtherSchema)),
     }
 }
 

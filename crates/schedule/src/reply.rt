@@ -1,7 +1,8 @@
 ghost use Rattle.std.specs.Prelude.{◌≡◌};
 
+use crate::refusal::Refusal;
 use kv_core::{Bytes, KeyRange};
-use metadata::{Cells, Refusal, State};
+use metadata::{Cells, State};
 use std::marker::Model;
 
 /// The cells of records, in order.

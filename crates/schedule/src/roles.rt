@@ -2,11 +2,11 @@ ghost use Rattle.std.specs.Prelude.{◌≡◌, IfOk};
 ghost use Rattle.schedule.specs.Running.{IsStepped, work_reply};
 
 use crate::database::Database;
+use crate::refusal::Refusal;
 use crate::reply::Reply;
 use crate::starting::laws_of;
 use crate::step::Step;
 use cluster_core::Work;
-use metadata::Refusal;
 use std::alloc::AllocError;
 
 // The reply to a step of a role that there is.

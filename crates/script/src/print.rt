@@ -88,7 +88,10 @@ fn push_reply(alloc: Global, line: &mut String, reply: &Reply) -> Result<(), All
         Reply::ReadOnly => line.push_str("read only"),
         Reply::Nothing => line.push_str("nothing"),
         Reply::Reported(reports) => push_reports(alloc, line, reports.as_slice()),
-        Reply::Refused(refusal) => write!(line, "refused {refusal:?}"),
+        Reply::Refused(refusal) => {
+            let name = refusal.name();
+            write!(line, "refused {name}")
+        }
         Reply::Corrupt(key) => push_corrupt(alloc, line, key),
     }
 }

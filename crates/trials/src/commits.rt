@@ -3,11 +3,11 @@ ghost use Rattle.cluster_core.specs.Roles.{is_caught_up};
 
 use crate::configs::{config_of, logs_and_window};
 use crate::parts::{holds, report_text, request_of, same, shown};
-use cluster_core::{HoldError, Pipeline};
+use cluster_core::Pipeline;
 use kv_core::CommitRequest;
 use std::alloc::Global;
 use std::test::Fail;
-use txn::{Commit, Ended, Next, Retry};
+use txn::{Commit, Ended, HoldError, Next, Retry};
 
 /// A pipeline whose roles have handled all that was submitted.
 #[derive(Drop)]
@@ -36,7 +36,7 @@ static COMMITS: [Row; 8] = [
     // A request that read too long ago.
     ("2 1", 0, "61", "61=14", "committed 1", 1),
     ("", 1, "61", "61=14", "committed 2", 2),
-    ("", 0, "61", "61=14", "Submit(TooOld)", 2),
+    ("", 0, "61", "61=14", "TooOld", 2),
     // The last version.
     (
         "2 1",
@@ -51,7 +51,7 @@ static COMMITS: [Row; 8] = [
         18_446_744_073_709_551_615,
         "61",
         "61=14",
-        "Submit(VersionsExhausted)",
+        "VersionsExhausted",
         18_446_744_073_709_551_615,
     ),
 ];
@@ -75,8 +75,8 @@ fn commit(
     }
     match pipeline.commit(request) {
         Ok(reported) => Ok((Settled { pipeline }, report_text(alloc, &reported)?)),
-        Err(HoldError::Unknown) => Err(Fail::from("memory")),
-        Err(error) => Ok((Settled { pipeline }, shown(alloc, &error)?)),
+        Err(HoldError::Submit(error)) => Ok((Settled { pipeline }, shown(alloc, &error)?)),
+        Err(_) => Err(Fail::from("memory")),
     }
 }
 

@@ -1,7 +1,7 @@
 // The lines of replies that no short script gets.
 use crate::parts::{range_of, same};
-use metadata::{Refusal, State};
-use schedule::{Reply, Report, Reports};
+use metadata::State;
+use schedule::{Refusal, Reply, Report, Reports};
 use script::make_line;
 use std::alloc::Global;
 use std::test::Fail;

@@ -7,8 +7,8 @@ use crate::parts::{alike, mutations_of, pair_of, same, shown, tells};
 use crate::transactions::Counted;
 use crate::words::{bytes_of, text_of};
 use json_forms::rows_text;
-use kv_core::{Bytes, CommitRequest};
-use metadata::{Record, Refusal};
+use kv_core::{Bytes, CommitRequest, WriteError};
+use metadata::Record;
 use record_store::{Store, StoreError};
 use schedule::{Command, Step as Scripted, perform};
 use script::{make_line, script_of};
@@ -90,7 +90,7 @@ impl Scene {
         ensures { IfOk result (λ store. HasPlainIndexes store.schema store.states) }
     {
         if !self.prefix.is_key() {
-            return Err(StoreError::Refused(Refusal::KeyOutside));
+            return Err(StoreError::Write(WriteError::KeyOutside));
         }
         Store::open(self.alloc, self.prefix.as_slice(), &mut self.tx, &self.db)
     }
@@ -104,7 +104,7 @@ impl Scene {
     fn save(&mut self, new: &Record) -> Result<String, Fail> {
         match self.saved(new) {
             Ok(None) => Ok(String::from_str(self.alloc, "none")?),
-            Err(StoreError::Refused(refusal)) => shown(self.alloc, &refusal),
+            Err(StoreError::OtherSchema) => Ok(String::from_str(self.alloc, "OtherSchema")?),
             _ => Err(Fail::from("another answer")),
         }
     }

@@ -1,10 +1,13 @@
 // The texts of errors.
 use crate::parts::same;
-use cluster_core::{ConfigError, HoldError, ReadError, SubmitError};
-use kv_core::WriteError;
+use cluster_core::{ConfigError, ReadError, Reported, SubmitError};
+use kv_core::{Bytes, WriteError};
+use metadata::{MetadataError, Refusal};
+use record_store::StoreError;
 use std::alloc::{AllocError, Global};
 use std::test::Fail;
 use tuple_codec::{StripError, UnpackError, UnpackErrorKind, UnpackFailure};
+use txn::HoldError;
 
 /// An error of any of the libraries.
 #[derive(Clone, Copy)]
@@ -13,7 +16,20 @@ enum AnyError {
     Config(ConfigError),
     Submit(SubmitError),
     Read(ReadError),
-    Hold(HoldError),
+    Held(SubmitError),
+    HeldUnknown,
+    HeldBehind,
+    Schema(Refusal),
+    Metadata(Refusal),
+    MetadataMemory,
+    StoreMemory,
+    StoreRead(ReadError),
+    StoreWrite(WriteError),
+    StoreCorrupt,
+    StoreRefused(Refusal),
+    NoStore,
+    AlreadyThere,
+    OtherSchema,
     Unpack(UnpackError),
     Failure(UnpackFailure),
     Strip(StripError),
@@ -25,7 +41,7 @@ const TRUNCATED: UnpackError = UnpackError {
 };
 
 /// Every error, and its text.
-static TEXTS: [(AnyError, &str); 22] = [
+static TEXTS: [(AnyError, &str); 42] = [
     (
         AnyError::Write(WriteError::KeyOutside),
         "the key lies outside the keys, which end before the byte FF",
@@ -71,12 +87,71 @@ static TEXTS: [(AnyError, &str); 22] = [
     ),
     (AnyError::Read(ReadError::Memory), "out of memory"),
     (
-        AnyError::Hold(HoldError::Submit(SubmitError::VersionsExhausted)),
+        AnyError::Held(SubmitError::VersionsExhausted),
         "there is no version left",
     ),
     (
-        AnyError::Hold(HoldError::Unknown),
+        AnyError::HeldUnknown,
         "out of memory before the request was reported",
+    ),
+    (
+        AnyError::HeldBehind,
+        "out of memory before the servers had pulled the request",
+    ),
+    (
+        AnyError::Schema(Refusal::BadName),
+        "a name isn't 1 to 32 of a-z A-Z 0-9 _",
+    ),
+    (
+        AnyError::Schema(Refusal::NameTaken),
+        "a name is given twice, or stands already",
+    ),
+    (
+        AnyError::Schema(Refusal::UnknownType),
+        "there is no type of this name",
+    ),
+    (
+        AnyError::Schema(Refusal::UnknownIndex),
+        "there is no index of this name",
+    ),
+    (
+        AnyError::Schema(Refusal::UnknownField),
+        "the type has no field of this name",
+    ),
+    (
+        AnyError::Schema(Refusal::WrongKind),
+        "a cell isn't of its field's kind, or there are not as many cells as fields",
+    ),
+    (AnyError::Schema(Refusal::NullKey), "a key field is null"),
+    (AnyError::Schema(Refusal::BadSchema), "the schema isn't one"),
+    (
+        AnyError::Schema(Refusal::TooMany),
+        "there are more types, fields, key fields, indexes or columns than there may be",
+    ),
+    (AnyError::Metadata(Refusal::NullKey), "a key field is null"),
+    (AnyError::MetadataMemory, "out of memory"),
+    (AnyError::StoreMemory, "out of memory"),
+    (
+        AnyError::StoreRead(ReadError::TooOld),
+        "the version lies too long ago",
+    ),
+    (
+        AnyError::StoreWrite(WriteError::KeyTooLarge),
+        "the key is too large",
+    ),
+    (
+        AnyError::StoreCorrupt,
+        "the pair of the key 1501ff isn't one that a store has there",
+    ),
+    (
+        AnyError::StoreRefused(Refusal::UnknownType),
+        "there is no type of this name",
+    ),
+    (AnyError::NoStore, "there is no store"),
+    (AnyError::AlreadyThere, "the store is there already"),
+    (
+        AnyError::OtherSchema,
+        "the record's type isn't that of the store's schema",
     ),
     (AnyError::Unpack(TRUNCATED), "Truncated at 7"),
     (AnyError::Failure(UnpackFailure::Memory), "out of memory"),
@@ -92,13 +167,31 @@ static TEXTS: [(AnyError, &str); 22] = [
     ),
 ];
 
+/// A key under the states of the store that the schedules use.
+fn damaged_key(alloc: Global) -> Result<Bytes, AllocError> {
+    Ok(Bytes::new(Vec::from_slice(alloc, &[0x15, 0x01, 0xff])?))
+}
+
 fn printed(alloc: Global, error: AnyError) -> Result<String, AllocError> {
     match error {
         AnyError::Write(error) => error.to_string(alloc),
         AnyError::Config(error) => error.to_string(alloc),
         AnyError::Submit(error) => error.to_string(alloc),
         AnyError::Read(error) => error.to_string(alloc),
-        AnyError::Hold(error) => error.to_string(alloc),
+        AnyError::Held(error) => HoldError::Submit(error).to_string(alloc),
+        AnyError::HeldUnknown => HoldError::Unknown.to_string(alloc),
+        AnyError::HeldBehind => HoldError::Behind(Reported::NothingToDo).to_string(alloc),
+        AnyError::Schema(refusal) => refusal.to_string(alloc),
+        AnyError::Metadata(refusal) => MetadataError::Refused(refusal).to_string(alloc),
+        AnyError::MetadataMemory => MetadataError::Memory.to_string(alloc),
+        AnyError::StoreMemory => StoreError::Memory.to_string(alloc),
+        AnyError::StoreRead(error) => StoreError::Read(error).to_string(alloc),
+        AnyError::StoreWrite(error) => StoreError::Write(error).to_string(alloc),
+        AnyError::StoreCorrupt => StoreError::Corrupt(damaged_key(alloc)?).to_string(alloc),
+        AnyError::StoreRefused(refusal) => StoreError::Refused(refusal).to_string(alloc),
+        AnyError::NoStore => StoreError::NoStore.to_string(alloc),
+        AnyError::AlreadyThere => StoreError::AlreadyThere.to_string(alloc),
+        AnyError::OtherSchema => StoreError::OtherSchema.to_string(alloc),
         AnyError::Unpack(error) => error.to_string(alloc),
         AnyError::Failure(error) => error.to_string(alloc),
         AnyError::Strip(error) => error.to_string(alloc),

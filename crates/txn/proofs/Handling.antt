@@ -1,6 +1,8 @@
 -- How far the roles have come as they handle a version more, one after another.
-use Rattle.std.proofs.Common.{◌≡◌, ◌∙◌, ℕ, zero, suc, ◌+◌, ◌-◌, ◌<◌, true, nat_lt, Option, None, Some, List, [], ◌∷◌, ◌++◌, All, IsNone, ap, arith, cond, get_or, length, length-append, map, refl, subst, sym}
+use Rattle.std.proofs.Common.{◌≡◌, ◌∙◌, ℕ, zero, suc, ◌+◌, ◌-◌, ◌<◌, ◌≤◌, ◌%◌, true, nat_lt, Option, None, Some, List, [], ◌∷◌, ◌++◌, All, IsNone, ap, arith, cond, get_or, length, length-append, map, refl, subst, sym}
 use Rattle.std.proofs.lemmas.Bool.{and_from, lt-ltb, true≢false}
+use Rattle.std.proofs.Math.Nat.{mod-lt}
+use Rattle.std.proofs.lemmas.List.{get_or-map, get_or_default, length-map}
 use Rattle.std.proofs.lemmas.List.Elements.{All-get_or, All-map}
 use Rattle.std.specs.List.{list_all, slice_get}
 use Rattle.std.specs.Option.{option_map}
@@ -9,12 +11,14 @@ use Rattle.cluster_core.specs.declared.answers.Reported.{Reported}
 use Rattle.cluster_core.specs.declared.answers.Reported.TheVariants.{NothingToDo as Idle}
 use Rattle.cluster_core.specs.declared.answers.Work.{Work}
 use Rattle.cluster_core.specs.declared.answers.Work.TheVariants.{Done, NothingToDo}
-use Rattle.cluster_core.specs.Cluster.{Did}
+use Rattle.cluster_core.specs.Cluster.{ClusterState, Did, HasPulled, IsAllPulled, IsReadable, log_of}
 use Rattle.cluster_core.specs.History.{Entry}
 use Rattle.cluster_core.specs.Roles.{AreInOrder, PipelineState, all_handled, append, entries, is_caught_up, may_append, may_report, may_resolve, outcome, raised, report, resolve, submit, submit_refusal, submitted, told_of}
 use Rattle.cluster_core.proofs.Bridge.{entry_of, numbered_at}
 use Rattle.cluster_core.proofs.ClusterSteps.{none_from}
-use Rattle.txn.specs.Holds.{IsHeldAt, first_handled, first_raised, newest, verdict}
+use Rattle.txn.specs.declared.commit.HoldError.{HoldError}
+use Rattle.txn.specs.declared.commit.HoldError.TheVariants.{Submit, Unknown, Behind}
+use Rattle.txn.specs.Holds.{HeldError, IsHeldAt, first_handled, first_raised, newest, verdict}
 
 -- one clock more is raised
 raised_suc : (clocks : List ℕ) (i : ℕ) → i < length clocks → first_raised (suc i) clocks ≡ raised (first_raised i clocks) i
@@ -85,6 +89,34 @@ told-any p resolved logged reported (Some entry) = refl
 last_there : {X : Type 0} (xs : List X) (x : X) → slice_get (xs ++ x ∷ []) (length xs) ≡ Some x
 last_there [] x = refl
 last_there (y ∷ xs) x = last_there xs x
+
+-- once every server has all that its log has, what is reported can be read
+pub now-readable : (c new : ClusterState) (request : CommitRequest) (old : PipelineState) → c.pipeline ≡ all_handled (submit request old) → 1 ≤ length c.pipeline.logged →
+    HasPulled c new → IsAllPulled new → IsReadable new
+now-readable c new request old handled logs pulled all k d inside =
+    let is : new.pipeline ≡ all_handled (submit request old) = pulled.pipeline ∙ handled in
+    let count : length new.pipeline.logged ≡ length old.logged = ap (λ p. length p.logged) is ∙ length-map old.logged (λ _. submitted (submit request old)) in
+    let same : length c.pipeline.logged ≡ length new.pipeline.logged = sym (ap (λ p. length p.logged) pulled.pipeline) in
+    let place : (k % length new.pipeline.logged) < length new.pipeline.logged = mod-lt k (omega (arith, same, logs)) in
+    let clock : log_of new k ≡ submitted (submit request old) =
+    ap (λ p. get_or p.logged (k % length new.pipeline.logged) 0) is
+    ∙ get_or-map (λ _. submitted (submit request old)) old.logged (k % length new.pipeline.logged) 0 0 (omega (arith, place, count)) in
+    let reported : new.pipeline.reported ≡ submitted (submit request old) = ap (λ p. p.reported) is in
+    let whole = all k inside in
+    let any = get_or_default new.pulled k d 0 inside in
+    omega (arith, clock, reported, whole, any)
+
+-- what is reported stays so, whether a commit is answered or not
+pub later-handled : (old new : PipelineState) (request : CommitRequest) → is_caught_up old → new ≡ all_handled (submit request old) → old.reported ≤ new.reported
+later-handled old new request caught handled =
+    let more : length (old.requests ++ request ∷ []) ≡ length old.requests + 1 = length-append old.requests (request ∷ []) in
+    let is : new.reported ≡ old.start + length (old.requests ++ request ∷ []) = ap (λ p. p.reported) handled in
+    omega (arith, caught, more, is)
+
+pub later-held : (old new : PipelineState) (request : CommitRequest) (error : HoldError) → is_caught_up old → HeldError error request old new → old.reported ≤ new.reported
+later-held old new request (Submit error) caught held = let same : new.reported ≡ old.reported = ap (λ p. p.reported) held.0 in omega (arith, same)
+later-held old new request Unknown caught held = let same : new.reported ≡ old.reported = ap (λ p. p.reported) held.1.2.stands in omega (arith, same)
+later-held old new request (Behind reported) caught held = later-handled old new request caught held.1
 
 -- one commit, from a state that is caught up
 module _ (old : PipelineState) (request : CommitRequest) (order : AreInOrder old) (caught : is_caught_up old) where
@@ -201,6 +233,12 @@ module _ (old : PipelineState) (request : CommitRequest) (order : AreInOrder old
 
       pub new-is : new ≡ all_handled (submit request old)
       new-is = step ∙ ap (λ p. cond (may_report p) (report p) p) last-is ∙ ap (λ b. cond b (report settled) settled) may_tell ∙ all_done
+
+      pub logs-there : 1 ≤ length new.logged
+      logs-there =
+          let count : length new.logged ≡ length old.logged = ap (λ p. length p.logged) new-is ∙ length-map old.logged (λ _. submitted given) in
+          let log = order.some_log in
+          omega (arith, count, log)
 
       result-is : result ≡ outcome (all_handled (submit request old)) (submitted (submit request old))
       result-is =

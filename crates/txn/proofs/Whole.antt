@@ -1,8 +1,8 @@
 -- A read that its limit doesn't cut short gives the whole range.
-use Rattle.std.proofs.Common.{◌≡◌, ℕ, zero, suc, ◌<◌, ◌≤◌, false, List, [], ◌∷◌, length, take, refl, sym, ap, subst, ◌∙◌, arith}
+use Rattle.std.proofs.Common.{◌≡◌, ℕ, zero, suc, ◌<◌, false, List, [], ◌∷◌, length, take, refl, ap, subst, ◌∙◌, arith}
 use Rattle.kv_core.specs.Map.{Map, pairs_in}
 use Rattle.kv_core.specs.Range.{KeyRange}
-use Rattle.kv_core.specs.Read.{read_of, range_read}
+use Rattle.kv_core.specs.Read.{read_of}
 
 take_short : {X : Type 0} (n : ℕ) (xs : List X) → length (take n xs) < n → take n xs ≡ xs
 take_short zero xs less = absurd (omega arith)

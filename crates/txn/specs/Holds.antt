@@ -1,13 +1,13 @@
 -- What a commit leaves, with an answer and without one.
 use Rattle.std.specs.Prelude.{◌≡◌, ◌⊎◌, ℕ, ◌+◌, ◌<◌, ◌≤◌, Some, None, List, ◌++◌, length, map, take, drop}
 use Rattle.kv_core.specs.declared.change.CommitRequest.{CommitRequest}
-use Rattle.cluster_core.specs.declared.answers.HoldError.{HoldError}
-use Rattle.cluster_core.specs.declared.answers.HoldError.TheVariants.{Submit, Unknown}
+use Rattle.txn.specs.declared.commit.HoldError.{HoldError}
+use Rattle.txn.specs.declared.commit.HoldError.TheVariants.{Submit, Unknown, Behind}
 use Rattle.cluster_core.specs.declared.answers.SubmitError.TheVariants.{Memory}
 use Rattle.cluster_core.specs.declared.answers.Reported.{Reported}
 use Rattle.cluster_core.specs.Decision.{cause}
 use Rattle.cluster_core.specs.History.{Entry}
-use Rattle.cluster_core.specs.Roles.{PipelineState, entries, submit, submit_refusal, submitted, told}
+use Rattle.cluster_core.specs.Roles.{PipelineState, all_handled, entries, submit, submit_refusal, submitted, told}
 
 -- the clocks, with so many of the first ones a version further
 abbrev pub first_raised : ℕ → List ℕ → List ℕ
@@ -35,9 +35,12 @@ pub record IsHeldAt (request : CommitRequest) (old new : PipelineState) (resolve
   pub in_order : resolvers < length old.resolved → logs ≡ 0
 
 -- a refused submission leaves all as it was; a commit whose outcome isn't known was submitted, and is handled by some
--- roles and not reported
+-- roles and not reported; one whose servers are behind is reported as any other
 abbrev pub HeldError : HoldError → CommitRequest → PipelineState → PipelineState → Type 0
 HeldError (Submit error) request old new =
     (new ≡ old) × ((error ≡ Memory) ⊎ (submit_refusal old request.read_version ≡ Some error))
 HeldError Unknown request old new =
     (submit_refusal old request.read_version ≡ None) × ((resolvers logs : ℕ) × IsHeldAt request old new resolvers logs)
+HeldError (Behind reported) request old new =
+    (submit_refusal old request.read_version ≡ None) × (new ≡ all_handled (submit request old))
+    × (reported ≡ verdict request new)

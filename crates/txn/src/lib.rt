@@ -7,11 +7,12 @@ mod merge;
 mod own;
 mod read;
 mod retry;
+mod roles;
 mod snapshot;
 mod sum;
 mod transaction;
 
-pub use commit::Commit;
+pub use commit::{Commit, HoldError};
 pub use laws::reads_decide;
 pub use retry::{Ended, Next, Retry};
 pub use snapshot::Snapshot;

@@ -1,5 +1,5 @@
 use Rattle.std.proofs.Common.{refl}
-use Rattle.cluster_core.proofs.ClusterSteps.{may-there, next-there, pulled-cluster, pulled-view}
+use Rattle.cluster_core.proofs.ClusterSteps.{may-there, next-there, pulled-cluster, pulled-view, roles_stay}
 use Rattle.cluster_core.proofs.cluster.Cluster.pull.Goals as goal
 
 pub pull-requires-clause-next : goal.pull-requires-clause-next
@@ -17,3 +17,6 @@ returns-clause-step c = (
   pulled-view c.self.inside.pipeline c.self.inside.tier c.pull.new.self c.args.s c.version-version.result c.in-Some.mutations.now c.self.invariant c.version-version.ensures
       c.in-Some.ensures.some (c.in-Some.ensures.given refl) c.in_ok-pull.ensures.ok c.args.self.now c.self.view_is,
 )
+
+pub returns-clause-roles : goal.returns-clause-roles
+returns-clause-roles c = roles_stay c.args.self.now _ c.args.s (returns-clause-step c).1

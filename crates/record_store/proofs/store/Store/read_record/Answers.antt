@@ -4,7 +4,8 @@ use Rattle.record_store.specs.Call.{whole}
 use Rattle.record_store.specs.Steps.{of_read}
 use Rattle.record_store.proofs.Stopping.{unread_failed}
 use Rattle.record_store.specs.Layout.{record_key}
-use Rattle.record_store.proofs.Openings.{exit_with, record_read, record_unread}
+use Rattle.record_store.proofs.Openings.{exit_with}
+use Rattle.record_store.proofs.OneRecord.{record_read, record_unread}
 use Rattle.record_store.proofs.store.Store.read_record.Goals as goal
 
 pub returns-in_err-found-clause-refused : goal.returns-in_err-found-clause-refused

@@ -12,15 +12,15 @@ use Rattle.record_store.proofs.store.Store.save.Goals as goal
 
 pub read_record-requires-clause-own : goal.read_record-requires-clause-own
 read_record-requires-clause-own g c =
-    subst (λ (d : TypeDefinition). find_type c.args.self.now.schema d.name ≡ Some d) (sym c.definition.ensures.definition) (own_found c.args.self.now.schema c.args.new.now c.in_ok-check_type.ensures.own)
+    subst (λ (d : TypeDefinition). find_type c.args.self.now.schema d.name ≡ Some d) (sym c.definition.ensures.definition) (own_found c.args.self.now.schema c.args.new.now (sym c.is_own.ensures ∙ c.if-not-is_own.false))
 
 pub returns-clause-saved : goal.returns-clause-saved
 returns-clause-saved g c =
     answered (g.S.Snapshot.map_at c.args.db.now) (g.S.Snapshot.may_refuse c.args.db.now) c.args.self.now (save_call c.args.self.now c.args.new.now) (save_service c.args.self.now c.args.new.now) c.in_ok-old.old c.in_ok-mutations.mutations.items
-    (save_accepted c.args.self.now c.args.new.now c.in_ok-check_type.ensures.own) (save_changes c.args.self.now c.args.new.now c.in_ok-old.old c.in_ok-mutations.mutations.items wrote)
+    (save_accepted c.args.self.now c.args.new.now (sym c.is_own.ensures ∙ c.if-not-is_own.false)) (save_changes c.args.self.now c.args.new.now c.in_ok-old.old c.in_ok-mutations.mutations.items wrote)
     (save_read c.args.self.now c.args.new.now c.in_ok-primary_key.primary_key c.in_ok-old.old c.in_ok-primary_key.ensures.key c.in_ok-old.ensures.found)
     c.in_ok-write_all.ensures.ok c.in_ok-write_all.ensures.allowed
-    (save_serves c.args.self.now c.args.new.now c.in_ok-old.old c.in_ok-mutations.mutations.items c.in_ok-primary_key.primary_key wrote c.in_ok-check_type.ensures.own
+    (save_serves c.args.self.now c.args.new.now c.in_ok-old.old c.in_ok-mutations.mutations.items c.in_ok-primary_key.primary_key wrote (sym c.is_own.ensures ∙ c.if-not-is_own.false)
     c.definition.ensures.made c.in_ok-primary_key.ensures.key c.in_ok-primary_key.ensures.is_tuple c.in_ok-mutations.ensures.cells)
   where
     wrote : c.in_ok-mutations.mutations.items ≡ replacement c.args.self.now c.args.new.now c.in_ok-old.old
@@ -30,7 +30,7 @@ pub returns-in_err-write_all-clause-refused : goal.returns-in_err-write_all-clau
 returns-in_err-write_all-clause-refused g c =
     exit_with c.from_residual-in_err-write_all.result (of_write c.in_err-write_all.field-0.0) _ c.from_residual-in_err-write_all.ensures
     (refused_limit (g.S.Snapshot.map_at c.args.db.now) (g.S.Snapshot.may_refuse c.args.db.now) c.args.self.now (save_call c.args.self.now c.args.new.now) (save_service c.args.self.now c.args.new.now) c.in_ok-mutations.mutations.items c.in_err-write_all.field-0.0
-    (save_accepted c.args.self.now c.args.new.now c.in_ok-check_type.ensures.own)
+    (save_accepted c.args.self.now c.args.new.now (sym c.is_own.ensures ∙ c.if-not-is_own.false))
     (save_read c.args.self.now c.args.new.now c.in_ok-primary_key.primary_key c.in_ok-old.old c.in_ok-primary_key.ensures.key c.in_ok-old.ensures.found)
     (λ m store holds same is. save_wrote c.args.self.now c.args.new.now c.in_ok-old.old c.in_ok-mutations.mutations.items wrote store same is)
     c.in_err-write_all.ensures.kept c.in_err-write_all.ensures.refused)
@@ -42,5 +42,5 @@ pub returns-in_err-mutations-clause-refused : goal.returns-in_err-mutations-clau
 returns-in_err-mutations-clause-refused g c =
     exit_with c.from_residual-in_err-mutations.result no_memory _ c.from_residual-in_err-mutations.ensures
     (refused_memory (g.S.Snapshot.map_at c.args.db.now) (g.S.Snapshot.may_refuse c.args.db.now) c.args.self.now (save_call c.args.self.now c.args.new.now) (save_service c.args.self.now c.args.new.now)
-    (save_accepted c.args.self.now c.args.new.now c.in_ok-check_type.ensures.own)
+    (save_accepted c.args.self.now c.args.new.now (sym c.is_own.ensures ∙ c.if-not-is_own.false))
     (save_read c.args.self.now c.args.new.now c.in_ok-primary_key.primary_key c.in_ok-old.old c.in_ok-primary_key.ensures.key c.in_ok-old.ensures.found))

@@ -1,0 +1,122 @@
+-- What reading the key of one record tells.
+use Rattle.std.proofs.Common.{◌≡◌, ℕ, List, [], ◌∷◌, ◌++◌, refl, sym, ap, subst, ◌∙◌, Option, Some, None, append-nil, pos}
+use Rattle.std.specs.List.{AllByRecursion}
+use Rattle.std.specs.FinMap.{get}
+use Rattle.tuple_codec.specs.Item.{Item, IsTuple}
+use Rattle.tuple_codec.specs.Spelling.{int_spelling, spelling}
+use Rattle.kv_core.specs.Range.{KeyRange, point}
+use Rattle.kv_core.specs.Map.{Map, Agree, pairs_in}
+use Rattle.kv_core.specs.declared.change.CommitRequest.{CommitRequest}
+use Rattle.cluster_core.specs.declared.answers.ReadError.{ReadError}
+use Rattle.txn.specs.Reads.{seen, has_read}
+use Rattle.txn.proofs.Running.{ran_added, ran_read}
+use Rattle.metadata.specs.declared.definition.TypeDefinition.{TypeDefinition}
+use Rattle.metadata.specs.Lawful.{IsLawfulSchema}
+use Rattle.metadata.specs.Record.{Record}
+use Rattle.metadata.specs.Records.{record_at}
+use Rattle.metadata.specs.Schema.{find_type}
+use Rattle.metadata.specs.Stored.{IsOfNoRecord, IsStoredAs, IsTypeOf}
+use Rattle.metadata.proofs.StoredApart.{named_typed}
+use Rattle.record_store.specs.declared.error.StoreError.{StoreError}
+use Rattle.record_store.specs.declared.error.StoreError.TheVariants.{Memory, Read, Write, Corrupt, Refused, NoStore, AlreadyThere, OtherSchema}
+use Rattle.record_store.specs.Layout.{record_key}
+use Rattle.record_store.specs.Form.{IsFirstBad, IsRecordPair, read_in}
+use Rattle.record_store.specs.Call.{IsUnread, Opened, whole}
+use Rattle.record_store.proofs.Stopping.{all_begin}
+use Rattle.record_store.specs.Reading.{HasNotFound, IsFound, IsKeyOf, IsNotFound, IsRead}
+use Rattle.record_store.specs.Steps.{DidRead}
+use Rattle.record_store.proofs.RecordPairs.{at_key, key_form, no_record_pair, none_bad, none_there, of_stored, pairs_at, record_there}
+
+-- the pairs read at one key
+read_at : (m : Map) (key : List ℕ) (value : Option (List ℕ)) → get m key ≡ value → read_in m (point key ∷ []) ≡ at_key key value
+read_at m key value is = append-nil (pairs_in m (point key)) ∙ pairs_at m key value is
+
+module _ (opened : Opened) (type : TypeDefinition) (key : List Item) (lawful : IsLawfulSchema opened.schema) (found_type : find_type opened.schema type.name ≡ Some type) (key_of : IsKeyOf type key) where
+  own : IsTypeOf opened.schema type
+  own = named_typed opened.schema type.name type lawful found_type
+
+  -- what is stored at the key is of the written form
+  stored_form : (value : List ℕ) (r : Record) → IsStoredAs type (spelling key) value r → IsRecordPair opened.prefix opened.schema (record_key opened.prefix key, value)
+  stored_form value r put =
+      let good = of_stored opened.schema type (spelling key) value r lawful found_type put in record {
+        stored = r;
+        typed = good.0;
+        storable = good.1;
+        is = λ i. (opened.prefix ++ (int_spelling (pos 1) ++ put.has_key i), put.has_value i);
+      }
+
+  -- READ: the record, or none, that was found
+  read_there : (m : Map) (value : Option (List ℕ)) (found : Option Record) → get m (record_key opened.prefix key) ≡ value → IsFound type (spelling key) value found → IsRead opened key found m
+  read_there m None found is says = (
+    subst (AllByRecursion (IsRecordPair opened.prefix opened.schema)) (sym (read_at m (record_key opened.prefix key) None is)) tt,
+    λ store holds same. says ∙ none_there opened.prefix m store holds key key_of.tuple is,
+  )
+  read_there m (Some value) None is says = absurd says
+  read_there m (Some value) (Some r) is says = (
+    subst (AllByRecursion (IsRecordPair opened.prefix opened.schema)) (sym (read_at m (record_key opened.prefix key) (Some value) is)) (stored_form value r says, tt),
+    λ store holds same.
+        subst (λ k. Some r ≡ record_at k store.records) (sym key_of.is)
+        (record_there opened.prefix m store holds type key_of.cells value r (subst (λ s. IsTypeOf s type) (sym same.schema) own) (subst IsTuple key_of.is key_of.tuple)
+        (ap (λ k. get m (record_key opened.prefix k)) (sym key_of.is) ∙ is) (subst (λ k. IsStoredAs type (spelling k) value r) key_of.is says)),
+  )
+
+  -- UNREAD: what was found is none of the type's
+  unread_there : (refuses : KeyRange → ReadError → Type 0) (m : Map) (value : Option (List ℕ)) (error : StoreError) → get m (record_key opened.prefix key) ≡ value →
+      IsNotFound type (spelling key) (record_key opened.prefix key) value error → IsUnread refuses opened (whole (point (record_key opened.prefix key) ∷ [])) error (point (record_key opened.prefix key) ∷ []) m
+  unread_there refuses m value Memory is says = all_begin (point (record_key opened.prefix key) ∷ [])
+  unread_there refuses m None (Read error) is says = absurd says
+  unread_there refuses m None (Write error) is says = absurd says
+  unread_there refuses m None (Refused refusal) is says = absurd says
+  unread_there refuses m None NoStore is says = absurd says
+  unread_there refuses m None AlreadyThere is says = absurd says
+  unread_there refuses m None OtherSchema is says = absurd says
+  unread_there refuses m None (Corrupt at) is says = absurd says
+  unread_there refuses m (Some value) (Read error) is says = absurd says
+  unread_there refuses m (Some value) (Write error) is says = absurd says
+  unread_there refuses m (Some value) (Refused refusal) is says = absurd says
+  unread_there refuses m (Some value) NoStore is says = absurd says
+  unread_there refuses m (Some value) AlreadyThere is says = absurd says
+  unread_there refuses m (Some value) OtherSchema is says = absurd says
+  unread_there refuses m (Some value) (Corrupt at) is says = (
+    refl,
+    bad,
+    λ store holds same.
+        none_bad (read_in m (point (record_key opened.prefix key) ∷ [])) at
+        (subst (AllByRecursion (IsRecordPair opened.prefix opened.schema)) (sym (append-nil (pairs_in m (point (record_key opened.prefix key)))))
+        (subst (λ s. AllByRecursion (IsRecordPair opened.prefix s) (pairs_in m (point (record_key opened.prefix key)))) same.schema (key_form opened.prefix m store holds key key_of.tuple))) bad,
+  )
+    where
+      none : IsRecordPair opened.prefix opened.schema (record_key opened.prefix key, value) → ⊥
+      none pair =
+          no_record_pair opened.prefix opened.schema type key_of.cells value lawful own (subst IsTuple key_of.is key_of.tuple)
+          (subst (λ k. IsOfNoRecord type (spelling k) value) key_of.is says.1) (subst (λ k. IsRecordPair opened.prefix opened.schema (record_key opened.prefix k, value)) key_of.is pair)
+
+      bad : IsFirstBad (IsRecordPair opened.prefix opened.schema) (read_in m (point (record_key opened.prefix key) ∷ [])) at
+      bad = record {
+        before = [];
+        bad = (record_key opened.prefix key, value);
+        behind = [];
+        split = read_at m (record_key opened.prefix key) (Some value) is;
+        good = tt;
+        malformed = none;
+        at = says.0;
+      }
+
+  -- RECORD: a record was read, or wasn't
+  pub record_read : {maps : ℕ → Map} {old new : CommitRequest} (k packed : List ℕ) (value : Option (List ℕ)) (found : Option Record) → k ≡ record_key opened.prefix key → packed ≡ spelling key →
+      new ≡ has_read (point k) old → ((m : Map) → Agree new.reads (maps old.read_version) m → value ≡ get (seen old m) k) → IsFound type packed value found →
+      DidRead maps (point (record_key opened.prefix key) ∷ []) old new (IsRead opened key found)
+  record_read {old = old} k packed value found is pack read answer says =
+      ran_added (ap (λ at. point at ∷ []) is)
+      (ran_read (point k) read (λ m agree. read_there (seen old m) value found (sym (answer m agree ∙ ap (get (seen old m)) is)) (subst (λ p. IsFound type p value found) pack says)))
+
+  pub record_unread : {maps : ℕ → Map} {refuses : KeyRange → ℕ → ReadError → Type 0} {old new : CommitRequest} (k packed : List ℕ) (value : Option (List ℕ)) (error : StoreError) → k ≡ record_key opened.prefix key → packed ≡ spelling key →
+      new ≡ has_read (point k) old → ((m : Map) → Agree new.reads (maps old.read_version) m → value ≡ get (seen old m) k) → IsNotFound type packed k value error →
+      HasNotFound maps refuses opened (whole (point (record_key opened.prefix key) ∷ [])) error old new
+  record_unread {refuses = refuses} {old = old} k packed value error is pack read answer says = record {
+    added = point (record_key opened.prefix key) ∷ [];
+    ran =
+        ran_added (ap (λ at. point at ∷ []) is)
+        (ran_read (point k) read (λ m agree. unread_there (λ range. refuses range old.read_version) (seen old m) value error (sym (answer m agree ∙ ap (get (seen old m)) is))
+        (subst (λ p. IsNotFound type p (record_key opened.prefix key) value error) pack (subst (λ j. IsNotFound type packed j value error) is says))));
+  }

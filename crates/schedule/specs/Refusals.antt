@@ -1,0 +1,50 @@
+-- The refusals that a step replies: those that the schema or a record meets, and their names.
+use Rattle.std.specs.Prelude.{ℕ, List, codes}
+use Rattle.metadata.specs.declared.refusal.Refusal.{Refusal as SchemaRefusal}
+use Rattle.metadata.specs.declared.refusal.Refusal.TheVariants as schema
+use Rattle.schedule.specs.declared.refusal.Refusal.{Refusal}
+use Rattle.schedule.specs.declared.refusal.Refusal.TheVariants.{NoSuchClient, NoSuchRole, Busy, NoTransaction, BadName}
+use Rattle.schedule.specs.declared.refusal.Refusal.TheVariants.{NameTaken, UnknownType, UnknownIndex, UnknownField}
+use Rattle.schedule.specs.declared.refusal.Refusal.TheVariants.{WrongKind, NullKey, BadSchema, TooMany, AlreadyThere}
+use Rattle.schedule.specs.declared.refusal.Refusal.TheVariants.{NoStore, OtherSchema, FutureVersion, TooOld}
+use Rattle.schedule.specs.declared.refusal.Refusal.TheVariants.{VersionsExhausted, KeyOutside}
+use Rattle.schedule.specs.declared.refusal.Refusal.TheVariants.{KeyTooLarge, ValueTooLarge}
+use Rattle.schedule.specs.declared.refusal.Refusal.TheVariants.{TransactionTooLarge}
+
+-- the refusal of a step whose schema or record is refused so
+abbrev pub of_schema : SchemaRefusal → Refusal
+of_schema schema.BadName = BadName
+of_schema schema.NameTaken = NameTaken
+of_schema schema.UnknownType = UnknownType
+of_schema schema.UnknownIndex = UnknownIndex
+of_schema schema.UnknownField = UnknownField
+of_schema schema.WrongKind = WrongKind
+of_schema schema.NullKey = NullKey
+of_schema schema.BadSchema = BadSchema
+of_schema schema.TooMany = TooMany
+
+-- the name that is printed
+abbrev pub name_of : Refusal → List ℕ
+name_of NoSuchClient = codes "NoSuchClient"
+name_of NoSuchRole = codes "NoSuchRole"
+name_of Busy = codes "Busy"
+name_of NoTransaction = codes "NoTransaction"
+name_of BadName = codes "BadName"
+name_of NameTaken = codes "NameTaken"
+name_of UnknownType = codes "UnknownType"
+name_of UnknownIndex = codes "UnknownIndex"
+name_of UnknownField = codes "UnknownField"
+name_of WrongKind = codes "WrongKind"
+name_of NullKey = codes "NullKey"
+name_of BadSchema = codes "BadSchema"
+name_of TooMany = codes "TooMany"
+name_of AlreadyThere = codes "AlreadyThere"
+name_of NoStore = codes "NoStore"
+name_of OtherSchema = codes "OtherSchema"
+name_of FutureVersion = codes "FutureVersion"
+name_of TooOld = codes "TooOld"
+name_of VersionsExhausted = codes "VersionsExhausted"
+name_of KeyOutside = codes "KeyOutside"
+name_of KeyTooLarge = codes "KeyTooLarge"
+name_of ValueTooLarge = codes "ValueTooLarge"
+name_of TransactionTooLarge = codes "TransactionTooLarge"

@@ -1,0 +1,110 @@
+ghost use Rattle.std.specs.Prelude.{◌≡◌};
+ghost use Rattle.schedule.specs.Refusals.{name_of, of_schema};
+
+use metadata::Refusal as SchemaRefusal;
+
+/// Why a step is refused. A refused step changes nothing, but that a refused commit ends its
+/// transaction.
+#[derive(Clone, Copy, Debug, PartialEq, Eq, Drop)]
+pub enum Refusal {
+    /// There is no client of this number.
+    NoSuchClient,
+    /// There is no role of this number.
+    NoSuchRole,
+    /// The client has an open transaction.
+    Busy,
+    /// The client has no open transaction.
+    NoTransaction,
+    /// A name isn't 1 to 32 of `a-z A-Z 0-9 _`.
+    BadName,
+    /// A name is given twice, or stands already.
+    NameTaken,
+    /// The schema has no type of this name.
+    UnknownType,
+    /// The schema has no index of this name.
+    UnknownIndex,
+    /// The type has no field of this name.
+    UnknownField,
+    /// A cell isn't of its field's kind, or there are not as many cells as fields; or a SUM is over
+    /// a field that isn't a whole number.
+    WrongKind,
+    /// A key field is null.
+    NullKey,
+    /// A type has no key field, or one twice; an index has a column twice, a VALUE has none, or a
+    /// summed field stands where there is none to be, or is wanting.
+    BadSchema,
+    /// More types, fields, key fields, indexes or columns than there may be, or no index number is
+    /// left.
+    TooMany,
+    /// The store is there already.
+    AlreadyThere,
+    /// There is no store.
+    NoStore,
+    /// The record's type isn't that of the store's schema.
+    OtherSchema,
+    /// A server doesn't have the version yet.
+    FutureVersion,
+    /// The version lies longer ago than the window allows.
+    TooOld,
+    /// The last version was given.
+    VersionsExhausted,
+    /// A key lies outside the keys of the database.
+    KeyOutside,
+    /// A key is too large.
+    KeyTooLarge,
+    /// A value is too large.
+    ValueTooLarge,
+    /// The transaction's mutations are too large together.
+    TransactionTooLarge,
+}
+
+impl From<SchemaRefusal> for Refusal {
+    ghost from_gives = { λ refusal made. made ≡ of_schema refusal };
+
+    fn from(refusal: SchemaRefusal) -> Refusal {
+        match refusal {
+            SchemaRefusal::BadName => Refusal::BadName,
+            SchemaRefusal::NameTaken => Refusal::NameTaken,
+            SchemaRefusal::UnknownType => Refusal::UnknownType,
+            SchemaRefusal::UnknownIndex => Refusal::UnknownIndex,
+            SchemaRefusal::UnknownField => Refusal::UnknownField,
+            SchemaRefusal::WrongKind => Refusal::WrongKind,
+            SchemaRefusal::NullKey => Refusal::NullKey,
+            SchemaRefusal::BadSchema => Refusal::BadSchema,
+            SchemaRefusal::TooMany => Refusal::TooMany,
+        }
+    }
+}
+
+impl Refusal {
+    /// The name of the refusal, as it is printed.
+    pub fn name(self) -> &'static str
+        ensures { result.now ≡ name_of self }
+    {
+        match self {
+            Refusal::NoSuchClient => "NoSuchClient",
+            Refusal::NoSuchRole => "NoSuchRole",
+            Refusal::Busy => "Busy",
+            Refusal::NoTransaction => "NoTransaction",
+            Refusal::BadName => "BadName",
+            Refusal::NameTaken => "NameTaken",
+            Refusal::UnknownType => "UnknownType",
+            Refusal::UnknownIndex => "UnknownIndex",
+            Refusal::UnknownField => "UnknownField",
+            Refusal::WrongKind => "WrongKind",
+            Refusal::NullKey => "NullKey",
+            Refusal::BadSchema => "BadSchema",
+            Refusal::TooMany => "TooMany",
+            Refusal::AlreadyThere => "AlreadyThere",
+            Refusal::NoStore => "NoStore",
+            Refusal::OtherSchema => "OtherSchema",
+            Refusal::FutureVersion => "FutureVersion",
+            Refusal::TooOld => "TooOld",
+            Refusal::VersionsExhausted => "VersionsExhausted",
+            Refusal::KeyOutside => "KeyOutside",
+            Refusal::KeyTooLarge => "KeyTooLarge",
+            Refusal::ValueTooLarge => "ValueTooLarge",
+            Refusal::TransactionTooLarge => "TransactionTooLarge",
+        }
+    }
+}
