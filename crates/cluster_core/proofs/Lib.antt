@@ -30,3 +30,4 @@ pub mod Written
 pub mod ServerChains
 pub mod ServerMaps
 pub mod ServerSteps
+pub mod ChainRows
