@@ -3,7 +3,8 @@
 before the next begins.
 
 By default 10,000 saves in transactions of 100 records by 4 clients, and no loads and no indexes. A script has 4,000,000
-bytes at most.
+bytes at most. With --together the clients begin together, save and commit in turn, and are settled together. With --sql
+the same work is printed for the shell of SQLite (`sqlite3 :memory: < FILE`), one transaction after another.
 """
 
 import argparse
@@ -36,12 +37,39 @@ def transactions(step, count, records, clients):
         yield from (["commit", client], ["settle"])
 
 
+def rounds(step, count, records, clients):
+    """The same in rounds of all clients, whose transactions are open beside one another."""
+    for first in range(0, count, records * clients):
+        parts = [(client, range(first + client * records, min(first + (client + 1) * records, count)))
+                 for client in range(clients)]
+        yield from (["begin", client] for client, _ in parts)
+        for place in range(records):
+            yield from (step(client, numbers[place]) for client, numbers in parts if place < len(numbers))
+        yield from (["commit", client] for client, _ in parts)
+        yield ["settle"]
+
+
 def steps(options):
     """The steps: a store with some indexes, then the saves, then the loads of what was saved."""
     schema = {"types": [TYPE], "indexes": INDEXES[:options.indexes]}
     yield from (["begin", 0], ["create", 0, schema], ["commit", 0], ["settle"])
-    yield from transactions(save, options.saves, options.records, options.clients)
-    yield from transactions(load, options.loads, options.records, options.clients)
+    turns = rounds if options.together else transactions
+    yield from turns(save, options.saves, options.records, options.clients)
+    yield from turns(load, options.loads, options.records, options.clients)
+
+
+def statements(options):
+    """The same work in SQL, one transaction after another."""
+    yield "CREATE TABLE t (k INTEGER PRIMARY KEY, a INTEGER, b TEXT);"
+    for index in INDEXES[:options.indexes]:
+        yield f"CREATE INDEX {index['name']} ON t ({', '.join(index['columns'])});"
+    for form, count in (("INSERT INTO t VALUES ({0}, {1}, 'record {0}');", options.saves),
+                        ("SELECT * FROM t WHERE k = {0};", options.loads)):
+        for first in range(0, count, options.records):
+            yield "BEGIN;"
+            for number in range(first, min(first + options.records, count)):
+                yield form.format(number, number % 7)
+            yield "COMMIT;"
 
 
 def main():
@@ -51,9 +79,13 @@ def main():
     parser.add_argument("--indexes", type=int, default=0, choices=range(3), metavar="0..2")
     parser.add_argument("--records", type=int, default=100, help="records of one transaction")
     parser.add_argument("--clients", type=int, default=4, choices=range(1, 17), metavar="1..16")
+    parser.add_argument("--together", action="store_true", help="the clients' transactions are open together")
+    parser.add_argument("--sql", action="store_true", help="print SQL in place of a script")
     options = parser.parse_args()
-    script = {"steps": list(steps(options))}
-    print(json.dumps(script, separators=(",", ":")))
+    if options.sql:
+        print(*statements(options), sep="\n")
+    else:
+        print(json.dumps({"steps": list(steps(options))}, separators=(",", ":")))
 
 
 if __name__ == "__main__":

@@ -1,6 +1,6 @@
 //! Measures the crates: `bench tuples` packs and unpacks tuples, `bench ranges` fills lists of
-//! ranges, `bench schemas` writes and reads schemas and makes records, and `bench transactions`
-//! writes and reads in transactions. It prints what it measured.
+//! ranges, `bench schemas` writes and reads schemas and makes records, `bench transactions` writes
+//! and reads in transactions, and `bench versions` pulls versions. It prints what it measured.
 #![tactic(auto)]
 
 mod keys;
@@ -8,6 +8,7 @@ mod ranges;
 mod schemas;
 mod transactions;
 mod tuples;
+mod versions;
 
 use std::process::ExitCode;
 use std::{env, io};
@@ -25,8 +26,9 @@ fn main(rt: HostRuntime) -> io::Result<ExitCode> {
         Some("schemas") => schemas::measure(&rt)?,
         Some("transactions") => transactions::measure(&rt)?,
         Some("tuples") => tuples::measure(&rt)?,
+        Some("versions") => versions::measure(&rt)?,
         _ => {
-            rt.eprintln("usage: bench ranges|schemas|transactions|tuples")?;
+            rt.eprintln("usage: bench ranges|schemas|transactions|tuples|versions")?;
             return Ok(ExitCode::from(2));
         }
     }

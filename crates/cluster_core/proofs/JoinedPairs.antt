@@ -83,7 +83,7 @@ read-empty m range limit b is =
     ∙ ap (take limit) (none_turned b) ∙ take_none limit
 
 -- pieces from the last one back
-turned-flat_map : {X Y : Type 0} (b : Bool) (f : X → List Y) (xs : List X) → turned b (flat_map f xs) ≡ flat_map (λ x. turned b (f x)) (turned b xs)
+pub turned-flat_map : {X Y : Type 0} (b : Bool) (f : X → List Y) (xs : List X) → turned b (flat_map f xs) ≡ flat_map (λ x. turned b (f x)) (turned b xs)
 turned-flat_map false f xs = refl
 turned-flat_map true f [] = refl
 turned-flat_map true f (x ∷ xs) =

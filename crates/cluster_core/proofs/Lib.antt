@@ -29,3 +29,11 @@ pub mod Rising
 pub mod Putting
 pub mod Asked
 pub mod Waiting
+pub mod Links
+pub mod ChainMaps
+pub mod Shown
+pub mod Written
+pub mod ServerChains
+pub mod ServerMaps
+pub mod ServerSteps
+pub mod ChainRows

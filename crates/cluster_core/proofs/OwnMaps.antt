@@ -14,13 +14,11 @@ use Rattle.kv_core.specs.declared.change.Mutation.TheVariants.{Set, ClearRange, 
 use Rattle.kv_core.proofs.Changes.{get-after, get-kept, get-set, same_maps}
 use Rattle.kv_core.proofs.Order.{contains-point, tied_keys}
 use Rattle.cluster_core.specs.Decision.{Owned, cut, owns}
-use Rattle.cluster_core.specs.Server.{HasOwnKeys, kept_of, owner_of, server_state}
-use Rattle.cluster_core.specs.Tier.{ServerState, part}
-use Rattle.cluster_core.specs.declared.server.Server.{Server}
+use Rattle.cluster_core.specs.Tier.{part}
 use Rattle.cluster_core.proofs.Ownership.{meets_within-from, meets_within-point}
 use Rattle.cluster_core.proofs.StorageMaps.{part-after_all, part-empty}
 
-either_way : {X : Type 0} (b : Bool) (x : X) → cond b x x ≡ x
+pub either_way : {X : Type 0} (b : Bool) (x : X) → cond b x x ≡ x
 either_way true x = refl
 either_way false x = refl
 
@@ -101,27 +99,13 @@ pub skipped-rest : (owner : Owned) (c : Mutation) (more all : List Mutation) (m 
 skipped-rest owner c more all m next end kept h is done so =
     ap (λ x. part owner (after_all more x)) done ∙ part-skipped owner c more m kept h ∙ ap (λ cs. part owner (after_all cs m)) (sym is) ∙ so
 
--- with a map of the part in front, the maps that are kept are of the part
-own-put : (owner same : Owned) (x m : Map) (ms old ns : List Map) (n : ℕ) → same ≡ owner → m ≡ part owner x → ms ≡ old → ns ≡ take n (m ∷ ms) →
-    AllByRecursion (λ m. part owner m ≡ m) old → AllByRecursion (λ m. part same m ≡ m) ns
-own-put owner same x m ms old ns n own made stay is all =
-    subst (λ o. AllByRecursion (λ m. part o m ≡ m) ns) (sym own)
-    (subst (AllByRecursion (λ m. part owner m ≡ m)) (sym is)
-    (own-take owner (m ∷ ms) n
-    (subst (λ k. part owner k ≡ k) (sym made) (part-part owner x), subst (AllByRecursion (λ m. part owner m ≡ m)) (sym stay) all)))
-
--- what a server keeps while room is made, and while a map of its part is put in
-pub own-room : (server room : Server) → kept_of room ≡ kept_of server → HasOwnKeys server → HasOwnKeys room
-own-room server room same all = let P : Owned × ServerState → Type 0 = λ k. AllByRecursion (λ m. part k.0 m ≡ m) k.1.maps in subst P (sym same) all
-
-pub own-next : (server room next : Server) (version n : ℕ) (x m : Map) → kept_of room ≡ kept_of server → owner_of next ≡ owner_of room →
-    server_state next ≡ record { version = version; maps = take n (m ∷ room.maps.items) } → m ≡ part server.part x → HasOwnKeys server → HasOwnKeys next
-own-next server room next version n x m same own is made all =
-    own-put server.part next.part x m room.maps.items server.maps.items next.maps.items n (own ∙ ap (λ k. k.0) same) made (ap (λ k. k.1.maps) same) (ap (λ s. s.maps) is) all
-
 -- what holds of all servers holds of the first and of the others
-pub own-parts : (all others : List Server) (server : Server) → all ≡ server ∷ others → AllByRecursion HasOwnKeys all → HasOwnKeys server × AllByRecursion HasOwnKeys others
-own-parts all others server is own = subst (AllByRecursion HasOwnKeys) is own
+pub all_parts : {X : Type 0} (P : X → Type 0) (x : X) (xs all : List X) → all ≡ x ∷ xs → AllByRecursion P all → P x × AllByRecursion P xs
+all_parts P x xs all is h = subst (AllByRecursion P) is h
 
 pub All-others : {X : Type 0} (P : X → Type 0) (x : X) (xs all : List X) → all ≡ x ∷ xs → All P all → All P xs
 All-others {X} P x xs all is h = λ k d below. let Q : List X → Type 0 = All P in subst Q is h (suc k) d (omega (arith, below))
+
+-- what is a part of a map is its own part
+pub own_part : (owner same : Owned) (x m : Map) → same ≡ owner → m ≡ part owner x → part same m ≡ m
+own_part owner same x m own is = ap (λ o. part o m) own ∙ ap (part owner) is ∙ part-part owner x ∙ sym is

@@ -1,5 +1,5 @@
 -- What the servers of a cluster have, as far as they have pulled the logs.
-use Rattle.std.proofs.Common.{arith, ◌≡◌, ℕ, zero, suc, ◌+◌, ◌-◌, ◌<◌, ◌≤◌, min, Bool, true, false, cond, nat_lt, add-one, Option, None, Some, unwrap_or, List, [], ◌∷◌, length, take, inl, inr, refl, sym, ap, ◌∙◌}
+use Rattle.std.proofs.Common.{arith, ◌≡◌, ℕ, zero, suc, ◌+◌, ◌-◌, ◌≤◌, min, Bool, true, false, cond, nat_lt, add-one, Option, None, Some, unwrap_or, List, [], ◌∷◌, length, take, inl, inr, refl, sym, ap, ◌∙◌}
 use Rattle.std.proofs.lemmas.Bool.{true≢false, cases_Bool, cases_lt, ltb-false}
 use Rattle.std.proofs.lemmas.Cmp.{nat_list_cmp_total}
 use Rattle.std.specs.FinMap.{empty, entries, find, get, get-entries, get-from_entries}
@@ -15,17 +15,15 @@ use Rattle.cluster_core.specs.Cluster.{ClusterState, database_at, maps_back, ser
 use Rattle.cluster_core.specs.Decision.{Owned, cut, log, owners, owns}
 use Rattle.cluster_core.specs.History.{map_at}
 use Rattle.cluster_core.specs.Roles.{PipelineState, entries as requested, history}
+use Rattle.cluster_core.specs.Server.{maps_down}
 use Rattle.cluster_core.specs.Tier.{Makes, absorb, first_refusal, map_of, part, refusal, refusal_of, whole_map}
 use Rattle.cluster_core.specs.declared.answers.ReadError.{ReadError}
 use Rattle.cluster_core.specs.declared.answers.ReadError.TheVariants.{FutureVersion, TooOld}
 use Rattle.cluster_core.proofs.LogMaps.{empty_before, log_makes_history}
 use Rattle.cluster_core.proofs.Ownership.{some_owner}
 use Rattle.cluster_core.proofs.OwnMaps.{has_keys-own, none_elsewhere, own-map_of, part-part}
+use Rattle.cluster_core.proofs.ServerMaps.{down_at, down_first, down_past, take_down}
 use Rattle.cluster_core.proofs.StorageMaps.{either, find-append, part-after_all, part-empty}
-
-take_none : {X : Type 0} (n : ℕ) → take {A = X} n [] ≡ []
-take_none zero = refl
-take_none (suc n) = refl
 
 -- the mutations of a log lead from each map that it makes to the next one
 makes-at : (maps : ℕ → Map) (from : ℕ) (log : List (List Mutation)) (place : ℕ) (mutations : List Mutation) → Makes maps from log → slice_get log place ≡ Some mutations →
@@ -44,17 +42,10 @@ module _ (p : PipelineState) where
   abbrev map_then : ℕ → Map
   map_then version = map_at (history p) version
 
-  head-back : (owner : Owned) (version count : ℕ) → slice_get (maps_back p owner version count) 0 ≡ Some (part owner (map_then version))
-  head-back owner version zero = refl
-  head-back owner version (suc count) = refl
-
-  -- fewer maps back are the first of more
-  take-back : (owner : Owned) (version n count : ℕ) → take (suc n) (maps_back p owner version count) ≡ maps_back p owner version (min n count)
-  take-back owner version n zero = let none : min n 0 ≡ 0 = omega arith in ap (λ ms. part owner (map_then version) ∷ ms) (take_none n) ∙ sym (ap (maps_back p owner version) none)
-  take-back owner version zero (suc count) = let none : min 0 (suc count) ≡ 0 = omega arith in sym (ap (maps_back p owner version) none)
-  take-back owner version (suc n) (suc count) =
-      let less : min (suc n) (suc count) ≡ suc (min n count) = omega arith in
-      ap (λ ms. part owner (map_then version) ∷ ms) (take-back owner (version - 1) n count) ∙ sym (ap (maps_back p owner version) less)
+  -- they are maps from a version down
+  down : (owner : Owned) (version count : ℕ) → maps_back p owner version count ≡ maps_down (λ v. part owner (map_then v)) version count
+  down owner version zero = refl
+  down owner version (suc count) = ap (λ ms. part owner (map_then version) ∷ ms) (down owner (version - 1) count)
 
   -- the map of the next version in front, and those beyond the window dropped
   next-back : (owner : Owned) (clock window back : ℕ) →
@@ -65,7 +56,8 @@ module _ (p : PipelineState) where
       let less : min window (min (suc window) back) ≡ min window back = omega arith in
       let before : clock ≡ (clock + 1) - 1 = omega arith in
       ap (λ ms. part owner (map_then (clock + 1)) ∷ ms)
-      (take-back owner clock window (min (suc window) back) ∙ ap (maps_back p owner clock) less ∙ ap (λ n. maps_back p owner n (min window back)) before)
+      (ap (take (suc window)) (down owner clock (min (suc window) back)) ∙ take_down (λ v. part owner (map_then v)) clock window (min (suc window) back)
+      ∙ sym (down owner clock (min window (min (suc window) back))) ∙ ap (maps_back p owner clock) less ∙ ap (λ n. maps_back p owner n (min window back)) before)
       ∙ sym (ap (maps_back p owner (clock + 1)) more)
 
   -- a server that absorbs what its log has of the next version has what it is to have
@@ -76,7 +68,8 @@ module _ (p : PipelineState) where
       let place : p.start + (clock - p.start) ≡ clock = omega (arith, from) in
       let none : clock - clock ≡ 0 = omega arith in
       let newest : map_of (server_at p owner clock) clock ≡ part owner (map_then clock) =
-      ap (λ n. unwrap_or (slice_get (maps_back p owner clock count) n) empty) none ∙ ap (λ o. unwrap_or o empty) (head-back owner clock count) in
+      ap (λ n. unwrap_or (slice_get (maps_back p owner clock count) n) empty) none
+      ∙ ap (λ ms. unwrap_or (slice_get ms 0) empty) (down owner clock count) ∙ ap (λ o. unwrap_or o empty) (down_first (λ v. part owner (map_then v)) clock count) in
       let next : map_then (clock + 1) ≡ after_all mutations (map_then clock) =
       ap (λ n. map_then (n + 1)) (sym place) ∙ makes-at map_then p.start (log p.splits (requested p)) (clock - p.start) mutations (log_makes_history p.splits p.start p.requests) is
       ∙ ap (λ n. after_all mutations (map_then n)) place in
@@ -107,21 +100,6 @@ module _ (p : PipelineState) where
   servers-raised (o ∷ os) (c ∷ clocks) zero owner clock own at = let same : o ≡ owner = cc in λ i. server_at p (sym same i) (clock + 1) ∷ servers_at p os clocks
   servers-raised (o ∷ os) (c ∷ clocks) (suc s) owner clock own at = ap (λ ss. server_at p o c ∷ ss) (servers-raised os clocks s owner clock own at)
 
-  -- how far back a server goes
-  back-at : (owner : Owned) (version count back : ℕ) → back ≤ count → back ≤ version → slice_get (maps_back p owner version count) back ≡ Some (part owner (map_then (version - back)))
-  back-at owner version zero zero h k = let n : version - 0 ≡ version = omega arith in ap (λ v. Some (part owner (map_then v))) (sym n)
-  back-at owner version zero (suc back) h k = absurd (omega (arith, h))
-  back-at owner version (suc count) zero h k = let n : version - 0 ≡ version = omega arith in ap (λ v. Some (part owner (map_then v))) (sym n)
-  back-at owner version (suc count) (suc back) h k =
-      let n : (version - 1) - back ≡ version - suc back = omega arith in
-      back-at owner (version - 1) count back (omega (arith, h)) (omega (arith, k)) ∙ ap (λ v. Some (part owner (map_then v))) n
-
-  back-past : (owner : Owned) (version count back : ℕ) → count < back → slice_get (maps_back p owner version count) back ≡ None
-  back-past owner version zero zero h = absurd (omega (arith, h))
-  back-past owner version zero (suc back) h = refl
-  back-past owner version (suc count) zero h = absurd (omega (arith, h))
-  back-past owner version (suc count) (suc back) h = back-past owner (version - 1) count back (omega (arith, h))
-
   -- within the window a server has its part of the database
   map-then : (owner : Owned) (clock version : ℕ) → p.start ≤ clock → version ≤ clock → clock - version ≤ p.window → map_of (server_at p owner clock) version ≡ part owner (map_then version)
   map-then owner clock version from upto near =
@@ -129,11 +107,13 @@ module _ (p : PipelineState) where
       elim (cases_lt count (clock - version)) [
         | inl past ↦
             let before : version ≤ p.start = omega (arith, past, near, from, upto) in
-            ap (λ o. unwrap_or o empty) (back-past owner clock count (clock - version) past) ∙ sym (part-empty owner)
+            ap (λ ms. unwrap_or (slice_get ms (clock - version)) empty) (down owner clock count)
+            ∙ ap (λ o. unwrap_or o empty) (down_past (λ v. part owner (map_then v)) clock count (clock - version) past) ∙ sym (part-empty owner)
             ∙ ap (part owner) (sym (empty_before p.splits p.start p.requests version before))
         | inr has ↦
             let here : clock - (clock - version) ≡ version = omega (arith, upto) in
-            ap (λ o. unwrap_or o empty) (back-at owner clock count (clock - version) has (omega arith)) ∙ ap (λ v. part owner (map_then v)) here
+            ap (λ ms. unwrap_or (slice_get ms (clock - version)) empty) (down owner clock count)
+            ∙ ap (λ o. unwrap_or o empty) (down_at (λ v. part owner (map_then v)) clock count (clock - version) has) ∙ ap (λ v. part owner (map_then v)) here
       ]
 
   own-back : (owner : Owned) (version count : ℕ) → AllByRecursion (λ m. part owner m ≡ m) (maps_back p owner version count)

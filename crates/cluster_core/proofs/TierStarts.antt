@@ -10,11 +10,17 @@ use Rattle.kv_core.specs.Bytes.{key_lt, end_of_keys}
 use Rattle.kv_core.specs.declared.change.Mutation.{Mutation}
 use Rattle.cluster_core.specs.Configuration.{are_splits, config_refusal, first_tier, has_good_counts, is_rising_above}
 use Rattle.cluster_core.specs.Decision.{Owned, owners}
-use Rattle.cluster_core.specs.Server.{HasOwnKeys, IsTier, first_server, owner_of, server_state}
+use Rattle.std.specs.BTreeMap.{BTreeMap, is_at}
+use Rattle.std.specs.Map.{lookup}
+use Rattle.kv_core.specs.Bytes.{key_cmp}
+use Rattle.cluster_core.specs.Chains.{links_at, links_in, shown}
+use Rattle.cluster_core.specs.declared.chain.Chain.{Chain}
+use Rattle.cluster_core.specs.Server.{IsChain, IsServer, IsTier, first_server, maps_down, owner_of, recent_of, server_state}
 use Rattle.cluster_core.specs.Tier.{ServerState, TierState, absorb, part}
 use Rattle.cluster_core.specs.declared.answers.Config.{Config}
 use Rattle.cluster_core.specs.declared.answers.ConfigError.TheVariants.{BadCount, BadSplits}
 use Rattle.cluster_core.specs.declared.server.Server.{Server}
+use Rattle.cluster_core.proofs.ServerSteps.{within_kept}
 use Rattle.cluster_core.proofs.StorageMaps.{part-empty}
 
 none_of : (a b : Bool) → cond (not a) (Some BadCount) (cond b None (Some BadSplits)) ≡ None → b ≡ true
@@ -29,21 +35,37 @@ rising-storage config h =
     (and_parts (is_rising_above [] config.storage_splits)
     (list_all (λ split. key_lt split end_of_keys && Rattle.std.proofs.Common.nat_le (length split) 10_000) config.storage_splits) both.1).0
 
-first_own : (version : ℕ) (ss : List Server) → AllByRecursion (λ s. server_state s ≡ first_server version) ss → AllByRecursion HasOwnKeys ss
-first_own version [] all = tt
-first_own version (s ∷ ss) all =
-    (subst (AllByRecursion (λ m. part (owner_of s) m ≡ m)) (sym (ap (λ x. x.maps) all.0)) (part-empty (owner_of s), tt), first_own version ss all.1)
+-- a server without chains is kept as any window says
+first_look : (chains : BTreeMap (List ℕ) Chain) (key : List ℕ) → chains.entries ≡ [] → links_at chains key ≡ []
+first_look chains key none = ap (λ es. links_in (lookup (is_at (key_cmp key)) es)) none
+
+first_links : (server : Server) (key : List ℕ) → IsChain server.version (recent_of server) key []
+first_links server key = record { falls = tt; needed = refl; listed = tt }
+
+pub first_kept : (server : Server) → server.chains.chains.entries ≡ [] → server.chains.written.items ≡ [] → server.recent.items ≡ [] → (window : ℕ) → IsServer window server
+first_kept server none idle recent window =
+    within_kept server window
+    (record {
+      own = subst (AllByRecursion (λ m. part server.part m ≡ m)) (sym (λ i. maps_down (shown (none i)) server.version (length (recent i)))) (part-empty server.part, tt);
+      chains = λ key. subst (IsChain server.version (recent_of server) key) (sym (first_look server.chains.chains key none)) (first_links server key);
+      idle = idle;
+    })
+    (let depth : length server.recent.items ≡ 0 = ap length recent in omega (arith, depth))
+
+first_all : (window : ℕ) (ss : List Server) → AllByRecursion (λ s. (window : ℕ) → IsServer window s) ss → AllByRecursion (IsServer window) ss
+first_all window [] all = tt
+first_all window (s ∷ ss) all = (all.0 window, first_all window ss all.1)
 
 first_states : (version : ℕ) (ss : List Server) → AllByRecursion (λ s. server_state s ≡ first_server version) ss → map server_state ss ≡ map (λ _. first_server version) (map owner_of ss)
 first_states version [] all = refl
 first_states version (s ∷ ss) all = λ i. all.0 i ∷ first_states version ss all.1 i
 
 pub starts_tier : (config : Config) (splits : List (List ℕ)) (ss : List Server) → config_refusal config ≡ None → splits ≡ config.storage_splits → map owner_of ss ≡ owners splits →
-    AllByRecursion (λ s. server_state s ≡ first_server config.start) ss → IsTier splits ss
-starts_tier config splits ss allowed is parts states = record {
+    AllByRecursion (λ s. (window : ℕ) → IsServer window s) ss → IsTier splits config.window ss
+starts_tier config splits ss allowed is parts kept = record {
   parts = parts;
   rising = ap (is_rising_above []) is ∙ rising-storage config allowed;
-  own = first_own config.start ss states;
+  kept = first_all config.window ss kept;
 }
 
 pub starts_first : (config : Config) (splits : List (List ℕ)) (ss : List Server) → splits ≡ config.storage_splits → map owner_of ss ≡ owners splits →
@@ -58,17 +80,22 @@ starts_first config splits ss is parts states =
 there : {Y : Type 0} (f : Server → Y) (ss : List Server) (s : ℕ) (server : Server) → s < length ss → server ≡ get_or ss s server → slice_get (map f ss) s ≡ Some (f server)
 there f ss s server below is = slice_get-map f ss s ∙ ap (option_map f) (slice_get_read ss (length ss) s server refl below is)
 
-set-own : (ss : List Server) (s : ℕ) (next : Server) → AllByRecursion HasOwnKeys ss → HasOwnKeys next → AllByRecursion HasOwnKeys (slice_set ss s next)
-set-own [] s next all own = tt
-set-own (x ∷ ss) zero next all own = (own, all.1)
-set-own (x ∷ ss) (suc s) next all own = (all.0, set-own ss s next all.1 own)
+set-kept : (window : ℕ) (ss : List Server) (s : ℕ) (next : Server) → AllByRecursion (IsServer window) ss → IsServer window next → AllByRecursion (IsServer window) (slice_set ss s next)
+set-kept window [] s next all kept = tt
+set-kept window (x ∷ ss) zero next all kept = (kept, all.1)
+set-kept window (x ∷ ss) (suc s) next all kept = (all.0, set-kept window ss s next all.1 kept)
 
-pub tier-set : (splits : List (List ℕ)) (ss : List Server) (s : ℕ) (server next : Server) → server ≡ get_or ss s server → owner_of next ≡ owner_of server →
-    HasOwnKeys next → IsTier splits ss → IsTier splits (slice_set ss s next)
-tier-set splits ss s server next is same own tier = record {
+pub kept-there : (window : ℕ) (ss : List Server) (s : ℕ) (server : Server) → s < length ss → server ≡ get_or ss s server → AllByRecursion (IsServer window) ss → IsServer window server
+kept-there window [] s server below is all = absurd (omega (arith, below))
+kept-there window (x ∷ ss) zero server below is all = subst (IsServer window) (sym is) all.0
+kept-there window (x ∷ ss) (suc s) server below is all = kept-there window ss s server (omega (arith, below)) is all.1
+
+pub tier-set : (splits : List (List ℕ)) (window : ℕ) (ss : List Server) (s : ℕ) (server next : Server) → server ≡ get_or ss s server → owner_of next ≡ owner_of server →
+    IsServer window next → IsTier splits window ss → IsTier splits window (slice_set ss s next)
+tier-set splits window ss s server next is same kept tier = record {
   parts = map-set_same owner_of ss s next server (same ∙ ap owner_of is) ∙ tier.parts;
   rising = tier.rising;
-  own = set-own ss s next tier.own own;
+  kept = set-kept window ss s next tier.kept kept;
 }
 
 abbrev tier_with : List (List ℕ) → ℕ → List ServerState → TierState
@@ -82,7 +109,7 @@ module _ (tier : TierState) (splits : List (List ℕ)) (window : ℕ) (ss : List
   state-there s server below is = ap (λ t. slice_get t.servers s) (sym view) ∙ there server_state ss s server below is
 
   -- one server pulled, and so the tier has its next state in its place
-  pub pulled-there : (s : ℕ) (server next : Server) (mutations : List Mutation) → s < length ss → server ≡ get_or ss s server → IsTier splits ss →
+  pub pulled-there : (s : ℕ) (server next : Server) (mutations : List Mutation) → s < length ss → server ≡ get_or ss s server → IsTier splits window ss →
       server_state next ≡ absorb window (owner_of server) mutations (server_state server) → (owner : Owned) (old : ServerState) → slice_get (owners tier.splits) s ≡ Some owner →
       slice_get tier.servers s ≡ Some old →
       ◌≡◌ {A = TierState} (record { splits = splits; window = window; servers = map server_state (slice_set ss s next) })

@@ -12,3 +12,4 @@ pub mod Progress
 pub mod Server
 pub mod TierCode
 pub mod Pulled
+pub mod Chains

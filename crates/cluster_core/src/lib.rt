@@ -2,6 +2,8 @@
 #![tactic(auto)]
 
 mod answers;
+mod chain;
+mod chains;
 mod cluster;
 mod config;
 mod kept;

@@ -1,31 +1,35 @@
-ghost use Rattle.std.specs.Prelude.{◌≡◌, ◌+◌, ◌-◌, ◌<◌, ◌^◌, ◌∷◌, [], IfOk, OnOk, OnErr, None};
-ghost use Rattle.std.specs.Prelude.{All, IsTrue, ◌↔◌, if◌then◌else◌, map, slice_get, take};
+ghost use Rattle.std.specs.Prelude.{◌≡◌, ◌+◌, ◌<◌, ◌≤◌, ◌^◌, ◌∷◌, IfOk, OnOk, OnErr, None, ℕ};
+ghost use Rattle.std.specs.Prelude.{All, IsTrue, ◌↔◌, if◌then◌else◌, length, map, take};
 ghost use Rattle.std.specs.List.{AllByRecursion, flat_map};
-ghost use Rattle.std.specs.Option.{option_copied};
 ghost use Rattle.std.specs.VecDeque.{deque_len, deque_capacity};
 ghost use Rattle.kv_core.specs.Change.{write_range};
 ghost use Rattle.kv_core.specs.Map.{after_all};
 ghost use Rattle.kv_core.specs.Range.{has_keys};
 ghost use Rattle.kv_core.specs.Read.{read_of};
+ghost use Rattle.cluster_core.specs.Chains.{AreBelow, AreFalling, Writes, shown};
 ghost use Rattle.cluster_core.specs.Decision.{cut};
-ghost use Rattle.cluster_core.specs.Server.{HasOwnKeys, first_server, kept_of};
+ghost use Rattle.cluster_core.specs.Server.{IsAtRest, IsServer, IsStaged, first_server, next_map};
 ghost use Rattle.cluster_core.specs.Server.{owner_of, pairs_at, server_state, turned};
-ghost use Rattle.cluster_core.specs.Tier.{absorb, absorb_each, first_refusal, map_of, part, refusal_of};
+ghost use Rattle.cluster_core.specs.Tier.{absorb, absorb_each, first_refusal, map_of, part};
+ghost use Rattle.cluster_core.specs.Tier.{refusal_of};
 
 use crate::answers::ReadError;
+use crate::chains::Chains;
 use crate::part::Part;
-use kv_core::{KeyRange, KvMap, Mutation, Pair};
+use kv_core::{Bytes, KeyRange, Mutation, Pair};
 use std::alloc::{AllocError, Global};
 use std::collections::VecDeque;
 
-/// One storage server: the keys that it owns, the last version that it applied, and the maps of
-/// its keys at that version and at those before it, the newest first.
+/// One storage server: the keys that it owns, the last version that it applied, what these keys
+/// had at that version and those before it, and the keys that each of these versions wrote, the
+/// newest version first.
 #[derive(Debug, Drop)]
 pub(crate) struct Server {
     alloc: Global,
     part: Part,
     version: u64,
-    maps: VecDeque<KvMap>,
+    chains: Chains,
+    recent: VecDeque<Vec<Bytes>>,
 }
 
 /// Whether the mutation writes a key of the owner's part.
@@ -39,34 +43,44 @@ fn writes_own(owner: &Part, mutation: &Mutation) -> bool
     }
 }
 
-/// Applies the mutations to a map of the owner's part, as far as they write keys of the part.
-/// Where memory runs out some of them are applied.
-fn apply_own(map: &mut KvMap, owner: &Part, mutations: &[Mutation]) -> Result<(), AllocError>
-    requires { part owner.now map.old ≡ map.old }
-    ensures { OnOk result (map.new ≡ part owner.now (after_all mutations.now map.old)) }
+/// Applies the mutations at the version to come, as far as they write keys of the owner's part.
+/// Where memory runs out some of their writes are done.
+fn apply_own(
+    chains: &mut Chains,
+    owner: &Part,
+    version: u64,
+    mutations: &[Mutation],
+) -> Result<(), AllocError>
+    requires below { AreBelow version chains.old.chains }
+    requires own { part owner.now (shown chains.old.chains.entries version)
+        ≡ shown chains.old.chains.entries version }
+    ensures ok { OnOk result (shown chains.new.chains.entries version
+        ≡ part owner.now (after_all mutations.now (shown chains.old.chains.entries version))) }
+    ensures writes { Writes version chains.old.written.items chains.old.chains
+        chains.new.written.items chains.new.chains }
 {
     for mutation in mutations {
         if writes_own(owner, mutation) {
-            map.apply(mutation)?;
+            chains.apply(version, mutation)?;
         }
     }
     Ok(())
 }
 
 impl Server {
-    /// A server with the empty map at a version, unless memory runs out.
-    pub(crate) fn new(alloc: Global, part: Part, version: u64) -> Result<Server, AllocError>
-        ensures owner { IfOk result (λ server. owner_of server ≡ part) }
-        ensures first { IfOk result (λ server. server_state server ≡ first_server version) }
+    /// A server with the empty map at a version.
+    pub(crate) fn new(alloc: Global, part: Part, version: u64) -> Server
+        ensures owner { owner_of result ≡ part }
+        ensures first { server_state result ≡ first_server version }
+        ensures kept { (window : ℕ) → IsServer window result }
     {
-        let mut maps = VecDeque::new(alloc);
-        maps.push_front(KvMap::new(alloc))?;
-        Ok(Server {
+        Server {
             alloc,
             part,
             version,
-            maps,
-        })
+            chains: Chains::new(alloc),
+            recent: VecDeque::new(alloc),
+        }
     }
 
     /// The last version that the server applied.
@@ -76,63 +90,108 @@ impl Server {
         self.version
     }
 
-    /// The map at a version, if the server has it, or the newest one for a version to come.
-    fn map_at(&self, version: u64) -> Option<&KvMap>
-        ensures { option_copied result ≡ slice_get self.now.maps.items (self.now.version - version) }
-    {
-        let back = self.version.saturating_sub(version);
-        self.maps.get(back as usize)
-    }
-
-    /// The map after one more version with these mutations, unless memory runs out.
-    fn next_map(&self, mutations: &[Mutation]) -> Result<KvMap, AllocError>
-        requires { HasOwnKeys self.now }
-        ensures { IfOk result (λ map.
-            map ≡ part (owner_of self.now)
-            (after_all mutations.now (map_of (server_state self.now) self.now.version))) }
-    {
-        let mut map = match self.map_at(self.version) {
-            Some(newest) => newest.copy()?,
-            None => KvMap::new(self.alloc),
-        };
-        apply_own(&mut map, &self.part, mutations)?;
-        Ok(map)
-    }
-
-    /// Makes room for one more map. Where memory runs out the maps stay as they were too.
-    fn make_room(&mut self) -> Result<(), AllocError>
-        ensures same { kept_of self.new ≡ kept_of self.old }
-        ensures room { OnOk result (deque_len self.new.maps < deque_capacity self.new.maps) }
-    {
-        self.maps.reserve(1)
-    }
-
-    /// Puts the map of the next version in front, and drops those beyond the window.
-    fn put_in(&mut self, window: u64, map: KvMap)
+    /// Writes what the mutations make of the server's keys at the next version, as far as memory
+    /// goes, and makes room for the list of these keys.
+    fn write_next(&mut self, mutations: &[Mutation]) -> Result<(), AllocError>
         requires next { self.old.version + 1 < 2 ^ 64 }
-        requires room { deque_len self.old.maps < deque_capacity self.old.maps }
+        requires rest { IsAtRest self.old }
         ensures owner { owner_of self.new ≡ owner_of self.old }
-        ensures state { server_state self.new
-            ≡ record { version = self.old.version + 1; maps = take (window + 1) (map ∷ self.old.maps.items) } }
+        ensures state { server_state self.new ≡ server_state self.old }
+        ensures depth { length self.new.recent.items ≡ length self.old.recent.items }
+        ensures staged { IsStaged self.new }
+        ensures shows { OnOk result (next_map self.new ≡ part (owner_of self.old)
+            (after_all mutations.now (map_of (server_state self.old) self.old.version))) }
+        ensures room { OnOk result (deque_len self.new.recent < deque_capacity self.new.recent) }
     {
-        self.maps.truncate(window as usize);
-        self.maps.push_front_reserved(map);
+        self.recent.reserve(1)?;
+        apply_own(&mut self.chains, &self.part, self.version + 1, mutations)
+    }
+
+    /// Takes back what was written at the next version.
+    fn take_back(&mut self)
+        requires next { self.old.version + 1 < 2 ^ 64 }
+        requires staged { IsStaged self.old }
+        ensures owner { owner_of self.new ≡ owner_of self.old }
+        ensures state { server_state self.new ≡ server_state self.old }
+        ensures depth { length self.new.recent.items ≡ length self.old.recent.items }
+        ensures rest { IsAtRest self.new }
+    {
+        self.chains.take_back(self.version + 1);
+    }
+
+    /// Writes what the mutations make of the server's keys at the next version, and makes room for
+    /// the list of these keys. Where memory runs out nothing is written.
+    fn stage(&mut self, mutations: &[Mutation]) -> Result<(), AllocError>
+        requires next { self.old.version + 1 < 2 ^ 64 }
+        requires rest { IsAtRest self.old }
+        ensures owner { owner_of self.new ≡ owner_of self.old }
+        ensures state { server_state self.new ≡ server_state self.old }
+        ensures depth { length self.new.recent.items ≡ length self.old.recent.items }
+        ensures staged { OnOk result (IsStaged self.new) }
+        ensures shows { OnOk result (next_map self.new ≡ part (owner_of self.old)
+            (after_all mutations.now (map_of (server_state self.old) self.old.version))) }
+        ensures room { OnOk result (deque_len self.new.recent < deque_capacity self.new.recent) }
+        ensures rest { OnErr result (IsAtRest self.new) }
+    {
+        let done = self.write_next(mutations);
+        if done.is_err() {
+            self.take_back();
+        }
+        done
+    }
+
+    /// Makes the next version the last one, and lists what it wrote.
+    fn advance(&mut self)
+        requires next { self.old.version + 1 < 2 ^ 64 }
+        requires room { deque_len self.old.recent < deque_capacity self.old.recent }
+        requires staged { IsStaged self.old }
+        requires own { part (owner_of self.old) (next_map self.old) ≡ next_map self.old }
+        ensures owner { owner_of self.new ≡ owner_of self.old }
+        ensures state { server_state self.new ≡ record {
+          version = self.old.version + 1;
+          maps = next_map self.old ∷ (server_state self.old).maps;
+        } }
+        ensures depth { length self.new.recent.items ≡ length self.old.recent.items + 1 }
+        ensures rest { IsAtRest self.new }
+    {
+        let written = self.chains.take_written();
+        self.recent.push_front_reserved(written);
         self.version += 1;
+    }
+
+    /// Drops what the versions within the window don't need.
+    fn trim(&mut self, window: u64)
+        requires depth { length self.old.recent.items ≤ window + 1 }
+        requires rest { IsAtRest self.old }
+        ensures owner { owner_of self.new ≡ owner_of self.old }
+        ensures state { server_state self.new ≡ record {
+          version = self.old.version;
+          maps = take (window + 1) (server_state self.old).maps;
+        } }
+        ensures kept { IsServer window self.new }
+    {
+        if self.recent.len() as u64 <= window {
+            return;
+        }
+        if let Some(keys) = self.recent.pop_back() {
+            let floor = self.version.saturating_sub(self.recent.len() as u64);
+            self.chains.settle(floor, keys.as_slice());
+        }
     }
 
     /// Applies one version with these mutations. Where memory runs out the server stays as it was.
     pub(crate) fn pull(&mut self, window: u64, mutations: &[Mutation]) -> Result<(), AllocError>
         requires next { self.old.version + 1 < 2 ^ 64 }
-        requires own { HasOwnKeys self.old }
+        requires kept { IsServer window self.old }
         ensures owner { owner_of self.new ≡ owner_of self.old }
         ensures ok { OnOk result (server_state self.new
             ≡ absorb window (owner_of self.old) mutations.now (server_state self.old)) }
         ensures err { OnErr result (server_state self.new ≡ server_state self.old) }
-        ensures own { HasOwnKeys self.new }
+        ensures kept { IsServer window self.new }
     {
-        let map = self.next_map(mutations)?;
-        self.make_room()?;
-        self.put_in(window, map);
+        self.stage(mutations)?;
+        self.advance();
+        self.trim(window);
         Ok(())
     }
 
@@ -153,7 +212,7 @@ impl Server {
         }
     }
 
-    /// The pairs of the range in the map at a version, as `KvMap::range` gives them.
+    /// The pairs of the range in the map at a version, as `Chains::read` gives them.
     fn read(
         &self,
         range: &KeyRange,
@@ -161,13 +220,15 @@ impl Server {
         limit: usize,
         reverse: bool,
     ) -> Result<Vec<Pair>, AllocError>
+        requires { AreFalling self.now.chains.chains }
         ensures { IfOk result (λ pairs.
             pairs.items ≡ read_of (map_of (server_state self.now) version) range.now limit reverse) }
     {
-        match self.map_at(version) {
-            Some(map) => map.range(range, limit, reverse),
-            None => Ok(Vec::new(self.alloc)),
+        let back = self.version.saturating_sub(version);
+        if (self.recent.len() as u64) < back {
+            return Ok(Vec::new(self.alloc));
         }
+        self.chains.read(range, self.version - back, limit, reverse)
     }
 }
 
@@ -186,20 +247,23 @@ pub(crate) fn pull_each(
     mutations: &[Mutation],
 ) -> Result<(), AllocError>
     requires next { All (λ server. server.version + 1 < 2 ^ 64) servers.old }
-    requires own { AllByRecursion HasOwnKeys servers.old }
+    requires kept { AllByRecursion (IsServer window) servers.old }
     ensures owners { map owner_of servers.new ≡ map owner_of servers.old }
     ensures ok { OnOk result (map server_state servers.new
         ≡ absorb_each window mutations.now (map owner_of servers.old) (map server_state servers.old)) }
     ensures err { OnErr result (map server_state servers.new ≡ map server_state servers.old) }
-    ensures own { AllByRecursion HasOwnKeys servers.new }
+    ensures kept { AllByRecursion (IsServer window) servers.new }
 {
     let Some((server, others)) = servers.split_first_mut() else {
         return Ok(());
     };
-    let map = server.next_map(mutations)?;
-    server.make_room()?;
-    pull_each(others, window, mutations)?;
-    server.put_in(window, map);
+    server.stage(mutations)?;
+    if let Err(error) = pull_each(others, window, mutations) {
+        server.take_back();
+        return Err(error);
+    }
+    server.advance();
+    server.trim(window);
     Ok(())
 }
 
@@ -232,6 +296,7 @@ pub(crate) fn read_each(
     limit: usize,
     reverse: bool,
 ) -> Result<Vec<Pair>, AllocError>
+    requires { All (λ server. AreFalling server.chains.chains) servers.now }
     ensures { IfOk result (λ pairs.
         pairs.items ≡ take limit (flat_map (pairs_at range.now version reverse) (turned reverse servers.now))) }
 {

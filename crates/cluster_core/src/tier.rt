@@ -1,10 +1,10 @@
-ghost use Rattle.std.specs.Prelude.{◌≡◌, ◌⊎◌, ◌+◌, ◌<◌, ◌^◌, ◌↔◌, Some, IsTrue, IsNone, IfOk};
+ghost use Rattle.std.specs.Prelude.{◌≡◌, ℕ, ◌⊎◌, ◌+◌, ◌<◌, ◌^◌, ◌↔◌, Some, IsTrue, IsNone, IfOk};
 ghost use Rattle.std.specs.Prelude.{IfErr, OnOk, OnErr, All, length, map, slice_get, slice_set};
 ghost use Rattle.std.specs.List.{AllByRecursion};
 ghost use Rattle.kv_core.specs.Read.{read_of};
 ghost use Rattle.cluster_core.specs.Configuration.{config_refusal, first_tier};
 ghost use Rattle.cluster_core.specs.Decision.{Owned, owners};
-ghost use Rattle.cluster_core.specs.Server.{first_server, owner_of, server_state};
+ghost use Rattle.cluster_core.specs.Server.{IsServer, first_server, owner_of, server_state};
 ghost use Rattle.cluster_core.specs.Tier.{ServerState, absorb, absorb_all, refusal, whole_map};
 
 use crate::answers::{Config, ConfigError, ReadError, Splits};
@@ -15,7 +15,7 @@ use kv_core::{Bytes, KeyRange, Mutation, Pair};
 use std::alloc::{AllocError, Global};
 use std::marker::Model;
 
-/// The storage servers, in key order: each has the maps of its keys at its last versions, as far
+/// The storage servers, in key order: each tells the map of its keys at its last versions, as far
 /// back as the window.
 #[derive(Debug, Drop)]
 pub struct Tier {
@@ -38,7 +38,7 @@ impl Model for Tier {
 
     ghost view = { λ a. record { splits = a.splits; window = a.window; servers = map server_state a.servers.items } };
 
-    ghost invariant = { λ a. IsTier a.splits a.servers.items };
+    ghost invariant = { λ a. IsTier a.splits a.window a.servers.items };
 }
 
 /// A server with the empty map at a version for each part between the splits.
@@ -46,15 +46,17 @@ fn servers_between(alloc: Global, splits: &[Bytes], version: u64) -> Result<Vec<
     ensures owners { IfOk result (λ servers. map owner_of servers.items ≡ owners splits.now) }
     ensures states { IfOk result (λ servers.
         AllByRecursion (λ server. server_state server ≡ first_server version) servers.items) }
+    ensures kept { IfOk result (λ servers.
+        AllByRecursion (λ server. (window : ℕ) → IsServer window server) servers.items) }
 {
     let mut servers = Vec::new(alloc);
     let mut from = Bytes::new(Vec::new(alloc));
     for split in splits {
         let part = Part::new(from, Some(split.copy()?));
-        servers.push(Server::new(alloc, part, version)?)?;
+        servers.push(Server::new(alloc, part, version))?;
         from = split.copy()?;
     }
-    servers.push(Server::new(alloc, Part::new(from, None), version)?)?;
+    servers.push(Server::new(alloc, Part::new(from, None), version))?;
     Ok(servers)
 }
 

@@ -8,9 +8,9 @@ use cluster_core::ConfigError;
 use schedule::{Replies, ScheduleError, Transcript, run_schedule};
 use script::{MAX_SCRIPT_BYTES, ScriptError, make_line, script_of};
 use std::alloc::{AllocError, Global};
-use std::io;
 use std::io::{BufWriter, ErrorKind, Read, Write};
 use std::process::ExitCode;
+use std::{io, mem};
 
 // Why not every reply is printed.
 #[derive(Drop)]
@@ -70,7 +70,10 @@ fn run_script(alloc: Global, text: &[u8]) -> Result<Transcript, Fault>
         Err(ScriptError::BadScript(step)) => return Err(Fault::BadScript(step)),
         Err(ScriptError::OutOfMemory) => return Err(Fault::OutOfMemory),
     };
-    match run_schedule(alloc, &script.config, script.steps.as_slice()) {
+    let ran = run_schedule(alloc, &script.config, script.steps.as_slice());
+    // The process ends soon, and takes the steps with it faster than one by one.
+    mem::forget(script);
+    match ran {
         Ok(transcript) => Ok(transcript),
         Err(ScheduleError::Config(refusal)) => Err(refused(refusal)),
         Err(ScheduleError::Memory) => Err(Fault::OutOfMemory),
@@ -141,7 +144,10 @@ pub fn run<R: Read, W: Write, E: Write>(
         Ok(transcript) => transcript,
         Err(fault) => return refuse(errors, fault),
     };
-    match print_replies(alloc, output, &transcript.replies) {
+    let printed = print_replies(alloc, output, &transcript.replies);
+    // The process ends next, and takes all that was made with it faster than piece by piece.
+    mem::forget(transcript);
+    match printed {
         Ok(()) => ExitCode::SUCCESS,
         Err(PrintError::OutOfMemory) => refuse(errors, Fault::OutOfMemory),
         Err(PrintError::CannotWrite) => ExitCode::FAILURE,

@@ -1,9 +1,15 @@
-use Rattle.std.proofs.Common.{◌+◌, ◌<◌, ◌^◌, rules}
+use Rattle.std.proofs.Common.{◌∙◌, ◌+◌, ◌<◌, ◌^◌, rules}
 use Rattle.kv_core.specs.Map.{after_all}
-use Rattle.cluster_core.specs.Server.{server_state}
+use Rattle.cluster_core.specs.Server.{IsServer, next_map, server_state}
 use Rattle.cluster_core.specs.Tier.{map_of}
-use Rattle.cluster_core.proofs.OwnMaps.{All-others, own-next, own-parts, own-room}
+use Rattle.cluster_core.proofs.OwnMaps.{All-others, all_parts, own_part}
+use Rattle.cluster_core.proofs.ServerSteps.{still_kept}
 use Rattle.cluster_core.proofs.server.+pull_each.Goals as goal
+
+pub returns-in_err-stage-clause-kept : goal.returns-in_err-stage-clause-kept
+returns-in_err-stage-clause-kept t c =
+    let kept = all_parts (IsServer c.args.window) c.in-Some.server.now c.in-Some.others.now c.args.servers.now c.in-Some.ensures.cases.0 c.requires.kept in
+    (still_kept c.in-Some.server.now c.stage.new.self c.args.window kept.0 c.in_err-stage.ensures.depth c.in_err-stage.ensures.rest, kept.1)
 
 pub pull_each-requires : goal.pull_each-requires
 pull_each-requires t c =
@@ -11,18 +17,16 @@ pull_each-requires t c =
       search rules,
       (
         All-others (λ server. server.version + 1 < 2 ^ 64) c.in-Some.server.now c.in-Some.others.now c.args.servers.now is c.requires.next,
-        (own-parts c.args.servers.now c.in-Some.others.now c.in-Some.server.now is c.requires.own).1,
+        (all_parts (IsServer c.args.window) c.in-Some.server.now c.in-Some.others.now c.args.servers.now is c.requires.kept).1,
       ),
     )
 
-pub returns-in_err-pull_each-clause-own : goal.returns-in_err-pull_each-clause-own
-returns-in_err-pull_each-clause-own t c = (own-room c.in-Some.server.now c.make_room.new.self c.in_ok-make_room.ensures.same (own-parts c.args.servers.now c.in-Some.others.now c.in-Some.server.now c.in-Some.ensures.cases.0 c.requires.own).0, c.in_err-pull_each.ensures.own)
+pub returns-in-Err-clause-kept : goal.returns-in-Err-clause-kept
+returns-in-Err-clause-kept t c =
+    let kept = all_parts (IsServer c.args.window) c.in-Some.server.now c.in-Some.others.now c.args.servers.now c.in-Some.ensures.cases.0 c.requires.kept in
+    (still_kept c.in-Some.server.now c.take_back.new.self c.args.window kept.0 (c.take_back.ensures.depth ∙ c.in_ok-stage.ensures.depth) c.take_back.ensures.rest, c.in-Err.ensures.kept)
 
-pub returns-clause-own : goal.returns-clause-own
-returns-clause-own t c =
-    let server = c.in-Some.server.now in (
-      own-next server c.make_room.new.self c.put_in.new.self _ (c.args.window + 1) (after_all c.args.mutations.now (map_of (server_state server) server.version)) c.in_ok-map.map
-          c.in_ok-make_room.ensures.same c.put_in.ensures.owner c.put_in.ensures.state c.in_ok-map.ensures
-          (own-parts c.args.servers.now c.in-Some.others.now c.in-Some.server.now c.in-Some.ensures.cases.0 c.requires.own).0,
-      c.in_ok-pull_each.ensures.own,
-    )
+pub advance-requires-clause-own : goal.advance-requires-clause-own
+advance-requires-clause-own t c =
+    let server = c.in-Some.server.now in
+    own_part server.part c.stage.new.self.part (after_all c.args.mutations.now (map_of (server_state server) server.version)) (next_map c.stage.new.self) c.in_ok-stage.ensures.owner c.in_ok-stage.ensures.shows

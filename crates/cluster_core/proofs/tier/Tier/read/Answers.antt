@@ -1,8 +1,11 @@
 use Rattle.std.proofs.Common.{◌∙◌, ap, take}
 use Rattle.std.specs.List.{flat_map}
 use Rattle.cluster_core.specs.Server.{pairs_at, turned}
-use Rattle.cluster_core.proofs.TierReads.{tier_read}
+use Rattle.cluster_core.proofs.TierReads.{all_falling, tier_read}
 use Rattle.cluster_core.proofs.tier.Tier.read.Goals as goal
+
+pub read_each-requires : goal.read_each-requires
+read_each-requires c = all_falling c.self.inside.window c.self.inside.servers.items c.as_slice-servers.result.now c.as_slice-servers.ensures.value c.self.invariant.kept
 
 pub returns-clause-pairs : goal.returns-clause-pairs
 returns-clause-pairs c =
