@@ -18,7 +18,7 @@ use Rattle.cluster_core.proofs.Causes.{Contains-from}
 use Rattle.cluster_core.proofs.ExactCauses.{none_from, seen_from, writer_in}
 use Rattle.cluster_core.proofs.Ownership.{contains-cut, cut_has, list_any-weaker, meets_within-from, meets_within-gives}
 use Rattle.cluster_core.proofs.Places.{drop_item}
-use Rattle.cluster_core.proofs.Segmented.{Key, Run, nothing_is, only_one}
+use Rattle.cluster_core.proofs.InOrder.{Key, Run, nothing_is, only_one}
 use Rattle.cluster_core.proofs.Versions.{rising-numbered}
 
 -- the request of the entry at a place

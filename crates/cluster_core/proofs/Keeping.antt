@@ -9,7 +9,7 @@ use Rattle.kv_core.specs.Range.{covers}
 use Rattle.kv_core.specs.declared.change.CommitRequest.{CommitRequest}
 use Rattle.cluster_core.specs.History.{Entry, until}
 use Rattle.cluster_core.specs.Decision.{Cause, Owned, agreed_above, agrees, disturbs, earlier, first_disturbed, is_committed, numbered}
-use Rattle.cluster_core.specs.Kept.{KnowsWriters, WritersState, agreed_at, rise_between, writes_key}
+use Rattle.cluster_core.specs.Kept.{KeepsRecent, KnowsWriters, WritersState, agreed_at, rise_between, writes_key}
 use Rattle.cluster_core.specs.Progress.{ResolverState, IsResolver, IsLog, answer_of}
 use Rattle.cluster_core.proofs.Bridge.{entry_here, version_at}
 use Rattle.cluster_core.proofs.Causes.{cause_decides}
@@ -34,9 +34,9 @@ get_before (x ∷ xs) ys (suc i) inside = get_before xs ys i (omega (arith, insi
 pub answered_next : (window start : ℕ) (requests : List CommitRequest) (reported : ℕ) (old : ResolverState) (writers : WritersState) (causes : List (Option Cause)) (why : Option Cause) →
     IsResolver window start requests reported old → length old.causes < length requests → causes ≡ old.causes ++ why ∷ [] →
     ((entry : Entry) → slice_get (numbered start requests) (length old.causes) ≡ Some entry → why ≡ answer_of old.owner (numbered start requests) entry) →
-    KnowsWriters old.owner start requests (length old.causes - window) (length old.causes + 1) writers →
+    KnowsWriters old.owner start requests (length old.causes - window) (length old.causes + 1) writers → KeepsRecent window (length old.causes + 1) writers →
     IsResolver window start requests reported (record { owner = old.owner; writers = writers; causes = causes })
-answered_next window start requests reported old writers causes why was inside items is knows =
+answered_next window start requests reported old writers causes why was inside items is knows recent =
     subst (λ xs. IsResolver window start requests reported (record { owner = old.owner; writers = writers; causes = xs })) (sym items)
     (let more = length_push old.causes why in
     record {
@@ -44,6 +44,7 @@ answered_next window start requests reported old writers causes why was inside i
       knows =
           subst (λ n. KnowsWriters old.owner start requests (n - window) n writers) (sym more)
           (known_later old.owner start requests (length old.causes - window) (length old.causes + 1 - window) (length old.causes + 1) writers (omega arith) knows);
+      recent = subst (λ n. KeepsRecent window n writers) (sym more) recent;
       answers = λ place entry after below there. elim (cases_order place (length old.causes)) [
         | inl same ↦ ap (slice_get (old.causes ++ why ∷ [])) same ∙ get_last old.causes why ∙ ap Some (is entry (subst (λ i. slice_get (numbered start requests) i ≡ Some entry) same there))
         | inr (inl before) ↦ get_before old.causes (why ∷ []) place before ∙ was.answers place entry after before there
@@ -124,6 +125,7 @@ resolver_submitted window start requests q reported resolver was =
     record {
       within = omega (arith, more, within);
       knows = known_submitted resolver.owner start requests q (length resolver.causes - window) (length resolver.causes) resolver.writers within was.knows;
+      recent = was.recent;
       answers = λ place entry after below there.
           let inside : place < length requests = omega (arith, below, within) in
           let there' = there_before start requests q place entry inside there in
@@ -137,7 +139,7 @@ resolver_submitted window start requests q reported resolver was =
 pub resolver_weaker : (window start : ℕ) (requests : List CommitRequest) (reported : ℕ) (resolver : ResolverState) →
     IsResolver window start requests reported resolver → IsResolver window start requests (reported + 1) resolver
 resolver_weaker window start requests reported resolver was =
-    record { within = was.within; knows = was.knows; answers = λ place entry after below there. was.answers place entry (omega (arith, after)) below there }
+    record { within = was.within; knows = was.knows; recent = was.recent; answers = λ place entry after below there. was.answers place entry (omega (arith, after)) below there }
 
 get-set_other : {X : Type 0} (xs : List X) (i j : ℕ) (x : X) → i < j → slice_get (set xs i x) j ≡ slice_get xs j
 get-set_other [] i j x below = refl
@@ -155,6 +157,7 @@ resolver_taken window start requests place resolver was =
     record {
       within = omega (arith, same, within);
       knows = subst (λ n. KnowsWriters resolver.owner start requests (n - window) n resolver.writers) (sym same) was.knows;
+      recent = subst (λ n. KeepsRecent window n resolver.writers) (sym same) was.recent;
       answers = λ p entry after below there.
           get-set_other resolver.causes place p None (omega (arith, after)) ∙ was.answers p entry (omega (arith, after)) (omega (arith, below, same)) there;
     }

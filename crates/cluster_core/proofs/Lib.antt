@@ -23,9 +23,14 @@ pub mod PulledLogs
 pub mod PulledMaps
 pub mod ClusterSteps
 pub mod Ordered
+pub mod InOrder
+pub mod Newest
+pub mod TreeNodes
 pub mod Segmented
 pub mod Overlaid
+pub mod Dropped
 pub mod Rising
+pub mod Recent
 pub mod Putting
 pub mod Asked
 pub mod Waiting

@@ -1,28 +1,19 @@
 -- What has a key and what covers it where segments are cut, and where one is laid over them.
-use Rattle.std.proofs.Common.{◌≡◌, ℕ, ◌+◌, ◌<◌, ◌≤◌, Bool, true, false, None, Some, Option, cond, not, ◌&&◌, ◌||◌, ◌↔◌, List, [], ◌∷◌, length, take, get_or, ◌⊎◌, inl, inr, refl, sym, ap, subst, ◌∙◌, arith}
-use Rattle.std.proofs.lemmas.Bool.{and_from, and_parts, cases_Bool, true≢false}
-use Rattle.std.proofs.lemmas.Cmp.{eq_by_cmp_equiv, nat_list_cmp_total, tied_itself}
-use Rattle.std.proofs.lemmas.List.{take_more}
-use Rattle.std.proofs.lemmas.List.Folds.{list_any-append}
-use Rattle.std.proofs.lemmas.Map.Entries.{lookup-filter-values, option_filter}
-use Rattle.std.proofs.lemmas.Map.Keys.{IsDistinct-from_sorted}
-use Rattle.std.proofs.lemmas.Map.Made.{is_some-lookup}
+use Rattle.std.proofs.Common.{◌≡◌, ℕ, ◌≤◌, true, false, None, Some, Option, cond, [], ◌∷◌, ◌++◌, append_assoc, ◌⊎◌, inl, inr, refl, sym, ap, subst, ◌∙◌, arith}
+use Rattle.std.proofs.lemmas.Bool.{and_from, and_parts, cases_Bool}
+use Rattle.std.proofs.lemmas.Cmp.{nat_list_cmp_total, tied_itself}
 use Rattle.std.specs.BTreeMap.{is_at}
-use Rattle.std.specs.List.{filter}
-use Rattle.std.specs.List.Sorted.{IsStrictlySortedBy}
-use Rattle.std.specs.Map.{keys_of, lookup}
-use Rattle.std.specs.Option.{is_some}
-use Rattle.std.specs.Ordering.{is_eq, is_le, is_lt}
-use Rattle.std.specs.declared.cmp.Ordering.TheVariants.{Equal}
-use Rattle.kv_core.specs.Bytes.{has_key, key_cmp, key_le, key_lt}
+use Rattle.std.specs.List.{AllByRecursion}
+use Rattle.std.specs.Map.{lookup}
+use Rattle.std.specs.Ordering.{is_eq}
+use Rattle.kv_core.specs.Bytes.{key_cmp, key_le, key_lt}
 use Rattle.kv_core.specs.Range.{contains}
 use Rattle.kv_core.proofs.Order.{cases_key, clash, le_both, le_from, le_from_lt, le_gives, le_lt_trans, le_refl, le_trans, lt_le_trans, tied_keys, tied_swap}
 use Rattle.cluster_core.specs.declared.segments.Segment.{Segment}
-use Rattle.cluster_core.specs.Segments.{Begins, HaveKeys, Holds, IsCovered, IsCutAt, IsOver, IsPartFrom, Overlays, from_to}
-use Rattle.cluster_core.proofs.Segmented.{Key, Run, IsFloor, begins_between, floor_same, nothing_is, only_one}
-
-floor_of : (es : Run) (key b : Key) (s : Segment) → IsOver es key b s → IsFloor es key b s
-floor_of es key b s over = record { stands = over.stands; from = over.from; last = over.last }
+use Rattle.cluster_core.specs.Segments.{Begins, HaveKeys, IsCovered, IsCutAt, IsOver, IsPartFrom, Overlays, from_to}
+use Rattle.cluster_core.specs.Tree.{InOrder, IsLaid, at_key}
+use Rattle.cluster_core.proofs.InOrder.{Key, Run, all_append, all_begins, all_front, all_map, begins_cases, begins_here, begins_left, begins_right, nothing_is, only_one, order_append, order_back, order_front}
+use Rattle.cluster_core.proofs.Segmented.{floor_of, floor_same}
 
 -- a segment over a key is over each earlier one from its begin on
 over_earlier : (es : Run) (key at b : Key) (s : Segment) → IsOver es at b s → key_le b key ≡ true → key_le key at ≡ true → IsOver es key b s
@@ -45,7 +36,7 @@ part_begun es key b s over begun = record {
   none = λ is c t other. subst (λ k. key_le key k ≡ true) (floor_same es key b c s t (floor_of es key b s over) other).0 (le_from key b begun);
 }
 
-pub cut_nowhere : (es : Run) (key : Key) → IsPartFrom es key None → IsCutAt key es es
+cut_nowhere : (es : Run) (key : Key) → IsPartFrom es key None → IsCutAt key es es
 cut_nowhere es key part = record {
   holds = λ at place h. h;
   kept = λ at place h. h;
@@ -115,7 +106,7 @@ module _ (old new : Run) (key b : Key) (own : Segment) (over : IsOver old key b 
         placed = subst (λ x. place ≤ x.place) (sym same.1) placed;
       }
 
-  pub cut_here : IsCutAt key old new
+  cut_here : IsCutAt key old new
   cut_here = record {
     holds = λ at place h. elim (cases h.begin h.segment h.stands) [
       | inl here ↦ record {
@@ -138,128 +129,42 @@ module _ (old new : Run) (key b : Key) (own : Segment) (over : IsOver old key b 
     begun = λ at c s was upto. was.last key own (at_put new old key own are) upto;
   }
 
-  pub cut_keys : HaveKeys old → HaveKeys new
+  cut_keys : HaveKeys old → HaveKeys new
   cut_keys keys = λ q s there. elim (cases q s there) [
     | inl here ↦ subst (λ k. key_lt k s.end ≡ true) (sym here.0) (subst (λ x. key_lt key x.end ≡ true) (sym here.1) over.before)
     | inr there' ↦ keys q s there'
   ]
 
--- the begins strictly between two keys, from those of the segments that a walk goes over
-some_and : (b : Bool) (o : Option Segment) → is_some (cond b o None) ≡ (b && is_some o)
-some_and true o = refl
-some_and false o = refl
+-- a segment stands from one key up to another, in place of those that began there
+pub record StandsOver (old new : Run) (begin end : Key) (place : ℕ) : Type 0 where
+  pub laid : Begins new begin (record { end = end; place = place })
+  pub beside : (q : Key) (s : Segment) → Begins old q s → (key_lt q begin ≡ true) ⊎ (key_le end q ≡ true) → Begins new q s
+  -- what begins there now is that segment, or one of before that begins beside it
+  pub cases :
+      (q : Key) (s : Segment) → Begins new q s →
+      ((q ≡ begin) × (s ≡ record { end = end; place = place })) ⊎ (Begins old q s × ((key_lt q begin ≡ true) ⊎ (key_le end q ≡ true)))
 
-pub begins_are : (es : Run) (low high : Key) (begins : List Key) → begins ≡ keys_of (filter (λ e. is_lt (key_cmp low e.0) && not (is_le (key_cmp high e.0))) es) →
-    (q : Key) → has_key begins q ≡ (key_lt low q && key_lt q high && is_some (lookup (is_at (key_cmp q)) es))
-begins_are es low high begins are q =
-    ap (λ ks. has_key ks q) are
-    ∙ sym (is_some-lookup (is_at (key_cmp q)) (filter (λ e. is_lt (key_cmp low e.0) && not (is_le (key_cmp high e.0))) es))
-    ∙ ap is_some (begins_between es low high q)
-    ∙ some_and (key_lt low q && key_lt q high) (lookup (is_at (key_cmp q)) es)
-
--- to take out one begin more
-pub taken_more : (keys : List Key) (i : ℕ) (k q : Key) (was now after : Option Segment) → i < length keys → k ≡ get_or keys i k →
-    now ≡ cond (has_key (take i keys) q) None was → after ≡ cond (is_eq (key_cmp k q)) None now → after ≡ cond (has_key (take (i + 1) keys) q) None was
-taken_more keys i k q was now after below is before step =
-    step ∙ ap (cond (is_eq (key_cmp k q)) None) before ∙ both (is_eq (key_cmp k q)) (has_key (take i keys) q) was
-    ∙ ap (λ b. cond (has_key (take i keys) q || (b || false)) None was) (tied_swap k q ∙ ap (λ x. is_eq (key_cmp q x)) is)
-    ∙ ap (λ b. cond b None was) (sym (list_any-append (λ own. is_eq (key_cmp q own)) (take i keys) (get_or keys i k ∷ [])))
-    ∙ ap (λ ks. cond (has_key ks q) None was) (sym (take_more keys i k below))
-  where
-    both : (a b : Bool) (o : Option Segment) → cond a None (cond b None o) ≡ cond (b || (a || false)) None o
-    both true true o = refl
-    both true false o = refl
-    both false true o = refl
-    both false false o = refl
-
--- a segment laid from one key up to another, where those that begin between are gone
-module _ (old new : Run) (begin end : Key) (place : ℕ) (some : key_lt begin end ≡ true) (keys : List Key)
-    (swallowed : (q : Key) → has_key keys q ≡ (key_lt begin q && key_lt q end && is_some (lookup (is_at (key_cmp q)) old)))
-    (are : (q : Key) → lookup (is_at (key_cmp q)) new ≡ cond (has_key keys q) None (cond (is_eq (key_cmp begin q)) (Some (record { end = end; place = place })) (lookup (is_at (key_cmp q)) old))) where
+module _ (old new : Run) (begin end : Key) (place : ℕ) (some : key_lt begin end ≡ true) (is : StandsOver old new begin end place) where
   abbrev own : Segment
   own = record { end = end; place = place }
 
-  -- a begin that isn't between the two keys is left
-  left_alone : (q : Key) → (key_lt begin q ≡ true → key_lt q end ≡ true → ⊥) → has_key keys q ≡ false
-  left_alone q apart = elim (cases_Bool (has_key keys q)) [
-    | inl has ↦
-        let one = and_parts (key_lt begin q && key_lt q end) (is_some (lookup (is_at (key_cmp q)) old)) (sym (swallowed q) ∙ has) in
-        let two = and_parts (key_lt begin q) (key_lt q end) one.0 in
-        absurd (apart two.0 two.1)
-    | inr none ↦ none
-  ]
-
-  laid : Begins new begin own
-  laid =
-      are begin ∙ ap (λ b. cond b None (cond (is_eq (key_cmp begin begin)) (Some own) (lookup (is_at (key_cmp begin)) old))) (left_alone begin (λ after _. clash begin begin after (le_refl begin)))
-      ∙ ap (λ b. cond b (Some own) (lookup (is_at (key_cmp begin)) old)) (ap is_eq (tied_itself nat_list_cmp_total begin))
-
-  stays_beside : (q : Key) (s : Segment) → Begins old q s → (key_lt q begin ≡ true) ⊎ (key_le end q ≡ true) → Begins new q s
-  stays_beside q s there beside =
-      are q ∙ ap (λ b. cond b None (cond (is_eq (key_cmp begin q)) (Some own) (lookup (is_at (key_cmp q)) old))) (left_alone q not_between)
-      ∙ ap (λ b. cond b (Some own) (lookup (is_at (key_cmp q)) old)) other ∙ there
-    where
-      not_between : key_lt begin q ≡ true → key_lt q end ≡ true → ⊥
-      not_between past before = elim beside [
-        | inl earlier ↦ clash q begin earlier (le_from_lt begin q past)
-        | inr later ↦ clash q end before later
-      ]
-
-      other : is_eq (key_cmp begin q) ≡ false
-      other = elim (cases_Bool (is_eq (key_cmp begin q))) [
-        | inl tied ↦ elim beside [
-          | inl earlier ↦ absurd (clash q begin earlier (subst (λ k. key_le begin k ≡ true) (tied_keys begin q tied) (le_refl begin)))
-          | inr later ↦ absurd (clash begin end some (subst (λ k. key_le end k ≡ true) (sym (tied_keys begin q tied)) later))
-        ]
-        | inr apart ↦ apart
-      ]
-
-  -- what begins there now is the segment laid, or one of before that begins beside it
-  laid_cases : (q : Key) (s : Segment) → Begins new q s → ((q ≡ begin) × (s ≡ own)) ⊎ (Begins old q s × ((key_lt q begin ≡ true) ⊎ (key_le end q ≡ true)))
-  laid_cases q s there = elim (cases_Bool (has_key keys q)) [
-    | inl has ↦ absurd (nothing_is (sym (are q ∙ ap (λ b. cond b None (cond (is_eq (key_cmp begin q)) (Some own) (lookup (is_at (key_cmp q)) old))) has) ∙ there))
-    | inr none ↦
-        let given = sym (are q ∙ ap (λ b. cond b None (cond (is_eq (key_cmp begin q)) (Some own) (lookup (is_at (key_cmp q)) old))) none) ∙ there in
-        elim (cases_Bool (is_eq (key_cmp begin q))) [
-          | inl tied ↦ inl (sym (tied_keys begin q tied), only_one (sym given ∙ ap (λ b. cond b (Some own) (lookup (is_at (key_cmp q)) old)) tied))
-          | inr apart ↦
-              let there' : Begins old q s = sym (ap (λ b. cond b (Some own) (lookup (is_at (key_cmp q)) old)) apart) ∙ given in
-              inr (there', beside q s there' none apart)
-        ]
-  ]
-    where
-      beside : (q : Key) (s : Segment) → Begins old q s → has_key keys q ≡ false → is_eq (key_cmp begin q) ≡ false → (key_lt q begin ≡ true) ⊎ (key_le end q ≡ true)
-      beside q s there none apart = elim (cases_key q begin) [
-        | inl earlier ↦ inl earlier
-        | inr from ↦ elim (cases_key q end) [
-          | inl before ↦ elim (cases_key begin q) [
-            | inl past ↦ absurd (true≢false (sym (swallowed q ∙ and_from (key_lt begin q && key_lt q end) _ (and_from _ _ past before) (ap is_some there)) ∙ none))
-            | inr upto ↦ absurd (true≢false (sym (ap is_eq (tied_here q from upto)) ∙ apart))
-          ]
-          | inr later ↦ inr later
-        ]
-      ]
-        where
-          tied_here : (q : Key) → key_le begin q ≡ true → key_le q begin ≡ true → key_cmp begin q ≡ Equal
-          tied_here q from upto = subst (λ k. key_cmp begin k ≡ Equal) (le_both begin q (le_gives q begin upto) (le_gives begin q from)) (tied_itself nat_list_cmp_total begin)
-
-  pub laid_keys : HaveKeys old → HaveKeys new
-  laid_keys have = λ q s there. elim (laid_cases q s there) [
+  laid_keys : HaveKeys old → HaveKeys new
+  laid_keys have = λ q s there. elim (is.cases q s there) [
     | inl here ↦ subst (λ k. key_lt k s.end ≡ true) (sym here.0) (subst (λ x. key_lt begin x.end ≡ true) (sym here.1) some)
     | inr before ↦ have q s before.0
   ]
 
-  pub laid_covers : (key : Key) → contains (from_to begin end) key ≡ true → IsCovered new key place
+  laid_covers : (key : Key) → contains (from_to begin end) key ≡ true → IsCovered new key place
   laid_covers key inside =
       let parts = and_parts (key_le begin key) (key_lt key end) inside in
       record {
         begin = begin;
         segment = own;
         over = record {
-          stands = laid;
+          stands = is.laid;
           from = parts.0;
           before = parts.1;
-          last = λ q s there le. elim (laid_cases q s there) [
+          last = λ q s there le. elim (is.cases q s there) [
             | inl here ↦ subst (λ k. key_le k begin ≡ true) (sym here.0) (le_refl begin)
             | inr before ↦ elim before.1 [
               | inl earlier ↦ le_from_lt q begin earlier
@@ -270,9 +175,9 @@ module _ (old new : Run) (begin end : Key) (place : ℕ) (some : key_lt begin en
         placed = omega arith;
       }
 
-  pub laid_overlays : (first : Run) → IsCutAt end first old → Overlays (contains (from_to begin end)) place first new
+  laid_overlays : (first : Run) → IsCutAt end first old → Overlays (contains (from_to begin end)) place first new
   laid_overlays first cut = record {
-    holds = λ key at h. elim (laid_cases h.begin h.segment h.stands) [
+    holds = λ key at h. elim (is.cases h.begin h.segment h.stands) [
       | inl here ↦ inr (
         and_from (key_le begin key) (key_lt key end) (subst (λ k. key_le k key ≡ true) here.0 h.from) (subst (λ x. key_lt key x.end ≡ true) here.1 h.before),
         sym h.placed ∙ ap (λ x. x.place) here.1,
@@ -300,10 +205,10 @@ module _ (old new : Run) (begin end : Key) (place : ℕ) (some : key_lt begin en
         begin = h.begin;
         segment = h.segment;
         over = record {
-          stands = stays_beside h.begin h.segment h.over.stands apart;
+          stands = is.beside h.begin h.segment h.over.stands apart;
           from = h.over.from;
           before = h.over.before;
-          last = λ q s there le. elim (laid_cases q s there) [
+          last = λ q s there le. elim (is.cases q s there) [
             | inl here ↦ subst (λ k. key_le k h.begin ≡ true) (sym here.0) (own_first (subst (λ k. key_le k key ≡ true) here.0 le))
             | inr before ↦ h.over.last q s before.0 le
           ];
@@ -311,41 +216,173 @@ module _ (old new : Run) (begin end : Key) (place : ℕ) (some : key_lt begin en
         placed = h.placed;
       }
 
--- what is left of the segments whose places pass a test
-left : (o : Option Segment) (p : Segment → Bool) (s : Segment) → option_filter p o ≡ Some s → (o ≡ Some s) × (p s ≡ true)
-left None p s is = absurd (nothing_is is)
-left (Some t) p s is = elim (cases_Bool (p t)) [
-  | inl passes ↦
-      let same : t ≡ s = only_one (sym (ap (λ b. cond b (Some t) None) passes) ∙ is) in
-      (ap Some same, subst (λ x. p x ≡ true) same passes)
-  | inr fails ↦ absurd (nothing_is (sym (ap (λ b. cond b (Some t) None) fails) ∙ is))
+-- what holds after that
+pub record IsOverlay (old new : Run) (begin end : Key) (place : ℕ) : Type 0 where
+  pub keys : HaveKeys new
+  pub order : InOrder new
+  pub overlays : Overlays (contains (from_to begin end)) place old new
+  pub covered : (key : Key) → contains (from_to begin end) key ≡ true → IsCovered new key place
+
+-- a segment put behind those that begin before it
+lookup_put : (a b : Run) (k q : Key) (s : Segment) → AllByRecursion (λ e. key_lt e.0 k ≡ true) a →
+    lookup (is_at (key_cmp q)) (a ++ (k, s) ∷ b) ≡ cond (is_eq (key_cmp k q)) (Some s) (lookup (is_at (key_cmp q)) (a ++ b))
+lookup_put [] b k q s below = ap (λ t. cond t (Some s) (lookup (is_at (key_cmp q)) b)) (tied_swap q k)
+lookup_put (e ∷ a) b k q s below = elim (cases_Bool (is_eq (key_cmp q e.0))) [
+  | inl tied ↦
+      ap (λ t. cond t (Some e.1) (lookup (is_at (key_cmp q)) (a ++ (k, s) ∷ b))) tied ∙ sym (ap (λ t. cond t (Some e.1) (lookup (is_at (key_cmp q)) (a ++ b))) tied)
+      ∙ sym (ap (λ t. cond t (Some s) (lookup (is_at (key_cmp q)) (e ∷ (a ++ b)))) (apart tied))
+  | inr other ↦
+      ap (λ t. cond t (Some e.1) (lookup (is_at (key_cmp q)) (a ++ (k, s) ∷ b))) other ∙ lookup_put a b k q s below.1
+      ∙ ap (λ o. cond (is_eq (key_cmp k q)) (Some s) o) (sym (ap (λ t. cond t (Some e.1) (lookup (is_at (key_cmp q)) (a ++ b))) other))
 ]
+  where
+    apart : is_eq (key_cmp q e.0) ≡ true → is_eq (key_cmp k q) ≡ false
+    apart tied = elim (cases_Bool (is_eq (key_cmp k q))) [
+      | inl same ↦ absurd (clash e.0 k below.0 (subst (λ x. key_le k x ≡ true) (tied_keys k q same ∙ tied_keys q e.0 tied) (le_refl k)))
+      | inr differ ↦ differ
+    ]
 
-pub retained : (es : Run) (p : Segment → Bool) (q : Key) (s : Segment) → IsStrictlySortedBy key_cmp (keys_of es) →
-    Begins (filter (λ e. p e.1) es) q s ↔ (Begins es q s × (p s ≡ true))
-retained es p q s up =
-    let is : lookup (is_at (key_cmp q)) (filter (λ e. p e.1) es) ≡ option_filter p (lookup (is_at (key_cmp q)) es) =
-    lookup-filter-values (eq_by_cmp_equiv nat_list_cmp_total) p q es (IsDistinct-from_sorted key_cmp (keys_of es) up) in (
-      λ there. left (lookup (is_at (key_cmp q)) es) p s (sym is ∙ there),
-      λ given. is ∙ ap (option_filter p) given.0 ∙ ap (λ b. cond b (Some s) None) given.1,
-    )
+-- one laid over others, with what is left of the last of them behind it
+module _ (old new rest : Run) (begin end : Key) (place : ℕ) (some : key_lt begin end ≡ true) (order : InOrder old) (part : Option Segment)
+    (left_is : IsPartFrom old end part) (rest_is : rest ≡ at_key end part) (l : IsLaid begin (record { end = end; place = place }) rest old new) where
+  abbrev whole : Segment
+  whole = record { end = end; place = place }
 
--- what is held and covered where the segments before a place are dropped
-module _ (old new : Run) (least : ℕ) (dropped : (q : Key) (s : Segment) → Begins new q s ↔ (Begins old q s × (least ≤ s.place))) where
-  pub dropped_holds : (key : Key) (place : ℕ) → Holds new key place → Holds old key place
-  dropped_holds key place h = record { begin = h.begin; segment = h.segment; stands = ((dropped h.begin h.segment).0 h.stands).0; from = h.from; before = h.before; placed = h.placed }
+  -- the segments once the last of them is cut
+  abbrev cut : Run
+  cut = l.before ++ (l.within ++ (rest ++ l.after))
 
-  pub dropped_kept : (key : Key) (place : ℕ) → least ≤ place → IsCovered old key place → IsCovered new key place
-  dropped_kept key place from h =
-      let placed = h.placed in
-      record {
-        begin = h.begin;
-        segment = h.segment;
-        over = record {
-          stands = (dropped h.begin h.segment).1 (h.over.stands, omega (arith, from, placed));
-          from = h.over.from;
-          before = h.over.before;
-          last = λ q s there le. h.over.last q s ((dropped q s).0 there).0 le;
-        };
-        placed = h.placed;
-      }
+  old_is : old ≡ l.before ++ (l.within ++ l.after)
+  old_is = l.begun.whole ∙ ap (λ xs. l.before ++ xs) l.ended.whole
+
+  old_order : InOrder (l.before ++ (l.within ++ l.after))
+  old_order = subst InOrder old_is order
+
+  within_from : AllByRecursion (λ e. key_le begin e.0 ≡ true) l.within
+  within_from = all_front (λ e. key_le begin e.0 ≡ true) l.within l.after (subst (AllByRecursion (λ e. key_le begin e.0 ≡ true)) l.ended.whole l.begun.from)
+
+  rest_from : (o : Option Segment) → AllByRecursion (λ e. key_le end e.0 ≡ true) (at_key end o)
+  rest_from None = tt
+  rest_from (Some s) = (le_refl end, tt)
+
+  behind : AllByRecursion (λ e. key_le end e.0 ≡ true) (rest ++ l.after)
+  behind = all_append (λ e. key_le end e.0 ≡ true) rest l.after (subst (AllByRecursion (λ e. key_le end e.0 ≡ true)) (sym rest_is) (rest_from part)) l.ended.from
+
+  below_end : AllByRecursion (λ e. key_lt e.0 end ≡ true) (l.before ++ l.within)
+  below_end =
+      all_append (λ e. key_lt e.0 end ≡ true) l.before l.within
+      (all_map (λ e. key_lt e.0 begin ≡ true) (λ e. key_lt e.0 end ≡ true) (λ e h. lt_le_trans e.0 begin end h (le_from_lt begin end some)) l.before l.begun.below) l.ended.below
+
+  -- what begins at a key once the last segment is cut, or where none is
+  cut_same : rest ≡ [] → old ≡ cut
+  cut_same is = old_is ∙ ap (λ xs. l.before ++ (l.within ++ (xs ++ l.after))) (sym is)
+
+  cut_has : (own : Segment) → rest ≡ (end, own) ∷ [] → (q : Key) →
+      lookup (is_at (key_cmp q)) cut ≡ cond (is_eq (key_cmp end q)) (Some own) (lookup (is_at (key_cmp q)) old)
+  cut_has own is q =
+      ap (lookup (is_at (key_cmp q))) (ap (λ xs. l.before ++ (l.within ++ (xs ++ l.after))) is ∙ sym (append_assoc l.before l.within ((end, own) ∷ l.after)))
+      ∙ lookup_put (l.before ++ l.within) l.after end q own below_end
+      ∙ ap (λ xs. cond (is_eq (key_cmp end q)) (Some own) (lookup (is_at (key_cmp q)) xs)) (append_assoc l.before l.within l.after ∙ sym old_is)
+
+  laid_cut : (o : Option Segment) → IsPartFrom old end o → rest ≡ at_key end o → IsCutAt end old cut
+  laid_cut None none is = subst (IsCutAt end old) (cut_same is) (cut_nowhere old end none)
+  laid_cut (Some own) found is = let over = found.found own refl in cut_here old cut end over.0 own over.1 over.2 (cut_has own is)
+
+  laid_cut_keys : (o : Option Segment) → IsPartFrom old end o → rest ≡ at_key end o → HaveKeys old → HaveKeys cut
+  laid_cut_keys None none is keys = subst HaveKeys (cut_same is) keys
+  laid_cut_keys (Some own) found is keys = let over = found.found own refl in cut_keys old cut end over.0 own over.1 over.2 (cut_has own is) keys
+
+  -- what begins behind it
+  begins_behind : (q : Key) (s : Segment) → Begins ((begin, whole) ∷ (rest ++ l.after)) q s → ((q ≡ begin) × (s ≡ whole)) ⊎ Begins (rest ++ l.after) q s
+  begins_behind q s there = elim (cases_Bool (is_eq (key_cmp q begin))) [
+    | inl tied ↦ inl (tied_keys q begin tied, only_one (sym there ∙ ap (λ b. cond b (Some whole) (lookup (is_at (key_cmp q)) (rest ++ l.after))) tied))
+    | inr apart ↦ inr (sym (ap (λ b. cond b (Some whole) (lookup (is_at (key_cmp q)) (rest ++ l.after))) apart) ∙ there)
+  ]
+
+  stands_behind : (q : Key) (s : Segment) → key_le end q ≡ true → Begins (rest ++ l.after) q s → Begins ((begin, whole) ∷ (rest ++ l.after)) q s
+  stands_behind q s from there = elim (cases_Bool (is_eq (key_cmp q begin))) [
+    | inl tied ↦ absurd (clash begin end some (subst (λ k. key_le end k ≡ true) (tied_keys q begin tied) from))
+    | inr apart ↦ ap (λ b. cond b (Some whole) (lookup (is_at (key_cmp q)) (rest ++ l.after))) apart ∙ there
+  ]
+
+  from_end : (q : Key) (s : Segment) → Begins (rest ++ l.after) q s → key_le end q ≡ true
+  from_end q s there = all_begins (λ e. key_le end e.0 ≡ true) (rest ++ l.after) q s behind there
+
+  upto_end : (q : Key) → key_le end q ≡ true → key_le begin q ≡ true
+  upto_end q from = le_trans begin end q (le_from_lt begin end some) from
+
+  laid_over : StandsOver cut new begin end place
+  laid_over = record {
+    laid = subst (λ xs. Begins xs begin whole) (sym l.made) (begins_right l.before ((begin, whole) ∷ (rest ++ l.after)) begin begin whole l.begun.below (le_refl begin) (begins_here (rest ++ l.after) begin whole));
+    beside = λ q s there apart. subst (λ xs. Begins xs q s) (sym l.made) (elim (begins_cases l.before (l.within ++ (rest ++ l.after)) q s there) [
+      | inl first ↦ begins_left l.before ((begin, whole) ∷ (rest ++ l.after)) q s first
+      | inr onward ↦ elim (begins_cases l.within (rest ++ l.after) q s onward) [
+        | inl gone ↦ absurd (elim apart [
+          | inl earlier ↦ clash q begin earlier (all_begins (λ e. key_le begin e.0 ≡ true) l.within q s within_from gone)
+          | inr later ↦ clash q end (all_begins (λ e. key_lt e.0 end ≡ true) l.within q s l.ended.below gone) later
+        ])
+        | inr last ↦
+            let from = from_end q s last in
+            begins_right l.before ((begin, whole) ∷ (rest ++ l.after)) begin q s l.begun.below (upto_end q from) (stands_behind q s from last)
+      ]
+    ]);
+    cases = λ q s there. elim (begins_cases l.before ((begin, whole) ∷ (rest ++ l.after)) q s (subst (λ xs. Begins xs q s) l.made there)) [
+      | inl first ↦ inr (begins_left l.before (l.within ++ (rest ++ l.after)) q s first, inl (all_begins (λ e. key_lt e.0 begin ≡ true) l.before q s l.begun.below first))
+      | inr onward ↦ elim (begins_behind q s onward) [
+        | inl here ↦ inl here
+        | inr last ↦
+            let from = from_end q s last in
+            inr (
+              begins_right l.before (l.within ++ (rest ++ l.after)) begin q s l.begun.below (upto_end q from)
+                  (begins_right l.within (rest ++ l.after) end q s l.ended.below from last),
+              inr from,
+            )
+      ]
+    ];
+  }
+
+  laid_order : InOrder new
+  laid_order =
+      subst InOrder (sym l.made)
+      (order_append l.before ((begin, whole) ∷ (rest ++ l.after)) begin (order_front l.before (l.within ++ l.after) old_order) (
+        all_map (λ e. key_le end e.0 ≡ true) (λ e. key_lt begin e.0 ≡ true) (λ e h. lt_le_trans begin end e.0 some h) (rest ++ l.after) behind,
+        subst (λ xs. InOrder (xs ++ l.after)) (sym rest_is) (with_rest part left_is),
+      )
+      l.begun.below
+      (le_refl begin, all_map (λ e. key_le end e.0 ≡ true) (λ e. key_le begin e.0 ≡ true) (λ e h. upto_end e.0 h) (rest ++ l.after) behind))
+    where
+      after_order : InOrder l.after
+      after_order = order_back l.within l.after (order_back l.before (l.within ++ l.after) old_order)
+
+      -- where a segment goes on beyond the end, none begins there
+      strictly : (a : Run) → InOrder a → AllByRecursion (λ e. key_le end e.0 ≡ true) a → ((q : Key) (s : Segment) → Begins a q s → end ≡ q → ⊥) → AllByRecursion (λ e. key_lt end e.0 ≡ true) a
+      strictly [] o h none = tt
+      strictly (e ∷ a) o h none =
+          let past : key_lt end e.0 ≡ true = elim (cases_key end e.0) [
+            | inl p ↦ p
+            | inr upto ↦ absurd (none e.0 e.1 (begins_here a e.0 e.1) (le_both end e.0 (le_gives e.0 end upto) (le_gives end e.0 h.0)))
+          ] in
+          (past, all_map (λ f. key_lt e.0 f.0 ≡ true) (λ f. key_lt end f.0 ≡ true) (λ f g. lt_le_trans end e.0 f.0 past (le_from_lt e.0 f.0 g)) a o.0)
+
+      stands_in_old : (q : Key) (s : Segment) → end ≡ q → Begins l.after q s → Begins old q s
+      stands_in_old q s same there =
+          let from : key_le end q ≡ true = subst (λ k. key_le end k ≡ true) same (le_refl end) in
+          subst (λ xs. Begins xs q s) (sym old_is)
+          (begins_right l.before (l.within ++ l.after) begin q s l.begun.below (upto_end q from) (begins_right l.within l.after end q s l.ended.below from there))
+
+      with_rest : (o : Option Segment) → IsPartFrom old end o → InOrder (at_key end o ++ l.after)
+      with_rest None none = after_order
+      with_rest (Some own) found =
+          let over = found.found own refl in (
+            strictly l.after after_order l.ended.from (λ q s there same.
+                clash over.0 end over.2 (over.1.last end s (subst (λ k. Begins old k s) (sym same) (stands_in_old q s same there)) (le_refl end))),
+            after_order,
+          )
+
+  pub overlay : HaveKeys old → IsOverlay old new begin end place
+  overlay keys = record {
+    keys = laid_keys cut new begin end place some laid_over (laid_cut_keys part left_is rest_is keys);
+    order = laid_order;
+    overlays = laid_overlays cut new begin end place some laid_over old (laid_cut part left_is rest_is);
+    covered = laid_covers cut new begin end place some laid_over;
+  }

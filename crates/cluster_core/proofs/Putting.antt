@@ -15,7 +15,7 @@ use Rattle.cluster_core.specs.Kept.{PutsEach, has_place, rise_between, writes_ke
 use Rattle.cluster_core.specs.Segments.{IsCovered, Overlays}
 use Rattle.cluster_core.proofs.Ownership.{any_of_map}
 use Rattle.cluster_core.proofs.Rising.{rise_before}
-use Rattle.cluster_core.proofs.Segmented.{Key, Run}
+use Rattle.cluster_core.proofs.InOrder.{Key, Run}
 
 pub overlays_more : (first next all : Key → Bool) (place : ℕ) (a b c : Run) → ((key : Key) → first key ≡ true → all key ≡ true) → ((key : Key) → next key ≡ true → all key ≡ true) →
     Overlays first place a b → Overlays next place b c → Overlays all place a c

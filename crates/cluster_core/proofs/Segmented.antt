@@ -1,177 +1,192 @@
 -- Which segment is over a key, and the newest place among the segments that have keys of a range.
-use Rattle.std.proofs.Common.{◌≡◌, ℕ, ◌≤◌, true, false, None, Some, Option, cond, not, ◌&&◌, List, [], ◌∷◌, ◌⊎◌, inl, inr, refl, sym, ap, subst, ◌∙◌, arith}
+use Rattle.std.proofs.Common.{◌≡◌, ℕ, ◌≤◌, max, Bool, true, false, None, Some, Option, cond, ◌&&◌, [], ◌∷◌, ◌⊎◌, inl, inr, refl, sym, ap, subst, ◌∙◌, arith}
 use Rattle.std.proofs.lemmas.Bool.{and_from, and_parts, cases_Bool, true≢false}
-use Rattle.std.proofs.lemmas.Cmp.{nat_list_cmp_total}
-use Rattle.std.proofs.lemmas.List.Elements.{All-weaker, recursion_from_All}
-use Rattle.std.proofs.lemmas.Map.Entries.{lookup-filter-keys}
 use Rattle.std.specs.BTreeMap.{is_at}
-use Rattle.std.specs.List.{All, AllByRecursion, filter}
+use Rattle.std.specs.List.{filter}
 use Rattle.std.specs.Map.{lookup}
-use Rattle.std.specs.Option.{IsSome, is_some}
-use Rattle.std.specs.Ordering.{is_eq, is_gt, is_le, is_lt, ordering_reverse}
-use Rattle.std.specs.declared.cmp.Ordering.{Ordering}
-use Rattle.std.specs.declared.cmp.Ordering.TheVariants.{Less, Equal, Greater}
+use Rattle.std.specs.Ordering.{is_eq}
 use Rattle.kv_core.specs.Bytes.{key_cmp, key_le, key_lt}
 use Rattle.kv_core.specs.Range.{contains}
-use Rattle.kv_core.proofs.Order.{cases_key, le_both, le_from, le_from_lt, le_gives, le_lt_trans, le_refl, le_trans, lt_is_gt, tied_keys}
+use Rattle.kv_core.proofs.Order.{cases_key, clash, le_both, le_from_lt, le_gives, le_lt_trans, le_refl, le_trans, tied_keys}
 use Rattle.cluster_core.specs.declared.segments.Segment.{Segment}
-use Rattle.cluster_core.specs.Segments.{Begins, HaveKeys, Holds, IsNewestOver, IsOver}
+use Rattle.cluster_core.specs.Segments.{Begins, HaveKeys, Holds, IsCovered, IsNewestOver, IsOver}
+use Rattle.cluster_core.specs.Tree.{InOrder, IsLastUpto, between, later, newest_of}
+use Rattle.cluster_core.proofs.InOrder.{Key, Run, begins_here, begins_later, nothing_is, only_one}
 
-abbrev pub Key : Type 0
-Key = List ℕ
-
-abbrev pub Run : Type 0
-Run = List (Key × Segment)
-
-pub nothing_is : {X : Type 0} {x : X} → None ≡ Some x → ⊥
-nothing_is h = cc
-
-pub only_one : {X : Type 0} {x y : X} → Some x ≡ Some y → x ≡ y
-only_one h = cc
-
--- the segment that begins last of those that don't begin after a key
-pub record IsFloor (es : Run) (key b : Key) (s : Segment) : Type 0 where
-  pub stands : Begins es b s
-  pub from : key_le b key ≡ true
-  pub last : (other : Key) (next : Segment) → Begins es other next → key_le other key ≡ true → key_le other b ≡ true
-
-pub floor_from : (es : Run) (key b : Key) (s : Segment) → Begins es b s → is_gt (key_cmp b key) ≡ false →
-    ((q : Key) → is_gt (key_cmp q key) ≡ false → IsSome (lookup (is_at (key_cmp q)) es) → is_lt (key_cmp b q) ≡ false) → IsFloor es key b s
-floor_from es key b s stands upto last = record {
-  stands = stands;
-  from = le_from b key (lt_is_gt b key ∙ upto);
-  last = λ other next there from. le_from other b (last other (sym (lt_is_gt other key) ∙ le_gives other key from) (ap is_some there));
-}
-
-pub floor_over : (es : Run) (key b : Key) (s : Segment) → IsFloor es key b s → key_lt key s.end ≡ true → IsOver es key b s
+-- the segment that begins last of those that don't begin after a key is over it where it has it
+pub floor_over : (es : Run) (key b : Key) (s : Segment) → IsLastUpto es key b s → key_lt key s.end ≡ true → IsOver es key b s
 floor_over es key b s floor before = record { stands = floor.stands; from = floor.from; before = before; last = floor.last }
 
+pub floor_of : (es : Run) (key b : Key) (s : Segment) → IsOver es key b s → IsLastUpto es key b s
+floor_of es key b s over = record { stands = over.stands; from = over.from; last = over.last }
+
 -- what is over the key is that segment
-pub floor_same : (es : Run) (key b c : Key) (s t : Segment) → IsFloor es key b s → IsOver es key c t → (b ≡ c) × (s ≡ t)
+pub floor_same : (es : Run) (key b c : Key) (s t : Segment) → IsLastUpto es key b s → IsOver es key c t → (b ≡ c) × (s ≡ t)
 floor_same es key b c s t floor over =
     let same : b ≡ c = le_both b c (le_gives c b (floor.last c t over.stands over.from)) (le_gives b c (over.last b s floor.stands floor.from)) in
     (same, only_one (sym (subst (λ k. Begins es k s) same floor.stands) ∙ over.stands))
 
-pub floor_short : (es : Run) (key b c : Key) (s t : Segment) → IsFloor es key b s → key_lt key s.end ≡ false → IsOver es key c t → ⊥
+pub floor_short : (es : Run) (key b c : Key) (s t : Segment) → IsLastUpto es key b s → key_lt key s.end ≡ false → IsOver es key c t → ⊥
 floor_short es key b c s t floor short over =
     true≢false (sym over.before ∙ subst (λ x. key_lt key x.end ≡ false) (floor_same es key b c s t floor over).1 short)
 
-pub floor_none : (es : Run) (key c : Key) (t : Segment) → ((q : Key) → is_gt (key_cmp q key) ≡ false → lookup (is_at (key_cmp q)) es ≡ None) → IsOver es key c t → ⊥
-floor_none es key c t none over = nothing_is (sym (none c (sym (lt_is_gt c key) ∙ le_gives c key over.from)) ∙ over.stands)
-
--- a key strictly between two is one past the first and not past the second
-before_end : (r : Ordering) → not (is_le r) ≡ is_lt (ordering_reverse r)
-before_end Less = refl
-before_end Equal = refl
-before_end Greater = refl
-
-pub between_is : (low high q : Key) → (is_lt (key_cmp low q) && not (is_le (key_cmp high q))) ≡ (key_lt low q && key_lt q high)
-between_is low high q = ap (λ b. key_lt low q && b) (before_end (key_cmp high q) ∙ ap is_lt (sym (nat_list_cmp_total.antisymm q high)))
-
--- the segments that begin strictly between two keys
-pub begins_between : (es : Run) (low high q : Key) →
-    lookup (is_at (key_cmp q)) (filter (λ e. is_lt (key_cmp low e.0) && not (is_le (key_cmp high e.0))) es) ≡ cond (key_lt low q && key_lt q high) (lookup (is_at (key_cmp q)) es) None
-begins_between es low high q =
-    lookup-filter-keys (is_at (key_cmp q)) (λ k. is_lt (key_cmp low k) && not (is_le (key_cmp high k))) (key_lt low q && key_lt q high)
-    (λ k t. between_is low high k ∙ ap (λ x. key_lt low x && key_lt x high) (sym (tied_keys q k t))) es
-
--- what a range of the map has stands in the map, between the two keys
-pub ahead_of : (es : Run) (low high : Key) (rest : Run) →
-    All (λ e. ((key_cmp low e.0 ≡ Less) × (key_cmp e.0 high ≡ Less)) × Begins es e.0 e.1) rest →
-    AllByRecursion (λ e. (key_lt low e.0 ≡ true) × (key_lt e.0 high ≡ true) × Begins es e.0 e.1) rest
-ahead_of es low high rest all =
-    recursion_from_All (λ e. (key_lt low e.0 ≡ true) × (key_lt e.0 high ≡ true) × Begins es e.0 e.1) rest
-    (All-weaker (λ e. ((key_cmp low e.0 ≡ Less) × (key_cmp e.0 high ≡ Less)) × Begins es e.0 e.1) (λ e. (key_lt low e.0 ≡ true) × (key_lt e.0 high ≡ true) × Begins es e.0 e.1)
-    (λ e h. (ap is_lt h.0.0, ap is_lt h.0.1, h.1)) rest all)
-
--- a walk over the segments that begin between two keys, with the newest place so far
-pub record Walks (es rest : Run) (low high : Key) (newest : Option ℕ) : Type 0 where
-  pub found : (place : ℕ) → newest ≡ Some place → (key : Key) × (contains (record { begin = low; end = high }) key ≡ true) × Holds es key place
-  pub ahead : AllByRecursion (λ e. (key_lt low e.0 ≡ true) × (key_lt e.0 high ≡ true) × Begins es e.0 e.1) rest
-  pub others : (q : Key) (t : Segment) → Begins es q t → key_lt low q ≡ true → key_lt q high ≡ true →
-      (lookup (is_at (key_cmp q)) rest ≡ Some t) ⊎ ((later : ℕ) × (newest ≡ Some later) × (t.place ≤ later))
-  pub first : (q : Key) (t : Segment) → IsOver es low q t → (later : ℕ) × (newest ≡ Some later) × (t.place ≤ later)
+pub floor_none : (es : Run) (key c : Key) (t : Segment) → ((q : Key) (s : Segment) → Begins es q s → key_lt key q ≡ true) → IsOver es key c t → ⊥
+floor_none es key c t none over = clash key c (none c t over.stands) over.from
 
 -- a segment that has a key holds it
 pub over_holds : (es : Run) (key b : Key) (s : Segment) → IsOver es key b s → Holds es key s.place
 over_holds es key b s over = record { begin = b; segment = s; stands = over.stands; from = over.from; before = over.before; placed = refl }
 
-pub walk_over : (es rest : Run) (low high b : Key) (s : Segment) → key_lt low high ≡ true → IsOver es low b s →
-    AllByRecursion (λ e. (key_lt low e.0 ≡ true) × (key_lt e.0 high ≡ true) × Begins es e.0 e.1) rest →
-    ((q : Key) → lookup (is_at (key_cmp q)) rest ≡ cond (key_lt low q && key_lt q high) (lookup (is_at (key_cmp q)) es) None) →
-    Walks es rest low high (Some s.place)
-walk_over es rest low high b s some over ahead are = record {
-  found = λ place is. (low, and_from (key_le low low) (key_lt low high) (le_refl low) some, subst (Holds es low) (only_one is) (over_holds es low b s over));
-  ahead = ahead;
-  others = λ q t there past before. inl (are q ∙ ap (λ x. cond x (lookup (is_at (key_cmp q)) es) None) (and_from (key_lt low q) (key_lt q high) past before) ∙ there);
-  first = λ q t at.
-      let same = floor_same es low b q s t (record { stands = over.stands; from = over.from; last = over.last }) at in
-      let le : t.place ≤ s.place = subst (λ x. x.place ≤ s.place) same.1 (omega arith) in (s.place, refl, le);
-}
-
-pub walk_none : (es rest : Run) (low high : Key) → ((b : Key) (s : Segment) → IsOver es low b s → ⊥) →
-    AllByRecursion (λ e. (key_lt low e.0 ≡ true) × (key_lt e.0 high ≡ true) × Begins es e.0 e.1) rest →
-    ((q : Key) → lookup (is_at (key_cmp q)) rest ≡ cond (key_lt low q && key_lt q high) (lookup (is_at (key_cmp q)) es) None) →
-    Walks es rest low high None
-walk_none es rest low high none ahead are = record {
-  found = λ place is. absurd (nothing_is is);
-  ahead = ahead;
-  others = λ q t there past before. inl (are q ∙ ap (λ x. cond x (lookup (is_at (key_cmp q)) es) None) (and_from (key_lt low q) (key_lt q high) past before) ∙ there);
-  first = λ q t at. absurd (none q t at);
-}
-
-pub walk_turn : (es rest more : Run) (low high b : Key) (s : Segment) (newest : Option ℕ) (next : ℕ) → HaveKeys es → rest ≡ (b, s) ∷ more → s.place ≤ next →
-    ((own : ℕ) → newest ≡ Some own → own ≤ next) → (next ≡ s.place) ⊎ (newest ≡ Some next) → Walks es rest low high newest → Walks es more low high (Some next)
-walk_turn es rest more low high b s newest next keys is above kept either walk = record {
-  found = λ place same. subst (λ p. (key : Key) × (contains (record { begin = low; end = high }) key ≡ true) × Holds es key p) (only_one same) (elim either [
-    | inl here ↦ (
-      b,
-      and_from (key_le low b) (key_lt b high) (le_from_lt low b w.ahead.0.0) w.ahead.0.1,
-      record { begin = b; segment = s; stands = w.ahead.0.2; from = le_refl b; before = keys b s w.ahead.0.2; placed = sym here },
-    )
-    | inr before ↦ w.found next before
-  ]);
-  ahead = w.ahead.1;
-  others = λ q t there past before. elim (w.others q t there past before) [
-    | inl left ↦ elim (cases_Bool (is_eq (key_cmp q b))) [
-      | inl tied ↦
-          let same : s ≡ t = only_one (sym (ap (λ x. cond x (Some s) (lookup (is_at (key_cmp q)) more)) tied) ∙ left) in
-          inr (next, refl, subst (λ x. x.place ≤ next) same above)
-      | inr apart ↦ inl (sym (ap (λ x. cond x (Some s) (lookup (is_at (key_cmp q)) more)) apart) ∙ left)
+-- the later of two places is one of them, and is not before either
+later_either : (own : Option ℕ) (place result : ℕ) → Some result ≡ later own (Some place) → (result ≡ place) ⊎ (own ≡ Some result)
+later_either None place result is = inl (only_one is)
+later_either (Some own) place result is =
+    let same : result ≡ max own place = only_one is in
+    elim (Rattle.std.proofs.lemmas.Bool.cases_order own place) [
+      | inl tied ↦ inl (omega arith)
+      | inr (inl less) ↦ inl (omega arith)
+      | inr (inr more) ↦ inr (ap Some (omega arith))
     ]
-    | inr done ↦ inr (raised t done)
-  ];
-  first = λ q t over. raised t (w.first q t over);
-}
+
+later_above : (own : Option ℕ) (place result : ℕ) → Some result ≡ later own (Some place) → place ≤ result
+later_above None place result is = let same : result ≡ place = only_one is in omega arith
+later_above (Some own) place result is = let same : result ≡ max own place = only_one is in omega arith
+
+later_kept : (own : Option ℕ) (place result at : ℕ) → Some result ≡ later own (Some place) → own ≡ Some at → at ≤ result
+later_kept None place result at is own_is = absurd (nothing_is own_is)
+later_kept (Some own) place result at is own_is =
+    let same : result ≡ max own place = only_one is in
+    let at_is : own ≡ at = only_one own_is in
+    omega arith
+
+-- the newest place of those that pass a test is that of one of them, and is not before any
+newest_one : (p : Key → Bool) (es : Run) (place : ℕ) → InOrder es → newest_of (filter (λ e. p e.0) es) ≡ Some place →
+    (q : Key) × (s : Segment) × Begins es q s × (p q ≡ true) × (s.place ≡ place)
+newest_one p [] place order is = absurd (nothing_is is)
+newest_one p (e ∷ es) place order is = elim (cases_Bool (p e.0)) [
+  | inl passes ↦
+      let given = ap (λ b. newest_of (cond b (e ∷ filter (λ f. p f.0) es) (filter (λ f. p f.0) es))) passes in
+      elim (later_first (newest_of (filter (λ f. p f.0) es)) e.1.place place (sym is ∙ given)) [
+        | inl here ↦ (e.0, e.1, begins_here es e.0 e.1, passes, here)
+        | inr there ↦ further (newest_one p es place order.1 there)
+      ]
+  | inr fails ↦
+      further (newest_one p es place order.1 (sym (ap (λ b. newest_of (cond b (e ∷ filter (λ f. p f.0) es) (filter (λ f. p f.0) es))) fails) ∙ is))
+]
   where
-    w : Walks es ((b, s) ∷ more) low high newest
-    w = subst (λ xs. Walks es xs low high newest) is walk
+    further : (q : Key) × (s : Segment) × Begins es q s × (p q ≡ true) × (s.place ≡ place) →
+        (q : Key) × (s : Segment) × Begins (e ∷ es) q s × (p q ≡ true) × (s.place ≡ place)
+    further one = (one.0, one.1, begins_later e es one.0 one.1 order one.2, one.3, one.4)
 
-    raised : (t : Segment) → ((later : ℕ) × (newest ≡ Some later) × (t.place ≤ later)) → (later : ℕ) × (Some next ≡ Some later) × (t.place ≤ later)
-    raised t done =
-        let up = kept done.0 done.1 in
-        let le : t.place ≤ done.0 = done.2 in
-        (next, refl, omega (arith, up, le))
+    later_first : (rest : Option ℕ) (own at : ℕ) → Some at ≡ later (Some own) rest → (own ≡ at) ⊎ (rest ≡ Some at)
+    later_first None own at is = inl (sym (only_one is))
+    later_first (Some rest) own at is =
+        let same : at ≡ max own rest = only_one is in
+        elim (Rattle.std.proofs.lemmas.Bool.cases_order own rest) [
+          | inl tied ↦ inl (omega arith)
+          | inr (inl less) ↦ inr (ap Some (omega arith))
+          | inr (inr more) ↦ inl (omega arith)
+        ]
 
-pub walk_end : (es rest : Run) (low high : Key) (newest : Option ℕ) → rest ≡ [] → Walks es rest low high newest → IsNewestOver es (record { begin = low; end = high }) newest
-walk_end es rest low high newest is walk = record {
-  found = w.found;
-  others = λ key place inside covered.
-      let b = covered.begin in
-      let s = covered.segment in
-      let o = covered.over in
+newest_above : (p : Key → Bool) (es : Run) (q : Key) (s : Segment) → Begins es q s → p q ≡ true →
+    (newest : ℕ) × (newest_of (filter (λ e. p e.0) es) ≡ Some newest) × (s.place ≤ newest)
+newest_above p [] q s there passes = absurd (nothing_is there)
+newest_above p (e ∷ es) q s there passes = elim (cases_Bool (is_eq (key_cmp q e.0))) [
+  | inl tied ↦
+      let same : e.1 ≡ s = only_one (sym (ap (λ b. cond b (Some e.1) (lookup (is_at (key_cmp q)) es)) tied) ∙ there) in
+      let mine : p e.0 ≡ true = subst (λ k. p k ≡ true) (tied_keys q e.0 tied) passes in
+      let own = with_own (newest_of (filter (λ f. p f.0) es)) in
+      let up : e.1.place ≤ own.0 = own.2.0 in (
+        own.0,
+        ap (λ b. newest_of (cond b (e ∷ filter (λ f. p f.0) es) (filter (λ f. p f.0) es))) mine ∙ own.1,
+        subst (λ x. x.place ≤ own.0) same up,
+      )
+  | inr apart ↦
+      let rest = newest_above p es q s (sym (ap (λ b. cond b (Some e.1) (lookup (is_at (key_cmp q)) es)) apart) ∙ there) passes in
+      elim (cases_Bool (p e.0)) [
+        | inl mine ↦
+            let own = with_own (newest_of (filter (λ f. p f.0) es)) in
+            let low : s.place ≤ rest.0 = rest.2 in
+            let up : rest.0 ≤ own.0 = own.2.1 rest.0 rest.1 in (
+              own.0,
+              ap (λ b. newest_of (cond b (e ∷ filter (λ f. p f.0) es) (filter (λ f. p f.0) es))) mine ∙ own.1,
+              omega (arith, low, up),
+            )
+        | inr other ↦ (rest.0, ap (λ b. newest_of (cond b (e ∷ filter (λ f. p f.0) es) (filter (λ f. p f.0) es))) other ∙ rest.1, rest.2)
+      ]
+]
+  where
+    with_own : (rest : Option ℕ) →
+        (newest : ℕ) × (later (Some e.1.place) rest ≡ Some newest) × ((e.1.place ≤ newest) × ((at : ℕ) → rest ≡ Some at → at ≤ newest))
+    with_own None = (e.1.place, refl, (omega arith, λ at is. absurd (nothing_is is)))
+    with_own (Some rest) =
+        (max e.1.place rest, refl, (omega arith, λ at is. let same : rest ≡ at = only_one is in omega arith))
+
+-- the newest place over a range: of the segments that begin in it, and of the one over its first key
+module _ (es : Run) (low high : Key) (begun : Option ℕ) (keys : HaveKeys es) (order : InOrder es) (some : key_lt low high ≡ true)
+    (is : begun ≡ newest_of (between low high es)) where
+  begun_found : (place : ℕ) → begun ≡ Some place → (key : Key) × (contains (record { begin = low; end = high }) key ≡ true) × Holds es key place
+  begun_found place there =
+      let one = newest_one (λ q. key_lt low q && key_lt q high) es place order (sym is ∙ there) in
+      let parts = and_parts (key_lt low one.0) (key_lt one.0 high) one.3 in (
+        one.0,
+        and_from (key_le low one.0) (key_lt one.0 high) (le_from_lt low one.0 parts.0) parts.1,
+        record { begin = one.0; segment = one.1; stands = one.2; from = le_refl one.0; before = keys one.0 one.1 one.2; placed = one.4 },
+      )
+
+  begun_above : (q : Key) (s : Segment) → Begins es q s → key_lt low q ≡ true → key_lt q high ≡ true → (newest : ℕ) × (begun ≡ Some newest) × (s.place ≤ newest)
+  begun_above q s there past before =
+      let one = newest_above (λ k. key_lt low k && key_lt k high) es q s there (and_from (key_lt low q) (key_lt q high) past before) in
+      (one.0, is ∙ one.1, one.2)
+
+  -- what covers a key of the range begins in it, or is over its first key
+  covers : (key : Key) (place : ℕ) → contains (record { begin = low; end = high }) key ≡ true → (h : IsCovered es key place) →
+      ((newest : ℕ) × (begun ≡ Some newest) × (place ≤ newest)) ⊎ IsOver es low h.begin h.segment
+  covers key place inside h =
       let parts = and_parts (key_le low key) (key_lt key high) inside in
-      let up : (later : ℕ) × (newest ≡ Some later) × (s.place ≤ later) = elim (cases_key low b) [
-        | inl past ↦ elim (w.others b s o.stands past (le_lt_trans b key high o.from parts.1)) [ inl left ↦ absurd (nothing_is left) | inr done ↦ done ]
-        | inr upto ↦ w.first b s (record { stands = o.stands; from = upto; before = le_lt_trans low key s.end parts.0 o.before; last = λ other next there from. o.last other next there (le_trans other low key from parts.0) })
-      ] in
-      let one : place ≤ s.place = covered.placed in
-      let two : s.place ≤ up.0 = up.2 in
-      (up.0, up.1, omega (arith, one, two));
-}
-  where
-    w : Walks es [] low high newest
-    w = subst (λ xs. Walks es xs low high newest) is walk
+      elim (cases_key low h.begin) [
+        | inl past ↦
+            let one = begun_above h.begin h.segment h.over.stands past (le_lt_trans h.begin key high h.over.from parts.1) in
+            let up : h.segment.place ≤ one.0 = one.2 in
+            let placed = h.placed in
+            inl (one.0, one.1, omega (arith, up, placed))
+        | inr upto ↦ inr (record {
+          stands = h.over.stands;
+          from = upto;
+          before = le_lt_trans low key h.segment.end parts.0 h.over.before;
+          last = λ other next there from. h.over.last other next there (le_trans other low key from parts.0);
+        })
+      ]
+
+  pub newest_with : (b : Key) (s : Segment) (result : ℕ) → IsOver es low b s → Some result ≡ later begun (Some s.place) →
+      IsNewestOver es (record { begin = low; end = high }) (Some result)
+  newest_with b s result over latest = record {
+    found = λ place there. subst (λ p. (key : Key) × (contains (record { begin = low; end = high }) key ≡ true) × Holds es key p) (only_one there)
+        (elim (later_either begun s.place result latest) [
+          | inl here ↦ (low, and_from (key_le low low) (key_lt low high) (le_refl low) some, subst (Holds es low) (sym here) (over_holds es low b s over))
+          | inr own ↦ begun_found result own
+        ]);
+    others = λ key place inside h. elim (covers key place inside h) [
+      | inl one ↦
+          let up = later_kept begun s.place result one.0 latest one.1 in
+          let low' : place ≤ one.0 = one.2 in
+          (result, refl, omega (arith, up, low'))
+      | inr first ↦
+          let same = floor_same es low b h.begin s h.segment (floor_of es low b s over) first in
+          let up = later_above begun s.place result latest in
+          let placed : place ≤ s.place = subst (λ x. place ≤ x.place) (sym same.1) h.placed in
+          (result, refl, omega (arith, up, placed))
+    ];
+  }
+
+  pub newest_alone : ((at : ℕ) → IsCovered es low at → ⊥) → IsNewestOver es (record { begin = low; end = high }) begun
+  newest_alone none = record {
+    found = begun_found;
+    others = λ key place inside h. elim (covers key place inside h) [
+      | inl one ↦ one
+      | inr first ↦ absurd (none h.segment.place (record { begin = h.begin; segment = h.segment; over = first; placed = omega arith }))
+    ];
+  }
 
 -- no key lies between keys that don't rise
 pub newest_nowhere : (es : Run) (low high : Key) → key_lt low high ≡ false → IsNewestOver es (record { begin = low; end = high }) None

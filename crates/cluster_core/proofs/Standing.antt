@@ -21,6 +21,7 @@ use Rattle.cluster_core.proofs.Legality.{committed_is_legal}
 use Rattle.cluster_core.proofs.Versions.{rising-numbered}
 use Rattle.cluster_core.proofs.Keeping.{log_appended, log_submitted, resolver_submitted}
 use Rattle.cluster_core.proofs.Telling.{map-set_same}
+use Rattle.cluster_core.proofs.Recent.{nothing_old}
 use Rattle.cluster_core.proofs.Waiting.{nothing_known}
 
 -- what all pass is passed by each
@@ -271,7 +272,7 @@ stands_first splits window start count small some =
     each : (all : List Owned) → AllByRecursion (IsResolver window start [] 0) (map fresh all)
     each [] = tt
     each (owner ∷ all) =
-        (record { within = omega arith; knows = nothing_known owner start (0 - window); answers = λ place entry after below there. absurd (omega (arith, below)) }, each all)
+        (record { within = omega arith; knows = nothing_known owner start (0 - window); recent = nothing_old window; answers = λ place entry after below there. absurd (omega (arith, below)) }, each all)
 
     all_above : (all : List Owned) → AllByRecursion (λ r. 0 ≤ length r.causes) (map fresh all)
     all_above [] = tt

@@ -15,10 +15,10 @@ use Rattle.cluster_core.proofs.Asked.{least_is_at}
 use Rattle.cluster_core.proofs.Bridge.{entry_here, version_at}
 use Rattle.cluster_core.proofs.Causes.{agrees-none}
 use Rattle.cluster_core.proofs.Rising.{all_filter, all_has, all_push, has_filter, has_more, has_push, rise_all, rise_filter, rise_has, rise_le, rise_push, rise_weaker}
-use Rattle.cluster_core.proofs.Segmented.{Key, Run, nothing_is}
+use Rattle.cluster_core.proofs.InOrder.{Key, Run, nothing_is}
 
-module _ (owner : Owned) (start : ℕ) (requests : List CommitRequest) (least upto ordered : ℕ) (pending : List ℕ) (old new : Run)
-    (was : KnowsWriters owner start requests least upto (record { segments = old; ordered = ordered; pending = pending })) where
+module _ (owner : Owned) (start : ℕ) (requests : List CommitRequest) (least upto ordered : ℕ) (pending : List ℕ) (dropped : ℕ) (old new : Run)
+    (was : KnowsWriters owner start requests least upto (record { segments = old; ordered = ordered; pending = pending; dropped = dropped })) where
   -- what is put in order is sound, and what was in order is still covered
   put_keys : PutsEach requests pending old new → KnowsKeys owner start requests least ordered upto new
   put_keys puts = record {
@@ -31,7 +31,7 @@ module _ (owner : Owned) (start : ℕ) (requests : List CommitRequest) (least up
   }
 
   -- some of it was put in order, and all of it still waits
-  pub put_some : PutsEach requests pending old new → KnowsWriters owner start requests least upto (record { segments = new; ordered = ordered; pending = pending })
+  pub put_some : PutsEach requests pending old new → KnowsWriters owner start requests least upto (record { segments = new; ordered = ordered; pending = pending; dropped = dropped })
   put_some puts = record { keys = put_keys puts; in_order = was.in_order; agreed = was.agreed; waiting = was.waiting }
 
   -- all of it was put in order
@@ -50,10 +50,10 @@ module _ (owner : Owned) (start : ℕ) (requests : List CommitRequest) (least up
       }
 
   -- what is old was dropped
-  pub forgotten : ((key : Key) (place : ℕ) → Holds new key place → Holds old key place) →
+  pub forgotten : (next : ℕ) → ((key : Key) (place : ℕ) → Holds new key place → Holds old key place) →
       ((key : Key) (place : ℕ) → least ≤ place → IsCovered old key place → IsCovered new key place) →
-      KnowsWriters owner start requests least upto (record { segments = new; ordered = ordered; pending = filter (nat_le least) pending })
-  forgotten holds kept = record {
+      KnowsWriters owner start requests least upto (record { segments = new; ordered = ordered; pending = filter (nat_le least) pending; dropped = next })
+  forgotten next holds kept = record {
     keys = record {
       sound = λ key place h. was.keys.sound key place (holds key place h);
       settled = λ key place from before agrees own wrote. ∥∥₁_map (was.keys.settled key place from before agrees own wrote) (λ h. kept key place from h);
@@ -64,9 +64,9 @@ module _ (owner : Owned) (start : ℕ) (requests : List CommitRequest) (least up
   }
 
 -- once all is put in order nothing waits
-pub all_ordered : (owner : Owned) (start : ℕ) (requests : List CommitRequest) (least upto : ℕ) (segments : Run) → KnowsKeys owner start requests least upto upto segments →
-    KnowsWriters owner start requests least upto (record { segments = segments; ordered = upto; pending = [] })
-all_ordered owner start requests least upto segments keys = record {
+pub all_ordered : (owner : Owned) (start : ℕ) (requests : List CommitRequest) (least upto dropped : ℕ) (segments : Run) → KnowsKeys owner start requests least upto upto segments →
+    KnowsWriters owner start requests least upto (record { segments = segments; ordered = upto; pending = []; dropped = dropped })
+all_ordered owner start requests least upto dropped segments keys = record {
   keys = keys;
   in_order = le-leb upto upto (omega arith);
   agreed = refl;
@@ -92,7 +92,7 @@ module _ (owner : Owned) (start : ℕ) (requests : List CommitRequest) (least pl
 
   -- one more request, to which the owner agreed, and which waits
   pub known_agreed : agreed_at owner start requests place ≡ true →
-      KnowsWriters owner start requests least (place + 1) (record { segments = writers.segments; ordered = writers.ordered; pending = writers.pending ++ place ∷ [] })
+      KnowsWriters owner start requests least (place + 1) (record { segments = writers.segments; ordered = writers.ordered; pending = writers.pending ++ place ∷ []; dropped = writers.dropped })
   known_agreed agreed = record {
     keys = more_sound;
     in_order = rise_push writers.ordered place writers.pending was.in_order;

@@ -66,6 +66,14 @@ pub record HasPulled (old new : ClusterState) : Type 0 where
 abbrev pub HasWholeLog : ClusterState → ℕ → Type 0
 HasWholeLog c s = log_of c s ≤ slice_index c.pulled s
 
+-- this server lacks something that its log has
+abbrev pub IsBehind : ClusterState → ℕ → Type 0
+IsBehind c s = slice_index c.pulled s < log_of c s
+
+-- some server lacks something that its log has
+abbrev pub IsSomeBehind : ClusterState → Type 0
+IsSomeBehind c = (s : ℕ) × (s < length c.pulled) × IsBehind c s
+
 -- every server has all that its log has
 abbrev pub IsAllPulled : ClusterState → Type 0
 IsAllPulled c = (s : ℕ) → s < length c.pulled → HasWholeLog c s
@@ -78,6 +86,10 @@ IsReadable c = All (λ clock. c.pipeline.reported ≤ clock) c.pulled
 abbrev pub Did : {State : Type 0} → Work → Bool → State → State → State → Type 0
 Did Done may old new next = (may ≡ true) × (new ≡ next)
 Did NothingToDo may old new next = (may ≡ false) × (new ≡ old)
+
+-- a pipeline alone, as a cluster that has no servers
+abbrev pub without_servers : PipelineState → ClusterState
+without_servers pipeline = record { pipeline = pipeline; splits = []; pulled = [] }
 
 -- the cluster with another state of its pipeline
 abbrev pub with_pipeline : PipelineState → ClusterState → ClusterState

@@ -7,6 +7,8 @@ pub mod Tier
 pub mod Configuration
 pub mod Cluster
 pub mod Segments
+pub mod Tree
+pub mod TreeNode
 pub mod Kept
 pub mod Progress
 pub mod Server

@@ -7,7 +7,7 @@ use Rattle.cluster_core.specs.History.{Entry}
 use Rattle.cluster_core.specs.Decision.{Owned, Cause, owners, numbered}
 use Rattle.cluster_core.specs.Decision.{newer_agreed, first_disturbed, is_committed}
 use Rattle.cluster_core.specs.Laws.{ReadsBelow}
-use Rattle.cluster_core.specs.Kept.{KnowsWriters, ReadsWithin, WritersState, no_writers}
+use Rattle.cluster_core.specs.Kept.{KeepsRecent, KnowsWriters, ReadsWithin, WritersState, no_writers}
 use Rattle.cluster_core.specs.Roles.{PipelineState}
 
 -- the owner that a resolver answers for, what it keeps of the requests to which it agreed, and its answer for each
@@ -49,12 +49,13 @@ Knows window start requests resolver =
     KnowsWriters resolver.owner start requests (length resolver.causes - window) (length resolver.causes)
     resolver.writers
 
--- a resolver knows to which of the requests within the window it agreed, and keeps its answer for each request that
--- isn't reported yet
+-- a resolver knows to which of the requests within the window it agreed, keeps nothing that is older than two windows,
+-- and keeps its answer for each request that isn't reported yet
 pub record IsResolver (window start : ℕ) (requests : List CommitRequest) (reported : ℕ) (resolver : ResolverState) :
     Type 0 where
   pub within : length resolver.causes ≤ length requests
   pub knows : Knows window start requests resolver
+  pub recent : KeepsRecent window (length resolver.causes) resolver.writers
   pub answers :
       (place : ℕ) (entry : Entry) → reported ≤ place → place < length resolver.causes →
       slice_get (numbered start requests) place ≡ Some entry →

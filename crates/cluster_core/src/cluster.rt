@@ -1,7 +1,8 @@
-ghost use Rattle.std.specs.Prelude.{◌≡◌, ◌⊎◌, ◌+◌, ◌<◌, ◌≤◌, Some, IsNone, IfOk};
+ghost use Rattle.std.specs.Prelude.{◌≡◌, ◌⊎◌, ◌+◌, ◌<◌, ◌≤◌, Some, IsNone, IsTrue, IfOk};
 ghost use Rattle.std.specs.Prelude.{IfErr, OnOk, OnErr, if◌then◌else◌, length};
 ghost use Rattle.kv_core.specs.Read.{read_of};
 ghost use Rattle.cluster_core.specs.Cluster.{Did, HasPulled, HasSameServers, HasWholeLog, IsAllPulled};
+ghost use Rattle.cluster_core.specs.Cluster.{IsBehind, IsSomeBehind};
 ghost use Rattle.cluster_core.specs.Cluster.{database_at, may_pull, pull as with_pulled, tier_of, with_pipeline};
 ghost use Rattle.cluster_core.specs.Configuration.{config_refusal, first_cluster};
 ghost use Rattle.cluster_core.specs.History.{IsLegal};
@@ -158,11 +159,12 @@ impl Cluster {
     }
 
     /// Has a server apply the next version of its log, once the log has it, unless memory runs
-    /// out, which leaves the cluster as it was.
+    /// out for that, which leaves the cluster as it was.
     pub fn pull(&mut self, s: usize) -> Result<Work, AllocError>
         requires { s < length self.old.pulled }
         ensures step { IfOk result (λ work. Did work (may_pull self.old s) self.old self.new (with_pulled s self.old)) }
         ensures unchanged { OnErr result (self.new ≡ self.old) }
+        ensures wanted { OnErr result (IsTrue (may_pull self.old s)) }
         ensures roles { HasSameServers self.old self.new }
     {
         let log = s % self.pipeline.logs();
@@ -179,16 +181,18 @@ impl Cluster {
         requires { s < length self.old.pulled }
         ensures pulled { HasPulled self.old self.new }
         ensures whole { OnOk result (HasWholeLog self.new s) }
+        ensures behind { OnErr result (IsBehind self.new s) }
     {
         while self.pull(s)? == Work::Done {}
         Ok(())
     }
 
     /// Has every server apply all that its log has. Where memory runs out some of it is applied,
-    /// and another call goes on from there.
+    /// a server lacks some still, and another call goes on from there.
     pub fn pull_all(&mut self) -> Result<(), AllocError>
         ensures pulled { HasPulled self.old self.new }
         ensures all { OnOk result (IsAllPulled self.new) }
+        ensures behind { OnErr result (IsSomeBehind self.new) }
     {
         for s in 0..self.servers() {
             self.pull_log(s)?;

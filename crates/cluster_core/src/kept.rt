@@ -4,7 +4,7 @@ ghost use Rattle.kv_core.specs.Change.{write_range, write_ranges};
 ghost use Rattle.kv_core.specs.Range.{contains, covers, point};
 ghost use Rattle.cluster_core.specs.History.{Entry};
 ghost use Rattle.cluster_core.specs.Decision.{cut, numbered, Owned, owns};
-ghost use Rattle.cluster_core.specs.Kept.{has_place, KnowsKeys, KnowsWriters, least_of};
+ghost use Rattle.cluster_core.specs.Kept.{has_place, KeepsRecent, KnowsKeys, KnowsWriters, least_of};
 ghost use Rattle.cluster_core.specs.Kept.{no_writers, PutsEach, ReadsWithin, rise_between, since};
 ghost use Rattle.cluster_core.specs.Kept.{writes_key};
 ghost use Rattle.cluster_core.specs.Laws.{ReadsBelow};
@@ -182,7 +182,12 @@ impl Model for Writers {
 
     ghost Value = { WritersState };
 
-    ghost view = { λ a. record { segments = a.segments; ordered = a.ordered; pending = a.pending.items } };
+    ghost view = { λ a. record {
+      segments = a.segments;
+      ordered = a.ordered;
+      pending = a.pending.items;
+      dropped = a.dropped;
+    } };
 }
 
 impl Writers {
@@ -201,9 +206,11 @@ impl Writers {
     /// Drops what stands under a place before this one, if a window has passed since the last time.
     /// So each entry is looked at no more than twice, and is gone after two windows.
     fn forget(&mut self, least: usize, window: usize)
-        ensures { (owner : Owned) (start : ℕ) (requests : List CommitRequest) (upto : ℕ) →
+        ensures kept { (owner : Owned) (start : ℕ) (requests : List CommitRequest) (upto : ℕ) →
             KnowsWriters owner start requests least upto self.old →
             KnowsWriters owner start requests least upto self.new }
+        ensures recent { (upto next : ℕ) → least ≡ upto - window → upto ≤ next → next ≤ upto + 1 →
+            KeepsRecent window upto self.old → KeepsRecent window next self.new }
     {
         if least.saturating_sub(self.dropped) < window {
             return;
@@ -228,6 +235,8 @@ impl Writers {
         ensures kept { (start least : ℕ) →
             KnowsWriters part.now start requests.now least upto self.old →
             KnowsWriters part.now start requests.now least upto self.new }
+        ensures recent { (window next : ℕ) →
+            KeepsRecent window next self.old → KeepsRecent window next self.new }
     {
         put_each(&mut self.segments, part, requests, self.pending.as_slice())?;
         self.pending.clear();
@@ -265,6 +274,8 @@ impl Writers {
         ensures kept { (least : ℕ) →
             KnowsWriters part.now start requests.now least place self.old →
             KnowsWriters part.now start requests.now least place self.new }
+        ensures recent { (window next : ℕ) →
+            KeepsRecent window next self.old → KeepsRecent window next self.new }
     {
         let least = requests[place].read_version.saturating_sub(start) as usize;
         if !self.may_meet(least) {
@@ -296,6 +307,10 @@ impl Writers {
             (KnowsWriters part.now start requests.now (place - window) (place + 1) self.new) }
         ensures kept { OnErr result
             (KnowsWriters part.now start requests.now (place - window) place self.new) }
+        ensures recent_grown { KeepsRecent window place self.old →
+            OnOk result (KeepsRecent window (place + 1) self.new) }
+        ensures recent_kept { KeepsRecent window place self.old →
+            OnErr result (KeepsRecent window place self.new) }
     {
         self.forget(place.saturating_sub(window as usize), window as usize);
         let cause = self.decide(part, start, requests, place)?;

@@ -15,6 +15,7 @@ mod resolver;
 mod segments;
 mod server;
 mod tier;
+mod tree;
 
 pub use answers::{Config, ConfigError, ReadError, Reported, Splits, SubmitError, Work};
 pub use cluster::Cluster;

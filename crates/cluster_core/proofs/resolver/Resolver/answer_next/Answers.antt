@@ -1,6 +1,6 @@
 use Rattle.std.proofs.Common.{rules, ◌≡◌, ◌∙◌, ◌-◌, ◌+◌, ◌<◌, ◌++◌, ◌∷◌, [], ap, length, slice_get, subst, sym}
 use Rattle.cluster_core.specs.Decision.{numbered}
-use Rattle.cluster_core.specs.Kept.{KnowsWriters}
+use Rattle.cluster_core.specs.Kept.{KeepsRecent, KnowsWriters}
 use Rattle.cluster_core.specs.Progress.{IsResolver}
 use Rattle.cluster_core.proofs.Keeping.{answered_next}
 use Rattle.cluster_core.proofs.resolver.Resolver.answer_next.Goals as goal
@@ -14,3 +14,5 @@ returns-clause-kept c = λ reported was.
     (c.in-Ok.ensures.items ∙ ap (λ xs. xs ++ c.in_ok-cause.cause ∷ []) c.in_ok-reserve.ensures.items)
     (λ entry there. c.in_ok-cause.ensures.cause entry (ap (slice_get (numbered c.args.start c.args.requests.now)) number ∙ there))
     (subst (λ n. KnowsWriters c.self.inside.part c.args.start c.args.requests.now (n - c.args.window) (n + 1) c.answer.new.self) number c.in_ok-cause.ensures.grown)
+    (subst (λ n. KeepsRecent c.args.window (n + 1) c.answer.new.self) number
+    (c.in_ok-cause.ensures.recent_grown (subst (λ n. KeepsRecent c.args.window n c.self.inside.writers) (sym number) (subst (IsResolver c.args.window c.args.start c.args.requests.now reported) (sym c.self.view_is) was).recent)))
