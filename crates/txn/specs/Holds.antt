@@ -5,6 +5,7 @@ use Rattle.txn.specs.declared.commit.HoldError.{HoldError}
 use Rattle.txn.specs.declared.commit.HoldError.TheVariants.{Submit, Unknown, Behind}
 use Rattle.cluster_core.specs.declared.answers.SubmitError.TheVariants.{Memory}
 use Rattle.cluster_core.specs.declared.answers.Reported.{Reported}
+use Rattle.cluster_core.specs.Cluster.{ClusterState, IsReadable, with_pipeline}
 use Rattle.cluster_core.specs.Decision.{cause}
 use Rattle.cluster_core.specs.History.{Entry}
 use Rattle.cluster_core.specs.Roles.{PipelineState, all_handled, entries, submit, submit_refusal, submitted, told}
@@ -17,6 +18,10 @@ first_raised count clocks = map (λ clock. clock + 1) (take count clocks) ++ dro
 abbrev pub first_handled : ℕ → ℕ → PipelineState → PipelineState
 first_handled resolvers logs p =
     record p { resolved = first_raised resolvers p.resolved; logged = first_raised logs p.logged }
+
+-- the same of a cluster, whose servers stay as they are
+abbrev pub with_handled : ℕ → ℕ → ClusterState → ClusterState
+with_handled resolvers logs c = with_pipeline (first_handled resolvers logs c.pipeline) c
 
 -- the request with the last version that was given
 abbrev pub newest : CommitRequest → PipelineState → Entry
@@ -35,12 +40,17 @@ pub record IsHeldAt (request : CommitRequest) (old new : PipelineState) (resolve
   pub in_order : resolvers < length old.resolved → logs ≡ 0
 
 -- a refused submission leaves all as it was; a commit whose outcome isn't known was submitted, and is handled by some
--- roles and not reported; one whose servers are behind is reported as any other
-abbrev pub HeldError : HoldError → CommitRequest → PipelineState → PipelineState → Type 0
+-- roles and not reported, and no server has moved; one whose servers are behind is reported as any other, and some
+-- server lacks something that is reported
+abbrev pub HeldError : HoldError → CommitRequest → ClusterState → ClusterState → Type 0
 HeldError (Submit error) request old new =
-    (new ≡ old) × ((error ≡ Memory) ⊎ (submit_refusal old request.read_version ≡ Some error))
+    (new ≡ old) × ((error ≡ Memory) ⊎ (submit_refusal old.pipeline request.read_version ≡ Some error))
 HeldError Unknown request old new =
-    (submit_refusal old request.read_version ≡ None) × ((resolvers logs : ℕ) × IsHeldAt request old new resolvers logs)
+    (submit_refusal old.pipeline request.read_version ≡ None)
+    × ((resolvers logs : ℕ) × IsHeldAt request old.pipeline new.pipeline resolvers logs)
+    × (new ≡ with_pipeline new.pipeline old)
 HeldError (Behind reported) request old new =
-    (submit_refusal old request.read_version ≡ None) × (new ≡ all_handled (submit request old))
-    × (reported ≡ verdict request new)
+    (submit_refusal old.pipeline request.read_version ≡ None)
+    × (new.pipeline ≡ all_handled (submit request old.pipeline))
+    × (reported ≡ verdict request new.pipeline)
+    × ¬ IsReadable new
