@@ -2,7 +2,8 @@
 use Rattle.std.specs.Prelude.{◌≡◌, ℕ, suc, ◌+◌, Bool, true, false, cond, ◌&&◌, ◌||◌, ◌⊎◌, nat_lt, List, [], ◌∷◌, ◌++◌, length, map, filter, fold, refl, Option, Some, None, is_some, option_map, unwrap_or, if◌then◌else◌, bytes_eq}
 use Rattle.std.specs.List.{list_all, list_any}
 use Rattle.std.proofs.Common.{ap, sym, ◌∙◌, subst, arith, append_assoc, inl, inr}
-use Rattle.std.proofs.lemmas.Option.{same_Some}
+use Rattle.std.proofs.lemmas.List.Folds.{list_any-append}
+use Rattle.std.proofs.lemmas.Option.{none-some, same_Some}
 use Rattle.std.proofs.lemmas.List.{append-nil}
 use Rattle.std.proofs.lemmas.Bool.{cases_lt}
 use Rattle.std.proofs.lemmas.Slice.Eq.{bytes_eq-Decides}
@@ -73,10 +74,7 @@ module _ (t : TypeDefinition) (indexes : List IndexDefinition) where
 
       by : (ps : List Path) → filter (serves t (numbered (conjuncts q.filter)) q.sort) (paths indexes) ≡ ps →
           option_map (λ p. residual (others (used p.1) cs) (path_scan p.0 p.1 q.reverse)) (longest (matched_paths t (numbered (conjuncts q.filter)) ps)) ≡ Some root → ScansServing t indexes q root
-      by [] same k = absurd (elim (never k) [ ])
-        where
-          never : ◌≡◌ {A = Option Node} None (Some root) → ⊥
-          never k = cc
+      by [] same k = absurd (none-some root k)
       by (p ∷ ps) same k =
           let b : Matched = fold longer_of (p, match_of t cs p) (matched_paths t cs ps) in
           let l : (b.1 ≡ match_of t cs b.0) × IsLongest t cs (p ∷ ps) b.0 = longest_path t cs p ps in
@@ -230,18 +228,10 @@ module _ (IsStored : Cell → Type 0) (laws : PackLaws IsStored) (null_stored : 
 
 -- ---- full scans
 
-any_append : (f : PathScan → Bool) (a b : List PathScan) → list_any f (a ++ b) ≡ (list_any f a || list_any f b)
-any_append f [] b = refl
-any_append f (x ∷ a) b = ap (λ c. f x || c) (any_append f a b) ∙ by (f x)
-  where
-    by : (c : Bool) → (c || (list_any f a || list_any f b)) ≡ ((c || list_any f a) || list_any f b)
-    by true = refl
-    by false = refl
-
 -- a union has a full scan where a part has one
 parts_full : (ds : List Draft) → list_any is_full (scans_of_all (nodes_of (map (λ d. d.root) ds))) ≡ list_any (λ d. scans_all d.root) ds
 parts_full [] = refl
-parts_full (d ∷ ds) = any_append is_full (scans_of d.root) (scans_of_all (nodes_of (map (λ d. d.root) ds))) ∙ ap (λ b. scans_all d.root || b) (parts_full ds)
+parts_full (d ∷ ds) = list_any-append is_full (scans_of d.root) (scans_of_all (nodes_of (map (λ d. d.root) ds))) ∙ ap (λ b. scans_all d.root || b) (parts_full ds)
 
 none_some : (d : Draft) → ◌≡◌ {A = Option Draft} None (Some d) → ⊥
 none_some d e = cc

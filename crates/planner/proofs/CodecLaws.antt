@@ -1,5 +1,5 @@
 -- What the codec gives the planner: packs of cells are ordered as cells, their ranges are those of bounds, and they are read back.
-use Rattle.std.specs.Prelude.{◌≡◌, ◌↔◌, refl, ℕ, Bool, true, false, ◌&&◌, nat_eq, List, [], ◌∷◌, ◌++◌, length, take, drop, Some, None, Option, Ok, Err, unwrap_or, bytes_eq}
+use Rattle.std.specs.Prelude.{◌≡◌, ◌↔◌, refl, ℕ, true, ◌&&◌, nat_eq, List, [], ◌∷◌, ◌++◌, length, take, drop, Some, None, Option, Ok, Err, unwrap_or, bytes_eq}
 use Rattle.std.specs.List.{starts_with}
 use Rattle.std.specs.Option.{option_and_then}
 use Rattle.std.proofs.Common.{ap, sym, ◌∙◌, subst, arith}
@@ -29,7 +29,7 @@ use Rattle.metadata.proofs.PackBegins.{low, null_first, opens}
 use Rattle.metadata.proofs.PackOrder.{decides}
 use Rattle.query.specs.Truth.{known, is_true, prefix_test}
 use Rattle.planner.specs.Pack.{behind_all, pack_cell}
-use Rattle.planner.proofs.Ranges.{IsNonEmpty, PackLaws, low_append}
+use Rattle.planner.proofs.Ranges.{IsNonEmpty, PackLaws, known_true, low_append}
 use Rattle.planner.proofs.LowBytes.{low_escaped, low_pack_cell, low_text}
 use Rattle.planner.proofs.Lists.{each_all}
 use Rattle.planner.proofs.Sound.{ReadsBack}
@@ -37,10 +37,10 @@ use Rattle.planner.proofs.Sound.{ReadsBack}
 -- ---- prefixes
 
 -- a list begins with another one
-begins_so : (p t : List ℕ) → BeginsWith p t → starts_with nat_eq t p ≡ true
+pub begins_so : (p t : List ℕ) → BeginsWith p t → starts_with nat_eq t p ≡ true
 begins_so p t b = ap (λ w. starts_with nat_eq w p) b.1 ∙ ap (bytes_eq p) (take-append_seam p b.0) ∙ (bytes_eq-Decides p p).1 refl
 
-so_begins : (p t : List ℕ) → starts_with nat_eq t p ≡ true → BeginsWith p t
+pub so_begins : (p t : List ℕ) → starts_with nat_eq t p ≡ true → BeginsWith p t
 so_begins p t e = let same : p ≡ take (length p) t = (bytes_eq-Decides p (take (length p) t)).0 e in (drop (length p) t, sym (take-append-drop (length p) t) ∙ ap (λ w. w ++ drop (length p) t) (sym same))
 
 string_end : (s : Cell) → is_string s ≡ true → strinc (open_pack s) ≡ Some (behind_all (open_pack s))
@@ -87,18 +87,10 @@ test_begins Null (Text p) e h = cc
 test_begins (Int z) (Text p) e h = cc
 test_begins (Bytes b) (Text p) e h = cc
 test_begins (Text t) (Text p) e h = so_begins p t (sym (known_true (starts_with nat_eq t p)) ∙ h)
-  where
-    known_true : (b : Bool) → is_true (known b) ≡ b
-    known_true true = refl
-    known_true false = refl
 test_begins Null (Bytes p) e h = cc
 test_begins (Int z) (Bytes p) e h = cc
 test_begins (Text b) (Bytes p) e h = cc
 test_begins (Bytes t) (Bytes p) e h = so_begins p t (sym (known_true (starts_with nat_eq t p)) ∙ h)
-  where
-    known_true : (b : Bool) → is_true (known b) ≡ b
-    known_true true = refl
-    known_true false = refl
 
 begins_test : (c s : Cell) → BeginsAs s c → is_true (prefix_test c s) ≡ true
 begins_test Null Null h = absurd h

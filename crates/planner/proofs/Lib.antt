@@ -1,3 +1,5 @@
+pub mod Size
+pub mod Admits
 pub mod CodecLaws
 pub mod LowBytes
 pub mod Packs

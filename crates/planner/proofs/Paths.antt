@@ -21,7 +21,7 @@ use Rattle.planner.specs.Match.{primary, along, Conjunct, Match, matching, in_fr
 use Rattle.planner.specs.Plan.{Node, filtered, one}
 use Rattle.planner.specs.Planned.{matched_range, index_scan, path_scan, residual}
 use Rattle.planner.specs.Meaning.{fetched, scanned_keys}
-use Rattle.planner.specs.Admits.{admits}
+use Rattle.planner.proofs.Admits.{admits}
 use Rattle.planner.proofs.Ranges.{PackLaws, Each, IsUsable, spoken, range_exact}
 use Rattle.planner.proofs.Residual.{HasValue, if_some, Member, each_member, each_map, each_of_map, IsNumbered, IsFrom, said_from, first_has, residual_exact}
 use Rattle.planner.proofs.Nodes.{Gives, IsKeyed, filtered_gives}

@@ -4,6 +4,7 @@ use Rattle.std.specs.List.{list_all, list_any, cons_option}
 use Rattle.std.proofs.Common.{ap, sym, ◌∙◌, subst}
 use Rattle.std.proofs.lemmas.Option.{same_Some}
 use Rattle.std.proofs.lemmas.Bool.{eqb-true}
+use Rattle.std.proofs.lemmas.List.Elements.{All-filter, All-from_recursion, recursion_from_All}
 use Rattle.std.specs.Cmp.{first_so, second_so, both_ways}
 use Rattle.std.specs.Cmp.Derive.{both_true}
 use Rattle.std.specs.Cmp.Lexicographic.{same_text}
@@ -18,7 +19,7 @@ use Rattle.query.specs.Filter.{Filter, compare, null_field, starts, all_of, some
 use Rattle.query.specs.Truth.{selects, null_test, is_true}
 use Rattle.planner.specs.Range.{Bound, above, from, below, up_to, prefixed}
 use Rattle.planner.specs.Match.{Conjunct, fixing, bounding, said, first, in_front, matching, used, others}
-use Rattle.planner.specs.Admits.{lets_in, admits}
+use Rattle.planner.proofs.Admits.{lets_in, admits}
 use Rattle.planner.proofs.Ranges.{Each, comparison_true, at_null}
 use Rattle.metadata.specs.Order.{is_string}
 use Rattle.metadata.specs.Cell.{is_null as is_null_cell}
@@ -132,12 +133,7 @@ member_where p x (y ∷ xs) (there m) e = by (p y) (member_where p x xs m e)
     by false n = n
 
 pub each_where : {A : Type 0} (P : A → Type 0) (p : A → Bool) (xs : List A) → Each P xs → Each P (filter p xs)
-each_where P p [] e = tt
-each_where P p (x ∷ xs) e = by (p x) (each_where P p xs e.1)
-  where
-    by : (t : Bool) → Each P (filter p xs) → Each P (cond t (x ∷ filter p xs) (filter p xs))
-    by true f = (e.0, f)
-    by false f = f
+each_where P p xs e = recursion_from_All P (filter p xs) (All-filter p P xs (All-from_recursion P xs e))
 
 member_from_any : (i : ℕ) (places : List ℕ) → list_any (◌==◌ i) places ≡ true → Member i places
 member_from_any i [] e = cc

@@ -5,6 +5,7 @@ use Rattle.std.specs.Option.{option_map_or}
 use Rattle.std.specs.FinMap.Entries.{is_sorted, find, below_all}
 use Rattle.std.proofs.Common.{ap, sym, ◌∙◌, subst, arith, append_assoc, inl, inr}
 use Rattle.std.proofs.Math.Seq.{drop-append_seam, take-append_seam}
+use Rattle.std.proofs.lemmas.Cmp.{tied_itself}
 use Rattle.std.proofs.lemmas.Option.{same_Some}
 use Rattle.std.proofs.lemmas.List.Sums.{position_or_len_is}
 use Rattle.std.specs.Cmp.{first_so, second_so}
@@ -104,21 +105,13 @@ pub rising : (pairs : List Pair) → is_sorted bytes_cmp pairs ≡ true → Pair
 rising [] h = tt
 rising (p ∷ pairs) h = (below_each p.0 pairs (first_so _ _ h), rising pairs (second_so (below_all bytes_cmp p.0 pairs) _ h))
 
-bytes_tied : (k : List ℕ) → bytes_cmp k k ≡ Equal
-bytes_tied k = by (bytes_cmp k k) (nat_list_cmp_total.antisymm k k)
-  where
-    by : (o : Ordering) → o ≡ ordering_reverse o → o ≡ Equal
-    by Less e = cc
-    by Equal e = refl
-    by Greater e = cc
-
 not_less : Less ≡ Equal → ⊥
 not_less e = cc
 
 pairs_apart : (pairs : List Pair) → Pairwise (λ p q. bytes_cmp p.0 q.0 ≡ Less) pairs → Differ (λ p. p.0) pairs
 pairs_apart [] h = tt
 pairs_apart (p ∷ pairs) h = (
-  each_map (λ q. bytes_cmp p.0 q.0 ≡ Less) (λ q. p.0 ≢ q.0) (λ q e same. not_less (sym e ∙ ap (bytes_cmp p.0) (sym same) ∙ bytes_tied p.0)) pairs h.0,
+  each_map (λ q. bytes_cmp p.0 q.0 ≡ Less) (λ q. p.0 ≢ q.0) (λ q e same. not_less (sym e ∙ ap (bytes_cmp p.0) (sym same) ∙ tied_itself nat_list_cmp_total p.0)) pairs h.0,
   pairs_apart pairs h.1,
 )
 
@@ -126,7 +119,7 @@ pairs_apart (p ∷ pairs) h = (
 pub find_member : (pairs : List Pair) → Pairwise (λ p q. bytes_cmp p.0 q.0 ≡ Less) pairs → (p : Pair) → Member p pairs → find bytes_cmp p.0 pairs ≡ Some p.1
 find_member [] h p m = elim m [ ]
 find_member (q ∷ pairs) h p m = elim (front_or_later p q pairs m) [
-  | inl e ↦ ap (λ t. cond t (Some q.1) (find bytes_cmp p.0 pairs)) (ap is_eq (ap (λ x. bytes_cmp p.0 x.0) (sym e) ∙ bytes_tied p.0)) ∙ ap (λ x. Some x.1) (sym e)
+  | inl e ↦ ap (λ t. cond t (Some q.1) (find bytes_cmp p.0 pairs)) (ap is_eq (ap (λ x. bytes_cmp p.0 x.0) (sym e) ∙ tied_itself nat_list_cmp_total p.0)) ∙ ap (λ x. Some x.1) (sym e)
   | inr k ↦
       ap (λ t. cond t (Some q.1) (find bytes_cmp p.0 pairs)) (ap is_eq (nat_list_cmp_total.antisymm p.0 q.0 ∙ ap ordering_reverse (each_member (λ x. bytes_cmp q.0 x.0 ≡ Less) h.0 k)))
       ∙ find_member pairs h.1 p k

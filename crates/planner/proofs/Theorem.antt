@@ -5,11 +5,10 @@ use Rattle.std.specs.Option.{option_map_or}
 use Rattle.std.proofs.Common.{ap, sym, ◌∙◌, subst, arith, length-append}
 use Rattle.std.proofs.lemmas.Option.{same_Some}
 use Rattle.std.proofs.lemmas.Bool.{eqb-true}
+use Rattle.std.proofs.lemmas.Slice.Eq.{bytes_eq-Decides}
 use Rattle.std.proofs.lemmas.List.{get_or_append_left, map-append, length-map}
 use Rattle.std.specs.Cmp.{first_so, second_so}
-use Rattle.std.specs.declared.cmp.Ordering.{Ordering}
-use Rattle.std.specs.declared.cmp.Ordering.TheVariants.{Less, Equal, Greater}
-use Rattle.std.specs.Ordering.{is_lt, is_eq, ordering_reverse, eq_by_cmp}
+use Rattle.std.specs.Ordering.{is_lt, eq_by_cmp}
 use Rattle.metadata.specs.declared.cells.Cell.{Cell}
 use Rattle.metadata.specs.declared.cells.Cell.TheVariants.{Null, Int, Text, Bytes}
 use Rattle.metadata.specs.declared.definition.Field.{Field}
@@ -31,7 +30,6 @@ use Rattle.metadata.proofs.CellItems.{items_of-injective}
 use Rattle.metadata.proofs.StoredApart.{named_typed}
 use Rattle.metadata.specs.Schema.{type_at}
 use Rattle.planner.proofs.Lawful.{IsSoundType, types_sound, columns_within}
-use Rattle.query.proofs.CellLaws.{cells_cmp_total}
 use Rattle.query.specs.Checked.{field_named, is_value_of, is_prefix_of, node_refusal, refusal, unless}
 use Rattle.metadata.specs.Schema.{find_type}
 use Rattle.query.specs.Filter.{Filter, compare, null_field, starts, all_of, some_of, negation, leaf_values, values, nodes, conjuncts}
@@ -45,7 +43,7 @@ use Rattle.planner.specs.Match.{numbered, name_at}
 use Rattle.planner.specs.Plan.{Node}
 use Rattle.planner.specs.Planned.{is_empty, unsorted_plan, sorted_plan, planned}
 use Rattle.planner.specs.Rules.{MayBeUsed, is_value, is_readable, state_of, usable}
-use Rattle.planner.specs.Right.{indexes_of, IsRightFor, has_sorted_path, is_served}
+use Rattle.planner.specs.Right.{indexes_of, IsRightFor, IsPlanFor, has_sorted_path, is_served}
 use Rattle.planner.specs.Meaning.{rows_of}
 use Rattle.planner.proofs.Ranges.{PackLaws, Each}
 use Rattle.metadata.specs.Order.{is_string}
@@ -53,6 +51,7 @@ use Rattle.metadata.specs.Cell.{is_null as is_null_cell}
 use Rattle.planner.proofs.Residual.{HasValue, Member, here, there, each_member, each_from_members, each_map}
 use Rattle.planner.proofs.Rows.{member_of_where, IsApart}
 use Rattle.planner.proofs.Nodes.{Gives}
+use Rattle.planner.proofs.Fetches.{self_tied}
 use Rattle.planner.proofs.Paths.{enumerated, list_all-enumerated, IsGoodIndex, IsGoodType}
 use Rattle.planner.proofs.Unsorted.{each_left, each_right, conjuncts_checked, numbered_checked, unsorted_gives}
 use Rattle.planner.proofs.Lists.{each_all, member_contained, contains_member, all_each, Pairwise, all_pairs, sorted_pairwise}
@@ -65,19 +64,11 @@ use Rattle.planner.proofs.Uses.{planned_uses}
 
 -- ---- a query's answer
 
-tied : (a : List Cell) → eq_by_cmp cells_cmp a a ≡ true
-tied a = by (cells_cmp a a) (cells_cmp_total.antisymm a a)
-  where
-    by : (o : Ordering) → o ≡ ordering_reverse o → is_eq o ≡ true
-    by Less e = cc
-    by Equal e = refl
-    by Greater e = cc
-
 apart_pairwise : (rows : List Record) → IsApart primary_cells rows → Pairwise (λ r s. primary_key r ≢ primary_key s) rows
 apart_pairwise [] a = tt
 apart_pairwise (r ∷ rows) a = (
   each_map (λ s. eq_by_cmp cells_cmp (primary_cells r) (primary_cells s) ≡ false) (λ s. primary_key r ≢ primary_key s)
-      (λ s e same. not_both (sym e ∙ ap (λ k. eq_by_cmp cells_cmp (primary_cells r) k) (sym (items_of-injective (primary_cells r) (primary_cells s) same)) ∙ tied (primary_cells r))) rows a.0,
+      (λ s e same. not_both (sym e ∙ ap (λ k. eq_by_cmp cells_cmp (primary_cells r) k) (sym (items_of-injective (primary_cells r) (primary_cells s) same)) ∙ self_tied (primary_cells r))) rows a.0,
   apart_pairwise rows a.1,
 )
   where
@@ -157,13 +148,18 @@ have_values fields (f ∷ fs) e s =
 
 -- ---- types and indexes
 
-found_member : {A : Type 0} (p : A → Bool) (xs : List A) (x : A) → find p xs ≡ Some x → Member x xs
+-- what is found is one of the list, and passes
+found_member : {A : Type 0} (p : A → Bool) (xs : List A) (x : A) → find p xs ≡ Some x → Member x xs × (p x ≡ true)
 found_member p [] x e = cc
-found_member {A} p (y ∷ xs) x e = by (p y) (λ h. found_member p xs x h) e
+found_member {A} p (y ∷ xs) x e = by (p y) refl (λ h. found_member p xs x h) e
   where
-    by : (b : Bool) → (find p xs ≡ Some x → Member x xs) → cond b (Some y) (find p xs) ≡ Some x → Member x (y ∷ xs)
-    by true more h = subst (λ z. Member x (z ∷ xs)) (sym (same_Some y x h)) here
-    by false more h = there (more h)
+    by : (b : Bool) → p y ≡ b → (find p xs ≡ Some x → Member x xs × (p x ≡ true)) → cond b (Some y) (find p xs) ≡ Some x → Member x (y ∷ xs) × (p x ≡ true)
+    by true passes more h = subst (λ z. Member z (y ∷ xs) × (p z ≡ true)) (same_Some y x h) (here, passes)
+    by false passes more h = let later : Member x xs × (p x ≡ true) = more h in (there later.0, later.1)
+
+-- the type that is found by a name has the name
+pub found_named : (schema : Schema) (name : List ℕ) (t : TypeDefinition) → find_type schema name ≡ Some t → t.name ≡ name
+found_named schema name t e = (bytes_eq-Decides t.name name).0 (found_member (λ u. bytes_eq u.name name) schema.types t e).1
 
 usable_each : (schema : Schema) (states : List (ℕ × State)) (t : TypeDefinition) → Each (MayBeUsed schema states t) (usable schema states t)
 usable_each schema states t = each_from_members (MayBeUsed schema states t) (usable schema states t) (λ i m.
@@ -190,7 +186,7 @@ no_field = record { name = []; kind = kind.Int }
 module _ (laws : PackLaws IsCell) (reads_back : ReadsBack IsCell) (schema : Schema) (states : List (ℕ × State)) (query : Query) (t : TypeDefinition)
     (lawful : IsLawfulSchema schema) (checked : refusal schema query ≡ None) (stored : All IsCell (values query.filter)) (its_type : find_type schema query.record_type ≡ Some t) where
   in_schema : Contains schema.types t
-  in_schema = contains_member t schema.types (found_member (λ u. bytes_eq u.name query.record_type) schema.types t its_type)
+  in_schema = contains_member t schema.types (found_member (λ u. bytes_eq u.name query.record_type) schema.types t its_type).0
 
   sound_type : IsSoundType t
   sound_type = each_member IsSoundType (types_sound schema lawful) (member_contained t schema.types in_schema)
@@ -265,6 +261,10 @@ module _ (laws : PackLaws IsCell) (reads_back : ReadsBack IsCell) (schema : Sche
             allows prefix pairs u records query root (λ r. list_all (λ c. selects c.1 r) (numbered (conjuncts query.filter))) g.gives
                 (λ r. list_all-enumerated (λ f. selects f r) (conjuncts query.filter) 0 ∙ sym (selects-conjuncts query.filter r)) g.in_order,
           )
+
+  -- and it is of the type that the query names
+  pub planned_for : (root : Node) → planned t (usable schema states t) query ≡ Some root → IsPlanFor query (record { definition = t; root = root })
+  planned_for root plan_is = record { typed = found_named schema query.record_type t its_type; right = planned_right root plan_is }
 
   -- it is the promised one
   pub planned_promised : (root : Node) → planned t (usable schema states t) query ≡ Some root → IsChosen t (usable schema states t) query root

@@ -4,9 +4,8 @@ use Rattle.std.specs.List.{list_all, list_any, enumerate_from}
 use Rattle.std.specs.Option.{option_zip}
 use Rattle.std.proofs.Common.{ap, sym, ◌∙◌, subst}
 use Rattle.std.proofs.lemmas.Option.{same_Some}
-use Rattle.std.specs.declared.cmp.Ordering.{Ordering}
-use Rattle.std.specs.declared.cmp.Ordering.TheVariants.{Less, Equal, Greater}
-use Rattle.std.specs.Ordering.{ordering_reverse}
+use Rattle.std.proofs.lemmas.Cmp.{tied_itself}
+use Rattle.std.specs.declared.cmp.Ordering.TheVariants.{Less, Equal}
 use Rattle.metadata.specs.declared.cells.Cell.{Cell}
 use Rattle.metadata.specs.declared.cells.Cell.TheVariants.{Null}
 use Rattle.metadata.specs.declared.index.IndexDefinition.{IndexDefinition}
@@ -75,12 +74,7 @@ differ_from_rising [] r = tt
 differ_from_rising (k ∷ ks) r = (each_map (λ y. cells_cmp k y ≡ Less) (λ y. k ≢ y) (λ y e s. not_below k (subst (λ z. cells_cmp k z ≡ Less) (sym s) e)) ks r.0, differ_from_rising ks r.1)
   where
     not_below : (k : List Cell) → cells_cmp k k ≡ Less → ⊥
-    not_below k e = by (cells_cmp k k) (cells_cmp_total.antisymm k k) e
-      where
-        by : (o : Ordering) → o ≡ ordering_reverse o → o ≡ Less → ⊥
-        by Less e d = cc
-        by Equal e d = cc
-        by Greater e d = cc
+    not_below k e = let tied : cells_cmp k k ≡ Equal = tied_itself cells_cmp_total k in cc
 
 -- a filter over a node scans what the node does
 pub residual_indexes : (cs : List Conjunct) (n : Node) → indexes_of (residual cs n) ≡ indexes_of n

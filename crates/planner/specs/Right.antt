@@ -58,6 +58,11 @@ IsRightFor query plan =
     Extends plan.definition t → IsExact prefix pairs t (indexes_of plan.root) records →
     (rows : List Record) × (rows_of prefix pairs t plan ≡ Some rows) × Allows query records rows
 
+-- a plan for a query: of the type that the query names, and right for it
+pub record IsPlanFor (query : Query) (plan : Plan) : Type 0 where
+  pub typed : plan.definition.name ≡ query.record_type
+  pub right : IsRightFor query plan
+
 -- whether a path to the records of the type serves the query's sort
 abbrev pub has_sorted_path : Schema → List (ℕ × State) → Query → TypeDefinition → Bool
 has_sorted_path schema states query t =

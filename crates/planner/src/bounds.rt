@@ -186,7 +186,7 @@ fn behind(alloc: Global, front: &[u8], bytes: &[u8]) -> Result<ByteString, Alloc
 }
 
 /// The range that a match gives a scan of its path.
-pub fn matched_range(alloc: Global, m: &Match) -> Result<KeyRange, AllocError>
+pub(crate) fn matched_range(alloc: Global, m: &Match) -> Result<KeyRange, AllocError>
     ensures { IfOk result (λ range. range_of range ≡ matched_range (match_of m.now)) }
 {
     let mut front = Vec::new(alloc);

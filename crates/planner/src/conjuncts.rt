@@ -11,7 +11,10 @@ use query::Filter;
 use std::alloc::{AllocError, Global};
 
 /// The conjuncts of a filter, numbered.
-pub fn conjuncts<'a>(alloc: Global, filter: &'a Filter) -> Result<Vec<Conjunct<'a>>, AllocError>
+pub(crate) fn conjuncts<'a>(
+    alloc: Global,
+    filter: &'a Filter,
+) -> Result<Vec<Conjunct<'a>>, AllocError>
     ensures { IfOk result (λ cs. map conjunct_of cs.items
         ≡ numbered (conjuncts (filter_of filter.now))) }
 {

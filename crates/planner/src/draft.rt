@@ -19,16 +19,16 @@ use std::alloc::{AllocError, Global};
 
 /// A node, and whether its records come in primary key order.
 #[derive(Drop)]
-pub struct Draft {
+pub(crate) struct Draft {
     pub root: Node,
     pub in_key_order: bool,
 }
 
 /// An index with its match.
 #[derive(Drop)]
-pub struct Joined<'a> {
-    pub index: &'a IndexDefinition,
-    pub columns: Match<'a>,
+struct Joined<'a> {
+    index: &'a IndexDefinition,
+    columns: Match<'a>,
 }
 
 /// Whether a match fixes all columns of an index.
@@ -232,7 +232,7 @@ fn along_index<'a>(
 }
 
 /// The plan of a path with its match.
-pub fn path_draft<'a>(
+pub(crate) fn path_draft<'a>(
     alloc: Global,
     t: &TypeDefinition,
     indexes: &[&'a IndexDefinition],

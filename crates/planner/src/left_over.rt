@@ -30,14 +30,14 @@ fn is_bounding(place: usize, bounds: &[(usize, Bound)]) -> bool
 
 /// Whether a match uses the conjunct at a place.
 #[tactic(auto, using(crate::proofs::Bodies::any_either))]
-pub fn is_used(place: usize, m: &Match) -> bool
+pub(crate) fn is_used(place: usize, m: &Match) -> bool
     ensures { result ≡ list_any (◌==◌ place) (used (match_of m.now)) }
 {
     is_fixing(place, m.fixed.as_slice()) || is_bounding(place, m.bounds.as_slice())
 }
 
 /// The conjuncts that a match doesn't use.
-pub fn others<'a>(
+pub(crate) fn others<'a>(
     alloc: Global,
     m: &Match,
     conjuncts: &[Conjunct<'a>],

@@ -9,20 +9,20 @@ use metadata::IndexDefinition;
 
 /// A way to the records: along their keys, or along an index.
 #[derive(Clone, Copy)]
-pub enum Path<'a> {
+pub(crate) enum Path<'a> {
     Primary,
     Along(&'a IndexDefinition),
 }
 
 /// A path with its match.
 #[derive(Drop)]
-pub struct Matched<'a> {
+pub(crate) struct Matched<'a> {
     pub path: Path<'a>,
     pub columns: Match<'a>,
 }
 
 /// The number of a path; that of the primary path is 0.
-pub fn path_number(path: Path) -> u64
+fn path_number(path: Path) -> u64
     ensures { result ≡ path_number (path_of path.entry) }
 {
     match path {
@@ -32,7 +32,7 @@ pub fn path_number(path: Path) -> u64
 }
 
 /// The path of the longest match.
-pub fn longest<'s, 'a>(paths: &'s [Matched<'a>]) -> Option<&'s Matched<'a>>
+pub(crate) fn longest<'s, 'a>(paths: &'s [Matched<'a>]) -> Option<&'s Matched<'a>>
     ensures { option_map (λ p. matched_of p.now) result ≡ longest (map matched_of paths.now) }
 {
     match paths {

@@ -10,20 +10,20 @@ use std::alloc::{AllocError, Global};
 
 /// A conjunct and its place among the conjuncts.
 #[derive(Clone, Copy)]
-pub struct Conjunct<'a> {
+pub(crate) struct Conjunct<'a> {
     pub place: usize,
     pub filter: &'a Filter,
 }
 
 /// The columns fixed, and the bounds on the next one, each with the place of the conjunct that says it.
 #[derive(Drop)]
-pub struct Match<'a> {
+pub(crate) struct Match<'a> {
     pub fixed: Vec<(usize, Fixed<'a>)>,
     pub bounds: Vec<(usize, Bound<'a>)>,
 }
 
 /// The name of the field at a place.
-pub fn name_at(t: &TypeDefinition, place: usize) -> &[u8]
+pub(crate) fn name_at(t: &TypeDefinition, place: usize) -> &[u8]
     ensures { result.now ≡ name_at t.now place }
 {
     match t.fields.as_slice().get(place) {
@@ -33,7 +33,7 @@ pub fn name_at(t: &TypeDefinition, place: usize) -> &[u8]
 }
 
 /// The first of the conjuncts that fixes a field.
-pub fn first_fixing<'a>(name: &[u8], conjuncts: &[Conjunct<'a>]) -> Option<(usize, Fixed<'a>)>
+fn first_fixing<'a>(name: &[u8], conjuncts: &[Conjunct<'a>]) -> Option<(usize, Fixed<'a>)>
     ensures { option_map fixed_of result
         ≡ first (said (fixing name.now) (map conjunct_of conjuncts.now)) }
 {
@@ -47,7 +47,7 @@ pub fn first_fixing<'a>(name: &[u8], conjuncts: &[Conjunct<'a>]) -> Option<(usiz
 }
 
 /// How many columns are fixed and bounded together.
-pub fn reach(m: &Match) -> usize
+fn reach(m: &Match) -> usize
     ensures { result ≡ reach (match_of m.now) }
 {
     if m.bounds.is_empty() {
@@ -110,7 +110,7 @@ fn match_columns<'a>(
 }
 
 /// The match of the conjuncts along columns.
-pub fn matching<'a>(
+pub(crate) fn matching<'a>(
     alloc: Global,
     t: &TypeDefinition,
     columns: &[usize],
@@ -125,7 +125,7 @@ pub fn matching<'a>(
 }
 
 /// Whether the first match is longer: in all its columns, else in those fixed, else by the number of its path.
-pub fn is_longer(p: u64, m: &Match, q: u64, n: &Match) -> bool
+pub(crate) fn is_longer(p: u64, m: &Match, q: u64, n: &Match) -> bool
     ensures { result ≡ is_longer (p, match_of m.now) (q, match_of n.now) }
 {
     let (a, b) = (reach(m), reach(n));

@@ -13,7 +13,7 @@ use query::Filter;
 use std::alloc::{AllocError, Global};
 
 /// The scan of an index within the range of its match.
-pub fn index_scan(
+pub(crate) fn index_scan(
     alloc: Global,
     index: &IndexDefinition,
     m: &Match,
@@ -32,7 +32,12 @@ pub fn index_scan(
 }
 
 /// The records along a path within the range of its match.
-pub fn path_scan(alloc: Global, path: Path, m: &Match, reverse: bool) -> Result<Node, AllocError>
+pub(crate) fn path_scan(
+    alloc: Global,
+    path: Path,
+    m: &Match,
+    reverse: bool,
+) -> Result<Node, AllocError>
     ensures { IfOk result (λ node. node_of node
         ≡ path_scan (path_of path.entry) (match_of m.now) reverse) }
 {
@@ -68,7 +73,11 @@ fn add_filters(
 }
 
 /// The records of a node at which conjuncts are true: one by itself, several under one `and`.
-pub fn residual(alloc: Global, conjuncts: &[Conjunct], node: Node) -> Result<Node, AllocError>
+pub(crate) fn residual(
+    alloc: Global,
+    conjuncts: &[Conjunct],
+    node: Node,
+) -> Result<Node, AllocError>
     ensures { IfOk result (λ made. node_of made ≡ residual (map conjunct_of conjuncts.now)
         (node_of node)) }
 {

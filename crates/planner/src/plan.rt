@@ -2,8 +2,9 @@ ghost use Rattle.std.specs.Prelude.{◌≡◌};
 ghost use Rattle.planner.specs.declared.plan.PlanError.TheVariants.{Memory};
 
 use metadata::{IndexDefinition, TypeDefinition};
-use query::Filter;
+use query::{Filter, Query};
 use std::alloc::AllocError;
+use std::marker::Model;
 use thiserror::Error;
 use tuple_codec::ByteString;
 
@@ -62,13 +63,61 @@ pub enum Node {
     Distinct(Box<Node>),
 }
 
-/// How a query's records are found: those of a type, by the steps from the last one to the first.
+/// How the records of a query are found: those of a type, by the steps from the last one to the
+/// first. Each plan is of the type that its query names, and right for it.
 #[derive(Drop)]
 pub struct Plan {
+    pub(crate) definition: TypeDefinition,
+    pub(crate) root: Node,
+    pub(crate) query: Query,
+}
+
+impl Model for Plan {
+    ghost use Rattle.planner.specs.Asked.{AskedPlan};
+    ghost use Rattle.planner.specs.Right.{IsPlanFor};
+    ghost use Rattle.planner.specs.View.{node_of};
+    ghost use Rattle.query.specs.View.{query_of};
+    ghost use Rattle.std.specs.Coded.{codes};
+    ghost use Rattle.query.specs.contracts.filter.Query as asked;
+    ghost use Rattle.planner.specs.contracts.plan.Node as node;
+
+    ghost Value = { AskedPlan };
+
+    ghost coded = { Prim.hlevel (codes, node.the_row.coded, asked.the_row.coded) };
+
+    ghost view = { λ p. record { definition = p.definition; root = p.root; query = p.query } };
+
+    ghost invariant = { λ p. IsPlanFor (query_of p.query)
+        (record { definition = p.definition; root = node_of p.root }) };
+}
+
+impl Plan {
+    ghost use Rattle.planner.specs.Right.{IsRightFor};
+    ghost use Rattle.planner.specs.View.{node_of, plan_of};
+    ghost use Rattle.query.specs.View.{query_of};
+
     /// The type of the records.
-    pub definition: TypeDefinition,
+    pub fn definition(&self) -> &TypeDefinition
+        ensures { result.now ≡ (plan_of self.now).definition }
+    {
+        &self.definition
+    }
+
     /// The step whose records are the query's.
-    pub root: Node,
+    pub fn root(&self) -> &Node
+        ensures { node_of result.now ≡ (plan_of self.now).root }
+    {
+        &self.root
+    }
+
+    /// The query that the plan is for.
+    pub fn query(&self) -> &Query
+        ensures query { result.now ≡ self.now.query }
+        ensures typed { (plan_of self.now).definition.name ≡ (query_of result.now).record_type }
+        ensures right { IsRightFor (query_of result.now) (plan_of self.now) }
+    {
+        &self.query
+    }
 }
 
 /// Why there is no plan.

@@ -36,6 +36,7 @@ pub fn plan(
         (λ p. planned (plan_of p).definition (usable schema.now states.now (plan_of p).definition)
         (query_of query.now) ≡ Some (plan_of p).root) }
     ensures right { IfOk result (λ p. IsRightFor (query_of query.now) (plan_of p)) }
+    ensures query { IfOk result (λ p. query_of p.query ≡ query_of query.now) }
     ensures usable { IfOk result (λ p. All (MayBeUsed schema.now states.now (plan_of p).definition)
         (indexes_of (plan_of p).root)) }
     ensures chosen { IfOk result
@@ -52,9 +53,14 @@ pub fn plan(
         return Err(PlanError::SortNotServed);
     };
     let definition = own.copy()?;
+    let copy = query.copy(alloc)?;
     let found = usable(alloc, schema, states, own)?;
     match planned(alloc, own, found.as_slice(), query)? {
-        Some(root) => Ok(Plan { definition, root }),
+        Some(root) => Ok(Plan {
+            definition,
+            root,
+            query: copy,
+        }),
         None => Err(PlanError::SortNotServed),
     }
 }

@@ -45,7 +45,7 @@ fn may_use(index: &IndexDefinition, states: &[(u64, State)], t: &TypeDefinition)
 }
 
 /// Adds the indexes that may be used for a type.
-pub fn add_usable<'a>(
+fn add_usable<'a>(
     indexes: &'a [IndexDefinition],
     states: &[(u64, State)],
     t: &TypeDefinition,
@@ -67,7 +67,7 @@ pub fn add_usable<'a>(
 }
 
 /// Adds the paths along indexes with their matches.
-pub fn add_matched<'a>(
+pub(crate) fn add_matched<'a>(
     alloc: Global,
     t: &TypeDefinition,
     indexes: &[&'a IndexDefinition],
@@ -90,7 +90,7 @@ pub fn add_matched<'a>(
 }
 
 /// The indexes that may be used for a type: its readable VALUE indexes.
-pub fn usable<'a>(
+pub(crate) fn usable<'a>(
     alloc: Global,
     schema: &'a Schema,
     states: &[(u64, State)],

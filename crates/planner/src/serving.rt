@@ -8,7 +8,7 @@ ghost use Rattle.planner.specs.View.{conjunct_of, match_of, matched_of, node_of,
 
 use crate::left_over::others;
 use crate::longest::{Matched, Path, longest};
-use crate::matching::{Conjunct, Match, matching, name_at};
+use crate::matching::{Conjunct, Match, matching};
 use crate::nodes_of::{path_scan, residual};
 use crate::plan::Node;
 use crate::sorting::serves_from;
@@ -17,7 +17,7 @@ use std::alloc::{AllocError, Global};
 use tuple_codec::Text;
 
 /// The match of a path.
-pub fn match_of<'a>(
+pub(crate) fn match_of<'a>(
     alloc: Global,
     t: &TypeDefinition,
     path: Path,
@@ -107,7 +107,7 @@ fn add_serving_indexes<'a>(
 }
 
 /// The plan for a sort: the serving path of the longest match, and the other conjuncts.
-pub fn sorted_plan<'a>(
+pub(crate) fn sorted_plan<'a>(
     alloc: Global,
     t: &TypeDefinition,
     indexes: &[&'a IndexDefinition],

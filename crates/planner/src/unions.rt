@@ -263,7 +263,7 @@ fn add_part_plans<'a>(
 }
 
 /// The plan of a query, if there is one.
-pub fn planned<'a>(
+pub(crate) fn planned<'a>(
     alloc: Global,
     t: &TypeDefinition,
     indexes: &[&'a IndexDefinition],
@@ -282,7 +282,7 @@ pub fn planned<'a>(
 }
 
 /// The plan of a filter without a sort.
-pub fn unsorted_plan<'a>(
+fn unsorted_plan<'a>(
     alloc: Global,
     t: &TypeDefinition,
     indexes: &[&'a IndexDefinition],

@@ -72,3 +72,20 @@ impl Filter {
         copy_filter(alloc, self)
     }
 }
+
+impl Query {
+    /// An equal query.
+    pub fn copy(&self, alloc: Global) -> Result<Query, AllocError>
+        ensures { IfOk result (λ copy. query_of copy ≡ query_of self.now) }
+    {
+        let record_type = self.record_type.copy()?;
+        let filter = self.filter.copy(alloc)?;
+        let sort = self.sort.copy()?;
+        Ok(Query {
+            record_type,
+            filter,
+            sort,
+            reverse: self.reverse,
+        })
+    }
+}
