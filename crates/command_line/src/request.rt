@@ -7,6 +7,8 @@ use std::alloc::{AllocError, Global};
 pub enum Request {
     /// To run the script in this file, or without one that on standard input.
     Run(Option<String>),
+    /// To print the plan that the text in this file asks for, or without one that on standard input.
+    Explain(Option<String>),
     /// To print the pack of the tuple that this text stands for.
     Pack(String),
     /// To print the tuple that the bytes of these hexadecimal digits spell.
@@ -35,6 +37,15 @@ fn run_command<'a>(alloc: Global) -> Result<Command<'a>, AllocError> {
         .arg(file)
 }
 
+fn explain_command<'a>(alloc: Global) -> Result<Command<'a>, AllocError> {
+    let file = Arg::new(alloc, "FILE").help(
+        "Schema, states and query; without it standard input is read",
+    );
+    Command::new(alloc, "explain")
+        .about("Prints the plan of a query")
+        .arg(file)
+}
+
 fn pack_command<'a>(alloc: Global) -> Result<Command<'a>, AllocError> {
     let json = Arg::new(alloc, "JSON")
         .help("The tuple, as a list")
@@ -56,9 +67,12 @@ fn unpack_command<'a>(alloc: Global) -> Result<Command<'a>, AllocError> {
 // What the command line may be.
 fn command_line<'a>(alloc: Global) -> Result<Command<'a>, AllocError> {
     Command::new(alloc, "recordctl")
-        .about("Runs scripts over a record store, and packs and unpacks tuples")
+        .about(
+            "Runs scripts over a record store, shows plans of queries, and packs and unpacks tuples",
+        )
         .subcommand_required(true)
         .subcommand(run_command(alloc)?)?
+        .subcommand(explain_command(alloc)?)?
         .subcommand(pack_command(alloc)?)?
         .subcommand(unpack_command(alloc)?)
 }
@@ -79,19 +93,37 @@ fn not_taken(alloc: Global, error: &Error) -> CommandLineError {
     }
 }
 
-// What the words that match ask for.
-fn request_in(alloc: Global, matches: &ArgMatches) -> Result<Request, AllocError> {
+// The file that the words of a subcommand name, if they name one.
+fn file_in(alloc: Global, matches: &ArgMatches) -> Result<Option<String>, AllocError> {
+    match matches.get_str("FILE") {
+        Some(path) => Ok(Some(String::from_str(alloc, path)?)),
+        None => Ok(None),
+    }
+}
+
+// What the words ask for where they match `pack` or `unpack`.
+fn tuple_request_in(alloc: Global, matches: &ArgMatches) -> Result<Option<Request>, AllocError> {
     let pack_words = matches.subcommand_matches("pack");
     if let Some(word) = pack_words.and_then(|words| words.get_str("JSON")) {
-        return Ok(Request::Pack(String::from_str(alloc, word)?));
+        return Ok(Some(Request::Pack(String::from_str(alloc, word)?)));
     }
     let unpack_words = matches.subcommand_matches("unpack");
-    if let Some(word) = unpack_words.and_then(|words| words.get_str("HEX")) {
-        return Ok(Request::Unpack(String::from_str(alloc, word)?));
+    match unpack_words.and_then(|words| words.get_str("HEX")) {
+        Some(word) => Ok(Some(Request::Unpack(String::from_str(alloc, word)?))),
+        None => Ok(None),
     }
-    let run_words = matches.subcommand_matches("run");
-    match run_words.and_then(|words| words.get_str("FILE")) {
-        Some(path) => Ok(Request::Run(Some(String::from_str(alloc, path)?))),
+}
+
+// What the words that match ask for.
+fn request_in(alloc: Global, matches: &ArgMatches) -> Result<Request, AllocError> {
+    if let Some(request) = tuple_request_in(alloc, matches)? {
+        return Ok(request);
+    }
+    if let Some(words) = matches.subcommand_matches("explain") {
+        return Ok(Request::Explain(file_in(alloc, words)?));
+    }
+    match matches.subcommand_matches("run") {
+        Some(words) => Ok(Request::Run(file_in(alloc, words)?)),
         None => Ok(Request::Run(None)),
     }
 }

@@ -5,3 +5,5 @@ pub mod Decimals
 pub mod TupleForms
 pub mod Labels
 pub mod Keys
+pub mod Filters
+pub mod Values

@@ -1,11 +1,13 @@
 -- The cells that JSON stands for.
 use Rattle.std.specs.Prelude.{◌≡◌, ℕ, List, codes, Option, Some, None, option_map, option_and_then}
 use Rattle.serde_json.specs.Data.{Data, null, boolean, number, string, array, object}
-use Rattle.serde_json.specs.Find.{as_i64}
+use Rattle.serde_json.specs.Find.{as_i64, of_integer}
 use Rattle.serde_json.specs.Read.{read}
+use Rattle.serde_json.specs.Written.{compact_text}
+use Rattle.hex.specs.Hex.{encode_lower}
 use Rattle.metadata.specs.declared.cells.Cell.{Cell}
 use Rattle.metadata.specs.declared.cells.Cell.TheVariants.{Null, Int, Text, Bytes}
-use Rattle.json_forms.specs.Json.{only_member, all_in, hex_in}
+use Rattle.json_forms.specs.Json.{only_member, all_in, hex_in, labelled}
 
 -- the bytes that a value stands for: pairs of hexadecimal digits at its one key
 abbrev pub bytes_in : Data → Option (List ℕ)
@@ -19,6 +21,17 @@ cell_in (number n) = option_map Int (as_i64 n)
 cell_in (string s) = Some (Text s)
 cell_in (array ds) = None
 cell_in (object ms) = option_map Bytes (bytes_in (object ms))
+
+-- the JSON of a cell
+abbrev pub cell_data : Cell → Data
+cell_data Null = null
+cell_data (Int n) = number (of_integer n)
+cell_data (Text s) = string s
+cell_data (Bytes b) = labelled (codes "hex") (encode_lower b)
+
+-- the compact text of a cell
+abbrev pub IsTextOfCell : List ℕ → Cell → Type 0
+IsTextOfCell text cell = text ≡ compact_text (cell_data cell)
 
 -- the cells that a list stands for
 abbrev pub cells_in : Data → Option (List Cell)

@@ -1,14 +1,15 @@
 -- What the values of a script stand for: lists, objects of exactly some keys, and lists of things.
-use Rattle.std.specs.Prelude.{ℕ, Bool, true, false, ◌&&◌, ◌==◌, if◌then◌else◌, List}
+use Rattle.std.specs.Prelude.{ℕ, nat_le, Bool, true, false, ◌&&◌, ◌==◌, if◌then◌else◌, List, length}
 use Rattle.std.specs.Prelude.{[], ◌∷◌, Option, Some, None, option_map, option_and_then}
 use Rattle.std.specs.List.{list_any}
 use Rattle.std.specs.Option.{option_map_or}
 use Rattle.std.specs.Result.{result_ok}
-use Rattle.std.specs.Str.{bytes_eq}
+use Rattle.std.specs.Str.{bytes_eq, is_utf8}
 use Rattle.hex.specs.Hex.{decode_of}
 use Rattle.serde_json.specs.Data.{Data, Items, no_items, item, Members, no_members, member, object, put, string}
 use Rattle.serde_json.specs.Events.{members_len}
 use Rattle.serde_json.specs.Find.{as_array, as_number, as_object, as_str, as_u64, get}
+use Rattle.serde_json.specs.Read.{read}
 
 -- the values in a list
 abbrev pub items_in : Items → List Data
@@ -61,6 +62,10 @@ all_in f d = option_and_then (each_in f) (list_in d)
 abbrev pub named : {A : Type 0} → List (List ℕ × A) → List ℕ → Option A
 named [] name = None
 named (row ∷ rows) name = if bytes_eq row.0 name then Some row.1 else named rows name
+
+-- the value of a text of JSON in UTF-8 that isn't too long to be read
+abbrev pub value_in : List ℕ → Option Data
+value_in text = if nat_le (length text) 4000000 && is_utf8 text then read text else None
 
 -- what the value at a key of an object stands for
 abbrev pub member_in : {A : Type 0} → (Data → Option A) → List ℕ → Data → Option A

@@ -3,3 +3,4 @@ pub mod CellJson
 pub mod TupleJson
 pub mod Config
 pub mod SchemaJson
+pub mod QueryJson

@@ -1,7 +1,8 @@
 ghost use Rattle.std.specs.Prelude.{◌≡◌, ◌≤◌, Some, None, IfOk, IfErr, string_bytes};
 ghost use Rattle.serde_json.specs.Data.{depth};
 ghost use Rattle.serde_json.specs.View.{view};
-ghost use Rattle.json_forms.specs.CellJson.{IsTextOfCells, IsTextOfRows, bytes_in, cell_in, cells_in, rows_in};
+ghost use Rattle.json_forms.specs.CellJson.{IsTextOfCells, IsTextOfRows, bytes_in, cell_data, cell_in, cells_in};
+ghost use Rattle.json_forms.specs.CellJson.{rows_in};
 
 use crate::error::PartError;
 use crate::form::{hex_of, labelled, list_of, only_member, text_of};
@@ -20,7 +21,7 @@ fn bytes_of(alloc: Global, value: &Value) -> Result<ByteString, PartError>
 }
 
 // The cell that a value stands for.
-fn cell_of(alloc: Global, value: &Value) -> Result<Cell, PartError>
+pub(crate) fn cell_of(alloc: Global, value: &Value) -> Result<Cell, PartError>
     ensures ok { IfOk result (λ cell. cell_in (view value.now) ≡ Some cell) }
     ensures err { IfErr result (λ error. error ≡ PartError.BadForm → cell_in (view value.now) ≡ None) }
 {
@@ -51,6 +52,7 @@ pub fn cells_of(alloc: Global, value: &Value) -> Result<Cells, PartError>
 
 // What stands for bytes: `{"hex":".."}`.
 fn hex_value(alloc: Global, bytes: &[u8]) -> Result<Value, AllocError>
+    ensures is { IfOk result (λ value. view value ≡ cell_data (Cell.Bytes bytes.now)) }
     ensures read { IfOk result (λ value. cell_in (view value) ≡ Some (Cell.Bytes bytes.now)) }
     ensures depth { IfOk result (λ value. depth (view value) ≤ 1) }
 {
@@ -58,7 +60,8 @@ fn hex_value(alloc: Global, bytes: &[u8]) -> Result<Value, AllocError>
 }
 
 // What stands for a cell.
-fn cell_value(alloc: Global, cell: &Cell) -> Result<Value, AllocError>
+pub(crate) fn cell_value(alloc: Global, cell: &Cell) -> Result<Value, AllocError>
+    ensures is { IfOk result (λ value. view value ≡ cell_data cell.now) }
     ensures read { IfOk result (λ value. cell_in (view value) ≡ Some cell.now) }
     ensures depth { IfOk result (λ value. depth (view value) ≤ 1) }
 {

@@ -1,5 +1,5 @@
-//! What values of JSON stand for, cells, schemas, configurations and tuples, and the text of cells
-//! and tuples.
+//! What values of JSON stand for, cells, schemas, queries, configurations and tuples, and the text
+//! of cells, filters and tuples.
 //!
 //! A call that reads a value answers `PartError::BadForm` where the value has another form than is
 //! wanted of it. `AllocError` and `PartError::OutOfMemory` are answered only by a call that takes
@@ -9,13 +9,19 @@
 mod cell_json;
 mod config_json;
 mod error;
+mod filter_json;
 mod form;
+mod query_json;
+mod reading;
 mod schema_json;
 mod tuple_json;
 
 pub use cell_json::{cells_of, cells_text, rows_text};
 pub use config_json::config_of;
 pub use error::PartError;
+pub use filter_json::{cell_text, filter_text};
 pub use form::{has_only, list_of, member, number_of, only_member, str_of, text_of};
+pub use query_json::{filter_of, query_of};
+pub use reading::{MAX_TEXT_BYTES, value_of};
 pub use schema_json::{index_of, schema_of, type_of};
 pub use tuple_json::{tuple_of, tuple_text};

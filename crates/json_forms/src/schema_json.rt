@@ -51,7 +51,7 @@ fn fields_of(alloc: Global, value: &Value) -> Result<Fields, PartError>
 }
 
 // A list of names.
-fn names_of(alloc: Global, value: &Value) -> Result<Names, PartError>
+pub(crate) fn names_of(alloc: Global, value: &Value) -> Result<Names, PartError>
     ensures ok { IfOk result (λ read. names_in (view value.now) ≡ Some read) }
     ensures err { IfErr result (λ error. error ≡ PartError.BadForm → names_in (view value.now) ≡ None) }
 {

@@ -1,3 +1,4 @@
 pub mod TupleLines
+pub mod PlanLines
 pub mod Run
 pub mod Status

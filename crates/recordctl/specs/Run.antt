@@ -10,6 +10,7 @@ use Rattle.script.specs.declared.error.ScriptError.TheVariants as errors
 use Rattle.recordctl.specs.declared.fault.Fault.{Fault}
 use Rattle.recordctl.specs.declared.fault.Fault.TheVariants.{OutOfMemory, BadScript, BadConfig}
 use Rattle.recordctl.specs.declared.fault.Fault.TheVariants.{CannotRead, BadArgument, Refused}
+use Rattle.recordctl.specs.declared.fault.Fault.TheVariants.{RefusedSchema, RefusedQuery, SortNotServed}
 
 -- a fault says why a text that was read isn't run: it is no script, or has a configuration that is refused; memory may
 -- be wanting for any
@@ -21,6 +22,9 @@ explains_run text OutOfMemory = Unit {0}
 explains_run text (BadScript number) = explains_script text (errors.BadScript number)
 explains_run text BadArgument = ⊥
 explains_run text (Refused kind at) = ⊥
+explains_run text (RefusedSchema why) = ⊥
+explains_run text (RefusedQuery why) = ⊥
+explains_run text SortNotServed = ⊥
 
 -- a transcript is that of a script's text: a right run of the script's steps over a database of its configuration
 pub record IsTranscriptOf (text : List ℕ) (transcript : Transcript) : Type 0 where

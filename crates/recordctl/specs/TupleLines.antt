@@ -7,6 +7,7 @@ use Rattle.tuple_codec.specs.Refusal.{Refuses}
 use Rattle.recordctl.specs.declared.fault.Fault.{Fault}
 use Rattle.recordctl.specs.declared.fault.Fault.TheVariants.{CannotRead, BadScript, BadConfig}
 use Rattle.recordctl.specs.declared.fault.Fault.TheVariants.{BadArgument, Refused, OutOfMemory}
+use Rattle.recordctl.specs.declared.fault.Fault.TheVariants.{RefusedSchema, RefusedQuery, SortNotServed}
 use Rattle.json_forms.specs.TupleJson.{tuple_of_text}
 
 -- the line of a text
@@ -35,6 +36,9 @@ explains_pack word CannotRead = ⊥
 explains_pack word (BadScript step) = ⊥
 explains_pack word (BadConfig why) = ⊥
 explains_pack word (Refused kind at) = ⊥
+explains_pack word (RefusedSchema why) = ⊥
+explains_pack word (RefusedQuery why) = ⊥
+explains_pack word SortNotServed = ⊥
 
 -- a fault says why a word isn't unpacked: no memory, digits that aren't hexadecimal or not in pairs, or bytes that are
 -- refused
@@ -44,4 +48,7 @@ explains_unpack word BadArgument = IsOk (decode_of word) → ⊥
 explains_unpack word CannotRead = ⊥
 explains_unpack word (BadScript step) = ⊥
 explains_unpack word (BadConfig why) = ⊥
+explains_unpack word (RefusedSchema why) = ⊥
+explains_unpack word (RefusedQuery why) = ⊥
+explains_unpack word SortNotServed = ⊥
 explains_unpack word (Refused kind at) = MatchResult (decode_of word) (λ bytes. Refuses bytes at kind) (λ _. ⊥)

@@ -2,6 +2,8 @@ ghost use Rattle.std.specs.Prelude.{◌≡◌};
 ghost use Rattle.recordctl.specs.declared.fault.Fault.TheVariants.{OutOfMemory};
 
 use cluster_core::ConfigError;
+use metadata::Refusal;
+use query::QueryError;
 use std::alloc::{AllocError, AllocFailed};
 use thiserror::Error;
 use tuple_codec::UnpackErrorKind;
@@ -25,6 +27,15 @@ pub enum Fault {
     /// place where it begins.
     #[error("refused {0:?} at {1}")]
     Refused(UnpackErrorKind, usize),
+    /// There is no such schema, or a state is given for what isn't an index of it.
+    #[error("refused {0:?}")]
+    RefusedSchema(Refusal),
+    /// The query can't be asked under the schema.
+    #[error("refused {0:?}")]
+    RefusedQuery(QueryError),
+    /// Neither the primary key nor a readable index serves the query's sort.
+    #[error("refused SortNotServed")]
+    SortNotServed,
     /// Memory is wanting.
     #[error("out of memory")]
     OutOfMemory,

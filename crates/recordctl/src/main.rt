@@ -1,4 +1,4 @@
-//! The program `recordctl`: runs scripts over a record store, and packs and unpacks tuples.
+//! The program `recordctl`: runs scripts over a record store, shows the plans of queries, and packs and unpacks tuples.
 #![tactic(auto)]
 
 ghost use Rattle.std.specs.Prelude.{◌≡◌, ◌≤◌};
@@ -6,11 +6,15 @@ ghost use Rattle.std.specs.Process.{exit_status};
 ghost use Rattle.recordctl.specs.Status.{refused_status};
 
 mod fault;
+mod input;
+mod plans;
+mod printing;
 mod run;
 mod tuples;
 
 use command_line::{CommandLineError, Request, request_of};
 use fault::Fault;
+use plans::print_plan;
 use run::{refuse, run};
 use std::fs::File;
 use std::io::{Read, Write};
@@ -49,7 +53,22 @@ fn run_file<W: Write, E: Write>(
     }
 }
 
-// Does what the words of the command line ask for, where a script that isn't in a file is read from the input.
+// Prints the plan that the text in a file asks for.
+fn explain_file<W: Write, E: Write>(
+    rt: &HostRuntime,
+    path: &str,
+    output: &mut W,
+    errors: &mut E,
+) -> ExitCode
+    ensures { exit_status result ≤ 1 }
+{
+    match File::open(rt, path) {
+        Ok(mut file) => print_plan(rt.alloc(), &mut file, output, errors),
+        Err(_) => refuse(errors, Fault::CannotRead),
+    }
+}
+
+// Does what the words of the command line ask for, where a text that isn't in a file is read from the input.
 fn perform<R: Read, W: Write, E: Write>(
     rt: &HostRuntime,
     words: &[String],
@@ -63,6 +82,8 @@ fn perform<R: Read, W: Write, E: Write>(
     match request_of(alloc, words) {
         Ok(Request::Run(Some(path))) => run_file(rt, path.as_str(), output, errors),
         Ok(Request::Run(None)) => run(alloc, input, output, errors),
+        Ok(Request::Explain(Some(path))) => explain_file(rt, path.as_str(), output, errors),
+        Ok(Request::Explain(None)) => print_plan(alloc, input, output, errors),
         Ok(Request::Pack(word)) => pack(alloc, word.as_str(), output, errors),
         Ok(Request::Unpack(word)) => unpack(alloc, word.as_str(), output, errors),
         Err(error) => refuse_command_line(errors, &error),

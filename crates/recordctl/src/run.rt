@@ -1,14 +1,15 @@
-ghost use Rattle.std.specs.Prelude.{◌≡◌, ◌≢◌, ◌≤◌, ◌⊎◌, take, IfOk, IfErr, IfSome};
+ghost use Rattle.std.specs.Prelude.{◌≡◌, ◌≢◌, ◌≤◌, ◌⊎◌, IfOk, IfErr, IfSome};
 ghost use Rattle.std.specs.Process.{exit_status};
 ghost use Rattle.recordctl.specs.Run.{IsRun, IsTranscriptOf, explains_run};
 ghost use Rattle.recordctl.specs.declared.run.PrintError.TheVariants.{CannotWrite, OutOfMemory};
 
 use crate::fault::Fault;
+use crate::input::read_input;
 use cluster_core::ConfigError;
 use schedule::{Replies, ScheduleError, Transcript, run_schedule};
-use script::{MAX_SCRIPT_BYTES, ScriptError, make_line, script_of};
+use script::{ScriptError, make_line, script_of};
 use std::alloc::{AllocError, Global};
-use std::io::{BufWriter, ErrorKind, Read, Write};
+use std::io::{BufWriter, Read, Write};
 use std::process::ExitCode;
 use std::{io, mem};
 
@@ -32,20 +33,6 @@ impl From<io::Error> for PrintError {
 
     fn from(_error: io::Error) -> PrintError {
         PrintError::CannotWrite
-    }
-}
-
-// The input to its end, or as much of it as shows that it is too long for a script.
-fn read_input<R: Read>(alloc: Global, input: &mut R) -> Result<Vec<u8>, Fault>
-    ensures ok { IfOk result (λ bytes. IfSome (R.remaining input.old) (λ text. bytes.items ≡ take 4000001 text)) }
-    ensures err { IfErr result (λ fault. (fault ≡ Fault.CannotRead) ⊎ (fault ≡ Fault.OutOfMemory)) }
-{
-    let mut bytes = Vec::new(alloc);
-    let most = MAX_SCRIPT_BYTES as u64 + 1;
-    match input.take(most).read_to_end(&mut bytes) {
-        Ok(_) => Ok(bytes),
-        Err(error) if error.kind() == ErrorKind::OutOfMemory => Err(Fault::OutOfMemory),
-        Err(_) => Err(Fault::CannotRead),
     }
 }
 

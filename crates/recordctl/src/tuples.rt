@@ -1,5 +1,5 @@
 ghost use Rattle.std.specs.Prelude.{◌≡◌, ◌≤◌, List, ℕ, Some, Ok, IfOk, IfErr};
-ghost use Rattle.std.specs.Prelude.{OnOk, MatchOption, MatchResult, string_bytes};
+ghost use Rattle.std.specs.Prelude.{MatchOption, string_bytes};
 ghost use Rattle.std.specs.Io.KnownBytes.{Appends};
 ghost use Rattle.std.specs.Process.{exit_status};
 ghost use Rattle.hex.specs.Hex.{decode_of};
@@ -7,12 +7,11 @@ ghost use Rattle.json_forms.specs.TupleJson.{tuple_of_text};
 ghost use Rattle.recordctl.specs.TupleLines.{packed_line, IsUnpackedLine, explains_pack, explains_unpack};
 
 use crate::fault::Fault;
-use crate::run::refuse;
+use crate::printing::print_line;
 use hex::FromHexError;
 use json_forms::{PartError, tuple_of, tuple_text};
 use serde_json::Value;
 use std::alloc::Global;
-use std::io;
 use std::io::Write;
 use std::process::ExitCode;
 use tuple_codec::{Tuple, UnpackFailure, pack as pack_tuple, unpack as unpack_tuple};
@@ -73,36 +72,6 @@ fn line_of_unpack(alloc: Global, word: &str) -> Result<String, Fault>
     let mut line = tuple_text(alloc, &tuple)?;
     line.push_str("\n")?;
     Ok(line)
-}
-
-// Writes a line.
-fn write_line<W: Write>(output: &mut W, line: &str) -> io::Result<()>
-    ensures { OnOk result (Appends (W.contents output.old) (W.contents output.new) line.now) }
-{
-    output.write_all(line.as_bytes())?;
-    output.flush()
-}
-
-// Prints a line, or the line of a fault, and answers the exit status.
-fn print_line<W: Write, E: Write>(
-    output: &mut W,
-    errors: &mut E,
-    line: Result<String, Fault>,
-) -> ExitCode
-    ensures status { exit_status result ≤ 1 }
-    ensures printed { exit_status result ≡ 0 →
-        MatchResult line (λ text. Appends (W.contents output.old) (W.contents output.new)
-        (string_bytes text)) (λ _. ⊥) }
-    ensures quiet { exit_status result ≡ 0 → E.contents errors.new ≡ E.contents errors.old }
-{
-    let line = match line {
-        Ok(line) => line,
-        Err(fault) => return refuse(errors, fault),
-    };
-    match write_line(output, line.as_str()) {
-        Ok(()) => ExitCode::SUCCESS,
-        Err(_) => ExitCode::FAILURE,
-    }
 }
 
 /// Prints the pack of the tuple that a JSON text stands for, in lower-case hexadecimal digits and a

@@ -1,17 +1,15 @@
 -- What a script is.
-use Rattle.std.specs.Prelude.{◌≡◌, ◌⊎◌, ℕ, ◌+◌, nat_le, ◌&&◌, List, [], ◌∷◌, ◌++◌, length, codes}
+use Rattle.std.specs.Prelude.{◌≡◌, ◌⊎◌, ℕ, ◌+◌, List, [], ◌∷◌, ◌++◌, length, codes}
 use Rattle.std.specs.Prelude.{Option, Some, None, IsSome, MatchOption, if◌then◌else◌, option_and_then}
 use Rattle.std.specs.Option.{unwrap_or}
-use Rattle.std.specs.Str.{is_utf8}
 use Rattle.cluster_core.specs.declared.answers.Config.{Config}
 use Rattle.schedule.specs.declared.step.Step.{Step}
 use Rattle.serde_json.specs.Data.{Data, object, no_members}
 use Rattle.serde_json.specs.Find.{get}
-use Rattle.serde_json.specs.Read.{read}
 use Rattle.script.specs.declared.error.ScriptError.{ScriptError}
 use Rattle.script.specs.declared.error.ScriptError.TheVariants.{OutOfMemory, BadScript}
 use Rattle.json_forms.specs.Config.{config_in}
-use Rattle.json_forms.specs.Json.{each_in, has_only, list_in}
+use Rattle.json_forms.specs.Json.{each_in, has_only, list_in, value_in}
 use Rattle.script.specs.Steps.{step_in}
 
 -- the keys that a script may have
@@ -25,10 +23,6 @@ frame_in script = if has_only script_keys script then option_and_then list_in (g
 -- the configuration of a script: what its `config` stands for, or the empty object
 abbrev pub script_config : Data → Option Config
 script_config script = config_in (unwrap_or (get (codes "config") script) (object no_members))
-
--- the value of a text of JSON in UTF-8 that isn't too long for a script
-abbrev pub value_in : List ℕ → Option Data
-value_in text = if nat_le (length text) 4000000 && is_utf8 text then read text else None
 
 -- the configuration that a script's text stands for, where its frame is one
 abbrev pub config_of : List ℕ → Option Config

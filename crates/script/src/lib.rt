@@ -9,4 +9,4 @@ mod step_json;
 
 pub use error::ScriptError;
 pub use print::make_line;
-pub use script::{MAX_SCRIPT_BYTES, Script, script_of};
+pub use script::{Script, script_of};

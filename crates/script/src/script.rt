@@ -5,18 +5,15 @@ ghost use Rattle.script.specs.Steps.{step_in};
 ghost use Rattle.schedule.specs.Values.{StepAsksValues};
 ghost use Rattle.std.specs.List.{AllByRecursion};
 ghost use Rattle.script.specs.Script.{IsScript, explains_script, explains_step};
-ghost use Rattle.script.specs.Script.{explains_steps, frame_in, script_config, value_in};
+ghost use Rattle.script.specs.Script.{explains_steps, frame_in, script_config};
 
 use crate::error::ScriptError;
 use crate::step_json::step_of;
 use cluster_core::Config;
-use json_forms::{PartError, config_of, has_only, list_of, member};
+use json_forms::{PartError, config_of, has_only, list_of, member, value_of};
 use schedule::Step;
 use serde_json::{Map, Value};
 use std::alloc::Global;
-
-/// The most bytes of a script.
-pub const MAX_SCRIPT_BYTES: usize = 4_000_000;
 
 // The keys that a script may have.
 const SCRIPT_KEYS: [&str; 2] = ["config", "steps"];
@@ -28,21 +25,6 @@ pub struct Script {
     pub config: Config,
     /// The steps, in order.
     pub steps: Vec<Step>,
-}
-
-// What is written in JSON.
-fn value_of(alloc: Global, bytes: &[u8]) -> Result<Value, PartError>
-    ensures ok { IfOk result (λ value. value_in bytes.now ≡ Some (view value)) }
-    ensures err { IfErr result (λ error. error ≡ PartError.BadForm → value_in bytes.now ≡ None) }
-{
-    if bytes.len() > MAX_SCRIPT_BYTES {
-        return Err(PartError::BadForm);
-    }
-    match Value::from_slice(alloc, bytes) {
-        Ok(value) => Ok(value),
-        Err(error) if error.is_memory() => Err(PartError::OutOfMemory),
-        Err(_) => Err(PartError::BadForm),
-    }
 }
 
 // The steps of a script, each still as it is written.
@@ -90,7 +72,7 @@ fn steps_of(alloc: Global, items: &[Value]) -> Result<Vec<Step>, ScriptError>
 }
 
 /// The script that a text of JSON stands for, with the keys `steps` and perhaps `config`. It
-/// answers `BadScript(0)` where the text isn't JSON of at most `MAX_SCRIPT_BYTES` or its frame or
+/// answers `BadScript(0)` where the text isn't JSON of at most 4,000,000 bytes or its frame or
 /// its configuration is bad, and else `BadScript` with the first step that is bad, or `OutOfMemory`
 /// where memory is wanting.
 pub fn script_of(alloc: Global, bytes: &[u8]) -> Result<Script, ScriptError>

@@ -1,8 +1,11 @@
 // The texts of errors.
 use crate::parts::same;
 use cluster_core::{ConfigError, ReadError, Reported, SubmitError};
+use explain::ExplainError;
 use kv_core::{Bytes, WriteError};
 use metadata::{MetadataError, Refusal};
+use planner::PlanError;
+use query::QueryError;
 use record_store::StoreError;
 use std::alloc::{AllocError, Global};
 use std::test::Fail;
@@ -33,6 +36,9 @@ enum AnyError {
     Unpack(UnpackError),
     Failure(UnpackFailure),
     Strip(StripError),
+    Query(QueryError),
+    Plan(PlanError),
+    Explain(ExplainError),
 }
 
 const TRUNCATED: UnpackError = UnpackError {
@@ -41,7 +47,7 @@ const TRUNCATED: UnpackError = UnpackError {
 };
 
 /// Every error, and its text.
-static TEXTS: [(AnyError, &str); 42] = [
+static TEXTS: [(AnyError, &str); 56] = [
     (
         AnyError::Write(WriteError::KeyOutside),
         "the key lies outside the keys, which end before the byte FF",
@@ -165,6 +171,56 @@ static TEXTS: [(AnyError, &str); 42] = [
         AnyError::Strip(StripError::Bad(TRUNCATED)),
         "refused behind the prefix: Truncated at 7",
     ),
+    (
+        AnyError::Query(QueryError::UnknownType),
+        "there is no type of this name",
+    ),
+    (
+        AnyError::Query(QueryError::TooDeep),
+        "the filter has more than 32 levels",
+    ),
+    (
+        AnyError::Query(QueryError::TooLarge),
+        "the filter has more than 256 nodes, or there are more than 8 sort fields",
+    ),
+    (
+        AnyError::Query(QueryError::UnknownField),
+        "the type has no field of this name",
+    ),
+    (
+        AnyError::Query(QueryError::WrongKind),
+        "a value isn't of its field's kind",
+    ),
+    (
+        AnyError::Query(QueryError::SortTwice),
+        "a sort field stands twice",
+    ),
+    (
+        AnyError::Plan(PlanError::SortNotServed),
+        "neither the primary key nor an index serves the sort",
+    ),
+    (AnyError::Plan(PlanError::Memory), "out of memory"),
+    (AnyError::Explain(ExplainError::BadForm), "bad form"),
+    (
+        AnyError::Explain(ExplainError::BadSchema(Refusal::NullKey)),
+        "a key field is null",
+    ),
+    (
+        AnyError::Explain(ExplainError::UnknownIndex),
+        "there is no index of this name",
+    ),
+    (
+        AnyError::Explain(ExplainError::BadQuery(QueryError::SortTwice)),
+        "a sort field stands twice",
+    ),
+    (
+        AnyError::Explain(ExplainError::SortNotServed),
+        "neither the primary key nor an index serves the sort",
+    ),
+    (
+        AnyError::Explain(ExplainError::OutOfMemory),
+        "out of memory",
+    ),
 ];
 
 /// A key under the states of the store that the schedules use.
@@ -195,6 +251,9 @@ fn printed(alloc: Global, error: AnyError) -> Result<String, AllocError> {
         AnyError::Unpack(error) => error.to_string(alloc),
         AnyError::Failure(error) => error.to_string(alloc),
         AnyError::Strip(error) => error.to_string(alloc),
+        AnyError::Query(error) => error.to_string(alloc),
+        AnyError::Plan(error) => error.to_string(alloc),
+        AnyError::Explain(error) => error.to_string(alloc),
     }
 }
 

@@ -1,7 +1,7 @@
 use Rattle.std.proofs.Common.{◌≡◌, ◌⊎◌, IfSome, inr, rules}
 use Rattle.recordctl.specs.declared.fault.Fault.TheVariants.{CannotRead}
 use Rattle.recordctl.specs.Run.{explains_run}
-use Rattle.recordctl.proofs.Input.{explained_of_front, transcript_of_front}
+use Rattle.recordctl.proofs.KnownInput.{explained_of_front, transcript_of_front}
 use Rattle.recordctl.proofs.run.transcript_of.Goals as goal
 
 pub returns-in_err-transcript-clause-err : goal.returns-in_err-transcript-clause-err

@@ -1,0 +1,4 @@
+pub mod Joined
+pub mod States
+pub mod Plans
+pub mod Views

@@ -1,0 +1,3 @@
+pub mod File
+pub mod PlanText
+pub mod Planning

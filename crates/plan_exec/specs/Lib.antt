@@ -1,0 +1,2 @@
+pub mod Scannable
+pub mod Laws

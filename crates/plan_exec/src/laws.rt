@@ -1,0 +1,21 @@
+ghost use Rattle.plan_exec.specs.Laws.{PlannedAnswer, PlansAnswer, StoresAreExact, UsableAreScannable};
+
+/// The map that holds a store has exactly the records of each type of its schema, and exactly their
+/// entries in each readable index over it.
+pub fn stores_are_exact()
+    ensures { StoresAreExact }
+{}
+
+/// The indexes that a plan may use by a store's schema and by the states of its indexes are readable
+/// indexes of the store over the type.
+pub fn usable_are_scannable()
+    ensures { UsableAreScannable }
+{}
+
+/// Over the map that holds a store, a plan that is right for a query has rows, and the query allows
+/// them over the store's records of its type. So it is for what `plan_query` plans by the store's
+/// schema and the states of its indexes.
+pub fn plans_answer()
+    ensures right { PlansAnswer }
+    ensures planned { PlannedAnswer }
+{}

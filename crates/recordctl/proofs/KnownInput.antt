@@ -1,0 +1,85 @@
+-- What is read of an input whose bytes are known.
+use Rattle.std.proofs.Common.{◌≡◌, ◌⊎◌, inl, inr, ℕ, ◌≤◌, ◌+◌, Bool, true, false, nat_le, refl, ap, List, [], ◌++◌, length, take, Option, Some, None, option_map, IfSome, IfOk, IfErr, Result, Ok, Err, String, string_bytes, Global, ◌∙◌, sym, arith}
+use Rattle.std.proofs.lemmas.Bool.Decides.{nat_tests}
+use Rattle.std.proofs.lemmas.List.{length-take, take_all}
+use Rattle.cluster_core.specs.declared.answers.Config.{Config}
+use Rattle.schedule.specs.declared.step.Step.{Step}
+use Rattle.schedule.specs.declared.transcript.Transcript.{Transcript}
+use Rattle.recordctl.specs.declared.fault.Fault.{Fault}
+use Rattle.recordctl.specs.declared.fault.Fault.TheVariants.{OutOfMemory, CannotRead, BadScript, BadConfig, BadArgument, Refused, RefusedSchema, RefusedQuery, SortNotServed}
+use Rattle.json_forms.specs.Json.{value_in}
+use Rattle.script.specs.Script.{IsScript}
+use Rattle.planner.specs.Asked.{AskedPlan}
+use Rattle.explain.specs.Planning.{IsPlanAskedBy}
+use Rattle.recordctl.specs.PlanLines.{IsPlanLine, explains_plan}
+use Rattle.recordctl.specs.Run.{IsTranscriptOf, explains_run}
+
+-- no more than so many bytes are read
+pub front_is_read : (known : Option (List ℕ)) (most : ℕ) (before after : List ℕ) → before ≡ []
+    → IfSome (option_map (take most) known) (λ front. after ≡ before ++ front) → IfSome known (λ text. after ≡ take most text)
+front_is_read None most before after empty h = h
+front_is_read (Some text) most before after empty h = rw empty at h
+
+no_value : (text : List ℕ) → nat_le (length text) 4000000 ≡ false → value_in text ≡ None
+no_value text e = rw e
+
+too_long : (text : List ℕ) (most : ℕ) → nat_le (length text) most ≡ false → nat_le (length (take (most + 1) text)) most ≡ false
+too_long text most e = let k = length-take (most + 1) text in grind (arith, nat_tests)
+
+-- what is read has the value of all
+pub value_of_front : (text : List ℕ) → value_in (take 4000001 text) ≡ value_in text
+value_of_front text = by (nat_le (length text) 4000000) refl
+  where
+    by : (b : Bool) → nat_le (length text) 4000000 ≡ b → value_in (take 4000001 text) ≡ value_in text
+    by true e = let fits : length text ≤ 4000001 = grind (arith, nat_tests) in ap value_in (take_all 4000001 text fits)
+    by false e = no_value (take 4000001 text) (too_long text 4000000 e) ∙ sym (no_value text e)
+
+script_moved : (a b : List ℕ) → value_in a ≡ value_in b → (config : Config) (steps : List Step) → IsScript a config steps → IsScript b config steps
+script_moved a b e config steps h = record { config_read = rw e at h.config_read; steps_read = rw e at h.steps_read }
+
+explained_moved : (a b : List ℕ) → value_in a ≡ value_in b → (fault : Fault) → explains_run a fault → explains_run b fault
+explained_moved a b e OutOfMemory h = tt
+explained_moved a b e CannotRead h = h
+explained_moved a b e (BadConfig why) h = (h.0, h.1, script_moved a b e h.0 h.1 h.2, h.3)
+explained_moved a b e (BadScript number) h = rw e at h
+explained_moved a b e BadArgument h = h
+explained_moved a b e (Refused kind at) h = h
+explained_moved a b e (RefusedSchema why) h = h
+explained_moved a b e (RefusedQuery why) h = h
+explained_moved a b e SortNotServed h = h
+
+-- what is said of the bytes that are read is so of the whole input
+pub transcript_of_front : (known : Option (List ℕ)) (bytes : List ℕ) (transcript : Transcript) → IfSome known (λ text. bytes ≡ take 4000001 text) → IsTranscriptOf bytes transcript → IfSome known (λ text. IsTranscriptOf text transcript)
+transcript_of_front None bytes transcript h is = tt
+transcript_of_front (Some text) bytes transcript h is =
+    record { config = is.config; steps = is.steps; script = script_moved bytes text (ap value_in h ∙ value_of_front text) is.config is.steps is.script; right = is.right; allowed = is.allowed }
+
+pub explained_of_front : (known : Option (List ℕ)) (bytes : List ℕ) (fault : Fault) → IfSome known (λ text. bytes ≡ take 4000001 text) → explains_run bytes fault → IfSome known (λ text. explains_run text fault)
+explained_of_front None bytes fault h is = tt
+explained_of_front (Some text) bytes fault h is = explained_moved bytes text (ap value_in h ∙ value_of_front text) fault is
+
+asked_moved : (a b : List ℕ) → value_in a ≡ value_in b → (plan : AskedPlan) → IsPlanAskedBy a plan → IsPlanAskedBy b plan
+asked_moved a b e plan is = record { asked = is.asked; read = rw e at is.read; plan_of_asked = is.plan_of_asked }
+
+untold_moved : (a b : List ℕ) → value_in a ≡ value_in b → (fault : Fault) → explains_plan a fault → explains_plan b fault
+untold_moved a b e fault (inl memory) = inl memory
+untold_moved a b e fault (inr told) = inr (told.0, rw e at told.1, told.2)
+
+-- the same of the plan that is asked for
+pub plan_line_of_front : (known : Option (List ℕ)) (bytes : List ℕ) (r : Result (String Global) Fault) → IfSome known (λ text. bytes ≡ take 4000001 text) → IfOk r (λ line. IsPlanLine bytes (string_bytes line))
+    → IfOk r (λ line. IfSome known (λ text. IsPlanLine text (string_bytes line)))
+plan_line_of_front known bytes (Err fault) h is = tt
+plan_line_of_front None bytes (Ok line) h is = tt
+plan_line_of_front (Some text) bytes (Ok line) h is = record { plan = is.plan; asked = asked_moved bytes text (ap value_in h ∙ value_of_front text) is.plan is.asked; printed = is.printed }
+
+pub no_plan_of_front : (known : Option (List ℕ)) (bytes : List ℕ) (r : Result (String Global) Fault) → IfSome known (λ text. bytes ≡ take 4000001 text) → IfErr r (λ fault. explains_plan bytes fault)
+    → IfErr r (λ fault. (fault ≡ CannotRead) ⊎ IfSome known (λ text. explains_plan text fault))
+no_plan_of_front known bytes (Ok line) h is = tt
+no_plan_of_front None bytes (Err fault) h is = inr tt
+no_plan_of_front (Some text) bytes (Err fault) h is = inr (untold_moved bytes text (ap value_in h ∙ value_of_front text) fault is)
+
+-- where nothing is read
+pub unread : (known : Option (List ℕ)) (fault : Fault) → (fault ≡ CannotRead) ⊎ (fault ≡ OutOfMemory) → (fault ≡ CannotRead) ⊎ IfSome known (λ text. explains_run text fault)
+unread known fault (inl e) = inl e
+unread None fault (inr e) = inr tt
+unread (Some text) fault (inr e) = inr (rw e tt)

@@ -1,0 +1,33 @@
+-- What `explain` prints.
+use Rattle.std.specs.Prelude.{◌≡◌, ◌⊎◌, ℕ, List, Some}
+use Rattle.metadata.specs.declared.refusal.Refusal.TheVariants as refusals
+use Rattle.planner.specs.Asked.{AskedPlan}
+use Rattle.planner.specs.View.{plan_of}
+use Rattle.explain.specs.PlanText.{plan_text}
+use Rattle.explain.specs.Planning.{IsPlanAskedBy, text_refusal}
+use Rattle.explain.specs.declared.error.ExplainError.{ExplainError}
+use Rattle.explain.specs.declared.error.ExplainError.TheVariants as errors
+use Rattle.recordctl.specs.TupleLines.{line_of}
+use Rattle.recordctl.specs.declared.fault.Fault.{Fault}
+use Rattle.recordctl.specs.declared.fault.Fault.TheVariants.{OutOfMemory, BadScript, RefusedSchema, RefusedQuery}
+use Rattle.recordctl.specs.declared.fault.Fault.TheVariants.{SortNotServed}
+
+-- the line that `explain` prints of a text: that of the plan that it asks for
+pub record IsPlanLine (text line : List ℕ) : Type 0 where
+  pub plan : AskedPlan
+  pub asked : IsPlanAskedBy text plan
+  pub printed : line ≡ line_of (plan_text (plan_of plan))
+
+-- the fault by which it is told why there is no plan
+abbrev pub fault_of : ExplainError → Fault
+fault_of errors.BadForm = BadScript 0
+fault_of (errors.BadSchema why) = RefusedSchema why
+fault_of errors.UnknownIndex = RefusedSchema refusals.UnknownIndex
+fault_of (errors.BadQuery why) = RefusedQuery why
+fault_of errors.SortNotServed = SortNotServed
+fault_of errors.OutOfMemory = OutOfMemory
+
+-- a fault says why a text has no plan: no memory, or why it is refused
+abbrev pub explains_plan : List ℕ → Fault → Type 0
+explains_plan text fault =
+    (fault ≡ OutOfMemory) ⊎ ((error : ExplainError) × (text_refusal text ≡ Some error) × (fault ≡ fault_of error))
