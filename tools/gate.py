@@ -3,16 +3,19 @@
 
 1. The tools' own tests, and the house's rules over the files as they stand (tools/house_rules).
 2. `rt ci`: every proof from nothing, the tests, the programs as two compilers build them, and the edits of must-fail/.
-3. Beside it, with what processors are left: the wrong bodies, which the prover must refuse (tools/wrong_bodies).
+3. Beside it, with what processors are left: the wrong bodies, which the prover must refuse (tools/wrong_bodies). Those
+   of a crate aren't tried again where the record has that they were refused over the same texts; with --whole all are.
 4. The cases of cases/, the examples and the program's edge, against both built programs (tools/program_tests).
 
 The last line is 'N passed, M failed', and the status is 0 where M is 0.
 """
 import os
 import re
+import resource
 import subprocess
 import sys
 import tempfile
+import time
 
 PROGRAMS = ["crates/recordctl/out/recordctl", "crates/recordctl/out/recordctl.by-rattle"]
 COUNTED = re.compile(r"(\d+) (?:passed|refused), (\d+) (?:failed|not)")
@@ -45,10 +48,19 @@ def run(title, words, count):
     return passed, failed or (1 if ran.returncode else 0)
 
 
+def spent(begun):
+    """What the run has taken, in words."""
+    used = resource.getrusage(resource.RUSAGE_CHILDREN)
+    minutes, processors = (time.monotonic() - begun) / 60, (used.ru_utime + used.ru_stime) / 60
+    most = used.ru_maxrss / 1e6
+    return f"took {minutes:.0f} minutes, {processors:.0f} of processors; the largest process {most:.1f} GB"
+
+
 def main():
-    python, tests = sys.executable, []
+    python, tests, begun = sys.executable, [], time.monotonic()
+    recorded = [] if "--whole" in sys.argv[1:] else ["--recorded"]
     with tempfile.TemporaryFile("w+", errors="replace") as log:
-        words = ["nice", "-n", "10", python, "tools/wrong_bodies", "--from-nothing"]
+        words = ["nice", "-n", "10", python, "tools/wrong_bodies", "--from-nothing", *recorded]
         wrong = subprocess.Popen(words, stdin=subprocess.DEVNULL, stdout=log, stderr=subprocess.STDOUT)
         tests.append(run("rt ci", ["rt", "ci"], counts))
         tests.append(run("the program", [python, "tools/program_tests", *filter(os.path.isfile, PROGRAMS)], counts))
@@ -62,6 +74,7 @@ def main():
         print(text, end="", flush=True)
         tests.append(counts(text))
     passed, failed = (sum(them) for them in zip(*tests))
+    print(spent(begun))
     print(f"{passed} passed, {failed} failed")
     return 1 if failed else 0
 

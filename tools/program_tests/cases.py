@@ -4,6 +4,9 @@ A file NAME.steps has scripts. A line '# TEXT' begins one and says what it shows
 each other line is 'STEP => REPLY', the JSON of a step and what is printed for it behind its number. A line 'define NAME
 JSON' at the head of a file names a text that is put in place of '$NAME' in its steps.
 
+A file NAME.plans has queries. A line 'schema JSON' gives the schema and 'states JSON' the states of indexes from there
+on; each other line is 'QUERY => PLAN', what `explain` prints of the query, or behind '! ' the line of a fault.
+
 A file NAME.words has lines 'KIND `TEXT` => LINE'. The text is given to the program as a word of the command line (kinds
 `pack` and `unpack`), as a script (`script`), as the second step of one (`step`) or as its configuration (`config`). The
 line is what must be printed, alone; behind '! ' it is the line of a fault, with status 1 and nothing printed.
@@ -60,15 +63,39 @@ def script_cases(name, text):
     return cases
 
 
+def plan_cases(name, text):
+    """The cases of a file of queries."""
+    cases, schema, states = [], None, "{}"
+    for line in text.split("\n"):
+        kind, _, rest = line.partition(" ")
+        if kind == "schema":
+            schema = rest
+        elif kind == "states":
+            states = rest
+        elif line and kind != "#":
+            query, arrow, wanted = line.rpartition(" => ")
+            if not arrow:
+                raise ValueError(f"{name}: a line has no plan: {line}")
+            given = '{"schema":%s,"states":%s,"query":%s}' % (schema, states, query)
+            cases.append(told_case(f"{name}: {states} {line}", ["explain"], given.encode(), wanted))
+    return cases
+
+
+def told_case(shows, words, given, wanted):
+    """The case of a line that must be printed, alone; behind '! ' it is the line of a fault."""
+    if wanted.startswith("! "):
+        return Case(shows, words, given, 1, b"", (wanted[2:] + "\n").encode())
+    return Case(shows, words, given, 0, (wanted + "\n").encode(), b"")
+
+
 def word_case(name, line):
     """The case of a line of a file of words."""
     found = WORD.fullmatch(line)
     if not found:
         raise ValueError(f"{name}: a line is no case: {line}")
-    kind, text, fault, wanted = found[1], found[2], found[3], (found[4] or "") + "\n"
+    kind, text, wanted = found[1], found[2], (found[3] or "") + (found[4] or "")
     words, given = ([kind, text], b"") if kind in ("pack", "unpack") else (["run"], (FRAMES[kind] % text).encode())
-    output, errors = (b"", wanted.encode()) if fault else (wanted.encode(), b"")
-    return Case(f"{name}: {line}", words, given, 1 if fault else 0, output, errors)
+    return told_case(f"{name}: {line}", words, given, wanted)
 
 
 def cases_in(folder):
@@ -79,19 +106,21 @@ def cases_in(folder):
             text = file.read()
         if name.endswith(".steps"):
             cases += script_cases(name, text)
+        elif name.endswith(".plans"):
+            cases += plan_cases(name, text)
         elif name.endswith(".words"):
             cases += [word_case(name, it) for it in text.split("\n") if it and not it.startswith("# ")]
         else:
-            raise ValueError(f"{name}: a case file is named .steps or .words")
+            raise ValueError(f"{name}: a case file is named .steps, .plans or .words")
     return cases
 
 
 def example_cases(folder):
-    """A case for each script of a folder beside which its output stands."""
-    cases = []
+    """A case for each script of a folder beside which its output stands, and each query beside which its plan does."""
+    cases, commands = [], {".out": "run", ".plan": "explain"}
     for name in sorted(os.listdir(folder)):
         stem, ending = os.path.splitext(os.path.abspath(os.path.join(folder, name)))
-        if ending == ".out":
+        if ending in commands:
             with open(os.path.join(folder, name), "rb") as lines:
-                cases.append(Case(f"{folder}/{name}", ["run", stem + ".json"], b"", 0, lines.read(), b""))
+                cases.append(Case(f"{folder}/{name}", [commands[ending], stem + ".json"], b"", 0, lines.read(), b""))
     return cases

@@ -9,6 +9,10 @@ bodies. Crates are proved and tried side by side, lowest first, in copies below 
 An edit is a file crates/NAME/wrong-bodies/*.edit or crates/NAME/must-fail/*.edit with a line 'file: PATH', and then
 pairs of lines 'old: TEXT' and 'new: TEXT'; each old text stands once in that file.
 
+With --recorded the edits of a crate aren't tried again where tools/wrong_bodies/refused.txt says that all of them were
+refused over the same texts: the crate's own, and what those below it say without their bodies and proofs. With --record
+the crates are put there of which each edit was refused.
+
 A line is printed for each crate, for each round and for each edit that isn't refused, or only because a proof file
 names what it took away, which counts as not refused. The last line is 'N refused, M not'; the status is 0 where M is 0.
 """
@@ -28,11 +32,15 @@ def main():
     parser.add_argument("--jobs", type=int, default=len(os.sched_getaffinity(0)), help="checks at a time")
     parser.add_argument("--from-nothing", action="store_true", help="take nothing from what earlier checks kept")
     parser.add_argument("--work", help="an existing folder for the copies, for what is left to be looked at")
+    parser.add_argument("--recorded", action="store_true", help="pass over what the record says is refused")
+    parser.add_argument("--record", action="store_true", help="put crates all of whose edits are refused there")
     parser.add_argument("--verbose", action="store_true", help="print what refuses each edit too")
     options = parser.parse_args()
     with tempfile.TemporaryDirectory(prefix="wrong-bodies-", dir=options.work) as room:
         crew = Crew(os.getcwd(), room, FOLDERS, options)
         refused, others = crew.work()
+        if options.record and not options.only:
+            crew.record()
     print(f"{refused} refused, {others} not")
     return 1 if others or not refused else 0
 

@@ -2,6 +2,7 @@
 import os
 import threading
 from concurrent.futures import FIRST_COMPLETED, ThreadPoolExecutor, wait
+import records
 from edits import BadEdit, dealt, edits_in, texts_of
 from trials import Workshop, below
 from verdicts import Verdict
@@ -27,9 +28,11 @@ class Crew:
         self.workshop = Workshop(root, folder, options.from_nothing)
         self.options, self.folders = options, folders
         self.printing, self.refused, self.others = threading.Lock(), 0, 0
-        self.proved, self.tasks = set(), []
+        self.proved, self.tasks, self.not_refused = set(), [], set()
         chosen = options.crates or list(self.workshop.crates)
         self.edits = {name: edits for name in chosen if (edits := self.edits_of(name))}
+        if options.recorded:
+            self.pass_over(records.recorded(root))
 
     def say(self, text):
         with self.printing:
@@ -40,8 +43,23 @@ class Crew:
         with self.printing:
             self.refused += verdict is Verdict.REFUSED
             self.others += verdict is not Verdict.REFUSED
+            if verdict is not Verdict.REFUSED:
+                self.not_refused.add(name)
         if verdict is not Verdict.REFUSED or self.options.verbose:
             self.say(f"{name}/{edit}: {verdict.value}{': ' if line else ''}{line[:200]}")
+
+    def pass_over(self, recorded):
+        """Counts the edits of crates as refused of which the record says so, and doesn't try them."""
+        for name, edits in list(self.edits.items()):
+            if recorded.get(name) == (len(edits), records.digest(self.workshop.root, self.workshop.crates, name)):
+                self.say(f"{name}: {len(edits)} refused by the record")
+                self.refused += len(edits)
+                del self.edits[name]
+
+    def record(self):
+        """Puts the crates into the record of which each edit was refused."""
+        counts = {name: len(edits) for name, edits in self.edits.items() if name not in self.not_refused}
+        records.record(self.workshop.root, self.workshop.crates, counts)
 
     def work(self):
         """Tries all edits, and answers how many were refused and how many were not."""
@@ -132,6 +150,8 @@ class Rounds:
             else:
                 self.crew.judge(self.name, edit.name, verdict, line)
         self.crew.say(f"{self.name}: a round of {len(edits)}, {len(edits) - len(untold)} told: {spent(checks)}")
+        if untold and self.crew.options.verbose:
+            self.crew.say(f"{self.name}: not told: {' '.join(it.name for it in untold)}")
         with self.crew.printing:
             self.left, self.untold = self.left - 1, self.untold + untold
             if self.left:

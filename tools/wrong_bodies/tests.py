@@ -8,6 +8,7 @@ import unittest
 from bodies import blanked, bodies_in, is_proof_of
 from crews import Crew
 from edits import BadEdit, Edit, all_applied, dealt
+from records import digest, record, recorded, without_bodies
 
 HERE = os.path.dirname(os.path.abspath(__file__))
 
@@ -109,10 +110,54 @@ class Choosing(unittest.TestCase):
                 (["low"], "is_", {"low": ["next_is_later", "next_is_same", "second_is_first"]}),
                 (["high"], "next", {}),
             ]:
-                options = argparse.Namespace(crates=crates, only=only, verbose=False, jobs=1, from_nothing=True)
+                options = argparse.Namespace(
+                    crates=crates, only=only, verbose=False, jobs=1, from_nothing=True, recorded=False)
                 crew = Crew(root, root, ("wrong-bodies", "must-fail"), options)
                 found = {name: [it.name for it in edits] for name, edits in crew.edits.items()}
                 self.assertEqual((found, crew.others), (wanted, 0))
+
+
+class Recording(unittest.TestCase):
+    def test_what_a_record_rests_on(self):
+        crates = {"low": [], "high": ["low"]}
+        with tempfile.TemporaryDirectory() as root:
+            repository(root)
+            before = {name: digest(root, crates, name) for name in crates}
+            for file, text, changed in [
+                ("crates/low/src/lib.rt", LOW.replace("number + STEP", "STEP + number"), {"low"}),
+                ("crates/low/src/lib.rt", LOW.replace("result ≡ number + 2", "result ≡ 2 + number"), {"low", "high"}),
+                ("crates/low/src/lib.rt", LOW.replace("STEP: u64 = 1", "STEP: u64 = 2"), {"low", "high"}),
+                ("crates/low/specs/Lib.antt", "", {"low", "high"}),
+                ("crates/low/proofs/Lib.antt", "", {"low"}),
+                ("crates/low/wrong-bodies/other.edit", edit_text("number + STEP", "STEP"), {"low"}),
+                ("crates/high/src/lib.rt", HIGH + "// told\n", {"high"}),
+            ]:
+                path, was = f"{root}/{file}", LOW if file.startswith("crates/low/src") else HIGH
+                write(path, text)
+                found = {name for name in crates if digest(root, crates, name) != before[name]}
+                self.assertEqual(found, changed, file)
+                if file.endswith(".rt"):
+                    write(path, was)
+                else:
+                    os.remove(path)
+
+    def test_the_record(self):
+        with tempfile.TemporaryDirectory() as root:
+            repository(root)
+            os.makedirs(f"{root}/tools/wrong_bodies")
+            crates = {"low": [], "high": ["low"]}
+            record(root, crates, {"high": 1})
+            record(root, crates, {"low": 2})
+            self.assertEqual({name: row[0] for name, row in recorded(root).items()}, {"low": 2, "high": 1})
+            options = argparse.Namespace(
+                crates=[], only="", verbose=False, jobs=1, from_nothing=True, recorded=True)
+            crew = Crew(root, root, ("wrong-bodies", "must-fail"), options)
+            # low has other edits than the record says
+            self.assertEqual((sorted(crew.edits), crew.refused), (["low"], 1))
+
+    def test_bodies_left_out(self):
+        said = without_bodies("src/lib.rt", LOW)
+        self.assertTrue("STEP: u64 = 1" in said and "result ≡ number + 2 }" in said and "next(number)" not in said)
 
 
 class Reading(unittest.TestCase):
