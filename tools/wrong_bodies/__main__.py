@@ -11,7 +11,8 @@ pairs of lines 'old: TEXT' and 'new: TEXT'; each old text stands once in that fi
 
 With --recorded the edits of a crate aren't tried again where tools/wrong_bodies/refused.txt says that all of them were
 refused over the same texts: the crate's own, and what those below it say without their bodies and proofs. With --record
-the crates are put there of which each edit was refused.
+the crates are put there of which each edit was refused. For each of them a line with the sum of its texts is printed;
+--take puts the lines of such a run's output, or of the gate's, into the record.
 
 A line is printed for each crate, for each round and for each edit that isn't refused, or only because a proof file
 names what it took away, which counts as not refused. The last line is 'N refused, M not'; the status is 0 where M is 0.
@@ -20,27 +21,42 @@ import argparse
 import os
 import sys
 import tempfile
+import records
 from crews import Crew
+from trials import crates_of
 
 FOLDERS = ("wrong-bodies", "must-fail")
+
+
+def take(file):
+    """Puts into the record what a run printed to this file of crates all of whose edits were refused."""
+    with open(file, encoding="utf-8", errors="replace") as printed:
+        rows = records.rows_in(printed.read())
+    records.record(os.getcwd(), crates_of(os.getcwd()), rows)
+    print(f"{len(rows)} rows taken")
+    return 0 if rows else 1
 
 
 def main():
     parser = argparse.ArgumentParser(description=__doc__, formatter_class=argparse.RawDescriptionHelpFormatter)
     parser.add_argument("crates", nargs="*", help="the crates whose edits are tried; without any, all of them")
-    parser.add_argument("--only", default="", help="a part of the names of the edits that are tried")
+    parser.add_argument("--only", default="", help="parts of the edits' names, with commas between")
     parser.add_argument("--jobs", type=int, default=len(os.sched_getaffinity(0)), help="checks at a time")
     parser.add_argument("--from-nothing", action="store_true", help="take nothing from what earlier checks kept")
     parser.add_argument("--work", help="an existing folder for the copies, for what is left to be looked at")
     parser.add_argument("--recorded", action="store_true", help="pass over what the record says is refused")
     parser.add_argument("--record", action="store_true", help="put crates all of whose edits are refused there")
+    parser.add_argument("--take", metavar="FILE", help="try nothing, and put what a run printed there")
     parser.add_argument("--verbose", action="store_true", help="print what refuses each edit too")
     options = parser.parse_args()
+    if options.take:
+        return take(options.take)
     with tempfile.TemporaryDirectory(prefix="wrong-bodies-", dir=options.work) as room:
         crew = Crew(os.getcwd(), room, FOLDERS, options)
         refused, others = crew.work()
-        if options.record and not options.only:
-            crew.record()
+        rows = {} if options.only else crew.rows()
+        if options.record:
+            records.record(os.getcwd(), crew.workshop.crates, rows)
     print(f"{refused} refused, {others} not")
     return 1 if others or not refused else 0
 

@@ -13,7 +13,7 @@ UNREAD = re.compile(
 @dataclass(frozen=True)
 class Body:
     """The body of a function: its file, the block it stands in, its name, first and last line (from 1), and the offsets
-    at which its name, its body and what follows begin.
+    at which its name, its body and what follows begin; and whether it is a trait's function.
 
     The block is named as a check names it: `Map` in `impl Map`, `MapClone` in `impl Clone for Map`, empty outside.
     """
@@ -26,6 +26,7 @@ class Body:
     head: int
     begin: int
     end: int
+    of_trait: bool
 
 
 def blanked(text):
@@ -81,11 +82,12 @@ def block_name(kind, head):
 
 
 def blocks_in(plain):
-    """The `impl` and `trait` blocks of a text: begin, end and name of each."""
+    """The `impl` and `trait` blocks of a text: begin, end and name of each, and whether it is a trait or one's."""
     found = []
     for block in BLOCK.finditer(plain):
         begin = block.end() - 1
-        found.append((begin, matching_brace(plain, begin), block_name(block[1], block[2])))
+        of_trait = block[1] == "trait" or re.search(r"\bfor\b(?!<)", block[2]) is not None
+        found.append((begin, matching_brace(plain, begin), block_name(block[1], block[2]), of_trait))
     return found
 
 
@@ -97,8 +99,8 @@ def bodies_in(file, text):
         span = body_after(plain, name.end())
         if span:
             first, last = (1 + text.count("\n", 0, at) for at in (name.start(), span[1]))
-            block = next((it[2] for it in blocks if it[0] < span[0] and span[1] <= it[1]), "")
-            found.append(Body(file, block, name[1], first, last, name.start(), *span))
+            block = next((it[2:] for it in blocks if it[0] < span[0] and span[1] <= it[1]), ("", False))
+            found.append(Body(file, block[0], name[1], first, last, name.start(), *span, block[1]))
     return found
 
 
@@ -122,10 +124,20 @@ def module_of(body):
 def is_proof_of(body, folder):
     """Whether the proof of a function stands in this folder below proofs/."""
     *above, name = folder.split("/")
+    # a method's proof stands below the module of its type, which may be another file's
+    is_at_home = above[-1:] == [body.block] if body.block else above == module_of(body)
     if name.startswith("+"):
         # the functions of a cycle of calls have one proof, in a folder of such a name
-        return above == module_of(body)
-    if body.block:
-        # a method's proof stands below the module of its type, which may be another file's
-        return above[-1:] == [body.block] and name == body.name
-    return above == module_of(body) and name == body.name
+        return is_at_home or above == module_of(body)
+    return is_at_home and name == body.name
+
+
+def is_goal_of(body, folder, goal):
+    """Whether a goal of the proof in this folder is this function's.
+
+    In the proof of a cycle of several functions the name of each goal begins with that of its function.
+    """
+    name = folder.split("/")[-1]
+    if not name.startswith("+") or name == "+" + body.name:
+        return True
+    return goal == body.name or goal.startswith(body.name + "-")

@@ -56,10 +56,13 @@ class Crew:
                 self.refused += len(edits)
                 del self.edits[name]
 
-    def record(self):
-        """Puts the crates into the record of which each edit was refused."""
+    def rows(self):
+        """The record's rows for the crates of which each edit was tried and refused; each is printed."""
         counts = {name: len(edits) for name, edits in self.edits.items() if name not in self.not_refused}
-        records.record(self.workshop.root, self.workshop.crates, counts)
+        rows = records.rows_of(self.workshop.root, self.workshop.crates, counts)
+        for name, (count, made) in rows.items():
+            self.say(f"{name}: all {count} refused, by the sum {made}")
+        return rows
 
     def work(self):
         """Tries all edits, and answers how many were refused and how many were not."""
@@ -90,11 +93,15 @@ class Crew:
         found = []
         for folder in self.folders:
             edits, bad = edits_in(os.path.join(self.workshop.root, "crates", name, folder))
-            found += [it for it in edits if self.options.only in it.name]
+            found += [it for it in edits if self.is_asked(it.name)]
             for edit, why in bad:
-                if self.options.only in edit:
+                if self.is_asked(edit):
                     self.judge(name, edit, Verdict.UNREAD, why)
         return found
+
+    def is_asked(self, edit):
+        """Whether the edit of this name is asked for."""
+        return any(part in edit for part in self.options.only.split(","))
 
     def prove(self, name):
         """Proves a crate, and answers the tasks that try its edits."""

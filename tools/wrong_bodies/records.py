@@ -1,24 +1,58 @@
 """The record of crates whose edits were refused, by the texts on which that rests."""
+import functools
 import hashlib
 import os
+import re
 import subprocess
-from bodies import bodies_in
+from bodies import UNREAD, blanked, bodies_in
 from trials import below
 
 FILE = os.path.join("tools", "wrong_bodies", "refused.txt")
 OWN = ("src", "specs", "proofs", "wrong-bodies", "must-fail")
+# a module of definitions, as sources, definitions and proofs name it
+NAMED = re.compile(r"\bRattle\.(\w+)\.specs\.([\w.]*\w)")
+# what the text of a source file tells no crate above it: imports, modules and hints to the prover
+UNHEARD = re.compile(r"^ *(?:pub(?:\([a-z]+\))? )?(?:ghost )?(?:use|mod)\b[^;]*;|#!?\[(?:tactic|cycle)\b[^\]]*\]", re.M)
+# an import of definitions: the module, and the words or its other name
+IMPORTED = re.compile(r"ghost use (Rattle\.\w+\.specs\.[\w.]*\w)(?:\.\{([^}]*)\}| as (\w+))?;")
+# the tool's line on a crate all of whose edits were refused
+ROW = re.compile(r"(?:> )?(\w+): all (\d+) refused, by the sum ([0-9a-f]{64})")
 HEAD = "# crates whose wrong bodies were refused: how many, and a sum of all on which that rests"
 
 
-def without_bodies(file, text):
-    """The text of a source file without the bodies of its functions: its types, signatures and clauses."""
-    ends = sorted(((it.begin, it.end) for it in bodies_in(file, text)), key=lambda it: (it[0], -it[1]))
+def words_in(text):
+    """The words of a text."""
+    return set(re.findall(r"\w+", text))
+
+
+def said_by(file, text, words):
+    """What a source file tells crates above it that have these words, a line a line.
+
+    That is all but comments, imports, hints to the prover, bodies, and those functions outside traits that aren't
+    public or of which those crates don't have the name: nothing there calls them.
+    """
+    plain = blanked(text)
+    cuts = [it.span() for it in UNREAD.finditer(text) if it[0].startswith("/")]
+    cuts += [it.span() for it in UNHEARD.finditer(plain)]
+    for it in bodies_in(file, text):
+        begin = plain.rfind("\n", 0, it.head) + 1
+        is_heard = it.of_trait or (plain[begin:it.head].lstrip().startswith("pub ") and it.name in words)
+        cuts.append((it.begin if is_heard else begin, it.end))
     kept, at = [], 0
-    for begin, end in ends:
-        if begin >= at:
-            kept.append(text[at:begin])
-            at = end
-    return "".join([*kept, text[at:]])
+    for begin, end in sorted(cuts):
+        kept.append(text[at:max(at, begin)])
+        at = max(at, end)
+    lines = "".join([*kept, text[at:]]).split("\n")
+    return "\n".join(line.strip() for line in lines if line.strip())
+
+
+def definitions_told(text, said):
+    """The imports of definitions of a source file whose words stand in what it tells."""
+    words = words_in(said)
+    for path, names, alias in IMPORTED.findall(text):
+        own = [it.split(" as ")[-1].strip() for it in names.split(",")] if names else [alias or path.split(".")[-1]]
+        if any(it in words or not it.isidentifier() for it in own):
+            yield path
 
 
 def texts_below(folder, parts):
@@ -32,22 +66,46 @@ def texts_below(folder, parts):
                     yield os.path.relpath(path, folder), source.read()
 
 
-def digest(root, crates, name):
-    """A sum of all on which it rests that a crate's edits are refused.
+def definitions_named(root, crates, text):
+    """The modules of definitions that a text names, each as its crate and its file there."""
+    for crate, path in NAMED.findall(text):
+        words = path.split(".")
+        files = ["/".join(["specs", *words[:size]]) + ".antt" for size in range(len(words), 0, -1)]
+        found = next((it for it in files if os.path.isfile(os.path.join(root, "crates", crate, it))), None)
+        if crate in crates and found:
+            yield crate, found
 
-    That is the toolchain, the crate's texts, and what the crates below it say. A function is proved from the contracts
-    of what it calls, so of those no body counts and no proof.
+
+def rests_on(root, crates, name):
+    """The texts on which it rests that a crate's edits are refused, by crate and file.
+
+    Those are the crate's own, what the sources of the crates below it say, and the definitions that any of these texts
+    names. A function is proved from the contracts of what it calls, so of the crates below no body counts and no proof.
     """
-    made = hashlib.sha256(toolchain())
-    for file, text in texts_below(os.path.join(root, "crates", name), OWN):
-        made.update(repr((file, text)).encode())
+    texts = {(name, file): text for file, text in texts_below(os.path.join(root, "crates", name), OWN)}
+    new, words = list(texts.values()), set().union(*map(words_in, texts.values()))
     for it in below(crates, name):
-        for file, text in texts_below(os.path.join(root, "crates", it), ("src", "specs")):
-            said = without_bodies(file, text) if file.endswith(".rt") else text
-            made.update(repr((it, file, said)).encode())
+        for file, text in texts_below(os.path.join(root, "crates", it), ("src",)):
+            texts[it, file] = said_by(file, text, words)
+            new += definitions_told(text, texts[it, file])
+    while new:
+        for crate, file in definitions_named(root, crates, new.pop()):
+            if (crate, file) not in texts:
+                with open(os.path.join(root, "crates", crate, file), encoding="utf-8") as source:
+                    texts[crate, file] = source.read()
+                new.append(texts[crate, file])
+    return texts
+
+
+def digest(root, crates, name):
+    """A sum of the toolchain's line and of all texts on which it rests that a crate's edits are refused."""
+    made = hashlib.sha256(toolchain())
+    for row in sorted(rests_on(root, crates, name).items()):
+        made.update(repr(row).encode())
     return made.hexdigest()
 
 
+@functools.cache
 def toolchain():
     """The line by which the toolchain names itself."""
     return subprocess.run(["rt", "version"], stdin=subprocess.DEVNULL, stdout=subprocess.PIPE, check=True).stdout
@@ -65,10 +123,19 @@ def recorded(root):
     return found
 
 
-def record(root, crates, counts):
-    """Puts crates into the record, each with how many edits it has, all of which were refused."""
-    found = {name: row for name, row in recorded(root).items() if name in crates}
-    found.update((name, (count, digest(root, crates, name))) for name, count in counts.items())
+def rows_of(root, crates, counts):
+    """The record's rows for crates with so many edits, all of which were refused over these texts."""
+    return {name: (count, digest(root, crates, name)) for name, count in counts.items()}
+
+
+def rows_in(text):
+    """The rows that the tool printed, as in what a run of the gate printed."""
+    return {name: (int(count), made) for name, count, made in ROW.findall(text)}
+
+
+def record(root, crates, rows):
+    """Puts rows into the record, each in the place of that of its crate."""
+    found = {name: row for name, row in (recorded(root) | rows).items() if name in crates}
     with open(os.path.join(root, FILE), "w", encoding="utf-8") as lines:
         lines.write(HEAD + "\n")
         lines.writelines(f"{name} {found[name][0]} {found[name][1]}\n" for name in crates if name in found)

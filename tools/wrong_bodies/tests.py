@@ -8,7 +8,8 @@ import unittest
 from bodies import blanked, bodies_in, is_proof_of
 from crews import Crew
 from edits import BadEdit, Edit, all_applied, dealt
-from records import digest, record, recorded, without_bodies
+from records import digest, record, recorded, rows_in, rows_of
+from verdicts import speaks_of
 
 HERE = os.path.dirname(os.path.abspath(__file__))
 
@@ -42,6 +43,33 @@ pub fn third(number: u64) -> u64
     ensures { result ≡ number + 3 }
 {
     low::second(number) + 1
+}
+"""
+
+# A further source of low: what high calls, what is low's own, and a trait's function.
+TOLD = """ghost use Rattle.low.specs.Words.{word};
+ghost use Rattle.low.specs.Others.{other};
+
+// two numbers
+pub fn second() -> u64
+    ensures { word result }
+{
+    2
+}
+
+#[tactic(auto)]
+fn first() -> u64
+    ensures { other result }
+{
+    1
+}
+
+impl Clone for Number {
+    fn clone(&self) -> Number
+        ensures { result ≡ self.now }
+    {
+        self.copy()
+    }
 }
 """
 
@@ -109,6 +137,7 @@ class Choosing(unittest.TestCase):
                 ([], "third", {"high": ["third_is_fourth"]}),
                 (["low"], "is_", {"low": ["next_is_later", "next_is_same", "second_is_first"]}),
                 (["high"], "next", {}),
+                ([], "third,second_is", {"low": ["second_is_first"], "high": ["third_is_fourth"]}),
             ]:
                 options = argparse.Namespace(
                     crates=crates, only=only, verbose=False, jobs=1, from_nothing=True, recorded=False)
@@ -119,45 +148,58 @@ class Choosing(unittest.TestCase):
 
 class Recording(unittest.TestCase):
     def test_what_a_record_rests_on(self):
-        crates = {"low": [], "high": ["low"]}
+        crates, both = {"low": [], "high": ["low"]}, {"low", "high"}
         with tempfile.TemporaryDirectory() as root:
             repository(root)
+            files = {
+                "crates/low/src/told.rt": TOLD,
+                "crates/low/specs/Words.antt": "use Rattle.low.specs.Deep.{deep}\n",
+                "crates/low/specs/Deep.antt": "",
+                "crates/low/specs/Others.antt": "",
+                "crates/low/proofs/Lib.antt": "",
+                "crates/high/src/lib.rt": HIGH,
+            }
+            for file, text in files.items():
+                write(f"{root}/{file}", text)
             before = {name: digest(root, crates, name) for name in crates}
-            for file, text, changed in [
-                ("crates/low/src/lib.rt", LOW.replace("number + STEP", "STEP + number"), {"low"}),
-                ("crates/low/src/lib.rt", LOW.replace("result ≡ number + 2", "result ≡ 2 + number"), {"low", "high"}),
-                ("crates/low/src/lib.rt", LOW.replace("STEP: u64 = 1", "STEP: u64 = 2"), {"low", "high"}),
-                ("crates/low/specs/Lib.antt", "", {"low", "high"}),
-                ("crates/low/proofs/Lib.antt", "", {"low"}),
-                ("crates/low/wrong-bodies/other.edit", edit_text("number + STEP", "STEP"), {"low"}),
-                ("crates/high/src/lib.rt", HIGH + "// told\n", {"high"}),
+            for file, old, new, changed in [
+                ("crates/low/src/told.rt", "    2\n", "    1 + 1\n", {"low"}),
+                ("crates/low/src/told.rt", "word result", "word result × word 2", both),
+                ("crates/low/src/told.rt", "other result", "other result × other 1", {"low"}),
+                ("crates/low/src/told.rt", "two numbers", "three", {"low"}),
+                ("crates/low/src/told.rt", "tactic(auto)", "cycle(first)", {"low"}),
+                ("crates/low/src/told.rt", "pub fn second", "fn second", both),
+                ("crates/low/src/told.rt", "pub fn", "pub fn sixth() {}\n\npub fn", {"low"}),
+                ("crates/low/src/told.rt", "result ≡ self.now", "result ≡ 2", both),
+                ("crates/low/src/told.rt", "impl", "pub const TWO: u64 = 2;\n\nimpl", both),
+                ("crates/low/specs/Words.antt", "deep", "other", both),
+                ("crates/low/specs/Deep.antt", "", "-- told\n", both),
+                ("crates/low/specs/Others.antt", "", "-- told\n", {"low"}),
+                ("crates/low/proofs/Lib.antt", "", "-- told\n", {"low"}),
+                ("crates/high/src/lib.rt", "third", "fourth", {"high"}),
             ]:
-                path, was = f"{root}/{file}", LOW if file.startswith("crates/low/src") else HIGH
-                write(path, text)
+                write(f"{root}/{file}", files[file].replace(old, new, 1))
                 found = {name for name in crates if digest(root, crates, name) != before[name]}
-                self.assertEqual(found, changed, file)
-                if file.endswith(".rt"):
-                    write(path, was)
-                else:
-                    os.remove(path)
+                self.assertEqual(found, changed, f"{file}: {old}")
+                write(f"{root}/{file}", files[file])
+            write(f"{root}/crates/low/wrong-bodies/other.edit", edit_text("number + STEP", "STEP"))
+            self.assertNotEqual(digest(root, crates, "low"), before["low"])
+            self.assertEqual(digest(root, crates, "high"), before["high"])
 
     def test_the_record(self):
         with tempfile.TemporaryDirectory() as root:
             repository(root)
             os.makedirs(f"{root}/tools/wrong_bodies")
             crates = {"low": [], "high": ["low"]}
-            record(root, crates, {"high": 1})
-            record(root, crates, {"low": 2})
+            record(root, crates, rows_of(root, crates, {"high": 1}))
+            line = f"> low: all 2 refused, by the sum {digest(root, crates, 'low')}\n"
+            record(root, crates, rows_in(f"low: a round of 2, 2 told\n{line}low: all 3 refused\n"))
             self.assertEqual({name: row[0] for name, row in recorded(root).items()}, {"low": 2, "high": 1})
             options = argparse.Namespace(
                 crates=[], only="", verbose=False, jobs=1, from_nothing=True, recorded=True)
             crew = Crew(root, root, ("wrong-bodies", "must-fail"), options)
             # low has other edits than the record says
             self.assertEqual((sorted(crew.edits), crew.refused), (["low"], 1))
-
-    def test_bodies_left_out(self):
-        said = without_bodies("src/lib.rt", LOW)
-        self.assertTrue("STEP: u64 = 1" in said and "result ≡ number + 2 }" in said and "next(number)" not in said)
 
 
 class Reading(unittest.TestCase):
@@ -179,8 +221,25 @@ class Reading(unittest.TestCase):
         for body, folder, is_own in [
             (method, "maps/Map/len", True), (method, "base/Map/len", True), (method, "maps/Set/len", False),
             (function, "maps/of", True), (function, "base/of", False), (function, "maps/+of", True),
+            (method, "maps/Map/+len", True), (method, "maps/+walk", True), (function, "maps/Map/+of", False),
         ]:
             self.assertEqual(is_proof_of(body, folder), is_own, folder)
+
+    def test_lines(self):
+        method, function = bodies_in("src/maps.rt", "impl Map { fn len() {} }\nfn of() {}\n")
+        at = "Answers.antt:7:4: error"
+        for body, line, is_told in [
+            (function, "note: src/maps.rt:2:1: it is not proved that", True),
+            (method, "note: ./src/maps.rt:2:1: it is not proved that", False),
+            (function, f"./proofs/maps/of/{at}: `returns`: no", True),
+            (function, f"./proofs/maps/+of/{at}: `returns`: no", True),
+            (function, f"./proofs/maps/+walk/{at}: `of-returns`: no", True),
+            (function, f"./proofs/maps/+walk/{at}: `decreases-of`: no", True),
+            (function, f"./proofs/maps/+walk/{at}: `of_all-returns`: no", False),
+            (method, f"./proofs/maps/Map/+walk/{at}: `invariant-len-loop`: no", True),
+            (method, f"./proofs/maps/+walk/{at}: no", False),
+        ]:
+            self.assertEqual(speaks_of(body, line), is_told, line)
 
     def test_rounds(self):
         texts = {"src/lib.rt": LOW}

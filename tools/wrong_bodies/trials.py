@@ -18,6 +18,12 @@ def libraries_of(root):
     return listed
 
 
+def crates_of(root):
+    """The crates that crates.txt lists, each with those of them that it uses."""
+    uses = libraries_of(root)
+    return {name: [it for it in used if it in uses] for name, used in uses.items()}
+
+
 def below(crates, name):
     """The crates that a crate stands on."""
     found = []
@@ -36,7 +42,7 @@ class Workshop:
     def __init__(self, root, folder, from_nothing=True):
         self.root, self.folder, self.uses = root, folder, libraries_of(root)
         self.kept = () if from_nothing else KEPT
-        self.crates = {name: [it for it in used if it in self.uses] for name, used in self.uses.items()}
+        self.crates = crates_of(root)
 
     def prove(self, name):
         """Proves a crate as it stands, over those below it, which have to be proved already, and keeps its work."""

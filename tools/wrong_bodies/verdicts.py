@@ -1,12 +1,12 @@
 """What the lines of a check say of the functions that edits changed."""
 import re
 from enum import Enum
-from bodies import is_proof_of
+from bodies import is_goal_of, is_proof_of
 
 # a proof file that names what the edit took away
 STALE = re.compile(r"has no field|\(nearest: |is not in scope|has no `|was not admitted|were not checked")
 NOTE = re.compile(r"note: (?:\./)?(\S+?):(\d+):\d+: it is not proved")
-ANSWER = re.compile(r"(?:\./)?proofs/(\S+)/[^/]+\.antt:\d+:\d+: error")
+ANSWER = re.compile(r"(?:\./)?proofs/(\S+)/[^/]+\.antt:\d+:\d+: error(?:: `(?:decreases-|invariant-)?([^`]+)`)?")
 
 
 class Verdict(Enum):
@@ -27,7 +27,7 @@ def speaks_of(body, line):
     if note:
         return note[1] == body.file and body.first <= int(note[2]) <= body.last
     answer = ANSWER.match(line)
-    return bool(answer) and is_proof_of(body, answer[1])
+    return bool(answer) and is_proof_of(body, answer[1]) and is_goal_of(body, answer[1], answer[2] or "")
 
 
 def verdict_of(bodies, lines):
