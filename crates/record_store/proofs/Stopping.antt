@@ -82,19 +82,19 @@ read_failed {refuses = refuses} {old = old} range other error is same says = rec
     by_error read.FutureVersion (inr met) = (none_begin (other ∷ []), refused read.FutureVersion met)
 
 -- so nothing was found in an open store
-pub unread_failed : {maps : ℕ → Map} {refuses : KeyRange → ℕ → ReadError → Type 0} {old new : CommitRequest} (opened : Opened) (reading : Reading) (range other : KeyRange) (error : ReadError) → range ≡ other → reading.asked ≡ other ∷ [] → new ≡ old →
+pub unread_failed : {maps : ℕ → Map} {refuses : KeyRange → ℕ → ReadError → Type 0} {old new : CommitRequest} (opened : Opened) (reading : Reading) (range other : KeyRange) (error : ReadError) → range ≡ other → ((m : Map) → reading.asked m ≡ other ∷ []) → new ≡ old →
     (error ≡ read.Memory) ⊎ refuses range old.read_version error → HasNotFound maps refuses opened reading (of_read error) old new
 unread_failed {refuses = refuses} {old = old} opened reading range other error is asks same says = record { added = []; ran = ran_still same (λ m. by_error m error says) }
   where
-    refused : (e : ReadError) → refuses range old.read_version e → IsNextRefused (λ r. refuses r old.read_version) reading.asked [] e
-    refused e met = record { range = other; rest = []; next = asks; refused = subst (λ r. refuses r old.read_version e) is met }
+    refused : (m : Map) (e : ReadError) → refuses range old.read_version e → IsNextRefused (λ r. refuses r old.read_version) (reading.asked m) [] e
+    refused m e met = record { range = other; rest = []; next = asks m; refused = subst (λ r. refuses r old.read_version e) is met }
 
     by_error : (m : Map) (e : ReadError) → (e ≡ read.Memory) ⊎ refuses range old.read_version e → IsUnread (λ r. refuses r old.read_version) opened reading (of_read e) [] m
     by_error m read.Memory met = none_begin (reading.added m)
     by_error m read.TooOld (inl memory) = absurd (cc)
-    by_error m read.TooOld (inr met) = (none_begin (reading.added m), refused read.TooOld met)
+    by_error m read.TooOld (inr met) = (none_begin (reading.added m), refused m read.TooOld met)
     by_error m read.FutureVersion (inl memory) = absurd (cc)
-    by_error m read.FutureVersion (inr met) = (none_begin (reading.added m), refused read.FutureVersion met)
+    by_error m read.FutureVersion (inr met) = (none_begin (reading.added m), refused m read.FutureVersion met)
 
 -- MEMORY: it was wanting before anything was read, or behind the reads
 pub unread_still : {maps : ℕ → Map} {refuses : KeyRange → ℕ → ReadError → Type 0} {old new : CommitRequest} (opened : Opened) (reading : Reading) → new ≡ old → HasNotFound maps refuses opened reading no_memory old new

@@ -32,19 +32,19 @@ pub record IsOpenAs (opened : Opened) (store : Store) : Type 0 where
 -- what a call reads of a map, in reading order: the ranges that it asks for, those that it adds to the ranges read, and
 -- the pairs
 pub record Reading : Type 0 where
-  pub asked : List KeyRange
+  pub asked : Map → List KeyRange
   pub added : Map → List KeyRange
   pub pairs : Map → List (List ℕ × List ℕ)
 
 -- all pairs of some ranges are read
 abbrev pub whole : List KeyRange → Reading
-whole ranges = record { asked = ranges; added = λ m. ranges; pairs = λ m. read_in m ranges }
+whole ranges = record { asked = λ m. ranges; added = λ m. ranges; pairs = λ m. read_in m ranges }
 
 -- the first pair of a range is read, if there is one
 abbrev pub first_of : KeyRange → Reading
 first_of range =
     record {
-      asked = range ∷ [];
+      asked = λ m. range ∷ [];
       added = λ m. range_read range 1 false (read_of m range 1 false) ∷ [];
       pairs = λ m. read_of m range 1 false;
     }
@@ -93,7 +93,7 @@ pub record IsAnswered {A : Type 0} (maps : ℕ → Map) (opened : Opened) (call 
 abbrev pub IsUnread : (KeyRange → ReadError → Type 0) → Opened → Reading → StoreError → List KeyRange → Map → Type 0
 IsUnread refuses opened reading Memory added m = IsBeginning added (reading.added m)
 IsUnread refuses opened reading (Read error) added m =
-    IsBeginning added (reading.added m) × IsNextRefused refuses reading.asked added error
+    IsBeginning added (reading.added m) × IsNextRefused refuses (reading.asked m) added error
 IsUnread refuses opened reading (Corrupt key) added m =
     (added ≡ reading.added m) × IsFirstBad (IsRecordPair opened.prefix opened.schema) (reading.pairs m) key
     × AtStore opened m (λ store. ⊥)

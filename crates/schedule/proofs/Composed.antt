@@ -31,7 +31,7 @@ use Rattle.schedule.specs.Reach.{reach}
 use Rattle.schedule.specs.Performed.{IsServed, IsReadRefusal, IsPerformed}
 use Rattle.schedule.specs.Commits.{committed, view}
 use Rattle.schedule.specs.Standing.{is_told, is_listed, listed, commit_entry, commits_of}
-use Rattle.schedule.specs.Contract.{attempted, written, AreReads, IsSerialAt, IsSerial, HoldsCommitted, AreRequestsOf, IsCommandReply}
+use Rattle.schedule.specs.Contract.{attempted, written, AreReads, IsSerialAt, IsSerial, HoldsCommitted, AreRequestsOf, IsCommandReply, IsUnread}
 use Rattle.schedule.specs.Turns.{fresh, IsOpenAs, AreSubmitted}
 use Rattle.schedule.proofs.Turning.{after_attempts, attempts_effects, done_serve, done_writes, done_reads}
 
@@ -286,14 +286,18 @@ module _ (p : PipelineState) (subs : List Submission) where
     pub performed_right : (open_now : Open) (request new : CommitRequest) (refuses : ℕ → KeyRange → Rattle.cluster_core.specs.declared.answers.ReadError.ReadError → Type 0) (command : Command) (answer : Reply) →
         IsOpenAs maps p.reported open_now request → IsPerformed maps (refuses request.read_version) command answer request new →
         IsServed (written (committed (commits_of p subs) open_now.read_version) (accepted open_now.attempts)) (view (commits_of p subs) open_now) command answer
-        ⊎ IsReadRefusal (refuses open_now.read_version) (reach (schema_in (view (commits_of p subs) open_now)) command) answer
+        ⊎ IsUnread (refuses open_now.read_version) (view (commits_of p subs) open_now) command answer
     performed_right open_now request new refuses command answer is performed =
         let base : maps request.read_version ≡ maps open_now.read_version = ap maps is.at in
         let over = performed.ran.over (maps open_now.read_version) (λ key h. ap (λ m. Rattle.std.specs.FinMap.get m key) base) in
         let at = over.1 (view (commits_of p subs) open_now) (open_sees open_now request is) in
         elim at.right [
           | inl served ↦ inl (subst (λ before. IsServed before (view (commits_of p subs) open_now) command answer) (open_writes open_now request is) served)
-          | inr refused ↦ inr (subst (λ v. IsReadRefusal (refuses v) (reach (schema_in (view (commits_of p subs) open_now)) command) answer) is.at refused)
+          | inr refused ↦ inr (
+            seen request (maps open_now.read_version),
+            open_sees open_now request is,
+            subst (λ v. IsReadRefusal (refuses v) (reach (schema_in (view (commits_of p subs) open_now)) command (seen request (maps open_now.read_version))) answer) is.at refused,
+          )
         ]
 
 -- ---- as the clauses of a schedule say it

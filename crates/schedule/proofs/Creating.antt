@@ -37,7 +37,7 @@ use Rattle.schedule.specs.declared.reply.Reply.TheVariants as reply
 use Rattle.schedule.specs.Layout.{store_prefix}
 use Rattle.schedule.specs.Serve.{IsReply, served_create}
 use Rattle.schedule.specs.Holds.{Stands}
-use Rattle.schedule.specs.Reach.{added, make_reach, open_reach, reach, schema_written, writes}
+use Rattle.schedule.specs.Reach.{added_by, make_reach, open_reach, reach, schema_written, writes}
 use Rattle.schedule.specs.Performed.{IsLimited, IsMade, IsMadeOf, IsPerformed, IsPerformedAt, IsSound, IsTold}
 use Rattle.schedule.specs.Calls.{IsRefused, reply_of}
 use Rattle.record_store.proofs.Plain.{created_plain}
@@ -62,13 +62,13 @@ refused_request {refuses = refuses} {old = old} request (meta.Refused refusal) i
       told = λ answer same. told_refused None (Create request) (of_schema refusal) answer m same (subst (λ o. IsMadeOf o (reply.Refused (of_schema refusal)) m) (sym is) tt);
       held = λ serial stands.
           let says = refusal_replies request serial refusal is in
-          (own_right (λ range. refuses range old.read_version) (Create request) old.mutations (Refused refusal) (of_schema refusal) serial refl says.0 says.1, reads_nothing ∙ same_added m serial);
+          (own_right (λ range. refuses range old.read_version) (Create request) old.mutations (Refused refusal) (of_schema refusal) m serial refl says.0 says.1, reads_nothing ∙ same_added m serial);
     }))
   where
     reads_nothing : [] ≡ make_reach (schema_asked request) ++ []
     reads_nothing = sym (ap (λ o. make_reach o ++ []) is)
 
-    same_added : (m : Map) (serial : Serial) → make_reach (schema_asked request) ++ [] ≡ added serial (Create request)
+    same_added : (m : Map) (serial : Serial) → make_reach (schema_asked request) ++ [] ≡ added_by (schema_in serial) (Create request) m
     same_added m None = refl
     same_added m (Some store) = refl
 
@@ -77,9 +77,9 @@ opens : (request : SchemaRequest) (schema : Schema) → schema_asked request ≡
 opens request schema is = ap make_reach is
 
 -- what is added at what is there
-added_there : (request : SchemaRequest) (serial : Serial) → open_reach (Create request) ++ [] ≡ added serial (Create request)
-added_there request None = refl
-added_there request (Some store) = refl
+added_there : (request : SchemaRequest) (m : Map) (serial : Serial) → open_reach (Create request) ++ [] ≡ added_by (schema_in serial) (Create request) m
+added_there request m None = refl
+added_there request m (Some store) = refl
 
 -- what is written where there is no store
 writes_none : (request : SchemaRequest) (schema : Schema) → schema_asked request ≡ Ok schema → writes None (Create request) ≡ schema_writes store_prefix schema
@@ -109,29 +109,29 @@ uncreated_at {refuses = refuses} {old = old} request schema error made is = refu
     limited m none write.TransactionTooLarge answer same = told_refused None (Create request) TransactionTooLarge answer m same (sound m TransactionTooLarge none)
     limited m none write.Memory answer same = absurd (cc)
 
-    right : (error : StoreError) (ranges : List KeyRange) (m : Map) → IsCreateFailure refused (fresh_at schema) error old.mutations ranges m → (serial : Serial) → Stands m serial → IsRight refused (Create request) old.mutations error serial
+    right : (error : StoreError) (ranges : List KeyRange) (m : Map) → IsCreateFailure refused (fresh_at schema) error old.mutations ranges m → (serial : Serial) → Stands m serial → IsRight refused (Create request) old.mutations error m serial
     right Memory ranges m says serial stands = λ answer same. absurd (cc)
     right (Read reason) ranges m says serial stands =
-        λ answer same. inr (read_right refused (reach (schema_in serial) (Create request)) reason answer same
-        (next_within refused (opening_reach store_prefix) ranges (reach (schema_in serial) (Create request)) reason (opening_asked (schema_in serial) (Create request) opened) says.1))
+        λ answer same. inr (read_right refused (reach (schema_in serial) (Create request) m) reason answer same
+        (next_within refused (opening_reach store_prefix) ranges (reach (schema_in serial) (Create request) m) reason (opening_asked (schema_in serial) (Create request) m opened) says.1))
     right (Corrupt key) ranges m says serial stands = absurd says
     right (Refused refusal) ranges m says serial stands = absurd says
     right fault.NoStore ranges m says serial stands = absurd says
     right fault.OtherSchema ranges m says serial stands = absurd says
     right fault.AlreadyThere ranges m says None stands = absurd (says.2 None stands.held refl)
     right fault.AlreadyThere ranges m says (Some store) stands =
-        own_right refused (Create request) old.mutations fault.AlreadyThere AlreadyThere (Some store) refl (sym (ap (λ o. (served_create (Some store) o).0) made)) refl
+        own_right refused (Create request) old.mutations fault.AlreadyThere AlreadyThere m (Some store) refl (sym (ap (λ o. (served_create (Some store) o).0) made)) refl
     right (Write reason) ranges m says None stands =
-        limit_right refused (Create request) old.mutations reason None (ap (write_all_refusal old.mutations) (writes_none request schema made) ∙ says.2)
+        limit_right refused (Create request) old.mutations reason m None (ap (write_all_refusal old.mutations) (writes_none request schema made) ∙ says.2)
     right (Write reason) ranges m says (Some store) stands = let none : ◌≡◌ {A = Option Store} (Some store) None = says.3 (Some store) stands.held in absurd (cc)
 
     stop : (error : StoreError) (ranges : List KeyRange) (m : Map) → IsCreateFailure refused (fresh_at schema) error old.mutations ranges m → IsStop refused None (Create request) old.mutations error ranges m
-    stop Memory ranges m says = stop_memory refused None (Create request) old.mutations ranges m tt (begin_open (Create request) [] opened says) (λ serial stands. subst (IsBeginning ranges) (added_there request serial) (begin_open (Create request) [] opened says))
+    stop Memory ranges m says = stop_memory refused None (Create request) old.mutations ranges m tt (begin_open (Create request) [] opened says) (λ serial stands. subst (IsBeginning ranges) (added_there request m serial) (begin_open (Create request) [] opened says))
     stop (Read reason) ranges m says = record {
       there = tt;
       reads = begin_open (Create request) [] opened says.0;
       told = λ answer same. told_read None (Create request) reason answer m same;
-      held = λ serial stands. (right (Read reason) ranges m says serial stands, subst (IsBeginning ranges) (added_there request serial) (begin_open (Create request) [] opened says.0));
+      held = λ serial stands. (right (Read reason) ranges m says serial stands, subst (IsBeginning ranges) (added_there request m serial) (begin_open (Create request) [] opened says.0));
     }
     stop (Corrupt key) ranges m says = absurd says
     stop (Refused refusal) ranges m says = absurd says
@@ -141,13 +141,13 @@ uncreated_at {refuses = refuses} {old = old} request schema error made is = refu
       there = tt;
       reads = all ranges says.0;
       told = λ answer same. told_refused None (Create request) AlreadyThere answer m same (sound m AlreadyThere says.1);
-      held = λ serial stands. (right fault.AlreadyThere ranges m says serial stands, all ranges says.0 ∙ added_there request serial);
+      held = λ serial stands. (right fault.AlreadyThere ranges m says serial stands, all ranges says.0 ∙ added_there request m serial);
     }
     stop (Write reason) ranges m says = record {
       there = tt;
       reads = all ranges says.0;
       told = λ answer same. limited m says.1 reason answer same;
-      held = λ serial stands. (right (Write reason) ranges m says serial stands, all ranges says.0 ∙ added_there request serial);
+      held = λ serial stands. (right (Write reason) ranges m says serial stands, all ranges says.0 ∙ added_there request m serial);
     }
 
 pub uncreated : {maps : ℕ → Map} {refuses : KeyRange → ℕ → ReadError → Type 0} {old new : CommitRequest} (request : SchemaRequest) (prefix : List ℕ) (schema : Schema) (error : StoreError) → prefix ≡ store_prefix → schema_asked request ≡ Ok schema →
@@ -178,7 +178,7 @@ created_at {refuses = refuses} {old = old} request schema made kinds is = record
       right = inl (subst (λ o. IsLimited o None (Create request) reply.Done) (sym is.allowed ∙ ap (write_all_refusal old.mutations) (sym (writes_none request schema made))) (sym (ap (λ o. (served_create None o).0) made)));
       wrote = sym (writes_none request schema made);
       holds = subst (Stands (after_all (schema_writes store_prefix schema) m)) (sym (ap (λ o. (served_create None o).1) made)) (record { held = known.1; plain = created_plain schema kinds });
-      reads = all ∙ added_there request None;
+      reads = all ∙ added_there request m None;
     }
 
 pub created_now : {maps : ℕ → Map} {refuses : KeyRange → ReadError → Type 0} {old new : CommitRequest} (request : SchemaRequest) (opened : Opened) (schema : Schema) → opened.prefix ≡ store_prefix → opened.schema ≡ schema → opened.states ≡ [] →

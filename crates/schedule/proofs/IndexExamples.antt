@@ -1,5 +1,5 @@
 -- Worked examples of indexes: what the serial store replies to commands on them, and what commands write where there are indexes.
-use Rattle.std.proofs.Common.{◌≡◌, ℕ, List, [], ◌∷◌, None, refl, pos}
+use Rattle.std.proofs.Common.{◌≡◌, ap, false, ℕ, List, [], ◌∷◌, None, refl, pos}
 use Rattle.metadata.specs.declared.cells.Cell.{Cell}
 use Rattle.metadata.specs.declared.cells.Cell.TheVariants.{Null, Int}
 use Rattle.metadata.specs.declared.cells.Kind.TheVariants as kind
@@ -11,7 +11,9 @@ use Rattle.schedule.specs.declared.refusal.Refusal.TheVariants.{BadSchema, NameT
 use Rattle.kv_core.specs.Bytes.{next_key}
 use Rattle.kv_core.specs.Range.{point}
 use Rattle.kv_core.specs.declared.change.Mutation.TheVariants.{Set, ClearRange}
-use Rattle.record_store.specs.Store.{Serial}
+use Rattle.kv_core.specs.Map.{Map}
+use Rattle.kv_core.specs.Read.{range_read, read_of}
+use Rattle.record_store.specs.Store.{Serial, schema_in}
 use Rattle.record_store.specs.Layout.{record_value, type_range}
 use Rattle.schedule.specs.declared.step.Command.{Command}
 use Rattle.schedule.specs.declared.step.Command.TheVariants.{Create, Save, Remove, Index, Drop, Disable, State}
@@ -19,7 +21,7 @@ use Rattle.schedule.specs.declared.reply.Reply.{Reply}
 use Rattle.schedule.specs.declared.reply.Reply.TheVariants as answers
 use Rattle.schedule.specs.declared.reply.Reply.TheVariants.{Done, SavedNew, SavedOver, Refused}
 use Rattle.schedule.specs.Layout.{store_prefix}
-use Rattle.schedule.specs.Reach.{own_added, writes}
+use Rattle.schedule.specs.Reach.{own_reading, writes}
 use Rattle.schedule.specs.Serve.{effects, served}
 use Rattle.tuple_codec.specs.Spelling.{int_spelling, byte_count}
 
@@ -100,6 +102,8 @@ unfolding int_spelling byte_count
 disabled = (refl, refl)
 
 -- a new index reads up to the first record of its type, a refused one and a dropped one read nothing
-reaches : (own_added there (Index (asked b t (b ∷ []))) ≡ record { begin = (type_range store_prefix 1).begin; end = next_key one } ∷ []) × (own_added there (Index (asked a t (b ∷ []))) ≡ []) × (own_added there (Drop a) ≡ [])
+reaches : (m : Map) (value : List ℕ) → read_of m (type_range store_prefix 1) 1 false ≡ (one, value) ∷ [] →
+    ((own_reading (schema_in there) (Index (asked b t (b ∷ [])))).added m ≡ record { begin = (type_range store_prefix 1).begin; end = next_key one } ∷ [])
+    × ((own_reading (schema_in there) (Index (asked a t (b ∷ [])))).added m ≡ []) × ((own_reading (schema_in there) (Drop a)).added m ≡ [])
 unfolding int_spelling byte_count
-reaches = (refl, refl, refl)
+reaches m value first = (ap (λ pairs. range_read (type_range store_prefix 1) 1 false pairs ∷ []) first, refl, refl)

@@ -33,10 +33,10 @@ use Rattle.schedule.specs.Layout.{store_prefix}
 use Rattle.schedule.specs.Serve.{IsReply, effect}
 use Rattle.schedule.specs.Past.{is_accepted, is_reading}
 use Rattle.schedule.specs.Holds.{Stands}
-use Rattle.schedule.specs.Reach.{added, added_by, open_reach, own_added, own_reading, reach, writes}
+use Rattle.schedule.specs.Reach.{added_by, open_reach, own_reading, reach, writes}
 use Rattle.schedule.specs.Performed.{IsLimited, IsPerformed, IsPerformedAt, IsReadAs, IsReadRefusedAs}
 use Rattle.schedule.specs.Calls.{IsRefused}
-use Rattle.schedule.proofs.Reached.{added_begin, added_held, all_added, alone, begin_open, next_within, opening_added, opening_asked, own_asked, sound_by, sound_none, told_accepted}
+use Rattle.schedule.proofs.Reached.{added_begin, all_added, alone, begin_open, next_within, opening_added, opening_asked, own_asked, sound_by, sound_none, told_accepted}
 use Rattle.schedule.proofs.Stops.{IsRight, IsStop, at, limit_right, memory_opened, own_right, read_right, refused_by, schema_is, stop_memory, told_damage, told_limit, told_read, told_refused}
 
 -- UNOPENED: no store was opened
@@ -47,19 +47,19 @@ refused_unopened {refuses = refuses} {old = old} command error opens is none uno
     refused : KeyRange → ReadError → Type 0
     refused range = refuses range old.read_version
 
-    nothing : (serial : Serial) → serial ≡ None → IsRight refused command old.mutations fault.NoStore serial
-    nothing serial there = subst (IsRight refused command old.mutations fault.NoStore) (sym there) (own_right refused command old.mutations fault.NoStore NoStore None refl is none)
+    nothing : (m : Map) (serial : Serial) → serial ≡ None → IsRight refused command old.mutations fault.NoStore m serial
+    nothing m serial there = subst (IsRight refused command old.mutations fault.NoStore m) (sym there) (own_right refused command old.mutations fault.NoStore NoStore m None refl is none)
 
     stop : (error : StoreError) (ranges : List KeyRange) (m : Map) → IsOpenFailure refused store_prefix error ranges m → IsStop refused None command old.mutations error ranges m
     stop Memory ranges m says =
-        stop_memory refused None command old.mutations ranges m tt (begin_open command ((own_reading None command).added m) opens says) (λ serial stands. begin_open command (own_added serial command) opens says)
+        stop_memory refused None command old.mutations ranges m tt (begin_open command ((own_reading None command).added m) opens says) (λ serial stands. begin_open command (((own_reading (schema_in serial) command).added m)) opens says)
     stop (Read reason) ranges m says = record {
       there = tt;
       reads = begin_open command ((own_reading None command).added m) opens says.0;
       told = λ answer same. told_read None command reason answer m same;
       held = λ serial stands. (
-        λ answer same. inr (read_right refused (reach (schema_in serial) command) reason answer same (next_within refused (opening_reach store_prefix) ranges (reach (schema_in serial) command) reason (opening_asked (schema_in serial) command opens) says.1)),
-        begin_open command (own_added serial command) opens says.0,
+        λ answer same. inr (read_right refused (reach (schema_in serial) command m) reason answer same (next_within refused (opening_reach store_prefix) ranges (reach (schema_in serial) command m) reason (opening_asked (schema_in serial) command m opens) says.1)),
+        begin_open command (((own_reading (schema_in serial) command).added m)) opens says.0,
       );
     }
     stop (Write reason) ranges m says = absurd says
@@ -74,8 +74,8 @@ refused_unopened {refuses = refuses} {old = old} command error opens is none uno
       reads = says.0 ∙ opening_added None command m opens (alone command);
       told = λ answer same. told_refused None command NoStore answer m same (sound_none command m says.1);
       held = λ serial stands. (
-        nothing serial (says.2 serial stands.held),
-        says.0 ∙ opening_added None command m opens (alone command) ∙ ap (λ (s : Serial). added_by (schema_in s) command m) (sym (says.2 serial stands.held)) ∙ added_held m command serial stands.held,
+        nothing m serial (says.2 serial stands.held),
+        says.0 ∙ opening_added None command m opens (alone command) ∙ ap (λ (s : Serial). added_by (schema_in s) command m) (sym (says.2 serial stands.held)),
       );
     }
     stop (Refused refusal) ranges m says = absurd says
@@ -112,12 +112,12 @@ unwritten : {maps : ℕ → Map} {old new : CommitRequest} (opened : Opened) →
 unwritten {old = old} opened is = is.ran.wrote ∙ append-nil old.mutations
 
 -- the ranges that were added by what was opened are those that are added at what is there
-at_serial : (opened : Opened) (command : Command) (m : Map) (serial : Serial) (ranges : List KeyRange) → Holds store_prefix m serial → IsThereAs (at opened) serial → ranges ≡ added_by (Some opened.schema) command m → ranges ≡ added serial command
-at_serial opened command m serial ranges holds has is = is ∙ ap (λ s. added_by s command m) (sym (schema_is (at opened) serial has)) ∙ added_held m command serial holds
+at_serial : (opened : Opened) (command : Command) (m : Map) (serial : Serial) (ranges : List KeyRange) → Holds store_prefix m serial → IsThereAs (at opened) serial → ranges ≡ added_by (Some opened.schema) command m → ranges ≡ added_by (schema_in serial) command m
+at_serial opened command m serial ranges holds has is = is ∙ ap (λ s. added_by s command m) (sym (schema_is (at opened) serial has))
 
 begin_serial : (opened : Opened) (command : Command) (m : Map) (serial : Serial) (ranges : List KeyRange) → Holds store_prefix m serial → IsThereAs (at opened) serial → IsBeginning ranges (added_by (Some opened.schema) command m) →
-    IsBeginning ranges (added serial command)
-begin_serial opened command m serial ranges holds has begin = subst (IsBeginning ranges) (ap (λ s. added_by s command m) (sym (schema_is (at opened) serial has)) ∙ added_held m command serial holds) begin
+    IsBeginning ranges (added_by (schema_in serial) command m)
+begin_serial opened command m serial ranges holds has begin = subst (IsBeginning ranges) (ap (λ s. added_by s command m) (sym (schema_is (at opened) serial has))) begin
 
 -- OWN: a store was opened, and the command is refused by its schema
 pub refused_own : {maps : ℕ → Map} {refuses : KeyRange → ℕ → ReadError → Type 0} {old mid : CommitRequest} (opened : Opened) (command : Command) (refusal : SchemaRefusal) →
@@ -128,14 +128,14 @@ refused_own {refuses = refuses} {old = old} opened command refusal so is =
       reads = opening_added (Some opened.schema) command m so.opens so.reads;
       told = λ answer same. told_refused (Some opened.schema) command (of_schema refusal) answer m same (sound_by opened.schema command (reply.Refused (of_schema refusal)) m (whole []) so.reads tt);
       held = λ serial stands. (
-        right serial (has.1 serial stands.held),
+        right m serial (has.1 serial stands.held),
         at_serial opened command m serial (opening_reach store_prefix) stands.held (has.1 serial stands.held) (opening_added (Some opened.schema) command m so.opens so.reads),
       );
     }))
   where
-    right : (serial : Serial) → IsThereAs (at opened) serial → IsRight (λ range. refuses range old.read_version) command old.mutations (Refused refusal) serial
-    right None has = absurd has
-    right (Some store) has = own_right (λ range. refuses range old.read_version) command old.mutations (Refused refusal) (of_schema refusal) (Some store) refl (so.replies store has) (so.idle store has)
+    right : (m : Map) (serial : Serial) → IsThereAs (at opened) serial → IsRight (λ range. refuses range old.read_version) command old.mutations (Refused refusal) m serial
+    right m None has = absurd has
+    right m (Some store) has = own_right (λ range. refuses range old.read_version) command old.mutations (Refused refusal) (of_schema refusal) m (Some store) refl (so.replies store has) (so.idle store has)
 
 module _ {A : Type 0} (opened : Opened) (command : Command) (service : Service A) (told : A → Reply) (serves : Serves (at opened) command service told) (ranges : List KeyRange) (m : Map) where
   -- the ranges of the opening, and behind them those of the call
@@ -210,10 +210,10 @@ refused_at {refuses = refuses} {old = old} {mid = mid} opened command (Ok servic
       reads = first_ranges opened command service told serves ranges m says.0;
       told = λ answer same. told_read (Some opened.schema) command reason answer m same;
       held = λ serial stands. (
-        λ answer same. inr (read_right refused (reach (schema_in serial) command) reason answer same
-            (subst (λ s. IsReadRefusedAs refused (reach s command) reason) (sym (schema_is (at opened) serial (has.1 serial stands.held)))
-            (next_within refused service.reading.asked ranges (reach (Some opened.schema) command) reason (own_asked (Some opened.schema) command service.reading serves.reads)
-            (subst (λ v. IsNextRefused (λ range. refuses range v) service.reading.asked ranges reason) same_version says.1)))),
+        λ answer same. inr (read_right refused (reach (schema_in serial) command m) reason answer same
+            (subst (λ s. IsReadRefusedAs refused (reach s command m) reason) (sym (schema_is (at opened) serial (has.1 serial stands.held)))
+            (next_within refused (service.reading.asked m) ranges (reach (Some opened.schema) command m) reason (own_asked (Some opened.schema) command m service.reading serves.reads)
+            (subst (λ v. IsNextRefused (λ range. refuses range v) (service.reading.asked m) ranges reason) same_version says.1)))),
         begin_serial opened command m serial (opening_reach store_prefix ++ ranges) stands.held (has.1 serial stands.held) (first_ranges opened command service told serves ranges m says.0),
       );
     }
@@ -224,7 +224,7 @@ refused_at {refuses = refuses} {old = old} {mid = mid} opened command (Ok servic
       held = λ serial stands. damaged serial stands.held (has.1 serial stands.held);
     }
       where
-        damaged : (serial : Serial) → Holds store_prefix m serial → IsThereAs (at opened) serial → IsRight refused command old.mutations (Corrupt key) serial × (opening_reach store_prefix ++ ranges ≡ added serial command)
+        damaged : (serial : Serial) → Holds store_prefix m serial → IsThereAs (at opened) serial → IsRight refused command old.mutations (Corrupt key) m serial × (opening_reach store_prefix ++ ranges ≡ added_by (schema_in serial) command m)
         damaged None holds none = absurd none
         damaged (Some store) holds same = absurd (says.2 store holds same)
     stop (Write reason) ranges m has says = record {
@@ -237,10 +237,10 @@ refused_at {refuses = refuses} {old = old} {mid = mid} opened command (Ok servic
       );
     }
       where
-        limited : (serial : Serial) → Holds store_prefix m serial → IsThereAs (at opened) serial → IsRight refused command old.mutations (Write reason) serial
+        limited : (serial : Serial) → Holds store_prefix m serial → IsThereAs (at opened) serial → IsRight refused command old.mutations (Write reason) m serial
         limited None holds none = absurd none
         limited (Some store) holds same =
-            limit_right refused command old.mutations reason (Some store)
+            limit_right refused command old.mutations reason m (Some store)
             (ap (λ ms. write_all_refusal ms (writes (Some store) command)) (sym (unwritten opened is_opened)) ∙ ap (write_all_refusal mid.mutations) (serves.wrote store same) ∙ says.2 store holds same)
     stop (Refused refusal) ranges m has says = absurd says
     stop fault.NoStore ranges m has says = absurd says

@@ -1,31 +1,23 @@
 -- What commands read: by a schema and a map, and by what is there.
 use Rattle.std.proofs.Common.{◌≡◌, ℕ, Bool, true, false, List, [], ◌∷◌, ◌++◌, refl, sym, ap, subst, ◌∙◌, append-nil, Option, Some, None, Ok, Err, Result, length}
-use Rattle.std.specs.Prelude.{drop, take, map}
+use Rattle.std.specs.Prelude.{drop}
 use Rattle.std.specs.List.{AllByRecursion}
 use Rattle.std.specs.FinMap.{get}
 use Rattle.std.proofs.lemmas.Bool.{or_left, or_right}
 use Rattle.std.proofs.lemmas.List.Folds.{list_any-append}
 use Rattle.kv_core.specs.Range.{KeyRange, contains, covers}
 use Rattle.kv_core.specs.Map.{Map}
-use Rattle.kv_core.specs.Read.{range_read}
 use Rattle.cluster_core.specs.declared.answers.ReadError.{ReadError}
-use Rattle.metadata.specs.declared.index.IndexDefinition.{IndexDefinition}
 use Rattle.metadata.specs.declared.refusal.Refusal.{Refusal as SchemaRefusal}
 use Rattle.schedule.specs.declared.refusal.Refusal.{Refusal}
 use Rattle.schedule.specs.declared.refusal.Refusal.TheVariants.{NoStore}
 use Rattle.metadata.specs.Asked.{schema_asked}
-use Rattle.metadata.specs.IndexChange.{new_index}
-use Rattle.metadata.specs.Records.{of_type}
 use Rattle.metadata.specs.Schema.{Schema}
-use Rattle.record_store.specs.Store.{Store, Serial, schema_in}
-use Rattle.record_store.specs.Holds.{Holds}
 use Rattle.record_store.specs.Form.{IsRecordPair}
-use Rattle.record_store.specs.Layout.{record_pair, schema_key, type_range}
+use Rattle.record_store.specs.Layout.{schema_key}
 use Rattle.record_store.specs.Call.{Reading, whole}
 use Rattle.record_store.specs.Opening.{opening_reach}
 use Rattle.record_store.specs.Steps.{IsBeginning, IsNextRefused}
-use Rattle.record_store.proofs.AddedCalls.{index_type_small}
-use Rattle.record_store.proofs.Held.{type_held}
 use Rattle.record_store.proofs.Stopping.{all_begin, begin_more}
 use Rattle.schedule.specs.declared.step.Command.{Command}
 use Rattle.schedule.specs.declared.step.Command.TheVariants.{Create, «Type», Save, Load, Remove, Query, Index, Drop, Disable, State}
@@ -34,7 +26,7 @@ use Rattle.schedule.specs.declared.reply.Reply.TheVariants as reply
 use Rattle.schedule.specs.Layout.{store_prefix}
 use Rattle.schedule.specs.Past.{is_accepted}
 use Rattle.schedule.specs.Performed.{HasAdded, HasAddedSo, IsMadeOf, IsReadRefusedAs, IsSound, IsSoundSo, IsTold, is_unread}
-use Rattle.schedule.specs.Reach.{added, added_by, first_added, first_reading, open_reach, own_reading, reach}
+use Rattle.schedule.specs.Reach.{added_by, open_reach, own_reading, reach}
 
 -- without a schema a command reads nothing of its own
 pub alone : (command : Command) → own_reading None command ≡ whole []
@@ -52,15 +44,15 @@ alone (State name) = refl
 -- ---- what is asked for
 
 -- the ranges of the opening are asked for first, then the command's own
-pub opening_asked : (schema : Option Schema) (command : Command) → open_reach command ≡ opening_reach store_prefix → (k : List ℕ) → covers (opening_reach store_prefix) k ≡ true → covers (reach schema command) k ≡ true
-opening_asked schema command opens k h =
-    list_any-append (λ range. contains range k) (open_reach command) (own_reading schema command).asked
-    ∙ or_left (covers (open_reach command) k) (covers (own_reading schema command).asked k) (ap (λ ranges. covers ranges k) opens ∙ h)
+pub opening_asked : (schema : Option Schema) (command : Command) (m : Map) → open_reach command ≡ opening_reach store_prefix → (k : List ℕ) → covers (opening_reach store_prefix) k ≡ true → covers (reach schema command m) k ≡ true
+opening_asked schema command m opens k h =
+    list_any-append (λ range. contains range k) (open_reach command) ((own_reading schema command).asked m)
+    ∙ or_left (covers (open_reach command) k) (covers ((own_reading schema command).asked m) k) (ap (λ ranges. covers ranges k) opens ∙ h)
 
-pub own_asked : (schema : Option Schema) (command : Command) (reading : Reading) → own_reading schema command ≡ reading → (k : List ℕ) → covers reading.asked k ≡ true → covers (reach schema command) k ≡ true
-own_asked schema command reading is k h =
-    list_any-append (λ range. contains range k) (open_reach command) (own_reading schema command).asked
-    ∙ or_right (covers (open_reach command) k) (covers (own_reading schema command).asked k) (ap (λ (r : Reading). covers r.asked k) is ∙ h)
+pub own_asked : (schema : Option Schema) (command : Command) (m : Map) (reading : Reading) → own_reading schema command ≡ reading → (k : List ℕ) → covers (reading.asked m) k ≡ true → covers (reach schema command m) k ≡ true
+own_asked schema command m reading is k h =
+    list_any-append (λ range. contains range k) (open_reach command) ((own_reading schema command).asked m)
+    ∙ or_right (covers (open_reach command) k) (covers ((own_reading schema command).asked m) k) (ap (λ (r : Reading). covers (r.asked m) k) is ∙ h)
 
 -- a range that is refused behind the first ones is one of those asked for
 later_covers : (n : ℕ) (asked rest : List KeyRange) (range : KeyRange) → drop n asked ≡ range ∷ rest → (k : List ℕ) → contains range k ≡ true → covers asked k ≡ true
@@ -74,26 +66,6 @@ next_within refuses asked added far error wider next =
     record { range = next.range; inside = λ k h. wider k (later_covers (length added) asked next.rest next.range next.next k h); refused = next.refused }
 
 -- ---- what is added
-
-first_is : (m : Map) (store : Store) (o : Result IndexDefinition SchemaRefusal) → ((index : IndexDefinition) → o ≡ Ok index → Rattle.kv_core.specs.Map.pairs_in m (type_range store_prefix index.type_number) ≡ map (record_pair store_prefix) (of_type index.type_number store.records)) →
-    (first_reading o).added m ≡ first_added store o
-first_is m store (Ok index) held = ap (λ ps. range_read (type_range store_prefix index.type_number) 1 false (take 1 ps) ∷ []) (held index refl)
-first_is m store (Err refusal) held = refl
-
--- what a command adds by the map is what it adds by what is there
-pub added_held : (m : Map) (command : Command) (serial : Serial) → Holds store_prefix m serial → added_by (schema_in serial) command m ≡ added serial command
-added_held m command None holds = ap (λ (r : Reading). open_reach command ++ r.added m) (alone command) ∙ sym (ap (λ (r : Reading). open_reach command ++ r.asked) (alone command))
-added_held m (Create request) (Some store) holds = refl
-added_held m («Type» request) (Some store) holds = refl
-added_held m (Save name cells) (Some store) holds = refl
-added_held m (Load name cells) (Some store) holds = refl
-added_held m (Remove name cells) (Some store) holds = refl
-added_held m (Query query) (Some store) holds = refl
-added_held m (Index request) (Some store) holds = ap (λ ranges. opening_reach store_prefix ++ ranges)
-    (first_is m store (new_index store.schema request) (λ index is. type_held store_prefix m store index.type_number (index_type_small store.schema request index holds.lawful.schema is) holds))
-added_held m (Drop name) (Some store) holds = refl
-added_held m (Disable name) (Some store) holds = refl
-added_held m (State name) (Some store) holds = refl
 
 -- all ranges were added, or the first ones: by what the reply tells
 pub all_added : (answer : Reply) {all ranges : List KeyRange} → ranges ≡ all → HasAdded answer all ranges

@@ -33,7 +33,7 @@ use Rattle.schedule.specs.Layout.{store_prefix}
 use Rattle.schedule.specs.Serve.{IsReply, effect}
 use Rattle.schedule.specs.Past.{is_accepted, is_reading}
 use Rattle.schedule.specs.Holds.{Stands}
-use Rattle.schedule.specs.Reach.{added, added_by, open_reach, own_added, own_reading, reach, writes}
+use Rattle.schedule.specs.Reach.{added_by, open_reach, own_reading, reach, writes}
 use Rattle.schedule.specs.Performed.{HasAdded, HasRead, IsDamaged, IsLimit, IsLimited, IsReadRefusal, IsReadRefusedAs, IsServed, IsSound, IsTold}
 use Rattle.schedule.specs.Refusals.{of_schema}
 use Rattle.schedule.specs.Calls.{IsRefused, reply_of}
@@ -133,15 +133,15 @@ stopped_added fault.AlreadyThere answer all ranges is has = all_added answer has
 stopped_added fault.OtherSchema answer all ranges is has = all_added answer has
 
 -- why the reply of an error is right at what is there
-abbrev pub IsRight : (KeyRange → ReadError → Type 0) → Command → List Mutation → StoreError → Serial → Type 0
-IsRight refuses command before error serial = (answer : Reply) → reply_of error ≡ Some answer → IsServed before serial command answer ⊎ IsReadRefusal refuses (reach (schema_in serial) command) answer
+abbrev pub IsRight : (KeyRange → ReadError → Type 0) → Command → List Mutation → StoreError → Map → Serial → Type 0
+IsRight refuses command before error m serial = (answer : Reply) → reply_of error ≡ Some answer → IsServed before serial command answer ⊎ IsReadRefusal refuses (reach (schema_in serial) command m) answer
 
 -- what is so of a map, and of all that it holds, where a command stopped with an error
 pub record IsStop (refuses : KeyRange → ReadError → Type 0) (schema : Option Schema) (command : Command) (before : List Mutation) (error : StoreError) (ranges : List KeyRange) (m : Map) : Type 0 where
   pub there : HasRead schema m
   pub reads : HasStopped error (added_by schema command m) ranges
   pub told : (answer : Reply) → reply_of error ≡ Some answer → IsTold schema command answer m
-  pub held : (serial : Serial) → Stands m serial → IsRight refuses command before error serial × HasStopped error (added serial command) ranges
+  pub held : (serial : Serial) → Stands m serial → IsRight refuses command before error m serial × HasStopped error (added_by (schema_in serial) command m) ranges
 
 -- REFUSED: reads, and then an error that is right at all that may be there
 pub refused_by : {maps : ℕ → Map} {refuses : KeyRange → ℕ → ReadError → Type 0} {old new : CommitRequest} (command : Command) (schema : Option Schema) (error : StoreError) (ranges : List KeyRange) →
@@ -165,7 +165,7 @@ refused_by {refuses = refuses} {old = old} {new = new} command schema error rang
                 right = (stop.held serial stands).0 answer is;
                 wrote = ap (λ b. cond b (writes serial command) []) (sym no_effect.0);
                 holds = subst (λ b. Stands m (cond b (effect serial command) serial)) (sym no_effect.0) stands;
-                reads = stopped_added error answer (added serial command) ranges is (stop.held serial stands).1;
+                reads = stopped_added error answer (added_by (schema_in serial) command m) ranges is (stop.held serial stands).1;
               },
             ));
       };
@@ -173,14 +173,14 @@ refused_by {refuses = refuses} {old = old} {new = new} command schema error rang
 
 -- MEMORY: want of memory is no reply
 pub stop_memory : (refuses : KeyRange → ReadError → Type 0) (schema : Option Schema) (command : Command) (before : List Mutation) (ranges : List KeyRange) (m : Map) → HasRead schema m → IsBeginning ranges (added_by schema command m) →
-    ((serial : Serial) → Stands m serial → IsBeginning ranges (added serial command)) → IsStop refuses schema command before Memory ranges m
+    ((serial : Serial) → Stands m serial → IsBeginning ranges (added_by (schema_in serial) command m)) → IsStop refuses schema command before Memory ranges m
 stop_memory refuses schema command before ranges m has begin held = record { there = has; reads = begin; told = λ answer is. absurd (cc); held = λ serial stands. (λ answer is. absurd (cc), held serial stands) }
 
 -- it was wanting before anything was read
 pub refused_memory : {maps : ℕ → Map} {refuses : KeyRange → ℕ → ReadError → Type 0} {old : CommitRequest} (command : Command) → IsRefused maps refuses command Memory old old
 refused_memory {refuses = refuses} {old = old} command =
     refused_by command None Memory [] (ran_still refl (λ m.
-    stop_memory (λ range. refuses range old.read_version) None command old.mutations [] m tt (none_begin (added_by None command m)) (λ serial stands. none_begin (added serial command))))
+    stop_memory (λ range. refuses range old.read_version) None command old.mutations [] m tt (none_begin (added_by None command m)) (λ serial stands. none_begin (added_by (schema_in serial) command m))))
 
 -- it was wanting behind the opening
 pub memory_opened : {maps : ℕ → Map} {refuses : KeyRange → ℕ → ReadError → Type 0} {old mid : CommitRequest} (opened : Opened) (command : Command) → open_reach command ≡ opening_reach store_prefix → IsOpened maps (at opened) old mid → IsRefused maps refuses command Memory old mid
@@ -188,7 +188,7 @@ memory_opened {refuses = refuses} {old = old} opened command opens is =
     refused_by command None Memory (opening_reach store_prefix) (ran_because is.ran (λ m has.
     stop_memory (λ range. refuses range old.read_version) None command old.mutations (opening_reach store_prefix) m tt
     (begin_open command ((own_reading None command).added m) opens (all_begin (opening_reach store_prefix)))
-    (λ serial stands. begin_open command (own_added serial command) opens (all_begin (opening_reach store_prefix)))))
+    (λ serial stands. begin_open command (((own_reading (schema_in serial) command).added m)) opens (all_begin (opening_reach store_prefix)))))
 
 -- a refused read within the reach
 pub read_right : (refuses : KeyRange → ReadError → Type 0) (within : List KeyRange) (error : ReadError) (answer : Reply) → reply_of (Read error) ≡ Some answer → IsReadRefusedAs refuses within error → IsReadRefusal refuses within answer
@@ -223,9 +223,9 @@ served_idle : (before : List Mutation) (serial : Serial) (command : Command) (an
 served_idle before serial command answer none is = subst (λ ms. IsLimited (write_all_refusal before ms) serial command answer) (sym none) is
 
 -- a refusal of the command's own, where it writes nothing
-pub own_right : (refuses : KeyRange → ReadError → Type 0) (command : Command) (before : List Mutation) (error : StoreError) (refusal : Refusal) (serial : Serial) → reply_of error ≡ Some (reply.Refused refusal) → IsReply serial command (reply.Refused refusal) →
-    writes serial command ≡ [] → IsRight refuses command before error serial
-own_right refuses command before error refusal serial replied is none =
+pub own_right : (refuses : KeyRange → ReadError → Type 0) (command : Command) (before : List Mutation) (error : StoreError) (refusal : Refusal) (m : Map) (serial : Serial) → reply_of error ≡ Some (reply.Refused refusal) → IsReply serial command (reply.Refused refusal) →
+    writes serial command ≡ [] → IsRight refuses command before error m serial
+own_right refuses command before error refusal m serial replied is none =
     λ answer same. let that : reply.Refused refusal ≡ answer = cc in inl (subst (IsServed before serial command) that (served_idle before serial command (reply.Refused refusal) none is))
 
 -- a limit is the reply that it is
@@ -237,6 +237,6 @@ limit_is write.TransactionTooLarge answer is = let same : reply.Refused _ ≡ an
 limit_is write.Memory answer is = absurd (cc)
 
 -- a limit that what the command writes meets
-pub limit_right : (refuses : KeyRange → ReadError → Type 0) (command : Command) (before : List Mutation) (error : WriteError) (serial : Serial) → write_all_refusal before (writes serial command) ≡ Some error →
-    IsRight refuses command before (Write error) serial
-limit_right refuses command before error serial meets = λ answer is. inl (subst (λ o. IsLimited o serial command answer) (sym meets) (limit_is error answer is))
+pub limit_right : (refuses : KeyRange → ReadError → Type 0) (command : Command) (before : List Mutation) (error : WriteError) (m : Map) (serial : Serial) → write_all_refusal before (writes serial command) ≡ Some error →
+    IsRight refuses command before (Write error) m serial
+limit_right refuses command before error m serial meets = λ answer is. inl (subst (λ o. IsLimited o serial command answer) (sym meets) (limit_is error answer is))

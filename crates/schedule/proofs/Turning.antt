@@ -63,7 +63,7 @@ did_at : {refuses : KeyRange → ReadError → Type 0} {before : List Mutation} 
 did_at {refuses = refuses} {before = before} command answer wrote ranges m serial performed = record {
   replied = λ yes_accepted. elim performed.right [
     | inl served ↦ replied_of (write_all_refusal before (writes serial command)) serial command answer served yes_accepted
-    | inr refused ↦ absurd (true≢false (sym yes_accepted ∙ read_refuses refuses (reach (schema_in serial) command) answer refused))
+    | inr refused ↦ absurd (true≢false (sym yes_accepted ∙ read_refuses refuses (reach (schema_in serial) command m) answer refused))
   ];
   wrote = performed.wrote;
   holds = performed.holds;
@@ -207,7 +207,7 @@ done_reads maps (attempt ∷ attempts) old new (mid, did, rest) m serial agree h
     let is_seen : after_all did.written (seen old m) ≡ seen mid m = sym (ap (λ ms. after_all ms m) did.ran.wrote ∙ after_all-append old.mutations did.written m) in
     let (others, have, are) = done_reads maps attempts mid new rest m (attempted serial attempt) agree (subst (λ (n : Map). Stands n (attempted serial attempt)) is_seen at.holds) in (
       did.added ++ others,
-      (did.added, others, refl, at.reads, have),
+      (did.added, others, refl, (seen old m, holds, at.reads), have),
       are ∙ ap (with_ranges others) did.ran.reads ∙ sym (with_ranges_append did.added others old.reads),
     )
 

@@ -3,10 +3,12 @@ use Rattle.std.specs.Prelude.{◌≡◌, ◌≤◌, ◌⊎◌, ℕ, ◌+◌, ◌
 use Rattle.std.specs.Prelude.{Option, Some, None, if◌then◌else◌, ◌==◌, length, nat_lt, All}
 use Rattle.std.specs.List.{find, range_with_len}
 use Rattle.std.specs.Option.{option_map, option_map_or}
+use Rattle.kv_core.specs.Map.{Map}
 use Rattle.kv_core.specs.Range.{KeyRange}
 use Rattle.kv_core.specs.declared.change.CommitRequest.{CommitRequest}
 use Rattle.kv_core.specs.declared.change.Mutation.{Mutation}
 use Rattle.cluster_core.specs.declared.answers.Config.{Config}
+use Rattle.cluster_core.specs.declared.answers.ReadError.{ReadError}
 use Rattle.cluster_core.specs.declared.answers.Reported.{Reported}
 use Rattle.cluster_core.specs.declared.answers.Reported.TheVariants as reported
 use Rattle.cluster_core.specs.declared.answers.SubmitError.{SubmitError}
@@ -34,8 +36,7 @@ use Rattle.schedule.specs.Serve.{IsReply, effect}
 use Rattle.schedule.specs.Past.{Past, Attempt, Open, Submission, accepted}
 use Rattle.schedule.specs.Past.{is_accepted, is_changed, open_of, submitted_in}
 use Rattle.schedule.specs.Holds.{Stands}
-use Rattle.schedule.specs.Reach.{reach, writes}
-use Rattle.schedule.specs.Reach.{added as added_at}
+use Rattle.schedule.specs.Reach.{added_by, reach, writes}
 use Rattle.schedule.specs.Performed.{HasAdded, IsServed, IsReadRefusal}
 use Rattle.txn.specs.Runs.{with_ranges}
 use Rattle.schedule.specs.Commits.{committed, view}
@@ -75,13 +76,18 @@ abbrev pub written : Serial → List Command → List Mutation
 written serial [] = []
 written serial (command ∷ commands) = writes serial command ++ written (effect serial command) commands
 
--- the reply to a command: the serial store's for what the transaction sees, or that a read within the command's reach
--- is refused by a server, or the limit that its writes meet
+-- the reply tells that a read is refused, one of those that the command asks for of a map that holds what it sees
+abbrev pub IsUnread : (KeyRange → ReadError → Type 0) → Serial → Command → Reply → Type 0
+IsUnread refuses seen command reply =
+    (m : Map) × Stands m seen × IsReadRefusal refuses (reach (schema_in seen) command m) reply
+
+-- the reply to a command: the serial store's for what the transaction sees, or the limit that its writes meet, or that a
+-- read is refused by a server
 abbrev pub IsCommandReply : ClusterState → List CommitEntry → Open → Command → Reply → Type 0
 IsCommandReply c commits open_now command reply =
     let seen = view commits open_now in
     IsServed (written (committed commits open_now.read_version) (accepted open_now.attempts)) seen command reply
-    ⊎ IsReadRefusal (λ range. MayRefuse (tier_of c) range open_now.read_version) (reach (schema_in seen) command) reply
+    ⊎ IsUnread (λ range. MayRefuse (tier_of c) range open_now.read_version) seen command reply
 
 -- the reply to `commit`: there was nothing to submit, or no version was left, or the transaction read too long ago, or
 -- the next version
@@ -206,12 +212,12 @@ IsSerial c commits submissions =
     All (λ one. IsSerialAt (committed commits (one.version - 1)) one.transaction.attempts)
     (listed c.pipeline submissions)
 
--- what attempts add to the ranges read, one after another
+-- what attempts add to the ranges read, one after another, over maps that hold what is there
 abbrev pub HaveAdded : Serial → List Attempt → List KeyRange → Type 0
 HaveAdded serial [] added = added ≡ []
 HaveAdded serial (attempt ∷ attempts) added =
     (first : List KeyRange) × (rest : List KeyRange) × (added ≡ first ++ rest)
-    × HasAdded attempt.reply (added_at serial attempt.command) first
+    × ((m : Map) × Stands m serial × HasAdded attempt.reply (added_by (schema_in serial) attempt.command m) first)
     × HaveAdded (attempted serial attempt) attempts rest
 
 -- the ranges read are those that attempts added, in their order, each once

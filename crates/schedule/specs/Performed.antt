@@ -33,7 +33,6 @@ use Rattle.schedule.specs.Past.{is_accepted, is_reading}
 use Rattle.schedule.specs.Holds.{Stands}
 use Rattle.schedule.specs.Layout.{store_prefix}
 use Rattle.schedule.specs.Reach.{added_by, own_reading, reach, writes}
-use Rattle.schedule.specs.Reach.{added as added_at}
 
 -- the reply that a write limit is
 abbrev pub IsLimit : WriteError → Reply → Type 0
@@ -85,10 +84,10 @@ HasAdded answer all added = HasAddedSo (is_unread answer) all added
 -- writes there, and leads to a map that holds what is there after it; and these are the ranges that it reads there
 pub record IsPerformedAt (refuses : KeyRange → ReadError → Type 0) (command : Command) (answer : Reply)
     (before written : List Mutation) (added : List KeyRange) (m : Map) (serial : Serial) : Type 0 where
-  pub right : IsServed before serial command answer ⊎ IsReadRefusal refuses (reach (schema_in serial) command) answer
+  pub right : IsServed before serial command answer ⊎ IsReadRefusal refuses (reach (schema_in serial) command m) answer
   pub wrote : written ≡ (if is_accepted answer then writes serial command else [])
   pub holds : Stands (after_all written m) (if is_accepted answer then effect serial command else serial)
-  pub reads : HasAdded answer (added_at serial command) added
+  pub reads : HasAdded answer (added_by (schema_in serial) command m) added
 
 -- ---- the same over a map that may be damaged
 
@@ -159,7 +158,7 @@ pub record IsPerformed (maps : ℕ → Map) (refuses : KeyRange → ReadError �
 pub record IsPartlyRead (schema : Option Schema) (command : Command) (added : List KeyRange) (m : Map) : Type 0 where
   pub there : HasRead schema m
   pub reads : IsBeginning added (added_by schema command m)
-  pub held : (serial : Serial) → Stands m serial → IsBeginning added (added_at serial command)
+  pub held : (serial : Serial) → Stands m serial → IsBeginning added (added_by (schema_in serial) command m)
 
 -- a command stopped for want of memory: it wrote nothing, and read the first ones of its ranges; a transaction can go
 -- on from there

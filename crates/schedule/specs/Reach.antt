@@ -1,9 +1,8 @@
 -- What a command reads, in order, and what it writes.
-use Rattle.std.specs.Prelude.{ℕ, false, List, [], ◌∷◌, ◌++◌, Option, Some, None, Result, Ok, Err, map, take}
+use Rattle.std.specs.Prelude.{ℕ, List, [], ◌∷◌, ◌++◌, Option, Some, None, Result, Ok, Err}
 use Rattle.tuple_codec.specs.Item.{Item}
 use Rattle.kv_core.specs.Range.{KeyRange, point}
 use Rattle.kv_core.specs.Map.{Map}
-use Rattle.kv_core.specs.Read.{range_read}
 use Rattle.kv_core.specs.declared.change.Mutation.{Mutation}
 use Rattle.metadata.specs.declared.definition.TypeDefinition.{TypeDefinition}
 use Rattle.metadata.specs.declared.refusal.Refusal.{Refusal}
@@ -16,9 +15,9 @@ use Rattle.metadata.specs.Record.{Record, primary_key, record_of, key_of}
 use Rattle.schedule.specs.declared.step.Command.{Command}
 use Rattle.schedule.specs.declared.step.Command.TheVariants.{Create, «Type», Save, Load, Remove}
 use Rattle.schedule.specs.declared.step.Command.TheVariants.{Query, Index, Drop, Disable}
-use Rattle.metadata.specs.Records.{of_type, record_at}
-use Rattle.record_store.specs.Store.{Store, Serial, schema_in}
-use Rattle.record_store.specs.Layout.{record_key, record_pair, type_range}
+use Rattle.metadata.specs.Records.{record_at}
+use Rattle.record_store.specs.Store.{Store, Serial}
+use Rattle.record_store.specs.Layout.{record_key, type_range}
 use Rattle.record_store.specs.Call.{Reading, first_of, whole}
 use Rattle.record_store.specs.Opening.{opening_reach}
 use Rattle.record_store.specs.Calls.{index_number, schema_writes}
@@ -62,27 +61,13 @@ abbrev pub open_reach : Command → List KeyRange
 open_reach (Create request) = make_reach (schema_asked request)
 open_reach command = opening_reach store_prefix
 
--- the ranges that a command asks for, in order: those of opening the store, and its own
-abbrev pub reach : Option Schema → Command → List KeyRange
-reach schema command = open_reach command ++ (own_reading schema command).asked
+-- the ranges that a command asks a map for that has this schema, in order: those of opening the store, and its own
+abbrev pub reach : Option Schema → Command → Map → List KeyRange
+reach schema command m = open_reach command ++ (own_reading schema command).asked m
 
--- the ranges that it adds to those read, in order, by a map that has this schema
+-- the ranges that it then adds to those read, in order
 abbrev pub added_by : Option Schema → Command → Map → List KeyRange
 added_by schema command m = open_reach command ++ (own_reading schema command).added m
-
--- the same by what is there: of a type over which an index is asked for, the keys up to its first record
-abbrev pub first_added : Store → Result IndexDefinition Refusal → List KeyRange
-first_added store (Ok index) =
-    range_read (type_range store_prefix index.type_number) 1 false
-    (take 1 (map (record_pair store_prefix) (of_type index.type_number store.records))) ∷ []
-first_added store (Err refusal) = []
-
-abbrev pub own_added : Serial → Command → List KeyRange
-own_added (Some store) (Index request) = first_added store (new_index store.schema request)
-own_added serial command = (own_reading (schema_in serial) command).asked
-
-abbrev pub added : Serial → Command → List KeyRange
-added serial command = open_reach command ++ own_added serial command
 
 -- what making a store and adding a type write: the schema
 abbrev pub schema_written : Result Schema Refusal → List Mutation

@@ -47,4 +47,4 @@ pub returns-in_err-pairs-clause-refused : goal.returns-in_err-pairs-clause-refus
 returns-in_err-pairs-clause-refused g c =
     exit_with c.from_residual-in_err-pairs.result (of_read c.in_err-pairs.field-0.0) _ c.from_residual-in_err-pairs.ensures
     (unread_failed c.args.self.now (first_of (type_range c.args.self.now.prefix c.args.definition.now.number)) c.in_ok-range.range (type_range c.args.self.now.prefix c.args.definition.now.number) c.in_err-pairs.field-0.0
-    (c.in_ok-range.ensures ∙ ap (λ p. type_range p c.args.definition.now.number) c.prefix.ensures.prefix) refl c.in_err-pairs.ensures.kept c.in_err-pairs.ensures.refused)
+    (c.in_ok-range.ensures ∙ ap (λ p. type_range p c.args.definition.now.number) c.prefix.ensures.prefix) (λ m. refl) c.in_err-pairs.ensures.kept c.in_err-pairs.ensures.refused)

@@ -27,4 +27,4 @@ pub returns-in_err-value-clause-refused : goal.returns-in_err-value-clause-refus
 returns-in_err-value-clause-refused g c =
     exit_with c.from_residual-in_err-value.result (of_read c.in_err-value.field-0.0) _ c.from_residual-in_err-value.ensures
     (unread_failed c.args.self.now (whole (point (record_key c.args.self.now.prefix c.args.primary_key.now) ∷ [])) (point c.in_ok-key.key) (point (record_key c.args.self.now.prefix c.args.primary_key.now)) c.in_err-value.field-0.0
-    (ap point (c.in_ok-key.ensures.key ∙ ap (λ p. record_key p c.args.primary_key.now) c.prefix.ensures.prefix)) refl c.in_err-value.ensures.kept c.in_err-value.ensures.refused)
+    (ap point (c.in_ok-key.ensures.key ∙ ap (λ p. record_key p c.args.primary_key.now) c.prefix.ensures.prefix)) (λ m. refl) c.in_err-value.ensures.kept c.in_err-value.ensures.refused)

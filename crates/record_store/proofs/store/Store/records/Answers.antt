@@ -44,7 +44,7 @@ returns-in_err-pairs-clause-refused g c =
     (records_service c.args.self.now c.in_ok-definition.definition.now.number) (of_read c.in_err-pairs.field-0.0)
     (ap (λ t. done_with (records_service c.args.self.now) (number_of t)) c.in_ok-definition.ensures.found)
     (unread_failed c.args.self.now (whole (type_range c.args.self.now.prefix c.in_ok-definition.definition.now.number ∷ [])) c.in_ok-range.range (type_range c.args.self.now.prefix c.in_ok-definition.definition.now.number) c.in_err-pairs.field-0.0
-    (c.in_ok-range.ensures ∙ ap (λ p. type_range p c.in_ok-definition.definition.now.number) c.prefix.ensures.prefix) refl c.in_err-pairs.ensures.kept c.in_err-pairs.ensures.refused))
+    (c.in_ok-range.ensures ∙ ap (λ p. type_range p c.in_ok-definition.definition.now.number) c.prefix.ensures.prefix) (λ m. refl) c.in_err-pairs.ensures.kept c.in_err-pairs.ensures.refused))
 
 pub returns-in_err-place-clause-refused : goal.returns-in_err-place-clause-refused
 returns-in_err-place-clause-refused g c =
