@@ -12,3 +12,6 @@ pub mod Records
 pub mod Same
 pub mod Stored
 pub mod Order
+pub mod Entries
+pub mod Layout
+pub mod Index

@@ -9,6 +9,7 @@ use Rattle.metadata.specs.declared.definition.TypeDefinition.{TypeDefinition}
 use Rattle.metadata.specs.declared.index.IndexDefinition.{IndexDefinition}
 use Rattle.metadata.specs.declared.index.State.{State}
 use Rattle.metadata.specs.declared.index.State.TheVariants.{Readable, WriteOnly, Disabled}
+use Rattle.metadata.specs.Index.{is_readable, listed_state}
 use Rattle.metadata.specs.Record.{Record}
 use Rattle.metadata.specs.Records.{of_type}
 use Rattle.metadata.specs.Schema.{find_type}
@@ -20,7 +21,7 @@ use Rattle.query.specs.Query.{Query, Allows}
 use Rattle.planner.specs.Meaning.{rows_of}
 use Rattle.planner.specs.Plan.{Plan}
 use Rattle.planner.specs.Right.{Extends, IsRightFor, indexes_of}
-use Rattle.planner.specs.Rules.{MayBeUsed, is_readable, state_of}
+use Rattle.planner.specs.Rules.{MayBeUsed}
 use Rattle.planner.proofs.Lists.{all_each, member_contained}
 use Rattle.planner.proofs.Residual.{each_member}
 use Rattle.plan_exec.specs.Scannable.{AreStatesOf, IsScannable}
@@ -31,7 +32,7 @@ pub scannable : (store : Store) (states : List (ℕ × State)) (t : TypeDefiniti
 scannable store states t i told may = record {
   there = may.in_schema;
   over = may.of_type;
-  readable = told i.number Readable (is_told (state_of states i.number) may.readable);
+  readable = told i.number Readable (is_told (listed_state states i.number) may.readable);
 }
   where
     is_told : (o : Option State) → option_map_or is_readable o false ≡ true → o ≡ Some Readable

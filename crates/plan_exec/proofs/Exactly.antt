@@ -5,12 +5,11 @@ use Rattle.std.specs.FinMap.{entries}
 use Rattle.std.specs.FinMap.Entries.{find}
 use Rattle.std.proofs.Common.{ap, sym, ◌∙◌, subst, append_assoc}
 use Rattle.std.specs.declared.cmp.Ordering.TheVariants.{Less}
-use Rattle.std.proofs.lemmas.List.{map-append}
 use Rattle.std.proofs.lemmas.Bool.{eqb-true, eq-eqb}
 use Rattle.std.proofs.lemmas.Option.{same_Some}
 use Rattle.tuple_codec.specs.Item.{int}
 use Rattle.tuple_codec.specs.Spelling.{item_spelling, outer, spelling}
-use Rattle.tuple_codec.specs.Subspace.{BeginsWith, key_of}
+use Rattle.tuple_codec.specs.Subspace.{BeginsWith}
 use Rattle.kv_core.specs.Bytes.{key_cmp}
 use Rattle.kv_core.specs.Map.{Map}
 use Rattle.kv_core.proofs.Stored.{sorted_entries}
@@ -18,25 +17,21 @@ use Rattle.metadata.specs.declared.definition.TypeDefinition.{TypeDefinition}
 use Rattle.metadata.specs.declared.index.IndexDefinition.{IndexDefinition}
 use Rattle.metadata.specs.declared.index.State.{State}
 use Rattle.metadata.specs.declared.index.State.TheVariants.{Readable}
-use Rattle.metadata.specs.Cell.{cells_at, item_of, items_of}
+use Rattle.metadata.specs.Cell.{items_of}
+use Rattle.metadata.specs.Entries.{entries as entries_in, entry_items, entry_of}
+use Rattle.metadata.specs.Layout.{Pair, entries_prefix, entry_pair, entry_pairs, place, record_pair, records_prefix}
 use Rattle.metadata.specs.Record.{Record, key_cells, record_in}
 use Rattle.metadata.specs.Records.{IsStorable, of_type}
 use Rattle.metadata.specs.Stored.{IsTypeOf}
 use Rattle.metadata.proofs.StoredApart.{number_small}
 use Rattle.index_maint.specs.Changes.{HasEntries}
-use Rattle.index_maint.specs.Entries.{entries as entries_in, entry_of}
-use Rattle.index_maint.specs.Layout.{entries_prefix}
-use Rattle.index_maint.specs.Layout as layout
 use Rattle.index_maint.proofs.Places.{begins_before, parts_apart}
 use Rattle.record_store.specs.Holds.{HasIndex, Holds, HoldsStore, IsOfSchema}
-use Rattle.record_store.specs.Layout.{place}
 use Rattle.record_store.specs.Store.{Store, state_of}
 use Rattle.record_store.proofs.Held.{rising}
 use Rattle.record_store.proofs.Keys.{record_key_is}
 use Rattle.record_store.proofs.RecordPairs.{one_type, own_type}
 use Rattle.planner.specs.Exact.{AreThose, IsExact, IsOf}
-use Rattle.planner.specs.Layout.{Pair, entries_key, entry_cells, entry_pair, primary_cells, record_pair, records_key}
-use Rattle.planner.specs.Pack.{pack}
 use Rattle.planner.proofs.CodecLaws.{begins_so, so_begins}
 use Rattle.planner.proofs.Lists.{Pairwise, contains_member, member_at, member_contained}
 use Rattle.planner.proofs.Residual.{Member, each_member, member_where}
@@ -77,10 +72,10 @@ module _ (prefix : List ℕ) (m : Map) (store : Store) (holds : HoldsStore prefi
       }
 
   -- a record's key begins with that of its type
-  key_begins : (r : Record) → BeginsWith (key_of prefix (int (pos 1) ∷ int (pos r.definition.number) ∷ [])) (record_pair prefix r).0
+  key_begins : (r : Record) → BeginsWith (records_prefix prefix r.definition.number) (record_pair prefix r).0
   key_begins r = (spelling (items_of (key_cells r)), joined prefix (item_spelling outer (int (pos 1))) (item_spelling outer (int (pos r.definition.number))) (spelling (items_of (key_cells r))))
 
-  behind_place : (n : ℕ) (k : List ℕ) → BeginsWith (key_of prefix (int (pos 1) ∷ int (pos n) ∷ [])) k → BeginsWith (place prefix 1) k
+  behind_place : (n : ℕ) (k : List ℕ) → BeginsWith (records_prefix prefix n) k → BeginsWith (place prefix 1) k
   behind_place n k b = begins_before (place prefix 1) (spelling (int (pos n) ∷ [])) k (subst (λ w. BeginsWith w k) (sym (record_key_is prefix (int (pos n) ∷ []))) b)
 
   pairs_rise : Pairwise (λ p q. key_cmp p.0 q.0 ≡ Less) record_pairs
@@ -92,37 +87,33 @@ module _ (prefix : List ℕ) (m : Map) (store : Store) (holds : HoldsStore prefi
       let b = find_member record_pairs pairs_rise q l in
       λ i. (same i, same_Some q.1 p.1 (sym b ∙ ap (λ x. find key_cmp x record_pairs) same ∙ a) i)
 
-  records_are : AreThose (records_key prefix t) (record_pair prefix) its_records (entries m)
+  records_are : AreThose (records_prefix prefix t.number) (record_pair prefix) its_records (entries m)
   records_are p = (forth, back)
     where
-      forth : Contains (entries m) p × IsTrue (starts_with nat_eq p.0 (records_key prefix t)) → Any (λ r. p ≡ record_pair prefix r) its_records
+      forth : Contains (entries m) p × IsTrue (starts_with nat_eq p.0 (records_prefix prefix t.number)) → Any (λ r. p ≡ record_pair prefix r) its_records
       forth (c, s) =
-          let b = so_begins (records_key prefix t) p.0 s in
+          let b = so_begins (records_prefix prefix t.number) p.0 s in
           let k = just_these m (place prefix 1) record_pairs holds.records p (behind_place t.number p.0 b) (member_contained p (entries m) c) in
           let w = member_of_map (record_pair prefix) store.records p k in
           let same = parts_apart prefix p.0 (int (pos 1)) w.0.definition.number t.number [] [] (number_small store.schema w.0.definition holds.lawful.schema (typed w.0 w.1).0) small
-          (subst (λ x. BeginsWith (key_of prefix (int (pos 1) ∷ int (pos w.0.definition.number) ∷ [])) x) (ap (λ x. x.0) (sym w.2)) (key_begins w.0)) b in
+          (subst (λ x. BeginsWith (records_prefix prefix w.0.definition.number) x) (ap (λ x. x.0) (sym w.2)) (key_begins w.0)) b in
           let c2 = contains_member w.0 its_records (member_where (λ (x : Record). x.definition.number == t.number) w.0 store.records w.1 (eq-eqb w.0.definition.number t.number same)) in
           (c2.0, w.0, c2.1, c2.2, w.2)
 
-      back : Any (λ r. p ≡ record_pair prefix r) its_records → Contains (entries m) p × IsTrue (starts_with nat_eq p.0 (records_key prefix t))
+      back : Any (λ r. p ≡ record_pair prefix r) its_records → Contains (entries m) p × IsTrue (starts_with nat_eq p.0 (records_prefix prefix t.number))
       back a =
           let r : Record = a.1 in
           let k : Member r its_records = member_at a.1 its_records a.0 a.2 a.3 in
           let o = own r k in
-          let b : BeginsWith (records_key prefix t) p.0 = subst (λ x. BeginsWith (records_key prefix t) x) (ap (λ x. x.0) (sym a.4)) (subst (λ d. BeginsWith (key_of prefix (int (pos 1) ∷ int (pos d.number) ∷ [])) (record_pair prefix r).0) o.1 (key_begins r)) in
+          let b : BeginsWith (records_prefix prefix t.number) p.0 = subst (λ x. BeginsWith (records_prefix prefix t.number) x) (ap (λ x. x.0) (sym a.4)) (subst (λ d. BeginsWith (records_prefix prefix d.number) (record_pair prefix r).0) o.1 (key_begins r)) in
           let there_is : Member p record_pairs = subst (λ x. Member x record_pairs) (sym a.4) (member_map (record_pair prefix) store.records r o.0) in
           let in_map = all_these m (place prefix 1) record_pairs holds.records p (behind_place t.number p.0 b) there_is (one_each p there_is) in
-          (contains_member p (entries m) in_map, begins_so (records_key prefix t) p.0 b)
-
-  -- the planner's pair of an entry is that of the store
-  entry_same : (i : IndexDefinition) (r : Record) → entry_pair prefix i r ≡ layout.entry_pair prefix i.number (entry_of i r)
-  entry_same i r = λ k. (entries_key prefix i ++ spelling (map-append item_of (cells_at r.cells i.columns) (primary_cells r) k), [])
+          (contains_member p (entries m) in_map, begins_so (records_prefix prefix t.number) p.0 b)
 
   readable_has : (s : State) (i : IndexDefinition) → s ≡ Readable → HasIndex prefix store.records m i s → HasEntries prefix i store.records m
   readable_has s i same h = subst (HasIndex prefix store.records m i) same h
 
-  entries_are : (i : IndexDefinition) → IsScannable store t i → AreThose (entries_key prefix i) (entry_pair prefix i) its_records (entries m)
+  entries_are : (i : IndexDefinition) → IsScannable store t i → AreThose (entries_prefix prefix i.number) (λ r. entry_pair prefix i.number (entry_of i r)) its_records (entries m)
   entries_are i scan p = (forth, back)
     where
       has : HasEntries prefix i store.records m
@@ -130,31 +121,31 @@ module _ (prefix : List ℕ) (m : Map) (store : Store) (holds : HoldsStore prefi
           (each_member (λ j. HasIndex prefix store.records m j (state_of store j.number)) holds.entries (member_contained i store.schema.indexes scan.there))
 
       its_pairs : List Pair
-      its_pairs = layout.entry_pairs prefix i store.records
+      its_pairs = entry_pairs prefix i store.records
 
       same_records : of_type i.type_number store.records ≡ its_records
       same_records = ap (λ n. of_type n store.records) scan.over
 
       no_value : (q : Pair) → Member q its_pairs → q.1 ≡ []
-      no_value q k = ap (λ x. x.1) (member_of_map (layout.entry_pair prefix i.number) (entries_in i store.records) q k).2
+      no_value q k = ap (λ x. x.1) (member_of_map (entry_pair prefix i.number) (entries_in i store.records) q k).2
 
-      forth : Contains (entries m) p × IsTrue (starts_with nat_eq p.0 (entries_key prefix i)) → Any (λ r. p ≡ entry_pair prefix i r) its_records
+      forth : Contains (entries m) p × IsTrue (starts_with nat_eq p.0 (entries_prefix prefix i.number)) → Any (λ r. p ≡ entry_pair prefix i.number (entry_of i r)) its_records
       forth (c, s) =
-          let k = just_these m (entries_prefix prefix i.number) its_pairs has p (so_begins (entries_key prefix i) p.0 s) (member_contained p (entries m) c) in
-          let w = member_of_map (layout.entry_pair prefix i.number) (entries_in i store.records) p k in
+          let k = just_these m (entries_prefix prefix i.number) its_pairs has p (so_begins (entries_prefix prefix i.number) p.0 s) (member_contained p (entries m) c) in
+          let w = member_of_map (entry_pair prefix i.number) (entries_in i store.records) p k in
           let v = member_of_map (entry_of i) (of_type i.type_number store.records) w.0 w.1 in
           let c2 = contains_member v.0 its_records (subst (λ rs. Member v.0 rs) same_records v.1) in
-          (c2.0, v.0, c2.1, c2.2, w.2 ∙ ap (layout.entry_pair prefix i.number) v.2 ∙ sym (entry_same i v.0))
+          (c2.0, v.0, c2.1, c2.2, w.2 ∙ ap (entry_pair prefix i.number) v.2)
 
-      back : Any (λ r. p ≡ entry_pair prefix i r) its_records → Contains (entries m) p × IsTrue (starts_with nat_eq p.0 (entries_key prefix i))
+      back : Any (λ r. p ≡ entry_pair prefix i.number (entry_of i r)) its_records → Contains (entries m) p × IsTrue (starts_with nat_eq p.0 (entries_prefix prefix i.number))
       back a =
           let r : Record = a.1 in
           let k : Member r (of_type i.type_number store.records) = subst (λ rs. Member r rs) (sym same_records) (member_at a.1 its_records a.0 a.2 a.3) in
-          let b : BeginsWith (entries_key prefix i) p.0 = (pack (entry_cells i r), ap (λ x. x.0) a.4) in
+          let b : BeginsWith (entries_prefix prefix i.number) p.0 = (spelling (entry_items (entry_of i r)), ap (λ x. x.0) a.4) in
           let there_is : Member p its_pairs =
-          subst (λ x. Member x its_pairs) (sym (a.4 ∙ entry_same i r)) (member_map (layout.entry_pair prefix i.number) (entries_in i store.records) (entry_of i r) (member_map (entry_of i) (of_type i.type_number store.records) r k)) in
+          subst (λ x. Member x its_pairs) (sym a.4) (member_map (entry_pair prefix i.number) (entries_in i store.records) (entry_of i r) (member_map (entry_of i) (of_type i.type_number store.records) r k)) in
           let in_map = all_these m (entries_prefix prefix i.number) its_pairs has p b there_is (λ q l same j. (same j, (no_value q l ∙ sym (no_value p there_is)) j)) in
-          (contains_member p (entries m) in_map, begins_so (entries_key prefix i) p.0 b)
+          (contains_member p (entries m) in_map, begins_so (entries_prefix prefix i.number) p.0 b)
 
 -- EXACT: a map that holds a store is exact for a type of its schema and for readable indexes over it
 pub exactly : (prefix : List ℕ) (m : Map) (store : Store) (t : TypeDefinition) (indexes : List IndexDefinition) → Holds prefix m (Some store) → IsTypeOf store.schema t →

@@ -13,8 +13,8 @@ use Rattle.kv_core.specs.Bytes.{key_cmp}
 use Rattle.kv_core.specs.Map.{Map}
 use Rattle.kv_core.proofs.Lists.{is_true}
 use Rattle.kv_core.proofs.Order.{tied_keys}
+use Rattle.metadata.specs.Layout.{Pair}
 use Rattle.record_store.specs.Holds.{HasPairs}
-use Rattle.planner.specs.Layout.{Pair}
 use Rattle.planner.proofs.Lists.{Pairwise}
 use Rattle.planner.proofs.Residual.{Member, here, there}
 use Rattle.planner.proofs.Scans.{front_or_later}

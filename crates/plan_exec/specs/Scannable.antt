@@ -4,8 +4,8 @@ use Rattle.metadata.specs.declared.definition.TypeDefinition.{TypeDefinition}
 use Rattle.metadata.specs.declared.index.IndexDefinition.{IndexDefinition}
 use Rattle.metadata.specs.declared.index.State.{State}
 use Rattle.metadata.specs.declared.index.State.TheVariants.{Readable}
+use Rattle.metadata.specs.Index.{listed_state}
 use Rattle.record_store.specs.Store.{Store, state_of}
-use Rattle.planner.specs.Rules as told
 
 -- the index is one of the store's over the type, and is readable
 pub record IsScannable (store : Store) (t : TypeDefinition) (i : IndexDefinition) : Type 0 where
@@ -16,4 +16,4 @@ pub record IsScannable (store : Store) (t : TypeDefinition) (i : IndexDefinition
 -- the states that are told are those of the store's indexes
 abbrev pub AreStatesOf : Store → List (ℕ × State) → Type 0
 AreStatesOf store states =
-    (number : ℕ) (state : State) → told.state_of states number ≡ Some state → state_of store number ≡ state
+    (number : ℕ) (state : State) → listed_state states number ≡ Some state → state_of store number ≡ state

@@ -10,8 +10,10 @@ use Rattle.metadata.specs.Record.{Record}
 use Rattle.metadata.specs.declared.definition.TypeDefinition.{TypeDefinition}
 use Rattle.planner.specs.Pack.{pack}
 use Rattle.query.specs.Fields.{cell_in, cell_named}
-use Rattle.planner.specs.Layout.{primary_cells}
-use Rattle.planner.specs.Layout.{Pair, records_key, record_key, record_pair, record_of, entries_key, entry_pair, entry_cells, entry_primary_key}
+use Rattle.metadata.specs.Cell.{cells_at, items_of}
+use Rattle.metadata.specs.Entries.{entry_of}
+use Rattle.metadata.specs.Layout.{Pair, entries_prefix, entry_pair, record_key, record_pair, records_prefix}
+use Rattle.planner.specs.Layout.{primary_cells, record_of, entry_primary_key}
 use Rattle.query.specs.declared.filter.Operator.TheVariants.{Equal, NotEqual, Less, AtMost, Greater, AtLeast}
 use Rattle.query.specs.Filter.{Filter, compare, null_field, starts, all_of, some_of, negation, filters_of}
 use Rattle.query.specs.Truth.{selects}
@@ -27,6 +29,10 @@ use Rattle.planner.proofs.Residual.{HasValue, if_some, Member, each_member, each
 use Rattle.planner.proofs.Nodes.{Gives, IsKeyed, filtered_gives}
 use Rattle.planner.proofs.Scans.{Holds, Differ, front_or_later}
 use Rattle.planner.proofs.Fetches.{AreKeysOf, fetch_gives, scan_gives, index_scan_gives}
+
+-- the cells of a record's entry: the columns, then the primary key
+abbrev pub entry_cells : IndexDefinition → Record → List Cell
+entry_cells i r = cells_at r.cells i.columns ++ primary_cells r
 
 -- ---- what a match says is stored
 
@@ -149,13 +155,13 @@ module _ (prefix : List ℕ) (pairs : List Pair) (t : TypeDefinition) (records :
 
 -- what a map, a codec and a checked type give of one path: its keys are stored cells, and its columns go by their names
 pub record IsGoodIndex (IsStored : Cell → Type 0) (prefix : List ℕ) (pairs : List Pair) (t : TypeDefinition) (records : List Record) (i : IndexDefinition) : Type 0 where
-  pub holds : Holds (entries_key prefix i) pairs records (entry_pair prefix i) (λ r. pack (entry_cells i r)) (entry_primary_key prefix t i) primary_cells
+  pub holds : Holds (entries_prefix prefix i.number) pairs records (λ r. entry_pair prefix i.number (entry_of i r)) (λ r. pack (entry_cells i r)) (entry_primary_key prefix t i) primary_cells
   pub stored : (r : Record) → Member r records → Each IsStored (entry_cells i r)
   pub named : (r : Record) → Member r records → map (cell_in r) i.columns ≡ map (cell_named r) (map (name_at t) i.columns)
 
 -- the same of the records themselves
 pub record IsGoodType (IsStored : Cell → Type 0) (prefix : List ℕ) (pairs : List Pair) (t : TypeDefinition) (records : List Record) : Type 0 where
-  pub holds : Holds (records_key prefix t) pairs records (record_pair prefix) (λ r. pack (map (cell_in r) t.key)) (record_of prefix t) (λ r. r)
+  pub holds : Holds (records_prefix prefix t.number) pairs records (record_pair prefix) (λ r. pack (map (cell_in r) t.key)) (record_of prefix t) (λ r. r)
   pub loads : (r : Record) → Member r records → fetched prefix pairs t (primary_cells r) ≡ Some r
   pub keyed : IsKeyed records
   pub keys_are : (r : Record) → Member r records → primary_cells r ≡ Int (pos t.number) ∷ map (cell_in r) t.key
@@ -205,7 +211,7 @@ module _ (prefix : List ℕ) (pairs : List Pair) (t : TypeDefinition) (records :
       let m : Match = match_of t cs (along i) in
       let p : Record → Bool = λ r. is_within (matched_range m) (pack (entry_cells i r)) in
       let k : (keys : List (List Cell)) × (scanned_keys prefix pairs t (index_scan i m reversed) ≡ Some keys) × AreKeysOf records p keys × Differ (λ k. k) keys =
-      index_scan_gives prefix pairs t records good.keyed (index_scan i m reversed) (λ r. pack (entry_cells i r)) (entry_pair prefix i) g.holds in
+      index_scan_gives prefix pairs t records good.keyed (index_scan i m reversed) (λ r. pack (entry_cells i r)) (λ r. entry_pair prefix i.number (entry_of i r)) g.holds in
       gives_same prefix pairs t records (residual (others (used m) cs) (path_scan (along i) m reversed))
       (λ r. p r && list_all (λ c. selects c.1 r) (others (used m) cs)) (λ r. list_all (λ c. selects c.1 r) cs) (λ r n. along_exact i g r n)
       (residual_gives prefix pairs t records (others (used m) cs) (path_scan (along i) m reversed) p
@@ -221,4 +227,4 @@ module _ (prefix : List ℕ) (pairs : List Pair) (t : TypeDefinition) (records :
       (λ r. p r && list_all (λ c. selects c.1 r) (others (used m) cs)) (λ r. list_all (λ c. selects c.1 r) cs) (λ r n. primary_exact r n)
       (residual_gives prefix pairs t records (others (used m) cs) (path_scan primary m reversed) p
       (scan_gives prefix pairs t records (record { range = matched_range m; reverse = reversed }) (λ r. pack (map (cell_in r) t.key)) (record_pair prefix) good.holds
-      (λ a b e. ap (λ k. record_key prefix k) e)))
+      (λ a b e. ap (λ k. record_key prefix (items_of k)) e)))

@@ -11,7 +11,7 @@ use Rattle.std.proofs.lemmas.List.Sums.{position_or_len_is}
 use Rattle.std.specs.Cmp.{first_so, second_so}
 use Rattle.std.proofs.lemmas.Slice.Eq.{bytes_eq-Decides}
 use Rattle.std.proofs.lemmas.Bool.Decides.{Decides-ltb}
-use Rattle.std.proofs.lemmas.List.{get_or-map, length-map}
+use Rattle.std.proofs.lemmas.List.{get_or-map, length-map, map-append}
 use Rattle.std.specs.declared.cmp.Ordering.{Ordering}
 use Rattle.std.specs.declared.cmp.Ordering.TheVariants.{Less, Equal, Greater}
 use Rattle.std.specs.Ordering.{is_lt, is_eq, ordering_reverse}
@@ -21,17 +21,19 @@ use Rattle.metadata.specs.declared.cells.Cell.TheVariants.{Null, Int}
 use Rattle.metadata.specs.declared.definition.Field.{Field}
 use Rattle.metadata.specs.declared.cells.Kind.TheVariants as kind
 use Rattle.metadata.specs.declared.index.IndexDefinition.{IndexDefinition}
-use Rattle.metadata.specs.Record.{Record}
+use Rattle.metadata.specs.Record.{Record, primary_key}
 use Rattle.metadata.specs.declared.definition.TypeDefinition.{TypeDefinition}
 use Rattle.tuple_codec.specs.Order.{bytes_cmp}
+use Rattle.tuple_codec.specs.Spelling.{spelling}
 use Rattle.metadata.specs.Cell.{IsCell}
 use Rattle.planner.specs.Pack.{pack, pack_cell, unpack}
 use Rattle.query.specs.Fields.{cell_in, cell_named}
 use Rattle.metadata.specs.Schema.{place_of}
-use Rattle.planner.specs.Layout.{primary_cells}
-use Rattle.planner.specs.Layout.{Pair, records_key, record_key, record_pair, record_of, keyed, entries_key, entry_pair, entry_cells, entry_primary_key, column_kinds, is_entry, is_primary_key}
+use Rattle.metadata.specs.Entries.{entry_of}
+use Rattle.metadata.specs.Layout.{Pair, entries_prefix, entry_pair, record_key, record_pair, records_prefix}
+use Rattle.planner.specs.Layout.{primary_cells, record_of, keyed, entry_primary_key, column_kinds, is_entry, is_primary_key}
 use Rattle.std.specs.Result.{result_ok}
-use Rattle.metadata.specs.Cell.{all_fit, cell_at, cells_at, is_word}
+use Rattle.metadata.specs.Cell.{all_fit, cell_at, cells_at, is_word, item_of}
 use Rattle.metadata.specs.Record.{record_in}
 use Rattle.planner.proofs.Made.{made_type, made_fits, fit_at}
 use Rattle.planner.specs.Match.{name_at}
@@ -40,7 +42,7 @@ use Rattle.planner.specs.Exact.{IsOf, AreThose, IsExact}
 use Rattle.planner.proofs.Ranges.{Each}
 use Rattle.planner.proofs.Residual.{Member, each_member, each_map, each_append}
 use Rattle.planner.proofs.Scans.{Holds, Differ, front_or_later}
-use Rattle.planner.proofs.Paths.{IsGoodIndex, IsGoodType}
+use Rattle.planner.proofs.Paths.{IsGoodIndex, IsGoodType, entry_cells}
 use Rattle.planner.proofs.Lists.{member_at, member_contained, contains_member, all_each, Pairwise}
 
 -- what is asked of the codec, besides the order of packs: packs of cells are read back
@@ -159,6 +161,10 @@ pack_append : (xs ys : List Cell) → pack (xs ++ ys) ≡ pack xs ++ pack ys
 pack_append [] ys = refl
 pack_append (x ∷ xs) ys = ap (λ w. pack_cell x ++ w) (pack_append xs ys) ∙ sym (append_assoc (pack_cell x) (pack xs) (pack ys))
 
+-- the key of a record's entry is the pack of its cells behind the index's prefix
+entry_begins : (prefix : List ℕ) (i : IndexDefinition) (r : Record) → (entry_pair prefix i.number (entry_of i r)).0 ≡ entries_prefix prefix i.number ++ pack (entry_cells i r)
+entry_begins prefix i r = ap (λ items. entries_prefix prefix i.number ++ spelling items) (sym (map-append item_of (cells_at r.cells i.columns) (primary_cells r)))
+
 module _ (reads_back : ReadsBack IsCell) (prefix : List ℕ) (pairs : List Pair) (t : TypeDefinition) (indexes : List IndexDefinition) (records : List Record) (exact : IsExact prefix pairs t indexes records)
     (n : ℕ) (named : AreNamed t n) (key_in : All (λ p. p < n) t.key) (number_fits : is_word (pos t.number) ≡ true) where
   of_type : (r : Record) → Member r records → IsOf t r
@@ -181,23 +187,23 @@ module _ (reads_back : ReadsBack IsCell) (prefix : List ℕ) (pairs : List Pair)
   record_reads r m =
       ap (λ o. option_and_then back (option_and_then (λ cells. result_ok (record_in t cells)) o)) (reads_back r.cells (its_cells_stored r m))
       ∙ ap (λ o. option_and_then back (result_ok o)) (of_type r m).made
-      ∙ ap (λ b. if b then Some r else None) (text_itself (record_key prefix (primary_cells r)))
+      ∙ ap (λ b. if b then Some r else None) (text_itself (record_key prefix (primary_key r)))
     where
       back : Record → Option Record
-      back = keyed prefix (record_key prefix (primary_cells r))
+      back = keyed prefix (record_key prefix (primary_key r))
 
-  record_keys : (r : Record) → Member r records → (record_pair prefix r).0 ≡ records_key prefix t ++ pack (map (cell_in r) t.key)
+  record_keys : (r : Record) → Member r records → (record_pair prefix r).0 ≡ records_prefix prefix t.number ++ pack (map (cell_in r) t.key)
   record_keys r m =
       ap (λ d. prefix ++ pack (Int (pos 1) ∷ Int (pos d.number) ∷ map (cell_in r) d.key)) (its_type r m)
       ∙ ap (λ w. prefix ++ w) (pack_append (Int (pos 1) ∷ Int (pos t.number) ∷ []) (map (cell_in r) t.key))
       ∙ sym (append_assoc prefix (pack (Int (pos 1) ∷ Int (pos t.number) ∷ [])) (pack (map (cell_in r) t.key)))
 
-  holds_records : Holds (records_key prefix t) pairs records (record_pair prefix) (λ r. pack (map (cell_in r) t.key)) (record_of prefix t) (λ r. r)
-  holds_records = holds_those (records_key prefix t) pairs records (record_pair prefix) (λ r. pack (map (cell_in r) t.key)) (record_of prefix t) (λ r. r) rises exact.records_are record_keys record_reads
+  holds_records : Holds (records_prefix prefix t.number) pairs records (record_pair prefix) (λ r. pack (map (cell_in r) t.key)) (record_of prefix t) (λ r. r)
+  holds_records = holds_those (records_prefix prefix t.number) pairs records (record_pair prefix) (λ r. pack (map (cell_in r) t.key)) (record_of prefix t) (λ r. r) rises exact.records_are record_keys record_reads
 
   record_loads : (r : Record) → Member r records → fetched prefix pairs t (primary_cells r) ≡ Some r
   record_loads r m =
-      ap (option_and_then (λ value. record_of prefix t (record_key prefix (primary_cells r), value))) (find_member pairs rises (record_pair prefix r) (holds_records.has r m))
+      ap (option_and_then (λ value. record_of prefix t (record_key prefix (primary_key r), value))) (find_member pairs rises (record_pair prefix r) (holds_records.has r m))
       ∙ record_reads r m
 
   -- the records of an exact map, as the planner's proofs take them
@@ -225,9 +231,10 @@ module _ (reads_back : ReadsBack IsCell) (prefix : List ℕ) (pairs : List Pair)
       ((λ i. text_itself (pack (Int (pos t.number) ∷ [])) i && (fit_at t.fields r.cells fit.0 t.key (fields_in t.key (all_each (λ p. p < n) t.key key_in)) i && not (fit.1 i))))
 
   -- an entry is read back as the primary key of its record
-  entry_reads : (i : IndexDefinition) → All (λ p. p < n) i.columns → (r : Record) → Member r records → entry_primary_key prefix t i (entry_pair prefix i r) ≡ Some (primary_cells r)
+  entry_reads : (i : IndexDefinition) → All (λ p. p < n) i.columns → (r : Record) → Member r records → entry_primary_key prefix t i (entry_pair prefix i.number (entry_of i r)) ≡ Some (primary_cells r)
   entry_reads i places r m =
-      ap (λ w. option_and_then cut (unpack w)) (drop-append_seam (entries_key prefix i) (pack (entry_cells i r)))
+      ap (λ w. option_and_then cut (unpack (drop (length (entries_prefix prefix i.number)) w))) (entry_begins prefix i r)
+      ∙ ap (λ w. option_and_then cut (unpack w)) (drop-append_seam (entries_prefix prefix i.number) (pack (entry_cells i r)))
       ∙ ap (option_and_then cut) (reads_back (entry_cells i r) (entry_stored i r m))
       ∙ ap (λ b. if b then Some (drop (length i.columns) (entry_cells i r)) else None) its_entry
       ∙ ap Some behind
@@ -249,7 +256,7 @@ module _ (reads_back : ReadsBack IsCell) (prefix : List ℕ) (pairs : List Pair)
   -- the same of an index whose entries they have
   pub good_index : (i : IndexDefinition) → Contains indexes i → All (λ p. p < n) i.columns → IsGoodIndex IsCell prefix pairs t records i
   good_index i c places = record {
-    holds = holds_those (entries_key prefix i) pairs records (entry_pair prefix i) (λ r. pack (entry_cells i r)) (entry_primary_key prefix t i) primary_cells rises (exact.entries_are i c) (λ r m. refl) (entry_reads i places);
+    holds = holds_those (entries_prefix prefix i.number) pairs records (λ r. entry_pair prefix i.number (entry_of i r)) (λ r. pack (entry_cells i r)) (entry_primary_key prefix t i) primary_cells rises (exact.entries_are i c) (λ r m. entry_begins prefix i r) (entry_reads i places);
     stored = entry_stored i;
     named = λ r m. columns_named t n named r (its_type r m) i.columns (all_each (λ p. p < n) i.columns places);
   }

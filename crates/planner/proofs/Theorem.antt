@@ -16,12 +16,13 @@ use Rattle.metadata.specs.declared.index.IndexDefinition.{IndexDefinition}
 use Rattle.metadata.specs.declared.cells.Kind.{Kind}
 use Rattle.metadata.specs.declared.cells.Kind.TheVariants as kind
 use Rattle.metadata.specs.Record.{Record}
+use Rattle.metadata.specs.Index.{is_readable, is_value, listed_state}
 use Rattle.metadata.specs.Schema.{Schema}
 use Rattle.metadata.specs.declared.index.State.{State}
 use Rattle.metadata.specs.declared.definition.TypeDefinition.{TypeDefinition}
 use Rattle.metadata.specs.Order.{cells_cmp}
 use Rattle.metadata.specs.Cell.{IsCell}
-use Rattle.planner.specs.Layout.{Pair}
+use Rattle.metadata.specs.Layout.{Pair}
 use Rattle.planner.specs.Layout.{primary_cells}
 use Rattle.metadata.specs.Cell.{is_word}
 use Rattle.metadata.specs.Lawful.{IsLawfulSchema}
@@ -42,7 +43,7 @@ use Rattle.query.proofs.Truths.{selects-conjuncts}
 use Rattle.planner.specs.Match.{numbered, name_at}
 use Rattle.planner.specs.Plan.{Node}
 use Rattle.planner.specs.Planned.{is_empty, unsorted_plan, sorted_plan, planned}
-use Rattle.planner.specs.Rules.{MayBeUsed, is_value, is_readable, state_of, usable}
+use Rattle.planner.specs.Rules.{MayBeUsed, usable}
 use Rattle.planner.specs.Right.{indexes_of, IsRightFor, IsPlanFor, has_sorted_path, is_served}
 use Rattle.planner.specs.Meaning.{rows_of}
 use Rattle.planner.proofs.Ranges.{PackLaws, Each}
@@ -172,7 +173,7 @@ usable_each schema states t = each_from_members (MayBeUsed schema states t) (usa
     })
   where
     may_use : IndexDefinition → Bool
-    may_use i = is_value i.kind && i.type_number == t.number && option_map_or is_readable (state_of states i.number) false
+    may_use i = is_value i.kind && i.type_number == t.number && option_map_or is_readable (listed_state states i.number) false
 
 -- a plan scans only readable indexes by value of its type
 pub planned_usable : (schema : Schema) (states : List (ℕ × State)) (t : TypeDefinition) (q : Query) (root : Node) → planned t (usable schema states t) q ≡ Some root → Each (MayBeUsed schema states t) (indexes_of root)

@@ -13,7 +13,8 @@ use Rattle.metadata.specs.Record.{Record}
 use Rattle.metadata.specs.declared.definition.TypeDefinition.{TypeDefinition}
 use Rattle.metadata.specs.Order.{cells_cmp}
 use Rattle.planner.specs.Pack.{pack}
-use Rattle.planner.specs.Layout.{Pair, entry_pair, entry_cells}
+use Rattle.metadata.specs.Entries.{entry_of}
+use Rattle.metadata.specs.Layout.{Pair, entry_pair}
 use Rattle.query.proofs.CellLaws.{cells_cmp_total}
 use Rattle.query.specs.Filter.{Filter, compare, null_field, starts, all_of, some_of, negation, Filters, no_filters, filter as part, parts, conjuncts, conjuncts_of, nodes, nodes_of as nodes_of_parts}
 use Rattle.query.specs.Truth.{selects, truth, truth_of_all, is_true}
@@ -31,7 +32,7 @@ use Rattle.planner.proofs.Rows.{member_of_where, IsRising, in_key_order_rising}
 use Rattle.planner.proofs.Nodes.{Gives, GiveAll, none_give, more_give, union_gives, distinct_gives}
 use Rattle.planner.proofs.Scans.{Differ}
 use Rattle.planner.proofs.Fetches.{AreKeysOf, AllKeysOf, common_keys, keys_in_order, fetch_gives, index_scan_gives}
-use Rattle.planner.proofs.Paths.{enumerated, list_all-enumerated, gives_same, residual_gives, IsGoodIndex, IsGoodType, along_exact, along_gives, primary_gives}
+use Rattle.planner.proofs.Paths.{entry_cells, enumerated, list_all-enumerated, gives_same, residual_gives, IsGoodIndex, IsGoodType, along_exact, along_gives, primary_gives}
 
 -- ---- conjuncts left over
 
@@ -168,7 +169,7 @@ module _ (prefix : List ℕ) (pairs : List Pair) (t : TypeDefinition) (records :
   scans_give [] g = ([], refl, tt)
   scans_give (k ∷ ks) g =
       let h : (keys : List (List Cell)) × (scanned_keys prefix pairs t (index_scan k.0 k.1 false) ≡ Some keys) × AreKeysOf records (in_range k) keys × Differ (λ x. x) keys =
-      index_scan_gives prefix pairs t records good.keyed (index_scan k.0 k.1 false) (λ r. pack (entry_cells k.0 r)) (entry_pair prefix k.0) g.0.holds in
+      index_scan_gives prefix pairs t records good.keyed (index_scan k.0 k.1 false) (λ r. pack (entry_cells k.0 r)) (λ r. entry_pair prefix k.0.number (entry_of k.0 r)) g.0.holds in
       let f : (kss : List (List (List Cell))) × (of_each (scanned_keys prefix pairs t) (map (λ k. index_scan k.0 k.1 false) ks) ≡ Some kss) × AllKeysOf records (map in_range ks) kss = scans_give ks g.1 in
       (h.0 ∷ f.0, λ i. option_map (λ p. p.0 ∷ p.1) (option_zip (h.1 i) (f.1 i)), (h.2, f.2))
 
@@ -181,7 +182,7 @@ module _ (prefix : List ℕ) (pairs : List Pair) (t : TypeDefinition) (records :
       Gives prefix pairs t records (fetch (intersection (map (λ k. index_scan k.0 k.1 false) (k ∷ ks)))) (λ r. list_all (λ k. in_range k r) (k ∷ ks))
   intersection_gives k ks g =
       let h : (keys : List (List Cell)) × (scanned_keys prefix pairs t (index_scan k.0 k.1 false) ≡ Some keys) × AreKeysOf records (in_range k) keys × Differ (λ x. x) keys =
-      index_scan_gives prefix pairs t records good.keyed (index_scan k.0 k.1 false) (λ r. pack (entry_cells k.0 r)) (entry_pair prefix k.0) g.0.holds in
+      index_scan_gives prefix pairs t records good.keyed (index_scan k.0 k.1 false) (λ r. pack (entry_cells k.0 r)) (λ r. entry_pair prefix k.0.number (entry_of k.0 r)) g.0.holds in
       let f : (kss : List (List (List Cell))) × (of_each (scanned_keys prefix pairs t) (map (λ k. index_scan k.0 k.1 false) ks) ≡ Some kss) × AllKeysOf records (map in_range ks) kss = scans_give ks g.1 in
       let p : Record → Bool = λ r. in_range k r && list_all (λ q. q r) (map in_range ks) in
       let all : List (List Cell) = common (h.0 ∷ f.0) in

@@ -7,7 +7,8 @@ use Rattle.metadata.specs.declared.definition.TypeDefinition.{TypeDefinition}
 use Rattle.metadata.specs.Record.{Record, record_in}
 use Rattle.tuple_codec.specs.Order.{bytes_cmp}
 use Rattle.metadata.specs.Cell.{IsCell}
-use Rattle.planner.specs.Layout.{Pair, records_key, entries_key, record_pair, entry_pair}
+use Rattle.metadata.specs.Entries.{entry_of}
+use Rattle.metadata.specs.Layout.{Pair, entries_prefix, entry_pair, record_pair, records_prefix}
 
 -- a record of a type, of cells that the codec packs
 pub record IsOf (t : TypeDefinition) (r : Record) : Type 0 where
@@ -25,6 +26,6 @@ pub record IsExact (prefix : List ℕ) (pairs : List Pair) (t : TypeDefinition) 
     (records : List Record) : Type 0 where
   pub in_order : IsTrue (is_sorted bytes_cmp pairs)
   pub of_type : (r : Record) → Contains records r → IsOf t r
-  pub records_are : AreThose (records_key prefix t) (record_pair prefix) records pairs
+  pub records_are : AreThose (records_prefix prefix t.number) (record_pair prefix) records pairs
   pub entries_are : (i : IndexDefinition) → Contains indexes i →
-      AreThose (entries_key prefix i) (entry_pair prefix i) records pairs
+      AreThose (entries_prefix prefix i.number) (λ r. entry_pair prefix i.number (entry_of i r)) records pairs

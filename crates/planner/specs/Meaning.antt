@@ -8,15 +8,16 @@ use Rattle.std.specs.Ordering.{match_ordering, eq_by_cmp}
 use Rattle.std.specs.FinMap.Entries.{find}
 use Rattle.metadata.specs.declared.cells.Cell.{Cell}
 use Rattle.metadata.specs.declared.definition.TypeDefinition.{TypeDefinition}
+use Rattle.metadata.specs.Cell.{items_of}
+use Rattle.metadata.specs.Layout.{Pair, entries_prefix, record_key, records_prefix}
 use Rattle.metadata.specs.Record.{Record}
 use Rattle.tuple_codec.specs.Order.{bytes_cmp}
 use Rattle.metadata.specs.Order.{cells_cmp}
-use Rattle.planner.specs.Layout.{primary_cells}
 use Rattle.query.specs.Truth.{selects}
 use Rattle.planner.specs.Range.{KeyRange, is_within, behind}
 use Rattle.planner.specs.Plan.{Scan, IndexScan, Source, one, intersection, Node, scan, fetch, filtered, union}
 use Rattle.planner.specs.Plan.{unordered_union, distinct, Nodes, no_nodes, node, Plan}
-use Rattle.planner.specs.Layout.{Pair, records_key, entries_key, record_key, record_of, entry_primary_key}
+use Rattle.planner.specs.Layout.{entry_primary_key, primary_cells, record_of}
 
 -- what h gives of each, where it gives something of all
 abbrev pub of_each : {A B : Type 0} → (A → Option B) → List A → Option (List B)
@@ -52,11 +53,11 @@ common (keys ∷ more) = filter (λ k. list_all (list_any (eq_by_cmp cells_cmp k
 -- the pairs of the map in key order, the store's prefix and its type
 module _ (prefix : List ℕ) (pairs : List Pair) (t : TypeDefinition) where
   abbrev pub scanned : Scan → Option (List Record)
-  scanned s = of_each (record_of prefix t) (pairs_in (behind (records_key prefix t) s.range) s.reverse pairs)
+  scanned s = of_each (record_of prefix t) (pairs_in (behind (records_prefix prefix t.number) s.range) s.reverse pairs)
 
   abbrev pub scanned_keys : IndexScan → Option (List (List Cell))
   scanned_keys s = of_each (entry_primary_key prefix t s.index)
-      (pairs_in (behind (entries_key prefix s.index) s.range) s.reverse pairs)
+      (pairs_in (behind (entries_prefix prefix s.index.number) s.range) s.reverse pairs)
 
   -- the primary keys that a fetch is given
   abbrev pub source_keys : Source → Option (List (List Cell))
@@ -65,8 +66,8 @@ module _ (prefix : List ℕ) (pairs : List Pair) (t : TypeDefinition) where
 
   -- the record with a primary key
   abbrev pub fetched : List Cell → Option Record
-  fetched key = option_and_then (λ value. record_of prefix t (record_key prefix key, value))
-      (find bytes_cmp (record_key prefix key) pairs)
+  fetched key = option_and_then (λ value. record_of prefix t (record_key prefix (items_of key), value))
+      (find bytes_cmp (record_key prefix (items_of key)) pairs)
 
   abbrev mutual
     -- the records that a node gives, in order

@@ -9,7 +9,7 @@ use Rattle.metadata.specs.Record.{Record}
 use Rattle.metadata.specs.Schema.{Schema}
 use Rattle.metadata.specs.declared.index.State.{State}
 use Rattle.metadata.specs.declared.definition.TypeDefinition.{TypeDefinition}
-use Rattle.planner.specs.Layout.{Pair}
+use Rattle.metadata.specs.Layout.{Pair}
 use Rattle.query.specs.Filter.{conjuncts}
 use Rattle.query.specs.Query.{Query, Allows}
 use Rattle.metadata.specs.Schema.{find_type}

@@ -1,9 +1,10 @@
 //! The plan of a query.
 ghost use Rattle.std.specs.Prelude.{◌≡◌, ◌++◌, ◌==◌, ◌&&◌, false, None, Some, filter, map, option_map, IfOk, OnOk};
 ghost use Rattle.std.specs.Option.{option_map_or};
+ghost use Rattle.metadata.specs.Index.{is_readable, is_value, listed_state};
 ghost use Rattle.planner.specs.Match.{along};
 ghost use Rattle.planner.specs.Planned.{matched_paths};
-ghost use Rattle.planner.specs.Rules.{is_readable, is_value, state_of, usable};
+ghost use Rattle.planner.specs.Rules.{usable};
 ghost use Rattle.planner.specs.View.{conjunct_of, match_of, matched_of, path_of};
 
 use crate::longest::{Matched, Path};
@@ -14,7 +15,7 @@ use std::alloc::{AllocError, Global};
 
 /// The state of the index with this number.
 fn state_of(states: &[(u64, State)], number: u64) -> Option<State>
-    ensures { result ≡ state_of states.now number }
+    ensures { result ≡ listed_state states.now number }
 {
     match states {
         [] => None,
@@ -31,7 +32,7 @@ fn state_of(states: &[(u64, State)], number: u64) -> Option<State>
 /// Whether an index may be used for a type.
 fn may_use(index: &IndexDefinition, states: &[(u64, State)], t: &TypeDefinition) -> bool
     ensures { result ≡ (is_value index.now.kind && index.now.type_number == t.now.number
-        && option_map_or is_readable (state_of states.now index.now.number) false) }
+        && option_map_or is_readable (listed_state states.now index.now.number) false) }
 {
     let by_value = match index.kind {
         IndexKind::Value => true,
@@ -53,7 +54,7 @@ fn add_usable<'a>(
 ) -> Result<(), AllocError>
     ensures { OnOk result (map (λ i. i.now) into.new.items ≡ map (λ i. i.now) into.old.items
         ++ filter (λ i. is_value i.kind && i.type_number == t.now.number
-        && option_map_or is_readable (state_of states.now i.number) false) indexes.now) }
+        && option_map_or is_readable (listed_state states.now i.number) false) indexes.now) }
 {
     match indexes {
         [] => Ok(()),

@@ -10,11 +10,12 @@ use Rattle.kv_core.specs.declared.change.Mutation.{Mutation}
 use Rattle.metadata.specs.declared.index.IndexDefinition.{IndexDefinition}
 use Rattle.metadata.specs.declared.index.State.{State}
 use Rattle.metadata.specs.declared.index.State.TheVariants.{Readable}
+use Rattle.metadata.specs.Index.{is_readable}
 use Rattle.metadata.specs.Record.{Record}
 use Rattle.index_maint.specs.Changes.{value_changes}
 use Rattle.record_store.specs.Store.{state_in}
 use Rattle.record_store.specs.Call.{Opened}
-use Rattle.record_store.specs.IndexWrites.{index_writes, is_readable, one_index_writes, store_of}
+use Rattle.record_store.specs.IndexWrites.{index_writes, one_index_writes, store_of}
 use Rattle.record_store.proofs.IndexedRecords.{writes_are}
 
 -- ---- states

@@ -11,6 +11,7 @@ use Rattle.kv_core.specs.declared.change.Mutation.TheVariants.{Set, ClearRange}
 use Rattle.metadata.specs.declared.index.IndexDefinition.{IndexDefinition}
 use Rattle.metadata.specs.declared.index.State.{State}
 use Rattle.metadata.specs.declared.index.State.TheVariants.{Readable, WriteOnly, Disabled}
+use Rattle.metadata.specs.Index.{is_readable}
 use Rattle.metadata.specs.Record.{Record, key_cells, primary_key}
 use Rattle.metadata.specs.Records.{IsStorable, record_at}
 use Rattle.index_maint.specs.Changes.{value_changes}
@@ -22,7 +23,7 @@ use Rattle.index_maint.proofs.Several.{AreApart, all_leave, each_follows}
 use Rattle.record_store.specs.Store.{Store, removed, saved, state_of}
 use Rattle.record_store.specs.Layout.{record_key, record_value}
 use Rattle.record_store.specs.Holds.{HasIndex, Holds, IsNoEntry, IsOfSchema}
-use Rattle.record_store.specs.IndexWrites.{index_writes, is_readable, readable_indexes, remove_writes, save_writes}
+use Rattle.record_store.specs.IndexWrites.{index_writes, readable_indexes, remove_writes, save_writes}
 use Rattle.record_store.proofs.Changed.{removed_by, saved_by}
 use Rattle.record_store.proofs.Kept.{clear_leaves, kept_index, kept_indexes, other_place, set_leaves}
 use Rattle.record_store.proofs.States.{schema_apart}

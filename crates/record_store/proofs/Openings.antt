@@ -18,6 +18,7 @@ use Rattle.metadata.specs.declared.index.IndexKind.{IndexKind}
 use Rattle.metadata.specs.declared.index.IndexKind.TheVariants.{Value, Count, Sum}
 use Rattle.metadata.specs.declared.index.State.{State}
 use Rattle.metadata.specs.declared.index.State.TheVariants.{Disabled}
+use Rattle.metadata.specs.Index.{is_value}
 use Rattle.metadata.specs.Lawful.{IsLawfulSchema}
 use Rattle.metadata.specs.Schema.{Schema}
 use Rattle.metadata.specs.Written.{schema_bytes}
@@ -30,7 +31,7 @@ use Rattle.record_store.specs.Holds.{HasPlainIndexes, Holds, IsListed, IsPlain}
 use Rattle.record_store.specs.Form.{IsDisabledOf, IsFirstBad, IsOpeningPair, IsSchemaPair, IsStatePair, read_in}
 use Rattle.record_store.specs.Opening.{HasSchema, IsOpenFailure, IsOpened, IsThereAs, IsUnopened, opening_reach}
 use Rattle.record_store.proofs.Stopping.{all_begin, error_behind, error_more}
-use Rattle.record_store.specs.Reading.{AreOfNoSchema, AreStates, HasNotRead, HaveNoStates, IsBadSchema, IsBadStateAmong, IsNoSchema, IsNoState, IsReadError, IsSchema, is_value}
+use Rattle.record_store.specs.Reading.{AreOfNoSchema, AreStates, HasNotRead, HaveNoStates, IsBadSchema, IsBadStateAmong, IsNoSchema, IsNoState, IsReadError, IsSchema}
 use Rattle.record_store.specs.Steps.{DidRead, no_memory}
 use Rattle.record_store.proofs.Held.{no_schema_held, no_schema_state, no_states, schema_held}
 use Rattle.record_store.proofs.IndexChanges.{not_readable}

@@ -1,6 +1,5 @@
 -- What calls on a store with indexes write.
-use Rattle.std.specs.Prelude.{ℕ, Bool, true, false, ◌==◌, ◌&&◌, if◌then◌else◌}
-use Rattle.std.specs.Prelude.{List, [], ◌∷◌, Option, Some, None, filter}
+use Rattle.std.specs.Prelude.{ℕ, ◌==◌, ◌&&◌, if◌then◌else◌, List, [], ◌∷◌, Option, Some, None, filter}
 use Rattle.std.specs.List.{flat_map}
 use Rattle.tuple_codec.specs.Item.{Item}
 use Rattle.kv_core.specs.Range.{point}
@@ -9,6 +8,7 @@ use Rattle.kv_core.specs.declared.change.Mutation.TheVariants.{Set, ClearRange}
 use Rattle.metadata.specs.declared.index.IndexDefinition.{IndexDefinition}
 use Rattle.metadata.specs.declared.index.State.{State}
 use Rattle.metadata.specs.declared.index.State.TheVariants.{Readable, Disabled}
+use Rattle.metadata.specs.Index.{is_readable}
 use Rattle.metadata.specs.IndexChange.{with_index, without_index}
 use Rattle.metadata.specs.Record.{Record, primary_key}
 use Rattle.metadata.specs.Records.{of_type, record_at}
@@ -17,11 +17,6 @@ use Rattle.index_maint.specs.Changes.{value_changes}
 use Rattle.record_store.specs.Store.{Store, new_state, state_in, state_of}
 use Rattle.record_store.specs.Call.{Opened}
 use Rattle.record_store.specs.Layout.{entries_range, record_key, record_value, schema_key, state_key, state_value}
-
--- the state is that of an index that may be read
-abbrev pub is_readable : State → Bool
-is_readable Readable = true
-is_readable state = false
 
 -- the store that was opened so, without its records
 abbrev pub store_of : Opened → Store

@@ -1,44 +1,27 @@
 -- The keys and values that stand for a store under its prefix.
 use Rattle.std.specs.Prelude.{ℕ, List, [], ◌∷◌, ◌++◌, pos}
-use Rattle.tuple_codec.specs.Item.{Item, int}
+use Rattle.tuple_codec.specs.Item.{int}
 use Rattle.tuple_codec.specs.Spelling.{spelling}
 use Rattle.tuple_codec.specs.Subspace.{key_of, range_begin, range_end}
 use Rattle.kv_core.specs.Range.{KeyRange}
-use Rattle.metadata.specs.declared.cells.Cell.{Cell}
 use Rattle.metadata.specs.declared.index.State.{State}
 use Rattle.metadata.specs.declared.index.State.TheVariants.{Readable, WriteOnly, Disabled}
-use Rattle.metadata.specs.Cell.{items_of}
-use Rattle.metadata.specs.Record.{Record, primary_key}
+use Rattle.metadata.specs.Layout.{Pair, entries_prefix, records_prefix}
 use Rattle.metadata.specs.Schema.{Schema}
 use Rattle.metadata.specs.Written.{schema_bytes}
-use Rattle.index_maint.specs.Layout.{entries_prefix}
-
--- what the keys of a place begin with: the store's prefix, and the pack of the place's number
-abbrev pub place : List ℕ → ℕ → List ℕ
-place prefix number = key_of prefix (int (pos number) ∷ [])
+pub use Rattle.metadata.specs.Layout.{place, record_key, record_pair, record_value}
 
 -- the key (0) of the schema
 abbrev pub schema_key : List ℕ → List ℕ
 schema_key prefix = place prefix 0
 
--- the key (1, primary key) of the record with this primary key
-abbrev pub record_key : List ℕ → List Item → List ℕ
-record_key prefix key = key_of prefix (int (pos 1) ∷ key)
-
 -- the range of the place (5), for the states of indexes
 abbrev pub states_range : List ℕ → KeyRange
 states_range prefix = record { begin = range_begin (place prefix 5); end = range_end (place prefix 5) }
 
--- the value of a record with these cells
-abbrev pub record_value : List Cell → List ℕ
-record_value cells = spelling (items_of cells)
-
--- the pair that stands for a schema, and for a record
-abbrev pub schema_pair : List ℕ → Schema → List ℕ × List ℕ
+-- the pair that stands for a schema
+abbrev pub schema_pair : List ℕ → Schema → Pair
 schema_pair prefix schema = (schema_key prefix, schema_bytes schema)
-
-abbrev pub record_pair : List ℕ → Record → List ℕ × List ℕ
-record_pair prefix r = (record_key prefix (primary_key r), record_value r.cells)
 
 -- the key (5, number) of the state of the index with this number
 abbrev pub state_key : List ℕ → ℕ → List ℕ
@@ -54,7 +37,7 @@ abbrev pub state_value : State → List ℕ
 state_value state = spelling (int (pos (state_number state)) ∷ [])
 
 -- the pair that stands for the state of the index with a number
-abbrev pub state_pair : List ℕ → ℕ × State → List ℕ × List ℕ
+abbrev pub state_pair : List ℕ → ℕ × State → Pair
 state_pair prefix listed = (state_key prefix listed.0, state_value listed.1)
 
 -- the range of the entries of the index with this number
@@ -65,7 +48,4 @@ entries_range prefix number =
 -- the range of the records of the type with this number
 abbrev pub type_range : List ℕ → ℕ → KeyRange
 type_range prefix number =
-    record {
-      begin = record_key prefix (int (pos number) ∷ []);
-      end = record_key prefix (int (pos number) ∷ []) ++ 255 ∷ [];
-    }
+    record { begin = records_prefix prefix number; end = records_prefix prefix number ++ 255 ∷ [] }

@@ -1,5 +1,5 @@
 -- What the reads of a store and the decoding of what they find establish, beneath whole calls.
-use Rattle.std.specs.Prelude.{◌≡◌, ◌⊎◌, ℕ, Bool, true, false, ◌&&◌, List, [], ◌∷◌, ◌++◌, Option, Some, None, map}
+use Rattle.std.specs.Prelude.{◌≡◌, ◌⊎◌, ℕ, Bool, false, ◌&&◌, List, [], ◌∷◌, ◌++◌, Option, Some, None, map}
 use Rattle.std.specs.List.{AllByRecursion}
 use Rattle.std.specs.Ordering.{is_eq}
 use Rattle.tuple_codec.specs.Item.{Item, IsTuple}
@@ -12,7 +12,6 @@ use Rattle.cluster_core.specs.declared.answers.ReadError.{ReadError}
 use Rattle.metadata.specs.declared.cells.Cell.{Cell}
 use Rattle.metadata.specs.declared.definition.TypeDefinition.{TypeDefinition}
 use Rattle.metadata.specs.declared.index.IndexDefinition.{IndexDefinition}
-use Rattle.metadata.specs.declared.index.IndexKind.{IndexKind}
 use Rattle.metadata.specs.declared.index.IndexKind.TheVariants.{Value}
 use Rattle.metadata.specs.declared.index.State.{State}
 use Rattle.metadata.specs.Lawful.{IsLawfulSchema}
@@ -40,11 +39,6 @@ pub record HasNotRead (maps : ℕ → Map) (refuses : KeyRange → ℕ → ReadE
     (error : StoreError) (old new : CommitRequest) : Type 0 where
   pub added : List KeyRange
   pub ran : DidRead maps added old new (λ m. IsReadError (λ range. refuses range old.read_version) asked added error)
-
--- the kind is that of a VALUE index
-abbrev pub is_value : IndexKind → Bool
-is_value Value = true
-is_value kind = false
 
 -- two pairs have the same key and the same value
 abbrev pub same_pair : List ℕ × List ℕ → List ℕ × List ℕ → Bool

@@ -1,13 +1,13 @@
 -- The serial store: a schema, records by primary key, and the states of indexes, as values.
 use Rattle.std.specs.Prelude.{ℕ, Bool, true, false, ◌==◌, not, List, [], ◌∷◌, Option, unwrap_or, filter}
 use Rattle.std.specs.BTreeMap.{insert_entry}
-use Rattle.std.specs.Map.{lookup}
 use Rattle.std.specs.Option.{option_map}
 use Rattle.std.specs.Ordering.{nat_cmp}
 use Rattle.tuple_codec.specs.Item.{Item}
 use Rattle.metadata.specs.declared.index.IndexDefinition.{IndexDefinition}
 use Rattle.metadata.specs.declared.index.State.{State}
 use Rattle.metadata.specs.declared.index.State.TheVariants.{Readable, Disabled}
+use Rattle.metadata.specs.Index.{listed_state}
 use Rattle.metadata.specs.IndexChange.{with_index, without_index}
 use Rattle.metadata.specs.Schema.{Schema}
 use Rattle.metadata.specs.Record.{Record}
@@ -22,7 +22,7 @@ pub record Store : Type 0 where
 
 -- the state of the index with this number, by the states that are listed: it is readable where none is
 abbrev pub state_in : List (ℕ × State) → ℕ → State
-state_in states number = unwrap_or (lookup (λ own. own == number) states) Readable
+state_in states number = unwrap_or (listed_state states number) Readable
 
 abbrev pub state_of : Store → ℕ → State
 state_of store number = state_in store.states number

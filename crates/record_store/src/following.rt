@@ -1,7 +1,8 @@
 // How the indexes of a store follow its records.
 ghost use Rattle.std.specs.Prelude.{◌≡◌, ◌==◌, ◌++◌, OnOk, find};
 ghost use Rattle.std.specs.Option.{option_copied};
-ghost use Rattle.record_store.specs.IndexWrites.{index_writes, is_readable, one_index_writes, store_of};
+ghost use Rattle.metadata.specs.Index.{is_readable};
+ghost use Rattle.record_store.specs.IndexWrites.{index_writes, one_index_writes, store_of};
 ghost use Rattle.record_store.specs.Store.{state_in};
 
 use crate::store::Store;

@@ -6,12 +6,13 @@ ghost use Rattle.kv_core.specs.Map.{pairs_in};
 ghost use Rattle.kv_core.specs.Range.{point};
 ghost use Rattle.metadata.specs.declared.index.IndexKind.TheVariants.{Value};
 ghost use Rattle.metadata.specs.declared.index.State.TheVariants.{Disabled};
+ghost use Rattle.metadata.specs.Index.{is_value};
 ghost use Rattle.metadata.specs.Lawful.{IsLawfulSchema};
 ghost use Rattle.metadata.specs.Written.{schema_bytes};
 ghost use Rattle.record_store.specs.Layout.{schema_key, state_pair, states_range};
 ghost use Rattle.record_store.specs.Opening.{IsOpened, IsUnopened};
 ghost use Rattle.record_store.specs.Reading.{AreStates, HasNotRead, HaveNoStates, IsBadSchema, IsNoSchema};
-ghost use Rattle.record_store.specs.Reading.{IsNoState, IsPairOfState, IsSchema, is_value, same_pair};
+ghost use Rattle.record_store.specs.Reading.{IsNoState, IsPairOfState, IsSchema, same_pair};
 ghost use Rattle.record_store.specs.Holds.{HasPlainIndexes};
 ghost use Rattle.record_store.specs.Steps.{DidRead};
 

@@ -1,7 +1,7 @@
 use Rattle.std.proofs.Common.{◌∙◌, ap, sym}
 use Rattle.std.specs.List.{list_all}
 use Rattle.metadata.specs.declared.index.IndexDefinition.{IndexDefinition}
-use Rattle.record_store.specs.Reading.{is_value}
+use Rattle.metadata.specs.Index.{is_value}
 use Rattle.record_store.proofs.Openings.{all_values, of_no_schema}
 use Rattle.record_store.proofs.opening.decode_schema.Goals as goal
 
