@@ -50,7 +50,7 @@ answers prefix m store query plan t holds right its extends scan =
     right prefix (entries m) t (of_type t.number store.records) extends (exactly prefix m store t (indexes_of plan.root) holds its scan)
 
 -- a type is itself, with no fields appended
-itself : (t : TypeDefinition) → Extends t t
+pub itself : (t : TypeDefinition) → Extends t t
 itself t = record { more = []; same_number = refl; same_name = refl; same_key = refl; same_fields = sym (append-nil t.fields) }
 
 -- PLANNED: so is a plan for a type of the store's schema that scans only indexes that may be used

@@ -1,3 +1,4 @@
 pub mod Pairs
 pub mod Exactly
 pub mod Answers
+pub mod Told

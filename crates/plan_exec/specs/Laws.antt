@@ -9,6 +9,8 @@ use Rattle.metadata.specs.Record.{Record}
 use Rattle.metadata.specs.Records.{of_type}
 use Rattle.metadata.specs.Schema.{find_type}
 use Rattle.metadata.specs.Stored.{IsTypeOf}
+use Rattle.record_store.specs.Call.{IsOpenAs, Opened}
+use Rattle.record_store.specs.Calls.{index_states}
 use Rattle.record_store.specs.Holds.{Holds}
 use Rattle.record_store.specs.Store.{Store}
 use Rattle.query.specs.Query.{Query, Allows}
@@ -32,6 +34,10 @@ abbrev pub UsableAreScannable : Type 0
 UsableAreScannable =
     (store : Store) (states : List (ℕ × State)) (t : TypeDefinition) (i : IndexDefinition) →
     AreStatesOf store states → MayBeUsed store.schema states t i → IsScannable store t i
+
+-- STATES: the states that an open store tells are those of each store that was opened so
+abbrev pub StatesAreTold : Type 0
+StatesAreTold = (opened : Opened) (store : Store) → IsOpenAs opened store → AreStatesOf store (index_states opened)
 
 -- ANSWERS: over the map of a store that has its type, perhaps with fields appended, and whose indexes may be scanned, a
 -- plan that is right for a query has rows, and the query allows them over the store's records of the type

@@ -1,4 +1,4 @@
-ghost use Rattle.plan_exec.specs.Laws.{PlannedAnswer, PlansAnswer, StoresAreExact, UsableAreScannable};
+ghost use Rattle.plan_exec.specs.Laws.{PlannedAnswer, PlansAnswer, StatesAreTold, StoresAreExact, UsableAreScannable};
 
 /// The map that holds a store has exactly the records of each type of its schema, and exactly their
 /// entries in each readable index over it.
@@ -10,6 +10,11 @@ pub fn stores_are_exact()
 /// indexes of the store over the type.
 pub fn usable_are_scannable()
     ensures { UsableAreScannable }
+{}
+
+/// The states that `Store::index_states` answers are those of each store that was opened so.
+pub fn states_are_told()
+    ensures { StatesAreTold }
 {}
 
 /// Over the map that holds a store, a plan that is right for a query has rows, and the query allows

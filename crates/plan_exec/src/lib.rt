@@ -1,9 +1,12 @@
-//! What the plans of queries find in the map of a store.
+//! What the plans of queries find in the map of a store, and the plan of a query over an open
+//! store.
 //!
 //! The planner's words speak of pairs of keys and values; these laws say that the map of a store has
 //! just the pairs that they ask for. No call executes a plan yet.
 #![tactic(auto)]
 
 mod laws;
+mod planning;
 
-pub use laws::{plans_answer, stores_are_exact, usable_are_scannable};
+pub use laws::{plans_answer, states_are_told, stores_are_exact, usable_are_scannable};
+pub use planning::plan_for_store;

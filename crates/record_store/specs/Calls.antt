@@ -1,6 +1,6 @@
 -- The calls on an open store, one by one: what each reads, answers, leaves and writes.
 use Rattle.std.specs.Prelude.{◌≡◌, ℕ, Bool, true, false, List, [], ◌∷◌, Option, Some, None, Result, Ok, Err}
-use Rattle.std.specs.Prelude.{is_some, if◌then◌else◌}
+use Rattle.std.specs.Prelude.{is_some, map, if◌then◌else◌}
 use Rattle.tuple_codec.specs.Item.{Item}
 use Rattle.kv_core.specs.Range.{point}
 use Rattle.kv_core.specs.declared.change.Mutation.{Mutation}
@@ -176,3 +176,7 @@ state_named opened name =
       | None ↦ Err UnknownIndex
       | Some index ↦ Ok (state_in opened.states index.number)
     ]
+
+-- STATES: the number and the state of each index, in the order of the schema's indexes
+abbrev pub index_states : Opened → List (ℕ × State)
+index_states opened = map (λ index. (index.number, state_in opened.states index.number)) opened.schema.indexes

@@ -1,4 +1,4 @@
-// The indexes of a store are dropped and disabled.
+// The states of a store's indexes; its indexes are dropped and disabled.
 ghost use Rattle.std.specs.Prelude.{◌≡◌, ◌++◌, ◌∷◌, [], ℕ, List, Ok, Err, Option, IfOk, IfErr, OnErr, OnOk};
 ghost use Rattle.kv_core.specs.Map.{Map};
 ghost use Rattle.metadata.specs.Schema.{find_index};
@@ -16,7 +16,7 @@ ghost use Rattle.record_store.specs.Store.{still_listed, with_state};
 ghost use Rattle.txn.specs.Refusing.{NeverRefuses};
 ghost use Rattle.record_store.specs.Call.{IsAnswered, IsRefused};
 ghost use Rattle.record_store.specs.Calls.{disable_call, drop_call, index_number};
-ghost use Rattle.record_store.specs.Calls.{opened_disabled, opened_without, state_named};
+ghost use Rattle.record_store.specs.Calls.{index_states, opened_disabled, opened_without, state_named};
 
 use crate::create::schema_mutations;
 use crate::error::StoreError;
@@ -144,6 +144,18 @@ impl Store {
             Some(index) => Ok(self.state_of(index.number)),
             None => Err(Refusal::UnknownIndex),
         }
+    }
+
+    /// One state for each index of the store, with the index's number, in the order of its schema's
+    /// indexes: what a plan of a query is made from. Refused only where memory is wanting.
+    pub fn index_states(&self, alloc: Global) -> Result<Vec<(u64, State)>, AllocError>
+        ensures { IfOk result (λ made. made.items ≡ index_states self.now) }
+    {
+        let mut made = Vec::new(alloc);
+        for index in self.schema().indexes() {
+            made.push((index.number, self.state_of(index.number)))?;
+        }
+        Ok(made)
     }
 
     /// Drops the index of this name: it goes from the schema, and what is kept of it goes too. It reads nothing.
