@@ -1,3 +1,6 @@
 pub mod Pairs
 pub mod Exactly
 pub mod Answers
+pub mod Accepted
+pub mod Meanings
+pub mod Composing

@@ -1,2 +1,6 @@
 pub mod Scannable
 pub mod Laws
+pub mod Errors
+pub mod Accepting
+pub mod Reads
+pub mod Executing

@@ -4,6 +4,10 @@
 //! just the pairs that they ask for. No call executes a plan yet.
 #![tactic(auto)]
 
+mod accepting;
+mod entry;
+mod error;
 mod laws;
 
+pub use error::ExecError;
 pub use laws::{plans_answer, stores_are_exact, usable_are_scannable};
