@@ -1,3 +1,7 @@
 pub mod Scannable
 pub mod Laws
 pub mod Planning
+pub mod Errors
+pub mod Accepting
+pub mod Reads
+pub mod Executing

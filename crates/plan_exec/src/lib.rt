@@ -5,8 +5,12 @@
 //! just the pairs that they ask for. No call executes a plan yet.
 #![tactic(auto)]
 
+mod accepting;
+mod entry;
+mod error;
 mod laws;
 mod planning;
 
+pub use error::ExecError;
 pub use laws::{plans_answer, states_are_told, stores_are_exact, usable_are_scannable};
 pub use planning::plan_for_store;

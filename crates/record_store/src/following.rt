@@ -19,8 +19,8 @@ impl Store {
         self.states.iter().find(|listed| listed.0 == number)
     }
 
-    // The state of the index with this number.
-    pub(crate) fn state_of(&self, number: u64) -> State
+    /// The state of the index with this number: readable where no other one is listed for it.
+    pub fn state_of(&self, number: u64) -> State
         ensures { result ≡ state_in self.now.states number }
     {
         match self.listed(number) {

@@ -42,8 +42,8 @@ impl Store {
         &self.schema
     }
 
-    // The prefix of the store's keys.
-    pub(crate) fn prefix(&self) -> &[u8]
+    /// The prefix of the store's keys, which doesn't begin with the byte FF.
+    pub fn prefix(&self) -> &[u8]
         ensures prefix { result.now ≡ self.now.prefix }
         ensures below { IsTrue (key_lt self.now.prefix end_of_keys) }
         ensures lawful { IsLawfulSchema self.now.schema }
@@ -64,8 +64,8 @@ impl Store {
         }
     }
 
-    // The allocator of the store.
-    pub(crate) fn alloc(&self) -> Global {
+    /// The allocator of the store.
+    pub fn alloc(&self) -> Global {
         *self.prefix.allocator()
     }
 }

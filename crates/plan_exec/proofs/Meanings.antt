@@ -1,0 +1,224 @@
+-- What is found where nothing is damaged is the planner's meaning.
+use Rattle.std.specs.Prelude.{◌≡◌, ℕ, Bool, true, false, ◌&&◌, ◌||◌, cond, List, [], ◌∷◌, ◌++◌, filter, map, Option, Some, None, option_map, Result, Ok, Err, refl}
+use Rattle.std.specs.FinMap.Entries.{find}
+use Rattle.std.specs.List.{list_all, list_any}
+use Rattle.std.specs.Option.{option_and_then, option_zip}
+use Rattle.std.specs.Ordering.{eq_by_cmp, match_ordering}
+use Rattle.std.specs.Result.{result_err, result_map_both, result_ok}
+use Rattle.std.specs.declared.cmp.Ordering.{Ordering}
+use Rattle.std.specs.declared.cmp.Ordering.TheVariants.{Less, Equal, Greater}
+use Rattle.std.proofs.Common.{ap, sym, ◌∙◌}
+use Rattle.tuple_codec.specs.Order.{bytes_cmp}
+use Rattle.metadata.specs.declared.cells.Cell.{Cell}
+use Rattle.metadata.specs.declared.definition.TypeDefinition.{TypeDefinition}
+use Rattle.metadata.specs.declared.index.IndexDefinition.{IndexDefinition}
+use Rattle.metadata.specs.Order.{cells_cmp}
+use Rattle.metadata.specs.Record.{Record}
+use Rattle.query.specs.Truth.{selects}
+use Rattle.metadata.specs.Cell.{items_of}
+use Rattle.metadata.specs.Layout.{Pair, entries_prefix, record_key}
+use Rattle.planner.specs.Layout.{entry_primary_key, primary_cells, record_of}
+use Rattle.planner.specs.Meaning.{all_rows, common, fetched, first_of_each, in_key_order, node_rows, of_each, pairs_in, placed, scanned_keys, source_keys}
+use Rattle.planner.specs.Plan.{IndexScan, Node, Nodes, Scan, Source, distinct, fetch, filtered, intersection, no_nodes, node, one, scan, union, unordered_union}
+use Rattle.planner.specs.Range as planned
+use Rattle.plan_exec.specs.Reads.{Reading, and_then, behind, common_entries, each_found, entries_reading, entry_of, fetch_reading, found_at_once, in_front, in_turn, made_of, node_reading, nodes_reading, or_damaged, record_found, record_reading, source_reading}
+use Rattle.plan_exec.specs.declared.entry.Entry.{Entry}
+
+-- ---- readings
+
+front_ok : {A : Type 0} (key : List ℕ) (o : Option A) (r : Result (List A) (List ℕ)) → result_ok (in_front (or_damaged key o) r) ≡ option_map (λ p. p.0 ∷ p.1) (option_zip o (result_ok r))
+front_ok key None r = refl
+front_ok key (Some a) (Err other) = refl
+front_ok key (Some a) (Ok more) = refl
+
+pub each_ok : {A : Type 0} (h : Pair → Option A) (pairs : List Pair) → result_ok (each_found h pairs) ≡ of_each h pairs
+each_ok h [] = refl
+each_ok h (pair ∷ pairs) = front_ok pair.0 (h pair) (each_found h pairs) ∙ ap (λ o. option_map (λ p. p.0 ∷ p.1) (option_zip (h pair) o)) (each_ok h pairs)
+
+made_ok : {A B : Type 0} (f : A → B) (r : Result A (List ℕ)) → result_ok (result_map_both f (λ key. key) r) ≡ option_map f (result_ok r)
+made_ok f (Ok a) = refl
+made_ok f (Err key) = refl
+
+then_ok : {A B : Type 0} (next : A → Reading B) (first : Reading A) → result_ok (and_then next first).found ≡ option_and_then (λ a. result_ok (next a).found) (result_ok first.found)
+then_ok {A = A} next first = by first.found
+  where
+    by : (r : Result A (List ℕ)) → result_ok (behind first.ranges next r).found ≡ option_and_then (λ a. result_ok (next a).found) (result_ok r)
+    by (Ok a) = refl
+    by (Err key) = refl
+
+-- one element and then the others
+one_more : {A : Type 0} (o : Option A) (rest : Option (List A)) → option_and_then (λ a. option_map (λ more. a ∷ more) rest) o ≡ option_map (λ p. p.0 ∷ p.1) (option_zip o rest)
+one_more None rest = refl
+one_more (Some a) None = refl
+one_more (Some a) (Some more) = refl
+
+rows_more : {A : Type 0} (o rest : Option (List A)) → option_and_then (λ a. option_map (λ more. a ++ more) rest) o ≡ option_map (λ p. p.0 ++ p.1) (option_zip o rest)
+rows_more None rest = refl
+rows_more (Some a) None = refl
+rows_more (Some a) (Some more) = refl
+
+turn_ok : {X A : Type 0} (g : X → Reading A) (xs : List X) → result_ok (in_turn (map g xs)).found ≡ of_each (λ x. result_ok (g x).found) xs
+turn_ok g [] = refl
+turn_ok {A = A} g (x ∷ xs) =
+    then_ok (λ a. made_of (λ more. a ∷ more) (in_turn (map g xs))) (g x)
+    ∙ by_found (result_ok (g x).found)
+    ∙ one_more (result_ok (g x).found) (result_ok (in_turn (map g xs)).found)
+    ∙ ap (λ o. option_map (λ p. p.0 ∷ p.1) (option_zip (result_ok (g x).found) o)) (turn_ok g xs)
+  where
+    by_found : (o : Option A) → option_and_then (λ a. result_ok (made_of (λ more. a ∷ more) (in_turn (map g xs))).found) o
+        ≡ option_and_then (λ a. option_map (λ more. a ∷ more) (result_ok (in_turn (map g xs)).found)) o
+    by_found None = refl
+    by_found (Some a) = made_ok (λ more. a ∷ more) (in_turn (map g xs)).found
+
+-- ---- what is given of each of a list
+
+each_map : {X Y A : Type 0} (h : Y → Option A) (g : X → Y) (xs : List X) → of_each h (map g xs) ≡ of_each (λ x. h (g x)) xs
+each_map h g [] = refl
+each_map h g (x ∷ xs) = ap (λ o. option_map (λ p. p.0 ∷ p.1) (option_zip (h (g x)) o)) (each_map h g xs)
+
+each_same : {X A : Type 0} (h g : X → Option A) → ((x : X) → h x ≡ g x) → (xs : List X) → of_each h xs ≡ of_each g xs
+each_same h g same [] = refl
+each_same h g same (x ∷ xs) = λ i. option_map (λ p. p.0 ∷ p.1) (option_zip (same x i) (each_same h g same xs i))
+
+map_zip : {A B : Type 0} (f : A → B) (o : Option A) (rest : Option (List A)) →
+    option_map (map f) (option_map (λ p. p.0 ∷ p.1) (option_zip o rest)) ≡ option_map (λ p. p.0 ∷ p.1) (option_zip (option_map f o) (option_map (map f) rest))
+map_zip f None rest = refl
+map_zip f (Some a) None = refl
+map_zip f (Some a) (Some more) = refl
+
+map_each : {X A B : Type 0} (f : A → B) (h : X → Option A) (xs : List X) → option_map (map f) (of_each h xs) ≡ of_each (λ x. option_map f (h x)) xs
+map_each f h [] = refl
+map_each f h (x ∷ xs) = map_zip f (h x) (of_each h xs) ∙ ap (λ o. option_map (λ p. p.0 ∷ p.1) (option_zip (option_map f (h x)) o)) (map_each f h xs)
+
+twice : {A B C : Type 0} (g : B → C) (f : A → B) (o : Option A) → option_map g (option_map f o) ≡ option_map (λ a. g (f a)) o
+twice g f None = refl
+twice g f (Some a) = refl
+
+-- ---- entries and the primary keys in them
+
+abbrev keys : List Entry → List (List Cell)
+keys es = map (λ (e : Entry). e.primary_key) es
+
+keys_placed : (e : Entry) (es : List Entry) → keys (placed (λ (x : Entry). x.primary_key) e es) ≡ placed (λ k. k) e.primary_key (keys es)
+keys_placed e [] = refl
+keys_placed e (x ∷ es) = by (cells_cmp e.primary_key x.primary_key) (keys_placed e es)
+  where
+    by : (o : Ordering) → keys (placed (λ (y : Entry). y.primary_key) e es) ≡ placed (λ k. k) e.primary_key (keys es) → keys (match_ordering o (e ∷ x ∷ es) (x ∷ es) (x ∷ placed (λ (y : Entry). y.primary_key) e es))
+        ≡ match_ordering o (e.primary_key ∷ x.primary_key ∷ keys es) (x.primary_key ∷ keys es) (x.primary_key ∷ placed (λ k. k) e.primary_key (keys es))
+    by Less more = refl
+    by Equal more = refl
+    by Greater more = ap (λ ks. x.primary_key ∷ ks) more
+
+keys_in_order : (es : List Entry) → keys (in_key_order (λ (e : Entry). e.primary_key) es) ≡ in_key_order (λ k. k) (keys es)
+keys_in_order [] = refl
+keys_in_order (e ∷ es) = keys_placed e (in_key_order (λ (x : Entry). x.primary_key) es) ∙ ap (placed (λ k. k) e.primary_key) (keys_in_order es)
+
+any_key : (k : List Cell) (es : List Entry) → list_any (λ (e : Entry). eq_by_cmp cells_cmp k e.primary_key) es ≡ list_any (eq_by_cmp cells_cmp k) (keys es)
+any_key k [] = refl
+any_key k (e ∷ es) = ap (λ b. eq_by_cmp cells_cmp k e.primary_key || b) (any_key k es)
+
+all_keys : (k : List Cell) (more : List (List Entry)) → list_all (list_any (λ (e : Entry). eq_by_cmp cells_cmp k e.primary_key)) more ≡ list_all (list_any (eq_by_cmp cells_cmp k)) (map keys more)
+all_keys k [] = refl
+all_keys k (es ∷ more) = λ i. any_key k es i && all_keys k more i
+
+keys_where : (more : List (List Entry)) (es : List Entry) → keys (filter (λ (e : Entry). list_all (list_any (λ (x : Entry). eq_by_cmp cells_cmp e.primary_key x.primary_key)) more) es)
+    ≡ filter (λ k. list_all (list_any (eq_by_cmp cells_cmp k)) (map keys more)) (keys es)
+keys_where more [] = refl
+keys_where more (e ∷ es) =
+    by (list_all (list_any (λ (x : Entry). eq_by_cmp cells_cmp e.primary_key x.primary_key)) more)
+    ∙ (λ i. cond (all_keys e.primary_key more i) (e.primary_key ∷ keys_where more es i) (keys_where more es i))
+  where
+    by : (b : Bool) → keys (cond b (e ∷ filter (λ (y : Entry). list_all (list_any (λ (x : Entry). eq_by_cmp cells_cmp y.primary_key x.primary_key)) more) es) (filter (λ (y : Entry). list_all (list_any (λ (x : Entry). eq_by_cmp cells_cmp y.primary_key x.primary_key)) more) es))
+        ≡ cond b (e.primary_key ∷ keys (filter (λ (y : Entry). list_all (list_any (λ (x : Entry). eq_by_cmp cells_cmp y.primary_key x.primary_key)) more) es)) (keys (filter (λ (y : Entry). list_all (list_any (λ (x : Entry). eq_by_cmp cells_cmp y.primary_key x.primary_key)) more) es))
+    by true = refl
+    by false = refl
+
+keys_common : (ess : List (List Entry)) → keys (common_entries ess) ≡ common (map keys ess)
+keys_common [] = refl
+keys_common (es ∷ more) = keys_where more es
+
+-- ---- steps
+
+module _ (prefix : List ℕ) (pairs : List Pair) (t : TypeDefinition) where
+  entry_key : (i : IndexDefinition) (pair : Pair) → option_map (λ (e : Entry). e.primary_key) (entry_of prefix pairs t i pair) ≡ entry_primary_key prefix t i pair
+  entry_key i pair = by (entry_primary_key prefix t i pair)
+    where
+      by : (o : Option (List Cell)) → option_map (λ (e : Entry). e.primary_key) (option_map (λ key. record { key = pair.0; primary_key = key }) o) ≡ o
+      by None = refl
+      by (Some key) = refl
+
+  scanned_ok : (s : IndexScan) → option_map keys (result_ok (entries_reading prefix pairs t s).found) ≡ scanned_keys prefix pairs t s
+  scanned_ok s =
+      let found = pairs_in (planned.behind (entries_prefix prefix s.index.number) s.range) s.reverse pairs in
+      ap (option_map keys) (each_ok (entry_of prefix pairs t s.index) found)
+      ∙ map_each (λ (e : Entry). e.primary_key) (entry_of prefix pairs t s.index) found
+      ∙ each_same (λ p. option_map (λ (e : Entry). e.primary_key) (entry_of prefix pairs t s.index p)) (entry_primary_key prefix t s.index) (entry_key s.index) found
+
+  source_ok : (s : Source) → option_map keys (result_ok (source_reading prefix pairs t s).found) ≡ source_keys prefix pairs t s
+  source_ok (one s) = scanned_ok s
+  source_ok (intersection ss) =
+      ap (option_map keys) (made_ok (λ es. in_key_order (λ (e : Entry). e.primary_key) (common_entries es)) (in_turn (map (entries_reading prefix pairs t) ss)).found ∙ ap (option_map (λ es. in_key_order (λ (e : Entry). e.primary_key) (common_entries es))) (turn_ok (entries_reading prefix pairs t) ss))
+      ∙ ordered (of_each (λ s. result_ok (entries_reading prefix pairs t s).found) ss)
+      ∙ ap (option_map (λ ks. in_key_order (λ k. k) (common ks))) (map_each keys (λ s. result_ok (entries_reading prefix pairs t s).found) ss ∙ each_same _ _ scanned_ok ss)
+    where
+      ordered : (o : Option (List (List Entry))) → option_map keys (option_map (λ es. in_key_order (λ (e : Entry). e.primary_key) (common_entries es)) o) ≡ option_map (λ ks. in_key_order (λ k. k) (common ks)) (option_map (map keys) o)
+      ordered None = refl
+      ordered (Some es) = ap (λ ks. Some ks) (keys_in_order (common_entries es) ∙ ap (in_key_order (λ k. k)) (keys_common es))
+
+  record_ok : (e : Entry) → result_ok (record_reading prefix pairs t e).found ≡ fetched prefix pairs t e.primary_key
+  record_ok e = by (find bytes_cmp (record_key prefix (items_of e.primary_key)) pairs)
+    where
+      whether : (o : Option Record) → result_ok (or_damaged (record_key prefix (items_of e.primary_key)) o) ≡ o
+      whether None = refl
+      whether (Some r) = refl
+
+      by : (o : Option (List ℕ)) → result_ok (record_found prefix pairs t e o) ≡ option_and_then (λ value. record_of prefix t (record_key prefix (items_of e.primary_key), value)) o
+      by None = refl
+      by (Some value) = whether (record_of prefix t (record_key prefix (items_of e.primary_key), value))
+
+  fetch_ok : (s : Source) → result_ok (fetch_reading prefix pairs t s).found ≡ option_and_then (of_each (fetched prefix pairs t)) (source_keys prefix pairs t s)
+  fetch_ok s =
+      then_ok (λ es. in_turn (map (record_reading prefix pairs t) es)) (source_reading prefix pairs t s)
+      ∙ by (result_ok (source_reading prefix pairs t s).found)
+      ∙ ap (option_and_then (of_each (fetched prefix pairs t))) (source_ok s)
+    where
+      by : (o : Option (List Entry)) → option_and_then (λ es. result_ok (in_turn (map (record_reading prefix pairs t) es)).found) o ≡ option_and_then (of_each (fetched prefix pairs t)) (option_map keys o)
+      by None = refl
+      by (Some es) =
+          turn_ok (record_reading prefix pairs t) es
+          ∙ each_same (λ e. result_ok (record_reading prefix pairs t e).found) (λ e. fetched prefix pairs t e.primary_key) record_ok es
+          ∙ sym (each_map (fetched prefix pairs t) (λ (e : Entry). e.primary_key) es)
+
+  mutual
+    -- MEANING: a step finds its rows
+    pub node_ok : (n : Node) → result_ok (node_reading prefix pairs t n).found ≡ node_rows prefix pairs t n
+    node_ok (scan s) = each_ok (record_of prefix t) _
+    node_ok (fetch s) = fetch_ok s
+    node_ok (filtered f n) = made_ok (filter (selects f)) (node_reading prefix pairs t n).found ∙ ap (option_map (filter (selects f))) (node_ok n)
+    node_ok (union ns) = made_ok (in_key_order primary_cells) (nodes_reading prefix pairs t ns).found ∙ ap (option_map (in_key_order primary_cells)) (nodes_ok ns)
+    node_ok (unordered_union ns) = nodes_ok ns
+    node_ok (distinct n) = made_ok (first_of_each primary_cells) (node_reading prefix pairs t n).found ∙ ap (option_map (first_of_each primary_cells)) (node_ok n)
+
+    pub nodes_ok : (ns : Nodes) → result_ok (nodes_reading prefix pairs t ns).found ≡ all_rows prefix pairs t ns
+    nodes_ok no_nodes = refl
+    nodes_ok (node n ns) =
+        then_ok (λ rows. made_of (λ more. rows ++ more) (nodes_reading prefix pairs t ns)) (node_reading prefix pairs t n)
+        ∙ by (result_ok (node_reading prefix pairs t n).found)
+        ∙ rows_more (result_ok (node_reading prefix pairs t n).found) (result_ok (nodes_reading prefix pairs t ns).found)
+        ∙ (λ i. option_map (λ p. p.0 ++ p.1) (option_zip (node_ok n i) (nodes_ok ns i)))
+      where
+        by : (o : Option (List Record)) → option_and_then (λ rows. result_ok (made_of (λ more. rows ++ more) (nodes_reading prefix pairs t ns)).found) o
+            ≡ option_and_then (λ rows. option_map (λ more. rows ++ more) (result_ok (nodes_reading prefix pairs t ns).found)) o
+        by None = refl
+        by (Some rows) = made_ok (λ more. rows ++ more) (nodes_reading prefix pairs t ns).found
+
+-- ---- damage
+
+-- there is damage where there is no meaning, and none where there is one
+pub no_rows : {A : Type 0} (r : Result A (List ℕ)) (key : List ℕ) → result_err r ≡ Some key → result_ok r ≡ None
+no_rows (Ok a) key is = cc
+no_rows (Err other) key is = refl
+
+pub no_damage : {A : Type 0} (r : Result A (List ℕ)) (a : A) → result_ok r ≡ Some a → result_err r ≡ None
+no_damage (Ok b) a is = refl
+no_damage (Err key) a is = cc

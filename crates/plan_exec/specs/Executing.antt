@@ -1,0 +1,84 @@
+-- What an execution of a plan establishes, whatever map the snapshot turns out to have.
+use Rattle.std.specs.Prelude.{◌≡◌, ℕ, List, Option, Some, Ok}
+use Rattle.std.specs.FinMap.{entries}
+use Rattle.std.specs.Result.{result_err}
+use Rattle.kv_core.specs.Map.{Map}
+use Rattle.kv_core.specs.Range.{KeyRange}
+use Rattle.kv_core.specs.declared.change.CommitRequest.{CommitRequest}
+use Rattle.cluster_core.specs.declared.answers.ReadError.{ReadError}
+use Rattle.metadata.specs.declared.definition.TypeDefinition.{TypeDefinition}
+use Rattle.metadata.specs.Record.{Record}
+use Rattle.record_store.specs.Call.{Opened}
+use Rattle.record_store.specs.Steps.{DidRead, IsBeginning, IsNextRefused}
+use Rattle.metadata.specs.Layout.{Pair}
+use Rattle.planner.specs.Meaning.{rows_of}
+use Rattle.planner.specs.Plan.{Node, Plan}
+use Rattle.plan_exec.specs.Accepting.{Accepts, IsNotAccepted}
+use Rattle.plan_exec.specs.Reads.{Reading, node_reading}
+use Rattle.plan_exec.specs.declared.error.ExecError.{ExecError}
+use Rattle.plan_exec.specs.declared.error.ExecError.TheVariants.{OtherSchema, IndexNotReadable, Read, Corrupt, Memory}
+
+-- the ranges that the steps of a plan read, in reading order, through the one that shows the first damage
+abbrev pub reads_of : List ℕ → List Pair → TypeDefinition → Node → List KeyRange
+reads_of prefix pairs t n = (node_reading prefix pairs t n).ranges
+
+-- the key of the first damaged pair, if there is one
+abbrev pub damage_of : List ℕ → List Pair → TypeDefinition → Node → Option (List ℕ)
+damage_of prefix pairs t n = result_err (node_reading prefix pairs t n).found
+
+-- a plan was executed: the store accepts it and, over every map that agrees with what was read, the ranges read are
+-- those of the plan, in order, and the rows are its meaning
+pub record IsExecuted (maps : ℕ → Map) (opened : Opened) (plan : Plan) (rows : List Record) (old new : CommitRequest) :
+    Type 0 where
+  pub type : TypeDefinition
+  pub accepted : Accepts opened plan type
+  pub added : List KeyRange
+  pub ran :
+      DidRead maps added old new
+      (λ m. (added ≡ reads_of opened.prefix (entries m) type plan.root)
+      × (rows_of opened.prefix (entries m) type plan ≡ Some rows))
+
+-- why reads stopped behind the ones that were added: memory is wanting, or the next read is refused so; or none is, and
+-- the first damaged pair has this key
+abbrev pub IsStopped :
+    (KeyRange → ReadError → Type 0) → List KeyRange → Option (List ℕ) → ExecError → List KeyRange → Type 0
+IsStopped refuses reads damage Memory added = IsBeginning added reads
+IsStopped refuses reads damage (Read error) added = IsBeginning added reads × IsNextRefused refuses reads added error
+IsStopped refuses reads damage (Corrupt key) added = (added ≡ reads) × (damage ≡ Some key)
+IsStopped refuses reads damage error added = ⊥
+
+-- a plan that the store accepts wasn't executed
+pub record IsUnexecuted (maps : ℕ → Map) (refuses : KeyRange → ℕ → ReadError → Type 0) (opened : Opened) (plan : Plan)
+    (error : ExecError) (old new : CommitRequest) : Type 0 where
+  pub type : TypeDefinition
+  pub accepted : Accepts opened plan type
+  pub added : List KeyRange
+  pub ran :
+      DidRead maps added old new
+      (λ m. IsStopped (λ range. refuses range old.read_version) (reads_of opened.prefix (entries m) type plan.root)
+      (damage_of opened.prefix (entries m) type plan.root) error added)
+
+-- why a plan wasn't executed: the store doesn't accept it, and nothing was read; or it accepts it
+abbrev pub IsRefused :
+    (ℕ → Map) → (KeyRange → ℕ → ReadError → Type 0) → Opened → Plan → ExecError → CommitRequest → CommitRequest →
+    Type 0
+IsRefused maps refuses opened plan OtherSchema old new = IsNotAccepted opened plan OtherSchema × (new ≡ old)
+IsRefused maps refuses opened plan IndexNotReadable old new = IsNotAccepted opened plan IndexNotReadable × (new ≡ old)
+IsRefused maps refuses opened plan error old new = IsUnexecuted maps refuses opened plan error old new
+
+-- beneath whole plans: a reading was done, and found this
+pub record HasFound {A : Type 0} (maps : ℕ → Map) (reading : List Pair → Reading A) (found : A)
+    (old new : CommitRequest) : Type 0 where
+  pub added : List KeyRange
+  pub ran :
+      DidRead maps added old new
+      (λ m. (added ≡ (reading (entries m)).ranges) × ((reading (entries m)).found ≡ Ok found))
+
+-- so it wasn't done
+pub record HasStopped {A : Type 0} (maps : ℕ → Map) (refuses : KeyRange → ℕ → ReadError → Type 0)
+    (reading : List Pair → Reading A) (error : ExecError) (old new : CommitRequest) : Type 0 where
+  pub added : List KeyRange
+  pub ran :
+      DidRead maps added old new
+      (λ m. IsStopped (λ range. refuses range old.read_version) (reading (entries m)).ranges
+      (result_err (reading (entries m)).found) error added)

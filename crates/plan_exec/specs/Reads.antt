@@ -1,0 +1,133 @@
+-- What executing the steps of a plan reads of the pairs of a map, in reading order, and what it finds there.
+use Rattle.std.specs.Prelude.{ℕ, Bool, List, [], ◌∷◌, ◌++◌, filter, map, Option, Some, None, option_map, Result, Ok, Err}
+use Rattle.std.specs.FinMap.Entries.{find}
+use Rattle.std.specs.List.{list_all, list_any}
+use Rattle.std.specs.Ordering.{eq_by_cmp}
+use Rattle.std.specs.Result.{result_map_both}
+use Rattle.tuple_codec.specs.Order.{bytes_cmp}
+use Rattle.kv_core.specs.Bytes.{key_max}
+use Rattle.kv_core.specs.Range.{KeyRange, point}
+use Rattle.metadata.specs.declared.cells.Cell.{Cell}
+use Rattle.metadata.specs.declared.definition.TypeDefinition.{TypeDefinition}
+use Rattle.metadata.specs.declared.index.IndexDefinition.{IndexDefinition}
+use Rattle.metadata.specs.Order.{cells_cmp}
+use Rattle.metadata.specs.Record.{Record}
+use Rattle.query.specs.Truth.{selects}
+use Rattle.metadata.specs.Cell.{items_of}
+use Rattle.metadata.specs.Layout.{Pair, entries_prefix, record_key, records_prefix}
+use Rattle.planner.specs.Layout.{entry_primary_key, primary_cells, record_of}
+use Rattle.planner.specs.Meaning.{first_of_each, in_key_order, pairs_in}
+use Rattle.planner.specs.Plan.{IndexScan, Node, Nodes, Scan, Source, distinct, fetch, filtered, intersection}
+use Rattle.planner.specs.Plan.{no_nodes, node, one, scan, union, unordered_union}
+use Rattle.planner.specs.Range as planned
+use Rattle.plan_exec.specs.declared.entry.Entry.{Entry}
+
+-- the ranges that are read, in reading order, and what is found; or the key of the first damaged pair, and the ranges
+-- through the one that shows the damage
+pub record Reading (A : Type 0) : Type 0 where
+  pub ranges : List KeyRange
+  pub found : Result A (List ℕ)
+
+-- what is found without a read
+abbrev pub found_at_once : {A : Type 0} → A → Reading A
+found_at_once a = record { ranges = []; found = Ok a }
+
+-- a reading behind some ranges, by what was found there
+abbrev pub behind : {A B : Type 0} → List KeyRange → (A → Reading B) → Result A (List ℕ) → Reading B
+behind ranges next (Ok a) = record { ranges = ranges ++ (next a).ranges; found = (next a).found }
+behind ranges next (Err key) = record { ranges = ranges; found = Err key }
+
+-- a reading, and then another one by what the first one found
+abbrev pub and_then : {A B : Type 0} → (A → Reading B) → Reading A → Reading B
+and_then next first = behind first.ranges next first.found
+
+-- a reading of which something is made
+abbrev pub made_of : {A B : Type 0} → (A → B) → Reading A → Reading B
+made_of f reading = record { ranges = reading.ranges; found = result_map_both f (λ key. key) reading.found }
+
+-- readings one after the other, and all that they find
+abbrev pub in_turn : {A : Type 0} → List (Reading A) → Reading (List A)
+in_turn [] = found_at_once []
+in_turn (reading ∷ readings) = and_then (λ a. made_of (λ more. a ∷ more) (in_turn readings)) reading
+
+-- what is made of a pair, or else its key
+abbrev pub or_damaged : {A : Type 0} → List ℕ → Option A → Result A (List ℕ)
+or_damaged key None = Err key
+or_damaged key (Some a) = Ok a
+
+-- something in front of what is found
+abbrev pub in_front : {A : Type 0} → Result A (List ℕ) → Result (List A) (List ℕ) → Result (List A) (List ℕ)
+in_front (Err key) rest = Err key
+in_front (Ok a) (Err key) = Err key
+in_front (Ok a) (Ok more) = Ok (a ∷ more)
+
+-- what is made of each pair, or the key of the first of which nothing is
+abbrev pub each_found : {A : Type 0} → (Pair → Option A) → List Pair → Result (List A) (List ℕ)
+each_found h [] = Ok []
+each_found h (pair ∷ pairs) = in_front (or_damaged pair.0 (h pair)) (each_found h pairs)
+
+-- the range that is read for a scan behind a key: where its end would come before its begin it is empty
+abbrev pub scan_range : List ℕ → planned.KeyRange → KeyRange
+scan_range key range = record { begin = key ++ range.begin; end = key_max (key ++ range.begin) (key ++ range.end) }
+
+-- the entries of the first list whose primary keys all others have
+abbrev pub common_entries : List (List Entry) → List Entry
+common_entries [] = []
+common_entries (entries ∷ more) =
+    filter (λ e. list_all (list_any (λ other. eq_by_cmp cells_cmp e.primary_key other.primary_key)) more) entries
+
+-- the pairs of the map in key order, the store's prefix and its type
+module _ (prefix : List ℕ) (pairs : List Pair) (t : TypeDefinition) where
+  -- the pairs of a range are read, and something is made of each
+  abbrev pub scanned : {A : Type 0} → List ℕ → planned.KeyRange → Bool → (Pair → Option A) → Reading (List A)
+  scanned key range reversed h =
+      record {
+        ranges = scan_range key range ∷ [];
+        found = each_found h (pairs_in (planned.behind key range) reversed pairs);
+      }
+
+  abbrev pub scan_reading : Scan → Reading (List Record)
+  scan_reading s = scanned (records_prefix prefix t.number) s.range s.reverse (record_of prefix t)
+
+  -- the entry that a pair stands for
+  abbrev pub entry_of : IndexDefinition → Pair → Option Entry
+  entry_of i pair =
+      option_map (λ key. record { key = pair.0; primary_key = key }) (entry_primary_key prefix t i pair)
+
+  abbrev pub entries_reading : IndexScan → Reading (List Entry)
+  entries_reading s = scanned (entries_prefix prefix s.index.number) s.range s.reverse (entry_of s.index)
+
+  -- the entries whose records a fetch gives: of an intersection those that all scans have, in key order
+  abbrev pub source_reading : Source → Reading (List Entry)
+  source_reading (one s) = entries_reading s
+  source_reading (intersection ss) =
+      made_of (λ es. in_key_order (λ e. e.primary_key) (common_entries es)) (in_turn (map entries_reading ss))
+
+  -- the record of an entry: where there is none the entry is damaged
+  abbrev pub record_found : Entry → Option (List ℕ) → Result Record (List ℕ)
+  record_found e None = Err e.key
+  record_found e (Some value) =
+      let key = record_key prefix (items_of e.primary_key) in or_damaged key (record_of prefix t (key, value))
+
+  abbrev pub record_reading : Entry → Reading Record
+  record_reading e =
+      let key = record_key prefix (items_of e.primary_key) in
+      record { ranges = point key ∷ []; found = record_found e (find bytes_cmp key pairs) }
+
+  abbrev pub fetch_reading : Source → Reading (List Record)
+  fetch_reading s = and_then (λ es. in_turn (map record_reading es)) (source_reading s)
+
+  abbrev mutual
+    -- a step
+    pub node_reading : Node → Reading (List Record)
+    node_reading (scan s) = scan_reading s
+    node_reading (fetch s) = fetch_reading s
+    node_reading (filtered f n) = made_of (filter (selects f)) (node_reading n)
+    node_reading (union ns) = made_of (in_key_order primary_cells) (nodes_reading ns)
+    node_reading (unordered_union ns) = nodes_reading ns
+    node_reading (distinct n) = made_of (first_of_each primary_cells) (node_reading n)
+
+    -- steps one after the other
+    pub nodes_reading : Nodes → Reading (List Record)
+    nodes_reading no_nodes = found_at_once []
+    nodes_reading (node n ns) = and_then (λ rows. made_of (λ more. rows ++ more) (nodes_reading ns)) (node_reading n)
