@@ -81,8 +81,8 @@ abbrev pub IsUnread : (KeyRange → ReadError → Type 0) → Serial → Command
 IsUnread refuses seen command reply =
     (m : Map) × Stands m seen × IsReadRefusal refuses (reach (schema_in seen) command m) reply
 
--- the reply to a command: the serial store's for what the transaction sees, or the limit that its writes meet, or that a
--- read is refused by a server
+-- the reply to a command: the serial store's for what the transaction sees, or the limit that its writes meet, or that
+-- a read is refused by a server
 abbrev pub IsCommandReply : ClusterState → List CommitEntry → Open → Command → Reply → Type 0
 IsCommandReply c commits open_now command reply =
     let seen = view commits open_now in
