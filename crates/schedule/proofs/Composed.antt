@@ -23,11 +23,11 @@ use Rattle.txn.specs.Reads.{seen}
 use Rattle.schedule.specs.declared.step.Command.{Command}
 use Rattle.schedule.specs.declared.reply.Reply.{Reply}
 use Rattle.schedule.specs.declared.transcript.CommitEntry.{CommitEntry}
-use Rattle.record_store.specs.Store.{Serial, schema_in}
+use Rattle.record_store.specs.Store.{Serial}
 use Rattle.schedule.specs.Serve.{IsReply, effects}
 use Rattle.schedule.specs.Past.{Attempt, Open, Submission, accepted, is_accepted}
 use Rattle.schedule.specs.Holds.{Stands}
-use Rattle.schedule.specs.Reach.{reach}
+use Rattle.schedule.specs.Reach.{opened_in, reach}
 use Rattle.schedule.specs.Performed.{IsServed, IsReadRefusal, IsPerformed}
 use Rattle.schedule.specs.Commits.{committed, view}
 use Rattle.schedule.specs.Standing.{is_told, is_listed, listed, commit_entry, commits_of}
@@ -296,7 +296,7 @@ module _ (p : PipelineState) (subs : List Submission) where
           | inr refused ↦ inr (
             seen request (maps open_now.read_version),
             open_sees open_now request is,
-            subst (λ v. IsReadRefusal (refuses v) (reach (schema_in (view (commits_of p subs) open_now)) command (seen request (maps open_now.read_version))) answer) is.at refused,
+            subst (λ v. IsReadRefusal (refuses v) (reach (opened_in (view (commits_of p subs) open_now)) command (seen request (maps open_now.read_version))) answer) is.at refused,
           )
         ]
 

@@ -24,7 +24,7 @@ use Rattle.metadata.specs.Schema.{Schema}
 use Rattle.record_store.specs.declared.error.StoreError.{StoreError}
 use Rattle.record_store.specs.declared.error.StoreError.TheVariants.{Memory, Read, Write, Corrupt, Refused}
 use Rattle.record_store.specs.declared.error.StoreError.TheVariants as fault
-use Rattle.record_store.specs.Store.{Store, Serial, created, schema_in}
+use Rattle.record_store.specs.Store.{Store, Serial, created}
 use Rattle.record_store.specs.Holds.{Holds}
 use Rattle.record_store.specs.Call.{Opened}
 use Rattle.record_store.specs.Calls.{schema_writes}
@@ -37,7 +37,7 @@ use Rattle.schedule.specs.declared.reply.Reply.TheVariants as reply
 use Rattle.schedule.specs.Layout.{store_prefix}
 use Rattle.schedule.specs.Serve.{IsReply, served_create}
 use Rattle.schedule.specs.Holds.{Stands}
-use Rattle.schedule.specs.Reach.{added_by, make_reach, open_reach, reach, schema_written, writes}
+use Rattle.schedule.specs.Reach.{opened_in, added_by, make_reach, open_reach, reach, schema_written, writes}
 use Rattle.schedule.specs.Performed.{IsLimited, IsMade, IsMadeOf, IsPerformed, IsPerformedAt, IsSound, IsTold}
 use Rattle.schedule.specs.Calls.{IsRefused, reply_of}
 use Rattle.record_store.proofs.Plain.{created_plain}
@@ -68,7 +68,7 @@ refused_request {refuses = refuses} {old = old} request (meta.Refused refusal) i
     reads_nothing : [] ≡ make_reach (schema_asked request) ++ []
     reads_nothing = sym (ap (λ o. make_reach o ++ []) is)
 
-    same_added : (m : Map) (serial : Serial) → make_reach (schema_asked request) ++ [] ≡ added_by (schema_in serial) (Create request) m
+    same_added : (m : Map) (serial : Serial) → make_reach (schema_asked request) ++ [] ≡ added_by (opened_in serial) (Create request) m
     same_added m None = refl
     same_added m (Some store) = refl
 
@@ -77,7 +77,7 @@ opens : (request : SchemaRequest) (schema : Schema) → schema_asked request ≡
 opens request schema is = ap make_reach is
 
 -- what is added at what is there
-added_there : (request : SchemaRequest) (m : Map) (serial : Serial) → open_reach (Create request) ++ [] ≡ added_by (schema_in serial) (Create request) m
+added_there : (request : SchemaRequest) (m : Map) (serial : Serial) → open_reach (Create request) ++ [] ≡ added_by (opened_in serial) (Create request) m
 added_there request m None = refl
 added_there request m (Some store) = refl
 
@@ -112,8 +112,8 @@ uncreated_at {refuses = refuses} {old = old} request schema error made is = refu
     right : (error : StoreError) (ranges : List KeyRange) (m : Map) → IsCreateFailure refused (fresh_at schema) error old.mutations ranges m → (serial : Serial) → Stands m serial → IsRight refused (Create request) old.mutations error m serial
     right Memory ranges m says serial stands = λ answer same. absurd (cc)
     right (Read reason) ranges m says serial stands =
-        λ answer same. inr (read_right refused (reach (schema_in serial) (Create request) m) reason answer same
-        (next_within refused (opening_reach store_prefix) ranges (reach (schema_in serial) (Create request) m) reason (opening_asked (schema_in serial) (Create request) m opened) says.1))
+        λ answer same. inr (read_right refused (reach (opened_in serial) (Create request) m) reason answer same
+        (next_within refused (opening_reach store_prefix) ranges (reach (opened_in serial) (Create request) m) reason (opening_asked (opened_in serial) (Create request) m opened) says.1))
     right (Corrupt key) ranges m says serial stands = absurd says
     right (Refused refusal) ranges m says serial stands = absurd says
     right fault.NoStore ranges m says serial stands = absurd says
@@ -158,7 +158,7 @@ uncreated {maps = maps} {refuses = refuses} {old = old} {new = new} request pref
 -- MADE
 created_at : {maps : ℕ → Map} {refuses : KeyRange → ReadError → Type 0} {old new : CommitRequest} (request : SchemaRequest) (schema : Schema) → schema_asked request ≡ Ok schema → AllByRecursion (λ (index : IndexDefinition). index.kind ≡ Value) schema.indexes → IsCreated maps (fresh_at schema) old new → IsPerformed maps refuses (Create request) reply.Done old new
 created_at {refuses = refuses} {old = old} request schema made kinds is = record {
-  schema = None;
+  opened = None;
   added = opening_reach store_prefix;
   written = schema_writes store_prefix schema;
   changes = refl;

@@ -15,14 +15,14 @@ use Rattle.schedule.specs.declared.reply.Reply.{Reply}
 use Rattle.schedule.specs.declared.reply.Reply.TheVariants.{Begun, Done, SavedNew, SavedOver, Found, Absent, Removed, Submitted, ReadOnly, Nothing, Reported, Refused}
 use Rattle.schedule.specs.declared.reply.Report.TheVariants as reports
 use Rattle.kv_core.specs.Map.{Map}
-use Rattle.record_store.specs.Store.{Serial, schema_in}
+use Rattle.record_store.specs.Store.{Serial}
 use Rattle.record_store.specs.Layout.{place, record_key, record_value, schema_key, states_range}
 use Rattle.schedule.specs.Serve.{served, effects}
 use Rattle.schedule.specs.Past.{Past, open_of, submitted_in}
 use Rattle.schedule.specs.Commits.{committed}
 use Rattle.schedule.specs.Standing.{cluster_after, commits_of}
 use Rattle.schedule.specs.Contract.{begin_reply, commit_reply, past_of, role_reply, settle_reply}
-use Rattle.schedule.specs.Reach.{own_reading, writes}
+use Rattle.schedule.specs.Reach.{opened_in, own_reading, writes}
 use Rattle.schedule.specs.Layout.{store_prefix}
 use Rattle.schedule.specs.declared.transcript.CommitEntry.{CommitEntry}
 use Rattle.cluster_core.specs.declared.answers.Config.{Config}
@@ -197,11 +197,11 @@ unfolding int_spelling byte_count
 removal_clears = (refl, refl, refl)
 
 -- a type that is added is a write of the schema, and reads no more than opening does
-type_writes_schema : (length (writes there («Type» (asked z (k ∷ []) (k ∷ [])))) ≡ 1) × (writes there («Type» (asked t (k ∷ []) (k ∷ []))) ≡ []) × ((m : Map) → (own_reading (schema_in there) («Type» (asked z (k ∷ []) (k ∷ [])))).added m ≡ [])
+type_writes_schema : (length (writes there («Type» (asked z (k ∷ []) (k ∷ [])))) ≡ 1) × (writes there («Type» (asked t (k ∷ []) (k ∷ []))) ≡ []) × ((m : Map) → (own_reading (opened_in there) («Type» (asked z (k ∷ []) (k ∷ [])))).added m ≡ [])
 type_writes_schema = (refl, refl, λ m. refl)
 
 -- a load reads its record's key behind what opening reads, a refused one no more than that
-reaches : (m : Map) → ((own_reading (schema_in there) (Load t (i 2 ∷ []))).added m ≡ point two ∷ []) × ((own_reading (schema_in there) (Load t (Null ∷ []))).added m ≡ []) × ((own_reading (schema_in there) (save 2 1)).added m ≡ point two ∷ [])
+reaches : (m : Map) → ((own_reading (opened_in there) (Load t (i 2 ∷ []))).added m ≡ point two ∷ []) × ((own_reading (opened_in there) (Load t (Null ∷ []))).added m ≡ []) × ((own_reading (opened_in there) (save 2 1)).added m ≡ point two ∷ [])
 unfolding int_spelling byte_count
 reaches m = (refl, refl, refl)
 

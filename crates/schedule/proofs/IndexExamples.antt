@@ -13,7 +13,7 @@ use Rattle.kv_core.specs.Range.{point}
 use Rattle.kv_core.specs.declared.change.Mutation.TheVariants.{Set, ClearRange}
 use Rattle.kv_core.specs.Map.{Map}
 use Rattle.kv_core.specs.Read.{range_read, read_of}
-use Rattle.record_store.specs.Store.{Serial, schema_in}
+use Rattle.record_store.specs.Store.{Serial}
 use Rattle.record_store.specs.Layout.{record_value, type_range}
 use Rattle.schedule.specs.declared.step.Command.{Command}
 use Rattle.schedule.specs.declared.step.Command.TheVariants.{Create, Save, Remove, Index, Drop, Disable, State}
@@ -21,7 +21,7 @@ use Rattle.schedule.specs.declared.reply.Reply.{Reply}
 use Rattle.schedule.specs.declared.reply.Reply.TheVariants as answers
 use Rattle.schedule.specs.declared.reply.Reply.TheVariants.{Done, SavedNew, SavedOver, Refused}
 use Rattle.schedule.specs.Layout.{store_prefix}
-use Rattle.schedule.specs.Reach.{own_reading, writes}
+use Rattle.schedule.specs.Reach.{opened_in, own_reading, writes}
 use Rattle.schedule.specs.Serve.{effects, served}
 use Rattle.tuple_codec.specs.Spelling.{int_spelling, byte_count}
 
@@ -103,7 +103,7 @@ disabled = (refl, refl)
 
 -- a new index reads up to the first record of its type, a refused one and a dropped one read nothing
 reaches : (m : Map) (value : List ℕ) → read_of m (type_range store_prefix 1) 1 false ≡ (one, value) ∷ [] →
-    ((own_reading (schema_in there) (Index (asked b t (b ∷ [])))).added m ≡ record { begin = (type_range store_prefix 1).begin; end = next_key one } ∷ [])
-    × ((own_reading (schema_in there) (Index (asked a t (b ∷ [])))).added m ≡ []) × ((own_reading (schema_in there) (Drop a)).added m ≡ [])
+    ((own_reading (opened_in there) (Index (asked b t (b ∷ [])))).added m ≡ record { begin = (type_range store_prefix 1).begin; end = next_key one } ∷ [])
+    × ((own_reading (opened_in there) (Index (asked a t (b ∷ [])))).added m ≡ []) × ((own_reading (opened_in there) (Drop a)).added m ≡ [])
 unfolding int_spelling byte_count
 reaches m value first = (ap (λ pairs. range_read (type_range store_prefix 1) 1 false pairs ∷ []) first, refl, refl)

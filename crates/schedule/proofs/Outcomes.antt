@@ -18,7 +18,7 @@ use Rattle.metadata.specs.Answers.{IsRefusedAs}
 use Rattle.record_store.specs.declared.error.StoreError.{StoreError}
 use Rattle.record_store.specs.declared.error.StoreError.TheVariants.{Memory, Read, Write, Corrupt, Refused}
 use Rattle.record_store.specs.declared.error.StoreError.TheVariants as fault
-use Rattle.record_store.specs.Store.{Store, Serial, schema_in}
+use Rattle.record_store.specs.Store.{Store, Serial}
 use Rattle.record_store.specs.Holds.{HasPlainIndexes, Holds, IsLawful}
 use Rattle.record_store.specs.Call.{AtStore, Call, IsAnswered, IsDone, IsFailure, IsOpenAs, Opened, Reading, Service, whole}
 use Rattle.record_store.specs.Form.{IsFirstBad, IsRecordPair}
@@ -33,11 +33,11 @@ use Rattle.schedule.specs.Layout.{store_prefix}
 use Rattle.schedule.specs.Serve.{IsReply, effect}
 use Rattle.schedule.specs.Past.{is_accepted, is_reading}
 use Rattle.schedule.specs.Holds.{Stands}
-use Rattle.schedule.specs.Reach.{added_by, open_reach, own_reading, reach, writes}
+use Rattle.schedule.specs.Reach.{opened_in, added_by, open_reach, own_reading, reach, writes}
 use Rattle.schedule.specs.Performed.{IsLimited, IsPerformed, IsPerformedAt, IsReadAs, IsReadRefusedAs}
 use Rattle.schedule.specs.Calls.{IsRefused}
 use Rattle.schedule.proofs.Reached.{added_begin, all_added, alone, begin_open, next_within, opening_added, opening_asked, own_asked, sound_by, sound_none, told_accepted}
-use Rattle.schedule.proofs.Stops.{IsRight, IsStop, at, limit_right, memory_opened, own_right, read_right, refused_by, schema_is, stop_memory, told_damage, told_limit, told_read, told_refused}
+use Rattle.schedule.proofs.Stops.{IsRight, IsStop, at, limit_right, memory_opened, own_right, read_right, refused_by, opened_is, stop_memory, told_damage, told_limit, told_read, told_refused}
 
 -- UNOPENED: no store was opened
 pub refused_unopened : {maps : ℕ → Map} {refuses : KeyRange → ℕ → ReadError → Type 0} {old new : CommitRequest} (command : Command) (error : StoreError) → open_reach command ≡ opening_reach store_prefix → IsReply None command (reply.Refused NoStore) →
@@ -52,14 +52,14 @@ refused_unopened {refuses = refuses} {old = old} command error opens is none uno
 
     stop : (error : StoreError) (ranges : List KeyRange) (m : Map) → IsOpenFailure refused store_prefix error ranges m → IsStop refused None command old.mutations error ranges m
     stop Memory ranges m says =
-        stop_memory refused None command old.mutations ranges m tt (begin_open command ((own_reading None command).added m) opens says) (λ serial stands. begin_open command (((own_reading (schema_in serial) command).added m)) opens says)
+        stop_memory refused None command old.mutations ranges m tt (begin_open command ((own_reading None command).added m) opens says) (λ serial stands. begin_open command (((own_reading (opened_in serial) command).added m)) opens says)
     stop (Read reason) ranges m says = record {
       there = tt;
       reads = begin_open command ((own_reading None command).added m) opens says.0;
       told = λ answer same. told_read None command reason answer m same;
       held = λ serial stands. (
-        λ answer same. inr (read_right refused (reach (schema_in serial) command m) reason answer same (next_within refused (opening_reach store_prefix) ranges (reach (schema_in serial) command m) reason (opening_asked (schema_in serial) command m opens) says.1)),
-        begin_open command (((own_reading (schema_in serial) command).added m)) opens says.0,
+        λ answer same. inr (read_right refused (reach (opened_in serial) command m) reason answer same (next_within refused (opening_reach store_prefix) ranges (reach (opened_in serial) command m) reason (opening_asked (opened_in serial) command m opens) says.1)),
+        begin_open command (((own_reading (opened_in serial) command).added m)) opens says.0,
       );
     }
     stop (Write reason) ranges m says = absurd says
@@ -75,7 +75,7 @@ refused_unopened {refuses = refuses} {old = old} command error opens is none uno
       told = λ answer same. told_refused None command NoStore answer m same (sound_none command m says.1);
       held = λ serial stands. (
         nothing m serial (says.2 serial stands.held),
-        says.0 ∙ opening_added None command m opens (alone command) ∙ ap (λ (s : Serial). added_by (schema_in s) command m) (sym (says.2 serial stands.held)),
+        says.0 ∙ opening_added None command m opens (alone command) ∙ ap (λ (s : Serial). added_by (opened_in s) command m) (sym (says.2 serial stands.held)),
       );
     }
     stop (Refused refusal) ranges m says = absurd says
@@ -87,7 +87,7 @@ refused_unopened {refuses = refuses} {old = old} command error opens is none uno
 -- what a command is by the service that it asks of the store: it reads the same behind the opening, and at each store that was opened so it replies as the service answers, leaves what that leaves, and writes the same
 pub record Serves {A : Type 0} (opened : Opened) (command : Command) (service : Service A) (told : A → Reply) : Type 0 where
   pub opens : open_reach command ≡ opening_reach store_prefix
-  pub reads : own_reading (Some opened.schema) command ≡ service.reading
+  pub reads : own_reading (Some opened) command ≡ service.reading
   pub accepted : (answer : A) → is_accepted (told answer) ≡ true
   pub reading : (answer : A) → not (service.changes answer) ≡ is_reading command (told answer)
   pub replies : (store : Store) → IsLawful store → IsOpenAs opened store → IsReply (Some store) command (told (service.answer store))
@@ -98,7 +98,7 @@ pub record Serves {A : Type 0} (opened : Opened) (command : Command) (service : 
 -- what a command is that is refused by the schema: it reads nothing behind the opening, at each store that was opened so this is its reply, and it writes nothing
 pub record Refuses (opened : Opened) (command : Command) (refusal : SchemaRefusal) : Type 0 where
   pub opens : open_reach command ≡ opening_reach store_prefix
-  pub reads : own_reading (Some opened.schema) command ≡ whole []
+  pub reads : own_reading (Some opened) command ≡ whole []
   pub replies : (store : Store) → IsOpenAs opened store → IsReply (Some store) command (reply.Refused (of_schema refusal))
   pub idle : (store : Store) → IsOpenAs opened store → writes (Some store) command ≡ []
 
@@ -112,24 +112,24 @@ unwritten : {maps : ℕ → Map} {old new : CommitRequest} (opened : Opened) →
 unwritten {old = old} opened is = is.ran.wrote ∙ append-nil old.mutations
 
 -- the ranges that were added by what was opened are those that are added at what is there
-at_serial : (opened : Opened) (command : Command) (m : Map) (serial : Serial) (ranges : List KeyRange) → Holds store_prefix m serial → IsThereAs (at opened) serial → ranges ≡ added_by (Some opened.schema) command m → ranges ≡ added_by (schema_in serial) command m
-at_serial opened command m serial ranges holds has is = is ∙ ap (λ s. added_by s command m) (sym (schema_is (at opened) serial has))
+at_serial : (opened : Opened) (command : Command) (m : Map) (serial : Serial) (ranges : List KeyRange) → Holds store_prefix m serial → IsThereAs (at opened) serial → ranges ≡ added_by (Some (at opened)) command m → ranges ≡ added_by (opened_in serial) command m
+at_serial opened command m serial ranges holds has is = is ∙ ap (λ s. added_by s command m) (sym (opened_is (at opened) serial refl has))
 
-begin_serial : (opened : Opened) (command : Command) (m : Map) (serial : Serial) (ranges : List KeyRange) → Holds store_prefix m serial → IsThereAs (at opened) serial → IsBeginning ranges (added_by (Some opened.schema) command m) →
-    IsBeginning ranges (added_by (schema_in serial) command m)
-begin_serial opened command m serial ranges holds has begin = subst (IsBeginning ranges) (ap (λ s. added_by s command m) (sym (schema_is (at opened) serial has))) begin
+begin_serial : (opened : Opened) (command : Command) (m : Map) (serial : Serial) (ranges : List KeyRange) → Holds store_prefix m serial → IsThereAs (at opened) serial → IsBeginning ranges (added_by (Some (at opened)) command m) →
+    IsBeginning ranges (added_by (opened_in serial) command m)
+begin_serial opened command m serial ranges holds has begin = subst (IsBeginning ranges) (ap (λ s. added_by s command m) (sym (opened_is (at opened) serial refl has))) begin
 
 -- OWN: a store was opened, and the command is refused by its schema
 pub refused_own : {maps : ℕ → Map} {refuses : KeyRange → ℕ → ReadError → Type 0} {old mid : CommitRequest} (opened : Opened) (command : Command) (refusal : SchemaRefusal) →
     Refuses (at opened) command refusal → IsOpened maps (at opened) old mid → IsRefused maps refuses command (Refused refusal) old mid
 refused_own {refuses = refuses} {old = old} opened command refusal so is =
-    refused_by command (Some opened.schema) (Refused refusal) (opening_reach store_prefix) (ran_because is.ran (λ m has. record {
-      there = (opened.states, has.0);
-      reads = opening_added (Some opened.schema) command m so.opens so.reads;
-      told = λ answer same. told_refused (Some opened.schema) command (of_schema refusal) answer m same (sound_by opened.schema command (reply.Refused (of_schema refusal)) m (whole []) so.reads tt);
+    refused_by command (Some (at opened)) (Refused refusal) (opening_reach store_prefix) (ran_because is.ran (λ m has. record {
+      there = (refl, has.0);
+      reads = opening_added (Some (at opened)) command m so.opens so.reads;
+      told = λ answer same. told_refused (Some (at opened)) command (of_schema refusal) answer m same (sound_by (at opened) command (reply.Refused (of_schema refusal)) m (whole []) so.reads tt);
       held = λ serial stands. (
         right m serial (has.1 serial stands.held),
-        at_serial opened command m serial (opening_reach store_prefix) stands.held (has.1 serial stands.held) (opening_added (Some opened.schema) command m so.opens so.reads),
+        at_serial opened command m serial (opening_reach store_prefix) stands.held (has.1 serial stands.held) (opening_added (Some (at opened)) command m so.opens so.reads),
       );
     }))
   where
@@ -139,10 +139,10 @@ refused_own {refuses = refuses} {old = old} opened command refusal so is =
 
 module _ {A : Type 0} (opened : Opened) (command : Command) (service : Service A) (told : A → Reply) (serves : Serves (at opened) command service told) (ranges : List KeyRange) (m : Map) where
   -- the ranges of the opening, and behind them those of the call
-  pub all_ranges : ranges ≡ service.reading.added m → opening_reach store_prefix ++ ranges ≡ added_by (Some opened.schema) command m
+  pub all_ranges : ranges ≡ service.reading.added m → opening_reach store_prefix ++ ranges ≡ added_by (Some (at opened)) command m
   all_ranges is i = sym serves.opens i ++ (is ∙ ap (λ (r : Reading). r.added m) (sym serves.reads)) i
 
-  pub first_ranges : IsBeginning ranges (service.reading.added m) → IsBeginning (opening_reach store_prefix ++ ranges) (added_by (Some opened.schema) command m)
+  pub first_ranges : IsBeginning ranges (service.reading.added m) → IsBeginning (opening_reach store_prefix ++ ranges) (added_by (Some (at opened)) command m)
   first_ranges begin =
       subst (λ (r : Reading). IsBeginning (opening_reach store_prefix ++ ranges) (open_reach command ++ r.added m)) (sym serves.reads)
       (subst (λ first. IsBeginning (opening_reach store_prefix ++ ranges) (first ++ service.reading.added m)) (sym serves.opens) (begin_behind (opening_reach store_prefix) begin))
@@ -151,15 +151,15 @@ module _ {A : Type 0} (opened : Opened) (command : Command) (service : Service A
 performed_at : {maps : ℕ → Map} {refuses : KeyRange → ReadError → Type 0} {old mid new : CommitRequest} {A : Type 0} (opened : Opened) (command : Command) (asked : Call A) (told : A → Reply) (answer : A) →
     Meets (at opened) command asked told → IsOpened maps (at opened) old mid → IsAnswered maps (at opened) asked answer mid new → IsPerformed maps refuses command (told answer) old new
 performed_at {refuses = refuses} {old = old} {mid = mid} {A = A} opened command asked told answer meets is_opened is = record {
-  schema = Some opened.schema;
+  opened = Some (at opened);
   added = opening_reach store_prefix ++ is.added;
   written = is.written;
   changes = is.changes ∙ serves.reading answer;
   ran = ran_then is_opened.ran is.ran (λ m has fact. (
     record {
-      there = (opened.states, has.0);
+      there = (refl, has.0);
       reads = all_added (told answer) (all_ranges opened command is.service told serves is.added m fact.0);
-      told = told_accepted (Some opened.schema) command (told answer) m (serves.accepted answer) (sound_by opened.schema command (told answer) m is.service.reading serves.reads fact.1);
+      told = told_accepted (Some (at opened)) command (told answer) m (serves.accepted answer) (sound_by (at opened) command (told answer) m is.service.reading serves.reads fact.1);
     },
     λ serial stands. here m fact.0 fact.2 serial stands (has.1 serial stands.held),
   ));
@@ -192,7 +192,7 @@ refused_at {maps = maps} {refuses = refuses} {old = old} {mid = mid} {new = new}
       | inr own ↦ subst (λ e. IsRefused maps refuses command e old mid) (sym (own ∙ same)) (refused_own opened command asked meets is_opened)
     ])
 refused_at {refuses = refuses} {old = old} {mid = mid} opened command (Ok service) told error opens serves is_opened is =
-    refused_by command (Some opened.schema) error (opening_reach store_prefix ++ is.added) (ran_then is_opened.ran is.ran (λ m has says. stop error is.added m has says))
+    refused_by command (Some (at opened)) error (opening_reach store_prefix ++ is.added) (ran_then is_opened.ran is.ran (λ m has says. stop error is.added m has says))
   where
     refused : KeyRange → ReadError → Type 0
     refused range = refuses range old.read_version
@@ -201,36 +201,36 @@ refused_at {refuses = refuses} {old = old} {mid = mid} opened command (Ok servic
     same_version = is_opened.ran.version
 
     stop : (error : StoreError) (ranges : List KeyRange) (m : Map) → HasSchema (at opened) m × AtSerials store_prefix m (IsThereAs (at opened)) → IsFailure (λ range. refuses range mid.read_version) (at opened) service error mid.mutations ranges m →
-        IsStop refused (Some opened.schema) command old.mutations error (opening_reach store_prefix ++ ranges) m
+        IsStop refused (Some (at opened)) command old.mutations error (opening_reach store_prefix ++ ranges) m
     stop Memory ranges m has says =
-        stop_memory refused (Some opened.schema) command old.mutations (opening_reach store_prefix ++ ranges) m (opened.states, has.0) (first_ranges opened command service told serves ranges m says)
+        stop_memory refused (Some (at opened)) command old.mutations (opening_reach store_prefix ++ ranges) m (refl, has.0) (first_ranges opened command service told serves ranges m says)
         (λ serial stands. begin_serial opened command m serial (opening_reach store_prefix ++ ranges) stands.held (has.1 serial stands.held) (first_ranges opened command service told serves ranges m says))
     stop (Read reason) ranges m has says = record {
-      there = (opened.states, has.0);
+      there = (refl, has.0);
       reads = first_ranges opened command service told serves ranges m says.0;
-      told = λ answer same. told_read (Some opened.schema) command reason answer m same;
+      told = λ answer same. told_read (Some (at opened)) command reason answer m same;
       held = λ serial stands. (
-        λ answer same. inr (read_right refused (reach (schema_in serial) command m) reason answer same
-            (subst (λ s. IsReadRefusedAs refused (reach s command m) reason) (sym (schema_is (at opened) serial (has.1 serial stands.held)))
-            (next_within refused (service.reading.asked m) ranges (reach (Some opened.schema) command m) reason (own_asked (Some opened.schema) command m service.reading serves.reads)
+        λ answer same. inr (read_right refused (reach (opened_in serial) command m) reason answer same
+            (subst (λ s. IsReadRefusedAs refused (reach s command m) reason) (sym (opened_is (at opened) serial refl (has.1 serial stands.held)))
+            (next_within refused (service.reading.asked m) ranges (reach (Some (at opened)) command m) reason (own_asked (Some (at opened)) command m service.reading serves.reads)
             (subst (λ v. IsNextRefused (λ range. refuses range v) (service.reading.asked m) ranges reason) same_version says.1)))),
         begin_serial opened command m serial (opening_reach store_prefix ++ ranges) stands.held (has.1 serial stands.held) (first_ranges opened command service told serves ranges m says.0),
       );
     }
     stop (Corrupt key) ranges m has says = record {
-      there = (opened.states, has.0);
+      there = (refl, has.0);
       reads = all_ranges opened command service told serves ranges m says.0;
-      told = λ answer same. told_damage (Some opened.schema) command key answer m same (subst (λ (r : Reading). IsFirstBad (IsRecordPair store_prefix opened.schema) (r.pairs m) key) (sym serves.reads) says.1);
+      told = λ answer same. told_damage (Some (at opened)) command key answer m same (subst (λ (r : Reading). IsFirstBad (IsRecordPair store_prefix opened.schema) (r.pairs m) key) (sym serves.reads) says.1);
       held = λ serial stands. damaged serial stands.held (has.1 serial stands.held);
     }
       where
-        damaged : (serial : Serial) → Holds store_prefix m serial → IsThereAs (at opened) serial → IsRight refused command old.mutations (Corrupt key) m serial × (opening_reach store_prefix ++ ranges ≡ added_by (schema_in serial) command m)
+        damaged : (serial : Serial) → Holds store_prefix m serial → IsThereAs (at opened) serial → IsRight refused command old.mutations (Corrupt key) m serial × (opening_reach store_prefix ++ ranges ≡ added_by (opened_in serial) command m)
         damaged None holds none = absurd none
         damaged (Some store) holds same = absurd (says.2 store holds same)
     stop (Write reason) ranges m has says = record {
-      there = (opened.states, has.0);
+      there = (refl, has.0);
       reads = all_ranges opened command service told serves ranges m says.0;
-      told = λ answer same. told_limit (Some opened.schema) command reason answer m same (λ refusal other. sound_by opened.schema command (reply.Refused refusal) m service.reading serves.reads says.1);
+      told = λ answer same. told_limit (Some (at opened)) command reason answer m same (λ refusal other. sound_by (at opened) command (reply.Refused refusal) m service.reading serves.reads says.1);
       held = λ serial stands. (
         limited serial stands.held (has.1 serial stands.held),
         at_serial opened command m serial (opening_reach store_prefix ++ ranges) stands.held (has.1 serial stands.held) (all_ranges opened command service told serves ranges m says.0),
@@ -280,10 +280,10 @@ pub refused_behind : {maps : ℕ → Map} {refuses : KeyRange → ℕ → ReadEr
     Meets (at opened) command (asked (at opened)) told → is_reading command (told answer) ≡ true → IsOpened maps opened old mid → IsAnswered maps opened (asked opened) answer mid new →
     IsRefused maps refuses command Memory old new
 refused_behind {maps = maps} {refuses = refuses} {old = old} {new = new} opened command asked told answer here meets reads is_opened is =
-    refused_by command so.schema Memory so.added (ran_because
-    (subst (λ ms. Ran maps so.added old new ms (λ m. IsReadAs so.schema command (told answer) so.added m × ((serial : Serial) → Stands m serial → IsPerformedAt (λ range error. ⊥) command (told answer) old.mutations so.written so.added m serial)))
+    refused_by command so.opened Memory so.added (ran_because
+    (subst (λ ms. Ran maps so.added old new ms (λ m. IsReadAs so.opened command (told answer) so.added m × ((serial : Serial) → Stands m serial → IsPerformedAt (λ range error. ⊥) command (told answer) old.mutations so.written so.added m serial)))
     (nothing so.written (so.changes ∙ reads)) so.ran)
-    (λ m fact. stop_memory (λ range. refuses range old.read_version) so.schema command old.mutations so.added m fact.0.there (added_begin (told answer) fact.0.reads) (λ serial stands. added_begin (told answer) (fact.1 serial stands).reads)))
+    (λ m fact. stop_memory (λ range. refuses range old.read_version) so.opened command old.mutations so.added m fact.0.there (added_begin (told answer) fact.0.reads) (λ serial stands. added_begin (told answer) (fact.1 serial stands).reads)))
   where
     so : IsPerformed maps (λ range error. ⊥) command (told answer) old new
     so = performed opened command asked told answer here meets is_opened is

@@ -15,7 +15,7 @@ use Rattle.metadata.specs.Asked.{schema_asked}
 use Rattle.metadata.specs.Schema.{Schema}
 use Rattle.record_store.specs.Form.{IsRecordPair}
 use Rattle.record_store.specs.Layout.{schema_key}
-use Rattle.record_store.specs.Call.{Reading, whole}
+use Rattle.record_store.specs.Call.{Opened, Reading, whole}
 use Rattle.record_store.specs.Opening.{opening_reach}
 use Rattle.record_store.specs.Steps.{IsBeginning, IsNextRefused}
 use Rattle.record_store.proofs.Stopping.{all_begin, begin_more}
@@ -28,7 +28,7 @@ use Rattle.schedule.specs.Past.{is_accepted}
 use Rattle.schedule.specs.Performed.{HasAdded, HasAddedSo, IsMadeOf, IsReadRefusedAs, IsSound, IsSoundSo, IsTold, is_unread}
 use Rattle.schedule.specs.Reach.{added_by, open_reach, own_reading, reach}
 
--- without a schema a command reads nothing of its own
+-- without an open store a command reads nothing of its own
 pub alone : (command : Command) → own_reading None command ≡ whole []
 alone (Create request) = refl
 alone («Type» request) = refl
@@ -44,15 +44,15 @@ alone (State name) = refl
 -- ---- what is asked for
 
 -- the ranges of the opening are asked for first, then the command's own
-pub opening_asked : (schema : Option Schema) (command : Command) (m : Map) → open_reach command ≡ opening_reach store_prefix → (k : List ℕ) → covers (opening_reach store_prefix) k ≡ true → covers (reach schema command m) k ≡ true
-opening_asked schema command m opens k h =
-    list_any-append (λ range. contains range k) (open_reach command) ((own_reading schema command).asked m)
-    ∙ or_left (covers (open_reach command) k) (covers ((own_reading schema command).asked m) k) (ap (λ ranges. covers ranges k) opens ∙ h)
+pub opening_asked : (opened : Option Opened) (command : Command) (m : Map) → open_reach command ≡ opening_reach store_prefix → (k : List ℕ) → covers (opening_reach store_prefix) k ≡ true → covers (reach opened command m) k ≡ true
+opening_asked opened command m opens k h =
+    list_any-append (λ range. contains range k) (open_reach command) ((own_reading opened command).asked m)
+    ∙ or_left (covers (open_reach command) k) (covers ((own_reading opened command).asked m) k) (ap (λ ranges. covers ranges k) opens ∙ h)
 
-pub own_asked : (schema : Option Schema) (command : Command) (m : Map) (reading : Reading) → own_reading schema command ≡ reading → (k : List ℕ) → covers (reading.asked m) k ≡ true → covers (reach schema command m) k ≡ true
-own_asked schema command m reading is k h =
-    list_any-append (λ range. contains range k) (open_reach command) ((own_reading schema command).asked m)
-    ∙ or_right (covers (open_reach command) k) (covers ((own_reading schema command).asked m) k) (ap (λ (r : Reading). covers (r.asked m) k) is ∙ h)
+pub own_asked : (opened : Option Opened) (command : Command) (m : Map) (reading : Reading) → own_reading opened command ≡ reading → (k : List ℕ) → covers (reading.asked m) k ≡ true → covers (reach opened command m) k ≡ true
+own_asked opened command m reading is k h =
+    list_any-append (λ range. contains range k) (open_reach command) ((own_reading opened command).asked m)
+    ∙ or_right (covers (open_reach command) k) (covers ((own_reading opened command).asked m) k) (ap (λ (r : Reading). covers (r.asked m) k) is ∙ h)
 
 -- a range that is refused behind the first ones is one of those asked for
 later_covers : (n : ℕ) (asked rest : List KeyRange) (range : KeyRange) → drop n asked ≡ range ∷ rest → (k : List ℕ) → contains range k ≡ true → covers asked k ≡ true
@@ -87,42 +87,42 @@ pub begin_open : (command : Command) {ranges : List KeyRange} (rest : List KeyRa
 begin_open command {ranges = ranges} rest opens begin = subst (λ first. IsBeginning ranges (first ++ rest)) (sym opens) (begin_more rest begin)
 
 -- an opening is all that a command reads that reads nothing of its own
-pub opening_added : (schema : Option Schema) (command : Command) (m : Map) → open_reach command ≡ opening_reach store_prefix → own_reading schema command ≡ whole [] → opening_reach store_prefix ≡ added_by schema command m
-opening_added schema command m opens none = sym (append-nil (opening_reach store_prefix)) ∙ (λ i. sym opens i ++ (sym none i).added m)
+pub opening_added : (opened : Option Opened) (command : Command) (m : Map) → open_reach command ≡ opening_reach store_prefix → own_reading opened command ≡ whole [] → opening_reach store_prefix ≡ added_by opened command m
+opening_added opened command m opens none = sym (append-nil (opening_reach store_prefix)) ∙ (λ i. sym opens i ++ (sym none i).added m)
 
 -- ---- what a reply tells
 
 -- that all pairs are of the written form
-pub told_refusal : (schema : Option Schema) (command : Command) (refusal : Refusal) (m : Map) → IsSound schema command (reply.Refused refusal) m → IsTold schema command (reply.Refused refusal) m
-told_refusal schema command refusal m sound = by_test (is_unread (reply.Refused refusal))
+pub told_refusal : (opened : Option Opened) (command : Command) (refusal : Refusal) (m : Map) → IsSound opened command (reply.Refused refusal) m → IsTold opened command (reply.Refused refusal) m
+told_refusal opened command refusal m sound = by_test (is_unread (reply.Refused refusal))
   where
-    by_test : (b : Bool) → IsSoundSo b schema command (reply.Refused refusal) m
+    by_test : (b : Bool) → IsSoundSo b opened command (reply.Refused refusal) m
     by_test true = tt
     by_test false = sound
 
-pub told_accepted : (schema : Option Schema) (command : Command) (answer : Reply) (m : Map) → is_accepted answer ≡ true → IsSound schema command answer m → IsTold schema command answer m
-told_accepted schema command (reply.Refused refusal) m is sound = absurd (cc)
-told_accepted schema command (reply.Corrupt key) m is sound = absurd (cc)
-told_accepted schema command (reply.Begun version) m is sound = sound
-told_accepted schema command reply.Done m is sound = sound
-told_accepted schema command reply.SavedNew m is sound = sound
-told_accepted schema command (reply.SavedOver cells) m is sound = sound
-told_accepted schema command (reply.Found cells) m is sound = sound
-told_accepted schema command reply.Absent m is sound = sound
-told_accepted schema command reply.Removed m is sound = sound
-told_accepted schema command (reply.Rows rows) m is sound = sound
-told_accepted schema command (reply.State state) m is sound = sound
-told_accepted schema command (reply.Submitted version) m is sound = sound
-told_accepted schema command reply.ReadOnly m is sound = sound
-told_accepted schema command reply.Nothing m is sound = sound
-told_accepted schema command (reply.Reported reports) m is sound = sound
+pub told_accepted : (opened : Option Opened) (command : Command) (answer : Reply) (m : Map) → is_accepted answer ≡ true → IsSound opened command answer m → IsTold opened command answer m
+told_accepted opened command (reply.Refused refusal) m is sound = absurd (cc)
+told_accepted opened command (reply.Corrupt key) m is sound = absurd (cc)
+told_accepted opened command (reply.Begun version) m is sound = sound
+told_accepted opened command reply.Done m is sound = sound
+told_accepted opened command reply.SavedNew m is sound = sound
+told_accepted opened command (reply.SavedOver cells) m is sound = sound
+told_accepted opened command (reply.Found cells) m is sound = sound
+told_accepted opened command reply.Absent m is sound = sound
+told_accepted opened command reply.Removed m is sound = sound
+told_accepted opened command (reply.Rows rows) m is sound = sound
+told_accepted opened command (reply.State state) m is sound = sound
+told_accepted opened command (reply.Submitted version) m is sound = sound
+told_accepted opened command reply.ReadOnly m is sound = sound
+told_accepted opened command reply.Nothing m is sound = sound
+told_accepted opened command (reply.Reported reports) m is sound = sound
 
 -- that no schema stands there
 pub sound_none : (command : Command) (m : Map) → get m (schema_key store_prefix) ≡ None → IsSound None command (reply.Refused NoStore) m
 sound_none (Create request) m none = by_schema (schema_asked request)
   where
     by_schema : (o : Result Schema SchemaRefusal) → IsMadeOf o (reply.Refused NoStore) m
-    by_schema (Ok schema) = none
+    by_schema (Ok opened) = none
     by_schema (Err refusal) = tt
 sound_none («Type» request) m none = none
 sound_none (Save name cells) m none = none
@@ -135,5 +135,5 @@ sound_none (Disable name) m none = none
 sound_none (State name) m none = none
 
 -- that all pairs of a reading are
-pub sound_by : (schema : Schema) (command : Command) (answer : Reply) (m : Map) (reading : Reading) → own_reading (Some schema) command ≡ reading → AllByRecursion (IsRecordPair store_prefix schema) (reading.pairs m) → IsSound (Some schema) command answer m
-sound_by schema command answer m reading is good = subst (λ (r : Reading). AllByRecursion (IsRecordPair store_prefix schema) (r.pairs m)) (sym is) good
+pub sound_by : (opened : Opened) (command : Command) (answer : Reply) (m : Map) (reading : Reading) → own_reading (Some opened) command ≡ reading → AllByRecursion (IsRecordPair store_prefix opened.schema) (reading.pairs m) → IsSound (Some opened) command answer m
+sound_by opened command answer m reading is good = subst (λ (r : Reading). AllByRecursion (IsRecordPair store_prefix opened.schema) (r.pairs m)) (sym is) good

@@ -16,11 +16,10 @@ use Rattle.txn.specs.Runs.{Ran}
 use Rattle.txn.proofs.Running.{ran_because, ran_still}
 use Rattle.schedule.specs.declared.refusal.Refusal.{Refusal}
 use Rattle.schedule.specs.declared.refusal.Refusal.TheVariants.{AlreadyThere, NoStore, OtherSchema, FutureVersion, TooOld, KeyOutside, KeyTooLarge, ValueTooLarge, TransactionTooLarge}
-use Rattle.metadata.specs.Schema.{Schema}
 use Rattle.record_store.specs.declared.error.StoreError.{StoreError}
 use Rattle.record_store.specs.declared.error.StoreError.TheVariants.{Memory, Read, Write, Corrupt, Refused}
 use Rattle.record_store.specs.declared.error.StoreError.TheVariants as fault
-use Rattle.record_store.specs.Store.{Serial, schema_in}
+use Rattle.record_store.specs.Store.{Serial}
 use Rattle.record_store.specs.Call.{Opened}
 use Rattle.record_store.specs.Opening.{IsOpened, IsThereAs, opening_reach}
 use Rattle.record_store.specs.Steps.{IsBeginning}
@@ -33,7 +32,7 @@ use Rattle.schedule.specs.Layout.{store_prefix}
 use Rattle.schedule.specs.Serve.{IsReply, effect}
 use Rattle.schedule.specs.Past.{is_accepted, is_reading}
 use Rattle.schedule.specs.Holds.{Stands}
-use Rattle.schedule.specs.Reach.{added_by, open_reach, own_reading, reach, writes}
+use Rattle.schedule.specs.Reach.{opened_in, added_by, open_reach, own_reading, reach, writes}
 use Rattle.schedule.specs.Performed.{HasAdded, HasRead, IsDamaged, IsLimit, IsLimited, IsReadRefusal, IsReadRefusedAs, IsServed, IsSound, IsTold}
 use Rattle.schedule.specs.Refusals.{of_schema}
 use Rattle.schedule.specs.Calls.{IsRefused, reply_of}
@@ -100,9 +99,9 @@ error_refuses command fault.AlreadyThere answer is = refusing command AlreadyThe
 error_refuses command fault.OtherSchema answer is = refusing command OtherSchema answer is
 
 -- what is there, by what was opened
-pub schema_is : (opened : Opened) (serial : Serial) → IsThereAs opened serial → schema_in serial ≡ Some opened.schema
-schema_is opened None has = absurd has
-schema_is opened (Some store) has = ap Some has.schema
+pub opened_is : (opened : Opened) (serial : Serial) → opened.prefix ≡ store_prefix → IsThereAs opened serial → opened_in serial ≡ Some opened
+opened_is opened None here has = absurd has
+opened_is opened (Some store) here has = λ i. Some (record { prefix = sym here i; schema = has.schema i; states = has.states i })
 
 -- where a command stopped with an error these ranges were added: the first ones where memory was wanting or a read was refused, and else all
 abbrev pub HasStopped : StoreError → List KeyRange → List KeyRange → Type 0
@@ -134,53 +133,53 @@ stopped_added fault.OtherSchema answer all ranges is has = all_added answer has
 
 -- why the reply of an error is right at what is there
 abbrev pub IsRight : (KeyRange → ReadError → Type 0) → Command → List Mutation → StoreError → Map → Serial → Type 0
-IsRight refuses command before error m serial = (answer : Reply) → reply_of error ≡ Some answer → IsServed before serial command answer ⊎ IsReadRefusal refuses (reach (schema_in serial) command m) answer
+IsRight refuses command before error m serial = (answer : Reply) → reply_of error ≡ Some answer → IsServed before serial command answer ⊎ IsReadRefusal refuses (reach (opened_in serial) command m) answer
 
 -- what is so of a map, and of all that it holds, where a command stopped with an error
-pub record IsStop (refuses : KeyRange → ReadError → Type 0) (schema : Option Schema) (command : Command) (before : List Mutation) (error : StoreError) (ranges : List KeyRange) (m : Map) : Type 0 where
-  pub there : HasRead schema m
-  pub reads : HasStopped error (added_by schema command m) ranges
-  pub told : (answer : Reply) → reply_of error ≡ Some answer → IsTold schema command answer m
-  pub held : (serial : Serial) → Stands m serial → IsRight refuses command before error m serial × HasStopped error (added_by (schema_in serial) command m) ranges
+pub record IsStop (refuses : KeyRange → ReadError → Type 0) (opened : Option Opened) (command : Command) (before : List Mutation) (error : StoreError) (ranges : List KeyRange) (m : Map) : Type 0 where
+  pub there : HasRead opened m
+  pub reads : HasStopped error (added_by opened command m) ranges
+  pub told : (answer : Reply) → reply_of error ≡ Some answer → IsTold opened command answer m
+  pub held : (serial : Serial) → Stands m serial → IsRight refuses command before error m serial × HasStopped error (added_by (opened_in serial) command m) ranges
 
 -- REFUSED: reads, and then an error that is right at all that may be there
-pub refused_by : {maps : ℕ → Map} {refuses : KeyRange → ℕ → ReadError → Type 0} {old new : CommitRequest} (command : Command) (schema : Option Schema) (error : StoreError) (ranges : List KeyRange) →
-    Ran maps ranges old new [] (IsStop (λ range. refuses range old.read_version) schema command old.mutations error ranges) → IsRefused maps refuses command error old new
-refused_by {refuses = refuses} {old = old} {new = new} command schema error ranges ran = record {
+pub refused_by : {maps : ℕ → Map} {refuses : KeyRange → ℕ → ReadError → Type 0} {old new : CommitRequest} (command : Command) (opened : Option Opened) (error : StoreError) (ranges : List KeyRange) →
+    Ran maps ranges old new [] (IsStop (λ range. refuses range old.read_version) opened command old.mutations error ranges) → IsRefused maps refuses command error old new
+refused_by {refuses = refuses} {old = old} {new = new} command opened error ranges ran = record {
   stopped = record {
-    schema = schema;
+    opened = opened;
     added = ranges;
     ran = ran_because ran (λ m stop. record { there = stop.there; reads = stopped_begin error stop.reads; held = λ serial stands. stopped_begin error (stop.held serial stands).1 });
   };
   replied = λ answer is.
       let no_effect = error_refuses command error answer is in record {
-        schema = schema;
+        opened = opened;
         added = ranges;
         written = [];
         changes = sym no_effect.1;
         ran =
             ran_because ran (λ m stop. (
-              record { there = stop.there; reads = stopped_added error answer (added_by schema command m) ranges is stop.reads; told = stop.told answer is },
+              record { there = stop.there; reads = stopped_added error answer (added_by opened command m) ranges is stop.reads; told = stop.told answer is },
               λ serial stands. record {
                 right = (stop.held serial stands).0 answer is;
                 wrote = ap (λ b. cond b (writes serial command) []) (sym no_effect.0);
                 holds = subst (λ b. Stands m (cond b (effect serial command) serial)) (sym no_effect.0) stands;
-                reads = stopped_added error answer (added_by (schema_in serial) command m) ranges is (stop.held serial stands).1;
+                reads = stopped_added error answer (added_by (opened_in serial) command m) ranges is (stop.held serial stands).1;
               },
             ));
       };
 }
 
 -- MEMORY: want of memory is no reply
-pub stop_memory : (refuses : KeyRange → ReadError → Type 0) (schema : Option Schema) (command : Command) (before : List Mutation) (ranges : List KeyRange) (m : Map) → HasRead schema m → IsBeginning ranges (added_by schema command m) →
-    ((serial : Serial) → Stands m serial → IsBeginning ranges (added_by (schema_in serial) command m)) → IsStop refuses schema command before Memory ranges m
-stop_memory refuses schema command before ranges m has begin held = record { there = has; reads = begin; told = λ answer is. absurd (cc); held = λ serial stands. (λ answer is. absurd (cc), held serial stands) }
+pub stop_memory : (refuses : KeyRange → ReadError → Type 0) (opened : Option Opened) (command : Command) (before : List Mutation) (ranges : List KeyRange) (m : Map) → HasRead opened m → IsBeginning ranges (added_by opened command m) →
+    ((serial : Serial) → Stands m serial → IsBeginning ranges (added_by (opened_in serial) command m)) → IsStop refuses opened command before Memory ranges m
+stop_memory refuses opened command before ranges m has begin held = record { there = has; reads = begin; told = λ answer is. absurd (cc); held = λ serial stands. (λ answer is. absurd (cc), held serial stands) }
 
 -- it was wanting before anything was read
 pub refused_memory : {maps : ℕ → Map} {refuses : KeyRange → ℕ → ReadError → Type 0} {old : CommitRequest} (command : Command) → IsRefused maps refuses command Memory old old
 refused_memory {refuses = refuses} {old = old} command =
     refused_by command None Memory [] (ran_still refl (λ m.
-    stop_memory (λ range. refuses range old.read_version) None command old.mutations [] m tt (none_begin (added_by None command m)) (λ serial stands. none_begin (added_by (schema_in serial) command m))))
+    stop_memory (λ range. refuses range old.read_version) None command old.mutations [] m tt (none_begin (added_by None command m)) (λ serial stands. none_begin (added_by (opened_in serial) command m))))
 
 -- it was wanting behind the opening
 pub memory_opened : {maps : ℕ → Map} {refuses : KeyRange → ℕ → ReadError → Type 0} {old mid : CommitRequest} (opened : Opened) (command : Command) → open_reach command ≡ opening_reach store_prefix → IsOpened maps (at opened) old mid → IsRefused maps refuses command Memory old mid
@@ -188,7 +187,7 @@ memory_opened {refuses = refuses} {old = old} opened command opens is =
     refused_by command None Memory (opening_reach store_prefix) (ran_because is.ran (λ m has.
     stop_memory (λ range. refuses range old.read_version) None command old.mutations (opening_reach store_prefix) m tt
     (begin_open command ((own_reading None command).added m) opens (all_begin (opening_reach store_prefix)))
-    (λ serial stands. begin_open command (((own_reading (schema_in serial) command).added m)) opens (all_begin (opening_reach store_prefix)))))
+    (λ serial stands. begin_open command (((own_reading (opened_in serial) command).added m)) opens (all_begin (opening_reach store_prefix)))))
 
 -- a refused read within the reach
 pub read_right : (refuses : KeyRange → ReadError → Type 0) (within : List KeyRange) (error : ReadError) (answer : Reply) → reply_of (Read error) ≡ Some answer → IsReadRefusedAs refuses within error → IsReadRefusal refuses within answer
@@ -197,26 +196,26 @@ read_right refuses within read.TooOld answer is says = let same : reply.Refused 
 read_right refuses within read.Memory answer is says = absurd (cc)
 
 -- such a reply tells nothing of what was read
-pub told_read : (schema : Option Schema) (command : Command) (error : ReadError) (answer : Reply) (m : Map) → reply_of (Read error) ≡ Some answer → IsTold schema command answer m
-told_read schema command read.FutureVersion answer m is = let same : reply.Refused FutureVersion ≡ answer = cc in subst (λ a. IsTold schema command a m) same tt
-told_read schema command read.TooOld answer m is = let same : reply.Refused TooOld ≡ answer = cc in subst (λ a. IsTold schema command a m) same tt
-told_read schema command read.Memory answer m is = absurd (cc)
+pub told_read : (opened : Option Opened) (command : Command) (error : ReadError) (answer : Reply) (m : Map) → reply_of (Read error) ≡ Some answer → IsTold opened command answer m
+told_read opened command read.FutureVersion answer m is = let same : reply.Refused FutureVersion ≡ answer = cc in subst (λ a. IsTold opened command a m) same tt
+told_read opened command read.TooOld answer m is = let same : reply.Refused TooOld ≡ answer = cc in subst (λ a. IsTold opened command a m) same tt
+told_read opened command read.Memory answer m is = absurd (cc)
 
 -- the reply that a damaged pair is
-pub told_damage : (schema : Option Schema) (command : Command) (key : List ℕ) (answer : Reply) (m : Map) → reply_of (Corrupt key) ≡ Some answer → IsDamaged schema command key m → IsTold schema command answer m
-told_damage schema command key answer m is damaged = let same : reply.Corrupt key ≡ answer = cc in subst (λ a. IsTold schema command a m) same damaged
+pub told_damage : (opened : Option Opened) (command : Command) (key : List ℕ) (answer : Reply) (m : Map) → reply_of (Corrupt key) ≡ Some answer → IsDamaged opened command key m → IsTold opened command answer m
+told_damage opened command key answer m is damaged = let same : reply.Corrupt key ≡ answer = cc in subst (λ a. IsTold opened command a m) same damaged
 
 -- the reply that a refusal is
-pub told_refused : (schema : Option Schema) (command : Command) (refusal : Refusal) (answer : Reply) (m : Map) → ◌≡◌ {A = Option Reply} (Some (reply.Refused refusal)) (Some answer) → IsSound schema command (reply.Refused refusal) m → IsTold schema command answer m
-told_refused schema command refusal answer m is sound = let same : reply.Refused refusal ≡ answer = cc in subst (λ a. IsTold schema command a m) same (told_refusal schema command refusal m sound)
+pub told_refused : (opened : Option Opened) (command : Command) (refusal : Refusal) (answer : Reply) (m : Map) → ◌≡◌ {A = Option Reply} (Some (reply.Refused refusal)) (Some answer) → IsSound opened command (reply.Refused refusal) m → IsTold opened command answer m
+told_refused opened command refusal answer m is sound = let same : reply.Refused refusal ≡ answer = cc in subst (λ a. IsTold opened command a m) same (told_refusal opened command refusal m sound)
 
 -- the reply that a limit is
-pub told_limit : (schema : Option Schema) (command : Command) (error : WriteError) (answer : Reply) (m : Map) → reply_of (Write error) ≡ Some answer → ((refusal : Refusal) → (refusal ≡ AlreadyThere → ⊥) → IsSound schema command (reply.Refused refusal) m) → IsTold schema command answer m
-told_limit schema command write.KeyOutside answer m is sound = let same : reply.Refused KeyOutside ≡ answer = cc in subst (λ a. IsTold schema command a m) same (sound KeyOutside (λ none. absurd (cc)))
-told_limit schema command write.KeyTooLarge answer m is sound = let same : reply.Refused KeyTooLarge ≡ answer = cc in subst (λ a. IsTold schema command a m) same (sound KeyTooLarge (λ none. absurd (cc)))
-told_limit schema command write.ValueTooLarge answer m is sound = let same : reply.Refused ValueTooLarge ≡ answer = cc in subst (λ a. IsTold schema command a m) same (sound ValueTooLarge (λ none. absurd (cc)))
-told_limit schema command write.TransactionTooLarge answer m is sound = let same : reply.Refused TransactionTooLarge ≡ answer = cc in subst (λ a. IsTold schema command a m) same (sound TransactionTooLarge (λ none. absurd (cc)))
-told_limit schema command write.Memory answer m is sound = absurd (cc)
+pub told_limit : (opened : Option Opened) (command : Command) (error : WriteError) (answer : Reply) (m : Map) → reply_of (Write error) ≡ Some answer → ((refusal : Refusal) → (refusal ≡ AlreadyThere → ⊥) → IsSound opened command (reply.Refused refusal) m) → IsTold opened command answer m
+told_limit opened command write.KeyOutside answer m is sound = let same : reply.Refused KeyOutside ≡ answer = cc in subst (λ a. IsTold opened command a m) same (sound KeyOutside (λ none. absurd (cc)))
+told_limit opened command write.KeyTooLarge answer m is sound = let same : reply.Refused KeyTooLarge ≡ answer = cc in subst (λ a. IsTold opened command a m) same (sound KeyTooLarge (λ none. absurd (cc)))
+told_limit opened command write.ValueTooLarge answer m is sound = let same : reply.Refused ValueTooLarge ≡ answer = cc in subst (λ a. IsTold opened command a m) same (sound ValueTooLarge (λ none. absurd (cc)))
+told_limit opened command write.TransactionTooLarge answer m is sound = let same : reply.Refused TransactionTooLarge ≡ answer = cc in subst (λ a. IsTold opened command a m) same (sound TransactionTooLarge (λ none. absurd (cc)))
+told_limit opened command write.Memory answer m is sound = absurd (cc)
 
 -- a reply by which the command writes nothing
 served_idle : (before : List Mutation) (serial : Serial) (command : Command) (answer : Reply) → writes serial command ≡ [] → IsReply serial command answer → IsServed before serial command answer

@@ -17,11 +17,11 @@ use Rattle.txn.proofs.Running.{ran_because, ran_keeps, with_ranges_append}
 use Rattle.schedule.specs.declared.step.Command.{Command}
 use Rattle.schedule.specs.declared.reply.Reply.{Reply}
 use Rattle.schedule.specs.declared.reply.Reply.TheVariants.{Begun, Done, SavedNew, SavedOver, Found, Absent, Removed, Rows, State, Submitted, ReadOnly, Nothing, Reported, Refused, Corrupt}
-use Rattle.record_store.specs.Store.{Serial, schema_in}
+use Rattle.record_store.specs.Store.{Serial}
 use Rattle.schedule.specs.Serve.{IsReply, effect, effects}
 use Rattle.schedule.specs.Past.{Attempt, Open, accepted, is_accepted, is_reading, is_changed}
 use Rattle.schedule.specs.Holds.{Stands}
-use Rattle.schedule.specs.Reach.{reach, writes}
+use Rattle.schedule.specs.Reach.{opened_in, reach, writes}
 use Rattle.schedule.specs.Performed.{IsLimit, IsLimited, IsReadRefusal, IsPerformedAt, IsPerformed}
 use Rattle.schedule.specs.Contract.{attempted, written, HaveAdded, IsSerialAt}
 use Rattle.schedule.specs.Turns.{fresh, DidAt, Did, AreDone, IsOpenAs}
@@ -63,7 +63,7 @@ did_at : {refuses : KeyRange → ReadError → Type 0} {before : List Mutation} 
 did_at {refuses = refuses} {before = before} command answer wrote ranges m serial performed = record {
   replied = λ yes_accepted. elim performed.right [
     | inl served ↦ replied_of (write_all_refusal before (writes serial command)) serial command answer served yes_accepted
-    | inr refused ↦ absurd (true≢false (sym yes_accepted ∙ read_refuses refuses (reach (schema_in serial) command m) answer refused))
+    | inr refused ↦ absurd (true≢false (sym yes_accepted ∙ read_refuses refuses (reach (opened_in serial) command m) answer refused))
   ];
   wrote = performed.wrote;
   holds = performed.holds;

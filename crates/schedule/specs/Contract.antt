@@ -31,12 +31,12 @@ use Rattle.schedule.specs.declared.reply.Report as telling
 use Rattle.schedule.specs.declared.reply.Report.TheVariants as tells
 use Rattle.schedule.specs.declared.transcript.CommitEntry.{CommitEntry}
 use Rattle.schedule.specs.declared.transcript.Transcript.{Transcript}
-use Rattle.record_store.specs.Store.{Serial, schema_in}
+use Rattle.record_store.specs.Store.{Serial}
 use Rattle.schedule.specs.Serve.{IsReply, effect}
 use Rattle.schedule.specs.Past.{Past, Attempt, Open, Submission, accepted}
 use Rattle.schedule.specs.Past.{is_accepted, is_changed, open_of, submitted_in}
 use Rattle.schedule.specs.Holds.{Stands}
-use Rattle.schedule.specs.Reach.{added_by, reach, writes}
+use Rattle.schedule.specs.Reach.{opened_in, added_by, reach, writes}
 use Rattle.schedule.specs.Performed.{HasAdded, IsServed, IsReadRefusal}
 use Rattle.txn.specs.Runs.{with_ranges}
 use Rattle.schedule.specs.Commits.{committed, view}
@@ -79,7 +79,7 @@ written serial (command ∷ commands) = writes serial command ++ written (effect
 -- the reply tells that a read is refused, one of those that the command asks for of a map that holds what it sees
 abbrev pub IsUnread : (KeyRange → ReadError → Type 0) → Serial → Command → Reply → Type 0
 IsUnread refuses seen command reply =
-    (m : Map) × Stands m seen × IsReadRefusal refuses (reach (schema_in seen) command m) reply
+    (m : Map) × Stands m seen × IsReadRefusal refuses (reach (opened_in seen) command m) reply
 
 -- the reply to a command: the serial store's for what the transaction sees, or the limit that its writes meet, or that
 -- a read is refused by a server
@@ -217,7 +217,7 @@ abbrev pub HaveAdded : Serial → List Attempt → List KeyRange → Type 0
 HaveAdded serial [] added = added ≡ []
 HaveAdded serial (attempt ∷ attempts) added =
     (first : List KeyRange) × (rest : List KeyRange) × (added ≡ first ++ rest)
-    × ((m : Map) × Stands m serial × HasAdded attempt.reply (added_by (schema_in serial) attempt.command m) first)
+    × ((m : Map) × Stands m serial × HasAdded attempt.reply (added_by (opened_in serial) attempt.command m) first)
     × HaveAdded (attempted serial attempt) attempts rest
 
 -- the ranges read are those that attempts added, in their order, each once

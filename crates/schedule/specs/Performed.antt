@@ -16,14 +16,14 @@ use Rattle.txn.specs.Runs.{Ran}
 use Rattle.metadata.specs.declared.refusal.Refusal.{Refusal}
 use Rattle.schedule.specs.declared.refusal.Refusal.TheVariants.{AlreadyThere, FutureVersion, TooOld, KeyOutside}
 use Rattle.schedule.specs.declared.refusal.Refusal.TheVariants.{KeyTooLarge, ValueTooLarge, TransactionTooLarge}
-use Rattle.metadata.specs.declared.index.State.{State}
 use Rattle.metadata.specs.Asked.{schema_asked}
 use Rattle.metadata.specs.Schema.{Schema}
 use Rattle.schedule.specs.declared.step.Command.{Command}
 use Rattle.schedule.specs.declared.reply.Reply.{Reply}
 use Rattle.schedule.specs.declared.step.Command.TheVariants.{Create}
 use Rattle.schedule.specs.declared.reply.Reply.TheVariants.{Refused, Corrupt}
-use Rattle.record_store.specs.Store.{Serial, schema_in}
+use Rattle.record_store.specs.Call.{Opened}
+use Rattle.record_store.specs.Store.{Serial}
 use Rattle.record_store.specs.Form.{IsFirstBad, IsOpeningPair, IsRecordPair, read_in}
 use Rattle.record_store.specs.Layout.{schema_key}
 use Rattle.record_store.specs.Opening.{HasSchema, opening_reach}
@@ -32,7 +32,7 @@ use Rattle.schedule.specs.Serve.{IsReply, effect}
 use Rattle.schedule.specs.Past.{is_accepted, is_reading}
 use Rattle.schedule.specs.Holds.{Stands}
 use Rattle.schedule.specs.Layout.{store_prefix}
-use Rattle.schedule.specs.Reach.{added_by, own_reading, reach, writes}
+use Rattle.schedule.specs.Reach.{added_by, opened_in, own_reading, reach, writes}
 
 -- the reply that a write limit is
 abbrev pub IsLimit : WriteError → Reply → Type 0
@@ -84,18 +84,17 @@ HasAdded answer all added = HasAddedSo (is_unread answer) all added
 -- writes there, and leads to a map that holds what is there after it; and these are the ranges that it reads there
 pub record IsPerformedAt (refuses : KeyRange → ReadError → Type 0) (command : Command) (answer : Reply)
     (before written : List Mutation) (added : List KeyRange) (m : Map) (serial : Serial) : Type 0 where
-  pub right : IsServed before serial command answer ⊎ IsReadRefusal refuses (reach (schema_in serial) command m) answer
+  pub right : IsServed before serial command answer ⊎ IsReadRefusal refuses (reach (opened_in serial) command m) answer
   pub wrote : written ≡ (if is_accepted answer then writes serial command else [])
   pub holds : Stands (after_all written m) (if is_accepted answer then effect serial command else serial)
-  pub reads : HasAdded answer (added_by (schema_in serial) command m) added
+  pub reads : HasAdded answer (added_by (opened_in serial) command m) added
 
 -- ---- the same over a map that may be damaged
 
--- the map has this schema, as far as one was read
-abbrev pub HasRead : Option Schema → Map → Type 0
+-- the map has what was opened, as far as a store was
+abbrev pub HasRead : Option Opened → Map → Type 0
 HasRead None m = Unit {0}
-HasRead (Some schema) m =
-    (states : List (ℕ × State)) × HasSchema (record { prefix = store_prefix; schema = schema; states = states }) m
+HasRead (Some opened) m = (opened.prefix ≡ store_prefix) × HasSchema opened m
 
 -- a store may be made where no pair stands at the schema's key
 abbrev pub IsMade : Reply → Map → Type 0
@@ -106,63 +105,64 @@ abbrev pub IsMadeOf : Result Schema Refusal → Reply → Map → Type 0
 IsMadeOf (Ok schema) answer m = IsMade answer m
 IsMadeOf (Err refusal) answer m = Unit {0}
 
--- all pairs that the command read of the map are of the written form; without a schema, no pair stands where one does
-abbrev pub IsSound : Option Schema → Command → Reply → Map → Type 0
-IsSound (Some schema) command answer m =
-    AllByRecursion (IsRecordPair store_prefix schema) ((own_reading (Some schema) command).pairs m)
+-- all pairs that the command read of the map are of the written form; where no store was opened, no pair stands where a
+-- schema does
+abbrev pub IsSound : Option Opened → Command → Reply → Map → Type 0
+IsSound (Some opened) command answer m =
+    AllByRecursion (IsRecordPair store_prefix opened.schema) ((own_reading (Some opened) command).pairs m)
 IsSound None (Create request) answer m = IsMadeOf (schema_asked request) answer m
 IsSound None command answer m = get m (schema_key store_prefix) ≡ None
 
 -- the first pair read that isn't of the written form has this key: one that opening the store reads, where a pair
 -- stands at the schema's key, or behind it one of the command's own
-abbrev pub IsDamaged : Option Schema → Command → List ℕ → Map → Type 0
+abbrev pub IsDamaged : Option Opened → Command → List ℕ → Map → Type 0
 IsDamaged None command key m =
     (get m (schema_key store_prefix) ≡ None → ⊥)
     × IsFirstBad (IsOpeningPair store_prefix m) (read_in m (opening_reach store_prefix)) key
-IsDamaged (Some schema) command key m =
-    IsFirstBad (IsRecordPair store_prefix schema) ((own_reading (Some schema) command).pairs m) key
+IsDamaged (Some opened) command key m =
+    IsFirstBad (IsRecordPair store_prefix opened.schema) ((own_reading (Some opened) command).pairs m) key
 
 -- the pairs are sound, unless a read was refused
-abbrev pub IsSoundSo : Bool → Option Schema → Command → Reply → Map → Type 0
-IsSoundSo true schema command answer m = Unit {0}
-IsSoundSo false schema command answer m = IsSound schema command answer m
+abbrev pub IsSoundSo : Bool → Option Opened → Command → Reply → Map → Type 0
+IsSoundSo true opened command answer m = Unit {0}
+IsSoundSo false opened command answer m = IsSound opened command answer m
 
 -- what the reply tells of the pairs that were read
-abbrev pub IsTold : Option Schema → Command → Reply → Map → Type 0
-IsTold schema command (Corrupt key) m = IsDamaged schema command key m
-IsTold schema command answer m = IsSoundSo (is_unread answer) schema command answer m
+abbrev pub IsTold : Option Opened → Command → Reply → Map → Type 0
+IsTold opened command (Corrupt key) m = IsDamaged opened command key m
+IsTold opened command answer m = IsSoundSo (is_unread answer) opened command answer m
 
--- by this schema, which the map has, the command read just these ranges of it, and the reply tells of damage only where
--- it is
-pub record IsReadAs (schema : Option Schema) (command : Command) (answer : Reply) (added : List KeyRange) (m : Map) :
+-- by what was opened, which the map has, the command read just these ranges of it, and the reply tells of damage only
+-- where it is
+pub record IsReadAs (opened : Option Opened) (command : Command) (answer : Reply) (added : List KeyRange) (m : Map) :
     Type 0 where
-  pub there : HasRead schema m
-  pub reads : HasAdded answer (added_by schema command m) added
-  pub told : IsTold schema command answer m
+  pub there : HasRead opened m
+  pub reads : HasAdded answer (added_by opened command m) added
+  pub told : IsTold opened command answer m
 
 -- a command was performed: over every map that agrees with what was read, what was read is as the reply says, and it
 -- was so for all that this map holds; and it wrote something exactly where the command with this reply changes
 -- something
 pub record IsPerformed (maps : ℕ → Map) (refuses : KeyRange → ReadError → Type 0) (command : Command) (answer : Reply)
     (old new : CommitRequest) : Type 0 where
-  pub schema : Option Schema
+  pub opened : Option Opened
   pub added : List KeyRange
   pub written : List Mutation
   pub changes : (length written == 0) ≡ is_reading command answer
-  pub ran : Ran maps added old new written (λ m. IsReadAs schema command answer added m
+  pub ran : Ran maps added old new written (λ m. IsReadAs opened command answer added m
       × ((serial : Serial) → Stands m serial →
       IsPerformedAt refuses command answer old.mutations written added m serial))
 
--- by this schema, which the map has, the command read the first ones of its ranges, and so it did for all that this map
--- holds
-pub record IsPartlyRead (schema : Option Schema) (command : Command) (added : List KeyRange) (m : Map) : Type 0 where
-  pub there : HasRead schema m
-  pub reads : IsBeginning added (added_by schema command m)
-  pub held : (serial : Serial) → Stands m serial → IsBeginning added (added_by (schema_in serial) command m)
+-- by what was opened, which the map has, the command read the first ones of its ranges, and so it did for all that this
+-- map holds
+pub record IsPartlyRead (opened : Option Opened) (command : Command) (added : List KeyRange) (m : Map) : Type 0 where
+  pub there : HasRead opened m
+  pub reads : IsBeginning added (added_by opened command m)
+  pub held : (serial : Serial) → Stands m serial → IsBeginning added (added_by (opened_in serial) command m)
 
 -- a command stopped for want of memory: it wrote nothing, and read the first ones of its ranges; a transaction can go
 -- on from there
 pub record IsStopped (maps : ℕ → Map) (command : Command) (old new : CommitRequest) : Type 0 where
-  pub schema : Option Schema
+  pub opened : Option Opened
   pub added : List KeyRange
-  pub ran : Ran maps added old new [] (IsPartlyRead schema command added)
+  pub ran : Ran maps added old new [] (IsPartlyRead opened command added)

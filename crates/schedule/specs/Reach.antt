@@ -1,5 +1,5 @@
 -- What a command reads, in order, and what it writes.
-use Rattle.std.specs.Prelude.{ℕ, List, [], ◌∷◌, ◌++◌, Option, Some, None, Result, Ok, Err}
+use Rattle.std.specs.Prelude.{ℕ, List, [], ◌∷◌, ◌++◌, Option, Some, None, option_map, Result, Ok, Err}
 use Rattle.tuple_codec.specs.Item.{Item}
 use Rattle.kv_core.specs.Range.{KeyRange, point}
 use Rattle.kv_core.specs.Map.{Map}
@@ -18,7 +18,7 @@ use Rattle.schedule.specs.declared.step.Command.TheVariants.{Query, Index, Drop,
 use Rattle.metadata.specs.Records.{record_at}
 use Rattle.record_store.specs.Store.{Store, Serial}
 use Rattle.record_store.specs.Layout.{record_key, type_range}
-use Rattle.record_store.specs.Call.{Reading, first_of, whole}
+use Rattle.record_store.specs.Call.{Opened, Reading, first_of, whole}
 use Rattle.record_store.specs.Opening.{opening_reach}
 use Rattle.record_store.specs.Calls.{index_number, schema_writes}
 use Rattle.record_store.specs.IndexWrites.{disable_writes, drop_writes, index_added_writes, remove_writes, save_writes}
@@ -42,15 +42,21 @@ abbrev pub first_reading : Result IndexDefinition Refusal → Reading
 first_reading (Ok index) = first_of (type_range store_prefix index.type_number)
 first_reading (Err refusal) = whole []
 
+-- what opening the store finds of what is there
+abbrev pub opened_in : Serial → Option Opened
+opened_in serial =
+    option_map (λ (store : Store). record { prefix = store_prefix; schema = store.schema; states = store.states })
+    serial
+
 -- what a command reads behind the opening of the store: the key of its record, or the records of its type, or the first
 -- one
-abbrev pub own_reading : Option Schema → Command → Reading
-own_reading (Some schema) (Save name cells) = whole (record_reach (record_of schema name cells))
-own_reading (Some schema) (Load name cells) = whole (key_reach (key_of schema name cells))
-own_reading (Some schema) (Remove name cells) = whole (key_reach (key_of schema name cells))
-own_reading (Some schema) (Query query) = whole (type_reach (find_type schema query.record_type))
-own_reading (Some schema) (Index request) = first_reading (new_index schema request)
-own_reading schema command = whole []
+abbrev pub own_reading : Option Opened → Command → Reading
+own_reading (Some opened) (Save name cells) = whole (record_reach (record_of opened.schema name cells))
+own_reading (Some opened) (Load name cells) = whole (key_reach (key_of opened.schema name cells))
+own_reading (Some opened) (Remove name cells) = whole (key_reach (key_of opened.schema name cells))
+own_reading (Some opened) (Query query) = whole (type_reach (find_type opened.schema query.record_type))
+own_reading (Some opened) (Index request) = first_reading (new_index opened.schema request)
+own_reading opened command = whole []
 
 -- what a command reads to open the store: nothing where it makes one of types and indexes that are refused
 abbrev pub make_reach : Result Schema Refusal → List KeyRange
@@ -61,13 +67,13 @@ abbrev pub open_reach : Command → List KeyRange
 open_reach (Create request) = make_reach (schema_asked request)
 open_reach command = opening_reach store_prefix
 
--- the ranges that a command asks a map for that has this schema, in order: those of opening the store, and its own
-abbrev pub reach : Option Schema → Command → Map → List KeyRange
-reach schema command m = open_reach command ++ (own_reading schema command).asked m
+-- the ranges that a command asks a map for, in order: those of opening the store, and its own by what was opened
+abbrev pub reach : Option Opened → Command → Map → List KeyRange
+reach opened command m = open_reach command ++ (own_reading opened command).asked m
 
 -- the ranges that it then adds to those read, in order
-abbrev pub added_by : Option Schema → Command → Map → List KeyRange
-added_by schema command m = open_reach command ++ (own_reading schema command).added m
+abbrev pub added_by : Option Opened → Command → Map → List KeyRange
+added_by opened command m = open_reach command ++ (own_reading opened command).added m
 
 -- what making a store and adding a type write: the schema
 abbrev pub schema_written : Result Schema Refusal → List Mutation

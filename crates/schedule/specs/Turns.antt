@@ -5,12 +5,12 @@ use Rattle.kv_core.specs.Map.{Map, after_all}
 use Rattle.kv_core.specs.declared.change.CommitRequest.{CommitRequest}
 use Rattle.kv_core.specs.declared.change.Mutation.{Mutation}
 use Rattle.txn.specs.Runs.{Ran}
-use Rattle.record_store.specs.Store.{Serial, schema_in}
+use Rattle.record_store.specs.Store.{Serial}
 use Rattle.schedule.specs.Serve.{IsReply}
 use Rattle.schedule.specs.Past.{Attempt, Open, Submission, is_accepted, is_reading}
 use Rattle.schedule.specs.Holds.{Stands}
 use Rattle.schedule.specs.Performed.{HasAdded}
-use Rattle.schedule.specs.Reach.{added_by, writes}
+use Rattle.schedule.specs.Reach.{opened_in, added_by, writes}
 use Rattle.schedule.specs.Contract.{attempted}
 
 -- a transaction that has done nothing yet
@@ -24,7 +24,7 @@ pub record DidAt (attempt : Attempt) (written : List Mutation) (added : List Key
   pub replied : is_accepted attempt.reply ≡ true → IsReply serial attempt.command attempt.reply
   pub wrote : written ≡ (if is_accepted attempt.reply then writes serial attempt.command else [])
   pub holds : Stands (after_all written m) (attempted serial attempt)
-  pub reads : HasAdded attempt.reply (added_by (schema_in serial) attempt.command m) added
+  pub reads : HasAdded attempt.reply (added_by (opened_in serial) attempt.command m) added
 
 -- an attempt at a command was made, which led from one state of the transaction to another
 pub record Did (maps : ℕ → Map) (attempt : Attempt) (old new : CommitRequest) : Type 0 where
