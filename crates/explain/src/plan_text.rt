@@ -25,8 +25,12 @@ fn push_hex(alloc: Global, text: &mut String, bytes: &ByteString) -> Result<(), 
     Ok(())
 }
 
-// Writes the ends of a range.
-fn push_range(alloc: Global, text: &mut String, range: &KeyRange) -> Result<(), AllocError>
+/// Writes the ends of a range.
+pub(crate) fn push_range(
+    alloc: Global,
+    text: &mut String,
+    range: &KeyRange,
+) -> Result<(), AllocError>
     ensures { OnOk result (string_bytes text.new ≡ string_bytes text.old ++ range_text (range_of range.now)) }
 {
     push_hex(alloc, text, &range.begin)?;
