@@ -4,3 +4,7 @@ pub mod Answers
 pub mod Accepted
 pub mod Meanings
 pub mod Composing
+pub mod ReadAs
+pub mod KeyRanges
+pub mod Decoded
+pub mod EntryNumbers

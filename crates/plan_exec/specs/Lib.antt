@@ -4,3 +4,4 @@ pub mod Errors
 pub mod Accepting
 pub mod Reads
 pub mod Executing
+pub mod Decoding

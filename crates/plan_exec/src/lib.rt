@@ -5,8 +5,11 @@
 #![tactic(auto)]
 
 mod accepting;
+mod decoding;
+mod entries;
 mod entry;
 mod error;
+mod keys;
 mod laws;
 
 pub use error::ExecError;
