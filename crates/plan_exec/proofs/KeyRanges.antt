@@ -17,7 +17,7 @@ use Rattle.kv_core.specs.Bytes.{end_of_keys, key_cmp, key_le, key_lt, key_max}
 use Rattle.kv_core.specs.Map.{Map}
 use Rattle.kv_core.specs.Map as map
 use Rattle.kv_core.specs.Range.{KeyRange, contains, is_key_range}
-use Rattle.kv_core.proofs.Order.{le_from, le_from_lt, le_refl}
+use Rattle.kv_core.proofs.Order.{le_from, le_from_lt, le_gives, le_refl, le_trans}
 use Rattle.kv_core.proofs.Pairs.{entries-kept}
 use Rattle.metadata.specs.declared.cells.Cell.{Cell}
 use Rattle.metadata.specs.declared.definition.TypeDefinition.{TypeDefinition}
@@ -57,3 +57,37 @@ is_range key range below = by (key_lt (key ++ range.begin) (key ++ range.end)) r
         (key_le (key ++ range.begin) (cond b (key ++ range.end) (key ++ range.begin)) && key_le (cond b (key ++ range.end) (key ++ range.begin)) end_of_keys) ≡ true
     by true is = λ i. le_from_lt (key ++ range.begin) (key ++ range.end) is i && le_from_lt (key ++ range.end) end_of_keys (below range.end) i
     by false is = λ i. le_refl (key ++ range.begin) i && le_from_lt (key ++ range.begin) end_of_keys (below range.begin) i
+
+-- ---- what is in a range
+
+le_is : (a b : List ℕ) → key_le a b ≡ is_le (bytes_cmp a b)
+le_is a b = ap (λ o. not (is_lt o)) (nat_list_cmp_total.antisymm b a) ∙ by (bytes_cmp a b)
+  where
+    by : (o : Ordering) → not (is_lt (ordering_reverse o)) ≡ is_le o
+    by Less = refl
+    by Equal = refl
+    by Greater = refl
+
+-- the keys of the range that is read are those of the planner's range behind the key
+same_within : (key : List ℕ) (range : planned.KeyRange) (k : List ℕ) → contains (scan_range key range) k ≡ planned.is_within (planned.behind key range) k
+same_within key range k = by (key_lt (key ++ range.begin) (key ++ range.end)) refl ∙ ap (λ b. b && key_lt k (key ++ range.end)) (le_is (key ++ range.begin) k)
+  where
+    none : (b : Bool) → key_le (key ++ range.begin) k ≡ b → key_lt (key ++ range.begin) (key ++ range.end) ≡ false →
+        (b && key_lt k (key ++ range.begin)) ≡ (b && key_lt k (key ++ range.end))
+    none true le ge =
+        le_gives (key ++ range.begin) k le
+        ∙ sym (le_gives (key ++ range.end) k (le_trans (key ++ range.end) (key ++ range.begin) k (le_from (key ++ range.end) (key ++ range.begin) ge) le))
+    none false le ge = refl
+
+    by : (b : Bool) → key_lt (key ++ range.begin) (key ++ range.end) ≡ b →
+        (key_le (key ++ range.begin) k && key_lt k (cond b (key ++ range.end) (key ++ range.begin))) ≡ (key_le (key ++ range.begin) k && key_lt k (key ++ range.end))
+    by true is = refl
+    by false is = none (key_le (key ++ range.begin) k) refl is
+
+-- PAIRS: those of a map in the range that is read are those that the planner speaks of
+pub pairs_are : (m : Map) (key : List ℕ) (range : planned.KeyRange) → map.pairs_in m (scan_range key range) ≡ pairs_in (planned.behind key range) false (entries m)
+pairs_are m key range = entries-kept m (contains (scan_range key range)) ∙ (λ i. filter (λ (p : Pair). same_within key range p.0 i) (entries m))
+
+-- VALUE: what a map has at a key is what is found among its pairs
+pub value_is : (m : Map) (key : List ℕ) → get m key ≡ find bytes_cmp key (entries m)
+value_is m key = get-entries m key

@@ -8,3 +8,4 @@ pub mod ReadAs
 pub mod KeyRanges
 pub mod Decoded
 pub mod EntryNumbers
+pub mod SingleReads

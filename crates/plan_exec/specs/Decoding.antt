@@ -1,5 +1,7 @@
 -- Beneath whole plans: why pairs stand for nothing, and where entries of an index stand and of what form they are.
 use Rattle.std.specs.Prelude.{◌≡◌, ℕ, List, Result, Err}
+use Rattle.kv_core.specs.Range.{KeyRange}
+use Rattle.cluster_core.specs.declared.answers.ReadError.{ReadError}
 use Rattle.metadata.specs.declared.definition.TypeDefinition.{TypeDefinition}
 use Rattle.metadata.specs.declared.index.IndexDefinition.{IndexDefinition}
 use Rattle.metadata.specs.Schema.{key_kinds}
@@ -19,3 +21,9 @@ pub record IsFormOf (prefix : List ℕ) (t : TypeDefinition) (i : IndexDefinitio
   pub front : form.front.items ≡ entries_key prefix i
   pub columns : form.columns.items ≡ column_kinds t i
   pub key : form.key.items ≡ key_kinds t
+
+-- why a range wasn't read: memory is wanting, or the read is refused so
+abbrev pub IsRefusedRead : (KeyRange → ℕ → ReadError → Type 0) → KeyRange → ℕ → ExecError → Type 0
+IsRefusedRead refuses range version Memory = Unit {0}
+IsRefusedRead refuses range version (Read error) = refuses range version error
+IsRefusedRead refuses range version error = ⊥

@@ -11,6 +11,7 @@ mod entry;
 mod error;
 mod keys;
 mod laws;
+mod reading;
 
 pub use error::ExecError;
 pub use laws::{plans_answer, stores_are_exact, usable_are_scannable};
