@@ -1,3 +1,5 @@
 pub mod Pairs
 pub mod Exactly
 pub mod Answers
+pub mod InOrder
+pub mod Merges

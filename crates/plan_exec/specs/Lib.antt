@@ -1,2 +1,3 @@
 pub mod Scannable
 pub mod Laws
+pub mod Merging

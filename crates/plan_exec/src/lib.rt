@@ -4,6 +4,8 @@
 //! just the pairs that they ask for. No call executes a plan yet.
 #![tactic(auto)]
 
+mod keyed;
 mod laws;
+mod merging;
 
 pub use laws::{plans_answer, stores_are_exact, usable_are_scannable};
