@@ -3,3 +3,4 @@ pub mod Exactly
 pub mod Answers
 pub mod InOrder
 pub mod Merges
+pub mod Neighbours
