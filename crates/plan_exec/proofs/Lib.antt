@@ -4,3 +4,4 @@ pub mod Answers
 pub mod InOrder
 pub mod Merges
 pub mod Neighbours
+pub mod FirstOnes
