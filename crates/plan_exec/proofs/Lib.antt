@@ -5,3 +5,4 @@ pub mod InOrder
 pub mod Merges
 pub mod Neighbours
 pub mod FirstOnes
+pub mod Shares

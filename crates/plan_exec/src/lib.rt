@@ -4,6 +4,7 @@
 //! just the pairs that they ask for. No call executes a plan yet.
 #![tactic(auto)]
 
+mod common;
 mod distinct;
 mod keyed;
 mod laws;
