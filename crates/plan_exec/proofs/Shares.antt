@@ -1,7 +1,9 @@
 -- The keys that lists share.
-use Rattle.std.specs.Prelude.{◌≡◌, Bool, true, false, cond, ◌&&◌, ◌||◌, List, [], ◌∷◌, ◌++◌, filter, map, refl, Option, option_to_list}
+use Rattle.std.specs.Prelude.{◌≡◌, ℕ, ◌==◌, length, Bool, true, false, cond, ◌&&◌, ◌||◌, List, [], ◌∷◌, ◌++◌, filter, map, refl, Option, option_to_list}
 use Rattle.std.specs.List.{list_all, list_any}
-use Rattle.std.proofs.Common.{ap, sym, ◌∙◌, subst}
+use Rattle.std.proofs.Common.{ap, sym, ◌∙◌, subst, arith}
+use Rattle.std.proofs.lemmas.Bool.{eqb-true}
+use Rattle.std.proofs.lemmas.List.{append-nil}
 use Rattle.std.specs.declared.cmp.Ordering.{Ordering}
 use Rattle.std.specs.declared.cmp.Ordering.TheVariants.{Less, Equal, Greater}
 use Rattle.std.specs.Ordering.{eq_by_cmp, is_eq, match_ordering, ordering_reverse}
@@ -15,7 +17,7 @@ use Rattle.planner.proofs.Residual.{Member, here, each_map, each_where, member_w
 use Rattle.planner.proofs.Lists.{Pairwise, pairwise_where}
 use Rattle.planner.proofs.Rows.{IsRising, in_key_order_rising}
 use Rattle.plan_exec.specs.Merging.{first_keys_cmp, shared}
-use Rattle.plan_exec.proofs.InOrder.{IsBelow, below_all, below_stays, first_placed, placed_again, rising_if_stays, rising_stays, turned, turned_back}
+use Rattle.plan_exec.proofs.InOrder.{IsBelow, below_all, below_stays, first_placed, ordered_twice, placed_again, rising_if_stays, rising_stays, turned, turned_back}
 use Rattle.plan_exec.proofs.Merges.{Pops, Stays}
 
 abbrev pub Key : Type 0
@@ -81,12 +83,14 @@ module _ (xs ys : List Key) (s : Stays itself xs) (t : Stays itself ys) where
           ∙ ap (λ w. x ∷ w) (without y ys xs (subst (λ k. Each (IsBelow itself k) xs) same r.0))
           ∙ (λ i. option_to_list (sym p.0 i) ++ filter (has (sym u.1 i)) (sym p.1 i))
 
--- no key is shared where one list is empty
-pub none_shared_left : (xs ys : List Key) → xs ≡ [] → shared xs ys ≡ []
-none_shared_left xs ys e = ap (filter (has ys)) e
+-- nothing more is shared where a list is empty
+pub left_empty : (keys xs ys whole : List Key) (n : ℕ) → n ≡ length xs → (n == 0) ≡ true → keys ++ shared xs ys ≡ whole → keys ≡ whole
+left_empty keys [] ys whole n e z w = sym (append-nil keys) ∙ w
+left_empty keys (x ∷ xs) ys whole n e z w = absurd (omega (arith, e, eqb-true n 0 z))
 
-pub none_shared_right : (xs ys : List Key) → ys ≡ [] → shared xs ys ≡ []
-none_shared_right xs ys e = ap (λ k. filter (has k) xs) e ∙ filter_none xs
+pub right_empty : (keys xs ys whole : List Key) (n : ℕ) → n ≡ length ys → (n == 0) ≡ true → keys ++ shared xs ys ≡ whole → keys ≡ whole
+right_empty keys xs [] whole n e z w = sym (append-nil keys) ∙ ap (λ k. keys ++ k) (sym (filter_none xs)) ∙ w
+right_empty keys xs (y ∷ ys) whole n e z w = absurd (omega (arith, e, eqb-true n 0 z))
 
 -- ---- keys that pass a test, in key order
 
@@ -183,9 +187,13 @@ module _ {R : Type 0} (items : R → List Key) where
   next_list list rest rest' keys keys' ordered whole e o k w =
       ap (filter (all_have (map items rest'))) (k ∙ ap (λ l. filter (has l) keys) o) ∙ one_list (items list) (map items rest') keys ∙ ap (λ l. filter (all_have (map items l)) keys) (sym e) ∙ w
 
-  pub last_list : (rest : List R) (keys whole : List Key) → rest ≡ [] → filter (all_have (map items rest)) keys ≡ whole → keys ≡ whole
-  last_list rest keys whole e w = sym (all keys) ∙ ap (λ l. filter (all_have (map items l)) keys) (sym e) ∙ w
+  pub last_list : (rest : List R) (keys whole : List Key) (n : ℕ) → n ≡ length rest → n ≡ 0 → filter (all_have (map items rest)) keys ≡ whole → keys ≡ whole
+  last_list (r ∷ rest) keys whole n e z w = absurd (omega (arith, e, z))
+  last_list [] keys whole n e z w = sym (all keys) ∙ w
     where
       all : (ks : List Key) → filter (all_have []) ks ≡ ks
       all [] = refl
       all (k ∷ ks) = ap (λ l. k ∷ l) (all ks)
+
+pub stays_ordered : (keys list : List Key) → keys ≡ in_key_order itself list → Stays itself keys
+stays_ordered keys list e = subst (Stays itself) (sym e) (ordered_twice itself list)
