@@ -6,19 +6,18 @@ use Rattle.std.proofs.lemmas.Bool.{eqb-true}
 use Rattle.std.proofs.lemmas.List.{append-nil}
 use Rattle.std.specs.declared.cmp.Ordering.{Ordering}
 use Rattle.std.specs.declared.cmp.Ordering.TheVariants.{Less, Equal, Greater}
-use Rattle.std.specs.Ordering.{eq_by_cmp, is_eq, match_ordering, ordering_reverse}
-use Rattle.std.proofs.lemmas.Cmp.{tied_itself}
+use Rattle.std.specs.Ordering.{eq_by_cmp, is_eq, match_ordering}
 use Rattle.metadata.specs.declared.cells.Cell.{Cell}
 use Rattle.metadata.specs.Order.{cells_cmp}
-use Rattle.query.proofs.CellLaws.{cells_cmp_total, cells_cmp-IsAntisymmetric}
+use Rattle.query.proofs.CellLaws.{cells_cmp-IsAntisymmetric}
 use Rattle.planner.specs.Meaning.{common, in_key_order, placed}
 use Rattle.planner.proofs.Ranges.{Each}
-use Rattle.planner.proofs.Residual.{Member, here, each_map, each_where, member_where}
-use Rattle.planner.proofs.Lists.{Pairwise, pairwise_where}
+use Rattle.planner.proofs.Residual.{here, each_where, member_where}
+use Rattle.planner.proofs.Lists.{pairwise_where}
 use Rattle.planner.proofs.Rows.{IsRising, in_key_order_rising}
-use Rattle.plan_exec.specs.Merging.{first_keys_cmp, shared}
-use Rattle.plan_exec.proofs.InOrder.{IsBelow, below_all, below_stays, first_placed, ordered_twice, placed_again, rising_if_stays, rising_stays, turned, turned_back}
-use Rattle.plan_exec.proofs.Merges.{Pops, Stays}
+use Rattle.plan_exec.specs.Merging.{IsInKeyOrder, first_keys_cmp, shared}
+use Rattle.plan_exec.proofs.InOrder.{IsBelow, below_all, below_stays, first_placed, ordered_twice, placed_again, rising_from_order, order_from_rising, turned, turned_back}
+use Rattle.plan_exec.proofs.Merges.{Pops}
 
 abbrev pub Key : Type 0
 Key = List Cell
@@ -49,9 +48,9 @@ filter_none (k ∷ looked) = filter_none looked
 
 -- ---- the lower one of two first keys is taken
 
-module _ (xs ys : List Key) (s : Stays itself xs) (t : Stays itself ys) where
+module _ (xs ys : List Key) (s : IsInKeyOrder itself xs) (t : IsInKeyOrder itself ys) where
   pub lower_left : first_keys_cmp itself xs ys ≡ Less → (o : Option Key) (rest : List Key) → Pops xs o rest → shared xs ys ≡ shared rest ys
-  lower_left = by xs ys (rising_if_stays itself xs s) (rising_if_stays itself ys t)
+  lower_left = by xs ys (rising_from_order itself xs s) (rising_from_order itself ys t)
     where
       by : (xs ys : List Key) → IsRising itself xs → IsRising itself ys → first_keys_cmp itself xs ys ≡ Less → (o : Option Key) (rest : List Key) → Pops xs o rest → shared xs ys ≡ shared rest ys
       by [] ys r q e o rest p = ap (filter (has ys)) (sym p.1)
@@ -61,7 +60,7 @@ module _ (xs ys : List Key) (s : Stays itself xs) (t : Stays itself ys) where
           ∙ ap (filter (has (y ∷ ys))) (sym p.1)
 
   pub lower_right : first_keys_cmp itself xs ys ≡ Greater → (o : Option Key) (rest : List Key) → Pops ys o rest → shared xs ys ≡ shared xs rest
-  lower_right = by xs ys (rising_if_stays itself xs s) (rising_if_stays itself ys t)
+  lower_right = by xs ys (rising_from_order itself xs s) (rising_from_order itself ys t)
     where
       by : (xs ys : List Key) → IsRising itself xs → IsRising itself ys → first_keys_cmp itself xs ys ≡ Greater → (o : Option Key) (rest : List Key) → Pops ys o rest → shared xs ys ≡ shared xs rest
       by [] ys r q e o rest p = refl
@@ -71,7 +70,7 @@ module _ (xs ys : List Key) (s : Stays itself xs) (t : Stays itself ys) where
           without y ys (x ∷ xs) (low, below_all itself y x xs low r.0) ∙ ap (λ k. filter (has k) (x ∷ xs)) (sym p.1)
 
   pub both_taken : first_keys_cmp itself xs ys ≡ Equal → (o right : Option Key) (rest others : List Key) → Pops xs o rest → Pops ys right others → shared xs ys ≡ option_to_list o ++ shared rest others
-  both_taken = by xs ys (rising_if_stays itself xs s) (rising_if_stays itself ys t)
+  both_taken = by xs ys (rising_from_order itself xs s) (rising_from_order itself ys t)
     where
       by : (xs ys : List Key) → IsRising itself xs → IsRising itself ys → first_keys_cmp itself xs ys ≡ Equal → (o right : Option Key) (rest others : List Key) → Pops xs o rest → Pops ys right others →
           shared xs ys ≡ option_to_list o ++ shared rest others
@@ -161,8 +160,8 @@ has_ordered k (x ∷ keys) = has_placed k x (in_key_order itself keys) ∙ ap (�
 abbrev pub all_have : List (List Key) → Key → Bool
 all_have lists k = list_all (list_any (eq_by_cmp cells_cmp k)) lists
 
-pub shared_stay : (keys others : List Key) → Stays itself keys → Stays itself (shared keys others)
-shared_stay keys others s = rising_stays itself (filter (has others) keys) (pairwise_where (IsBelow itself) (has others) keys (rising_if_stays itself keys s))
+pub shared_stay : (keys others : List Key) → IsInKeyOrder itself keys → IsInKeyOrder itself (shared keys others)
+shared_stay keys others s = order_from_rising itself (filter (has others) keys) (pairwise_where (IsBelow itself) (has others) keys (rising_from_order itself keys s))
 
 one_list : (list : List Key) (lists : List (List Key)) (keys : List Key) → filter (all_have lists) (filter (has (in_key_order itself list)) keys) ≡ filter (all_have (list ∷ lists)) keys
 one_list list lists [] = refl
@@ -195,5 +194,5 @@ module _ {R : Type 0} (items : R → List Key) where
       all [] = refl
       all (k ∷ ks) = ap (λ l. k ∷ l) (all ks)
 
-pub stays_ordered : (keys list : List Key) → keys ≡ in_key_order itself list → Stays itself keys
-stays_ordered keys list e = subst (Stays itself) (sym e) (ordered_twice itself list)
+pub stays_ordered : (keys list : List Key) → keys ≡ in_key_order itself list → IsInKeyOrder itself keys
+stays_ordered keys list e = subst (IsInKeyOrder itself) (sym e) (ordered_twice itself list)

@@ -79,15 +79,14 @@ impl Ord for PrimaryKey {
     ghost matches_eq = { λ x y. refl };
 
     fn cmp(&self, other: &PrimaryKey) -> Ordering {
-        self.number.cmp(&other.number).then(self.cells.compare(&other.cells))
+        self.number
+            .cmp(&other.number)
+            .then(self.cells.compare(&other.cells))
     }
 }
 
 /// The records without those whose primary key stood before, in the order in which they come.
-pub(crate) fn first_of_each(
-    alloc: Global,
-    records: Vec<Record>,
-) -> Result<Vec<Record>, AllocError>
+pub(crate) fn first_of_each(alloc: Global, records: Vec<Record>) -> Result<Vec<Record>, AllocError>
     ensures { IfOk result (λ first. first.items ≡ first_of_each primary_cells records.items) }
 {
     let mut first = Vec::new(alloc);

@@ -1,6 +1,6 @@
-use Rattle.std.proofs.Common.{◌≡◌, ◌∙◌, ap, sym, subst, ◌∷◌}
+use Rattle.std.proofs.Common.{◌∙◌, ap, sym, subst, ◌∷◌}
 use Rattle.std.specs.Vec.Iter.{into_iter_items}
-use Rattle.plan_exec.proofs.Merges.{Stays}
+use Rattle.plan_exec.specs.Merging.{IsInKeyOrder}
 use Rattle.plan_exec.proofs.Shares.{first_list, last_list, next_list, shared_stay, stays_ordered}
 use Rattle.plan_exec.proofs.common.common.Goals as goal
 
@@ -22,7 +22,7 @@ loop-list-preserved c = record {
   is_finite = tt;
   all = next_list (λ list. list.items) c.in-Some-list.list _ _ c.loop-list.keys.items c.in_ok-keys-2.keys.items c.in_ok-in_key_order.field-0.items _
       c.in-Some-list.ensures.steps.0 c.in_ok-in_key_order.ensures c.in_ok-keys-2.ensures c.loop-list.invariant.all;
-  in_order = subst (Stays (λ k. k)) (sym c.in_ok-keys-2.ensures) (shared_stay c.loop-list.keys.items c.in_ok-in_key_order.field-0.items c.loop-list.invariant.in_order);
+  in_order = subst (IsInKeyOrder (λ k. k)) (sym c.in_ok-keys-2.ensures) (shared_stay c.loop-list.keys.items c.in_ok-in_key_order.field-0.items c.loop-list.invariant.in_order);
 }
 
 pub returns : goal.returns

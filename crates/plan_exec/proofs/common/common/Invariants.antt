@@ -2,6 +2,7 @@
 use Rattle.std.proofs.Common.{◌≡◌, filter, map}
 use Rattle.std.specs.Vec.Iter.{into_iter_items}
 use Rattle.planner.specs.Meaning.{common, in_key_order}
+use Rattle.plan_exec.specs.Merging.{IsInKeyOrder}
 use Rattle.plan_exec.proofs.Shares.{all_have}
 use Rattle.plan_exec.proofs.common.common.Given as goal
 
@@ -11,5 +12,5 @@ invariant-loop-list l = record {
   is_finite : (goal.iterator-loop-list).is_finite l.list-iterator;
   all : filter (all_have (map (λ list. list.items) (into_iter_items l.list-iterator))) l.keys.items
       ≡ in_key_order (λ key. key) (common (map (λ list. list.items) l.fn.lists.items));
-  in_order : in_key_order (λ key. key) l.keys.items ≡ l.keys.items;
+  in_order : IsInKeyOrder (λ key. key) l.keys.items;
 }

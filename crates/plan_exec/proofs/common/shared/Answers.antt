@@ -1,4 +1,4 @@
-use Rattle.std.proofs.Common.{◌≡◌, ◌∙◌, sym}
+use Rattle.std.proofs.Common.{◌∙◌, sym}
 use Rattle.plan_exec.proofs.Shares.{left_empty, right_empty}
 use Rattle.plan_exec.proofs.common.shared.Goals.{then-loop-right-test+else-not-is_empty, else-loop-right-test}
 use Rattle.plan_exec.proofs.common.shared.Goals as goal

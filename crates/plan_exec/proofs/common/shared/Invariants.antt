@@ -1,14 +1,13 @@
 -- The keys so far and those that the rests share are all shared keys.
 use Rattle.std.proofs.Common.{◌≡◌, ◌+◌, ◌++◌, length}
-use Rattle.planner.specs.Meaning.{in_key_order}
-use Rattle.plan_exec.specs.Merging.{shared}
+use Rattle.plan_exec.specs.Merging.{IsInKeyOrder, shared}
 use Rattle.plan_exec.proofs.common.shared.Given as goal
 
 abbrev pub invariant-loop-right : goal.invariant-loop-right
 invariant-loop-right l = record {
   shared : l.keys.items ++ shared l.left.items l.right.items ≡ shared l.fn.left.items l.fn.right.items;
-  left_in_order : in_key_order (λ key. key) l.left.items ≡ l.left.items;
-  right_in_order : in_key_order (λ key. key) l.right.items ≡ l.right.items;
+  left_in_order : IsInKeyOrder (λ key. key) l.left.items;
+  right_in_order : IsInKeyOrder (λ key. key) l.right.items;
 }
 
 abbrev pub decreases-loop-right : goal.decreases-loop-right

@@ -1,4 +1,4 @@
-use Rattle.std.proofs.Common.{◌≡◌, ◌∙◌, ap, sym, subst, refl, not, true, false}
+use Rattle.std.proofs.Common.{◌∙◌, ap, sym, subst, refl, not, true, false}
 use Rattle.std.specs.BTreeSet.{contains}
 use Rattle.metadata.specs.Order.{cells_cmp}
 use Rattle.planner.specs.Layout.{primary_cells}
