@@ -9,3 +9,8 @@ pub mod KeyRanges
 pub mod Decoded
 pub mod EntryNumbers
 pub mod SingleReads
+pub mod InOrder
+pub mod Merges
+pub mod Neighbours
+pub mod FirstOnes
+pub mod Shares

@@ -5,3 +5,4 @@ pub mod Accepting
 pub mod Reads
 pub mod Executing
 pub mod Decoding
+pub mod Merging

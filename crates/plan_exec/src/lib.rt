@@ -5,12 +5,16 @@
 #![tactic(auto)]
 
 mod accepting;
+mod common;
 mod decoding;
+mod distinct;
 mod entries;
 mod entry;
 mod error;
+mod keyed;
 mod keys;
 mod laws;
+mod merging;
 mod reading;
 
 pub use error::ExecError;
