@@ -5,3 +5,13 @@ pub mod Told
 pub mod Accepted
 pub mod Meanings
 pub mod Composing
+pub mod ReadAs
+pub mod KeyRanges
+pub mod Decoded
+pub mod EntryNumbers
+pub mod SingleReads
+pub mod InOrder
+pub mod Merges
+pub mod Neighbours
+pub mod FirstOnes
+pub mod Shares

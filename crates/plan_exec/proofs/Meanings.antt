@@ -140,7 +140,7 @@ keys_common (es ∷ more) = keys_where more es
 -- ---- steps
 
 module _ (prefix : List ℕ) (pairs : List Pair) (t : TypeDefinition) where
-  entry_key : (i : IndexDefinition) (pair : Pair) → option_map (λ (e : Entry). e.primary_key) (entry_of prefix pairs t i pair) ≡ entry_primary_key prefix t i pair
+  entry_key : (i : IndexDefinition) (pair : Pair) → option_map (λ (e : Entry). e.primary_key) (entry_of prefix t i pair) ≡ entry_primary_key prefix t i pair
   entry_key i pair = by (entry_primary_key prefix t i pair)
     where
       by : (o : Option (List Cell)) → option_map (λ (e : Entry). e.primary_key) (option_map (λ key. record { key = pair.0; primary_key = key }) o) ≡ o
@@ -150,9 +150,9 @@ module _ (prefix : List ℕ) (pairs : List Pair) (t : TypeDefinition) where
   scanned_ok : (s : IndexScan) → option_map keys (result_ok (entries_reading prefix pairs t s).found) ≡ scanned_keys prefix pairs t s
   scanned_ok s =
       let found = pairs_in (planned.behind (entries_prefix prefix s.index.number) s.range) s.reverse pairs in
-      ap (option_map keys) (each_ok (entry_of prefix pairs t s.index) found)
-      ∙ map_each (λ (e : Entry). e.primary_key) (entry_of prefix pairs t s.index) found
-      ∙ each_same (λ p. option_map (λ (e : Entry). e.primary_key) (entry_of prefix pairs t s.index p)) (entry_primary_key prefix t s.index) (entry_key s.index) found
+      ap (option_map keys) (each_ok (entry_of prefix t s.index) found)
+      ∙ map_each (λ (e : Entry). e.primary_key) (entry_of prefix t s.index) found
+      ∙ each_same (λ p. option_map (λ (e : Entry). e.primary_key) (entry_of prefix t s.index p)) (entry_primary_key prefix t s.index) (entry_key s.index) found
 
   source_ok : (s : Source) → option_map keys (result_ok (source_reading prefix pairs t s).found) ≡ source_keys prefix pairs t s
   source_ok (one s) = scanned_ok s
@@ -172,7 +172,7 @@ module _ (prefix : List ℕ) (pairs : List Pair) (t : TypeDefinition) where
       whether None = refl
       whether (Some r) = refl
 
-      by : (o : Option (List ℕ)) → result_ok (record_found prefix pairs t e o) ≡ option_and_then (λ value. record_of prefix t (record_key prefix (items_of e.primary_key), value)) o
+      by : (o : Option (List ℕ)) → result_ok (record_found prefix t e o) ≡ option_and_then (λ value. record_of prefix t (record_key prefix (items_of e.primary_key), value)) o
       by None = refl
       by (Some value) = whether (record_of prefix t (record_key prefix (items_of e.primary_key), value))
 

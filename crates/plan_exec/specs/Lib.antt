@@ -5,3 +5,5 @@ pub mod Errors
 pub mod Accepting
 pub mod Reads
 pub mod Executing
+pub mod Decoding
+pub mod Merging

@@ -1,6 +1,5 @@
 -- What executing the steps of a plan reads of the pairs of a map, in reading order, and what it finds there.
-use Rattle.std.specs.Prelude.{ℕ, Bool, List, [], ◌∷◌, ◌++◌, filter, map, Option, Some, None, option_map}
-use Rattle.std.specs.Prelude.{Result, Ok, Err}
+use Rattle.std.specs.Prelude.{ℕ, Bool, List, [], ◌∷◌, ◌++◌, filter, map, Option, Some, None, option_map, Result, Ok, Err}
 use Rattle.std.specs.FinMap.Entries.{find}
 use Rattle.std.specs.List.{list_all, list_any}
 use Rattle.std.specs.Ordering.{eq_by_cmp}
@@ -77,6 +76,17 @@ common_entries [] = []
 common_entries (entries ∷ more) =
     filter (λ e. list_all (list_any (λ other. eq_by_cmp cells_cmp e.primary_key other.primary_key)) more) entries
 
+-- the entry that a pair stands for, if it is of the written form
+abbrev pub entry_of : List ℕ → TypeDefinition → IndexDefinition → Pair → Option Entry
+entry_of prefix t i pair =
+    option_map (λ key. record { key = pair.0; primary_key = key }) (entry_primary_key prefix t i pair)
+
+-- the record of an entry by what stands at the record's key: where nothing does, the entry is damaged
+abbrev pub record_found : List ℕ → TypeDefinition → Entry → Option (List ℕ) → Result Record (List ℕ)
+record_found prefix t e None = Err e.key
+record_found prefix t e (Some value) =
+    let key = record_key prefix (items_of e.primary_key) in or_damaged key (record_of prefix t (key, value))
+
 -- the pairs of the map in key order, the store's prefix and its type
 module _ (prefix : List ℕ) (pairs : List Pair) (t : TypeDefinition) where
   -- the pairs of a range are read, and something is made of each
@@ -90,13 +100,8 @@ module _ (prefix : List ℕ) (pairs : List Pair) (t : TypeDefinition) where
   abbrev pub scan_reading : Scan → Reading (List Record)
   scan_reading s = scanned (records_prefix prefix t.number) s.range s.reverse (record_of prefix t)
 
-  -- the entry that a pair stands for
-  abbrev pub entry_of : IndexDefinition → Pair → Option Entry
-  entry_of i pair =
-      option_map (λ key. record { key = pair.0; primary_key = key }) (entry_primary_key prefix t i pair)
-
   abbrev pub entries_reading : IndexScan → Reading (List Entry)
-  entries_reading s = scanned (entries_prefix prefix s.index.number) s.range s.reverse (entry_of s.index)
+  entries_reading s = scanned (entries_prefix prefix s.index.number) s.range s.reverse (entry_of prefix t s.index)
 
   -- the entries whose records a fetch gives: of an intersection those that all scans have, in key order
   abbrev pub source_reading : Source → Reading (List Entry)
@@ -104,16 +109,11 @@ module _ (prefix : List ℕ) (pairs : List Pair) (t : TypeDefinition) where
   source_reading (intersection ss) =
       made_of (λ es. in_key_order (λ e. e.primary_key) (common_entries es)) (in_turn (map entries_reading ss))
 
-  -- the record of an entry: where there is none the entry is damaged
-  abbrev pub record_found : Entry → Option (List ℕ) → Result Record (List ℕ)
-  record_found e None = Err e.key
-  record_found e (Some value) =
-      let key = record_key prefix (items_of e.primary_key) in or_damaged key (record_of prefix t (key, value))
-
+  -- the record of an entry
   abbrev pub record_reading : Entry → Reading Record
   record_reading e =
       let key = record_key prefix (items_of e.primary_key) in
-      record { ranges = point key ∷ []; found = record_found e (find bytes_cmp key pairs) }
+      record { ranges = point key ∷ []; found = record_found prefix t e (find bytes_cmp key pairs) }
 
   abbrev pub fetch_reading : Source → Reading (List Record)
   fetch_reading s = and_then (λ es. in_turn (map record_reading es)) (source_reading s)

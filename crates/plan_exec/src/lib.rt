@@ -6,10 +6,18 @@
 #![tactic(auto)]
 
 mod accepting;
+mod common;
+mod decoding;
+mod distinct;
+mod entries;
 mod entry;
 mod error;
+mod keyed;
+mod keys;
 mod laws;
+mod merging;
 mod planning;
+mod reading;
 
 pub use error::ExecError;
 pub use laws::{plans_answer, states_are_told, stores_are_exact, usable_are_scannable};

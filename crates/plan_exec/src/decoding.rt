@@ -1,0 +1,81 @@
+// What the pairs of records and of entries stand for.
+ghost use Rattle.std.specs.Prelude.{◌≡◌, ◌++◌, IfOk, IfErr, MatchOption, Ok};
+ghost use Rattle.tuple_codec.specs.Item.{AreBytes};
+ghost use Rattle.tuple_codec.specs.Subspace.{BeginsWith};
+ghost use Rattle.record_store.specs.Layout.{place};
+ghost use Rattle.planner.specs.Layout.{record_of};
+ghost use Rattle.planner.specs.Pack.{unpack};
+ghost use Rattle.plan_exec.specs.Decoding.{IsDamage};
+ghost use Rattle.plan_exec.specs.Reads.{each_found};
+
+use crate::error::ExecError;
+use kv_core::Pair;
+use metadata::{Cells, Record, TypeDefinition};
+use record_store::Store;
+use std::alloc::{AllocError, Global};
+use tuple_codec::{UnpackFailure, unpack};
+
+// Does nothing: its clause tells what the type knows of the numbers.
+fn bytes_known(bytes: &[u8])
+    ensures { AreBytes bytes.now }
+{}
+
+// What stands behind the front in a key.
+fn behind<'a>(front: &[u8], key: &'a [u8]) -> Option<&'a [u8]>
+    ensures { MatchOption result (BeginsWith front.now key.now → ⊥) (λ rest. key.now ≡ front.now ++ rest.now) }
+{
+    key.strip_prefix(front)
+}
+
+// The record of the type that a pair stands for, if it is of the written form.
+pub(crate) fn record_in(
+    store: &Store,
+    front: &[u8],
+    definition: &TypeDefinition,
+    pair: &Pair,
+) -> Result<Option<Record>, AllocError>
+    requires { front.now ≡ place store.now.prefix 1 }
+    ensures { IfOk result (λ found. found ≡ record_of store.now.prefix definition.now pair.now) }
+{
+    let key = pair.0.as_slice();
+    let value = pair.1.as_slice();
+    bytes_known(value);
+    match behind(front, key) {
+        Some(primary_key) => Record::decode(store.alloc(), definition, primary_key, value),
+        None => Ok(None),
+    }
+}
+
+// The records of the type that pairs stand for.
+pub(crate) fn records_in(
+    store: &Store,
+    front: &[u8],
+    definition: &TypeDefinition,
+    pairs: &[Pair],
+) -> Result<Vec<Record>, ExecError>
+    requires { front.now ≡ place store.now.prefix 1 }
+    ensures found { IfOk result (λ records.
+        each_found (record_of store.now.prefix definition.now) pairs.now ≡ Ok records.items) }
+    ensures damaged { IfErr result (IsDamage (each_found (record_of store.now.prefix definition.now) pairs.now)) }
+{
+    let mut records = Vec::new(store.alloc());
+    for pair in pairs {
+        match record_in(store, front, definition, pair)? {
+            Some(found) => records.push(found)?,
+            None => return Err(ExecError::Corrupt(pair.0.copy()?)),
+        }
+    }
+    Ok(records)
+}
+
+// The cells whose pack these bytes are.
+pub(crate) fn cells_in(alloc: Global, bytes: &[u8]) -> Result<Option<Cells>, AllocError>
+    ensures { IfOk result (λ found. found ≡ unpack bytes.now) }
+{
+    bytes_known(bytes);
+    match unpack(alloc, bytes) {
+        Ok(tuple) => Cells::from_tuple(alloc, tuple),
+        Err(UnpackFailure::Memory) => Err(AllocError),
+        Err(UnpackFailure::Refused(_)) => Ok(None),
+    }
+}
