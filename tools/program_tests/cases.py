@@ -5,7 +5,8 @@ each other line is 'STEP => REPLY', the JSON of a step and what is printed for i
 JSON' at the head of a file names a text that is put in place of '$NAME' in its steps.
 
 A file NAME.plans has queries. A line 'schema JSON' gives the schema and 'states JSON' the states of indexes from there
-on; each other line is 'QUERY => PLAN', what `explain` prints of the query, or behind '! ' the line of a fault.
+on; each other line is 'QUERY => PLAN', what `explain` prints of the query, or behind '! ' the line of a fault. A file
+NAME.trees is such a one for `explain --tree`, where ' / ' stands between the lines of a tree.
 
 A file NAME.words has lines 'KIND `TEXT` => LINE'. The text is given to the program as a word of the command line (kinds
 `pack` and `unpack`), as a script (`script`), as the second step of one (`step`) or as its configuration (`config`). The
@@ -63,8 +64,8 @@ def script_cases(name, text):
     return cases
 
 
-def plan_cases(name, text):
-    """The cases of a file of queries."""
+def plan_cases(name, text, words, between="\n"):
+    """The cases of a file of queries, each given to the program by these words; what stands between lines of a plan."""
     cases, schema, states = [], None, "{}"
     for line in text.split("\n"):
         kind, _, rest = line.partition(" ")
@@ -77,7 +78,7 @@ def plan_cases(name, text):
             if not arrow:
                 raise ValueError(f"{name}: a line has no plan: {line}")
             given = '{"schema":%s,"states":%s,"query":%s}' % (schema, states, query)
-            cases.append(told_case(f"{name}: {states} {line}", ["explain"], given.encode(), wanted))
+            cases.append(told_case(f"{name}: {states} {line}", words, given.encode(), wanted.replace(between, "\n")))
     return cases
 
 
@@ -107,20 +108,22 @@ def cases_in(folder):
         if name.endswith(".steps"):
             cases += script_cases(name, text)
         elif name.endswith(".plans"):
-            cases += plan_cases(name, text)
+            cases += plan_cases(name, text, ["explain"])
+        elif name.endswith(".trees"):
+            cases += plan_cases(name, text, ["explain", "--tree"], " / ")
         elif name.endswith(".words"):
             cases += [word_case(name, it) for it in text.split("\n") if it and not it.startswith("# ")]
         else:
-            raise ValueError(f"{name}: a case file is named .steps, .plans or .words")
+            raise ValueError(f"{name}: a case file is named .steps, .plans, .trees or .words")
     return cases
 
 
 def example_cases(folder):
     """A case for each script of a folder beside which its output stands, and each query beside which its plan does."""
-    cases, commands = [], {".out": "run", ".plan": "explain"}
+    cases, commands = [], {".out": ["run"], ".plan": ["explain"], ".tree": ["explain", "--tree"]}
     for name in sorted(os.listdir(folder)):
         stem, ending = os.path.splitext(os.path.abspath(os.path.join(folder, name)))
         if ending in commands:
             with open(os.path.join(folder, name), "rb") as lines:
-                cases.append(Case(f"{folder}/{name}", [commands[ending], stem + ".json"], b"", 0, lines.read(), b""))
+                cases.append(Case(f"{folder}/{name}", [*commands[ending], stem + ".json"], b"", 0, lines.read(), b""))
     return cases

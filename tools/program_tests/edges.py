@@ -3,6 +3,8 @@ from cases import Case
 
 BEGIN = '["begin",0]'
 SETTLE = '{"steps":[["settle"]]}'
+PLAN = '{"schema":{"types":[{"name":"t","fields":[["k","int"]],"key":["k"]}]},"query":{"type":"t"}}'
+TREE = b"Scan t: all [..ff]\n"
 
 
 # a long script of many steps with the lines of its replies; sizes of memory in MB: the least are too small to read it,
@@ -113,13 +115,19 @@ def byte_cases():
 def command_line_cases(folder):
     """What the words of the command line are taken for: FILE or standard input, or nothing, with status 2."""
     script = f"{folder}/script.json"
-    with open(script, "w", encoding="utf-8") as file:
-        file.write(SETTLE)
-    refused = [[], ["walk"], ["pack"], ["unpack"], ["pack", "[]", "[]"], ["run", script, script], ["--frobnicate"]]
+    plan = f"{folder}/plan.json"
+    for path, text in (script, SETTLE), (plan, PLAN):
+        with open(path, "w", encoding="utf-8") as file:
+            file.write(text)
+    refused = [[], ["walk"], ["pack"], ["unpack"], ["pack", "[]", "[]"], ["run", script, script], ["--frobnicate"],
+               ["explain", "--tree", "--tree"], ["explain", "--tree=yes"], ["run", "--tree", script]]
     return [
         Case("a script in a file", ["run", script], b"not this", 0, b"1 nothing\n", b""),
         Case("no such file", ["run", f"{folder}/absent.json"], SETTLE.encode(), 1, b"", b"cannot read input\n"),
         Case("a folder for a file", ["run", folder], SETTLE.encode(), 1, b"", b"cannot read input\n"),
+        Case("the tree of a plan in a file", ["explain", plan, "--tree"], b"not this", 0, TREE, b""),
+        Case("the tree of a plan", ["explain", "--tree"], PLAN.encode(), 0, TREE, b""),
+        Case("no such plan", ["explain", "--tree", f"{folder}/absent.json"], b"", 1, b"", b"cannot read input\n"),
         *[Case(f"a command line that isn't taken: {it}", it, b"", 2, b"", None) for it in refused],
         Case("help goes to standard error", ["--help"], b"", 2, b"", None),
         Case("help of a command", ["run", "--help"], b"", 2, b"", None),

@@ -1,9 +1,11 @@
 //! Measures the crates: `bench tuples` packs and unpacks tuples, `bench ranges` fills lists of
-//! ranges, `bench schemas` writes and reads schemas and makes records, `bench transactions` writes
-//! and reads in transactions, and `bench versions` pulls versions. It prints what it measured.
+//! ranges, `bench schemas` writes and reads schemas and makes records, `bench plans` plans queries,
+//! `bench transactions` writes and reads in transactions, and `bench versions` pulls versions. It
+//! prints what it measured.
 #![tactic(auto)]
 
 mod keys;
+mod plans;
 mod ranges;
 mod schemas;
 mod transactions;
@@ -22,13 +24,14 @@ fn asked(rt: &HostRuntime) -> io::Result<Option<String>> {
 
 fn main(rt: HostRuntime) -> io::Result<ExitCode> {
     match asked(&rt)?.as_deref() {
+        Some("plans") => plans::measure(&rt)?,
         Some("ranges") => ranges::measure(&rt)?,
         Some("schemas") => schemas::measure(&rt)?,
         Some("transactions") => transactions::measure(&rt)?,
         Some("tuples") => tuples::measure(&rt)?,
         Some("versions") => versions::measure(&rt)?,
         _ => {
-            rt.eprintln("usage: bench ranges|schemas|transactions|tuples|versions")?;
+            rt.eprintln("usage: bench plans|ranges|schemas|transactions|tuples|versions")?;
             return Ok(ExitCode::from(2));
         }
     }

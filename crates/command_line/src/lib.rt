@@ -3,4 +3,4 @@
 
 mod request;
 
-pub use request::{CommandLineError, Request, request_of};
+pub use request::{CommandLineError, PlanForm, Request, request_of};

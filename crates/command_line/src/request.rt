@@ -1,14 +1,24 @@
 use clap::error::ErrorKind;
-use clap::{Arg, ArgMatches, Command, Error};
+use clap::{Arg, ArgAction, ArgMatches, Command, Error};
 use std::alloc::{AllocError, Global};
+
+/// How a plan is printed.
+#[derive(Clone, Copy, Debug, PartialEq, Eq, Drop)]
+pub enum PlanForm {
+    /// As its text, on one line.
+    Line,
+    /// As a tree, a step a line.
+    Tree,
+}
 
 /// What a command line asks for.
 #[derive(Debug, Drop)]
 pub enum Request {
     /// To run the script in this file, or without one that on standard input.
     Run(Option<String>),
-    /// To print the plan that the text in this file asks for, or without one that on standard input.
-    Explain(Option<String>),
+    /// To print in this form the plan that the text in this file asks for, or without one that on
+    /// standard input.
+    Explain(PlanForm, Option<String>),
     /// To print the pack of the tuple that this text stands for.
     Pack(String),
     /// To print the tuple that the bytes of these hexadecimal digits spell.
@@ -38,11 +48,16 @@ fn run_command<'a>(alloc: Global) -> Result<Command<'a>, AllocError> {
 }
 
 fn explain_command<'a>(alloc: Global) -> Result<Command<'a>, AllocError> {
+    let tree = Arg::new(alloc, "tree")
+        .long("tree")
+        .help("Prints it as a tree, a step a line")
+        .action(ArgAction::SetTrue);
     let file = Arg::new(alloc, "FILE").help(
         "Schema, states and query; without it standard input is read",
     );
     Command::new(alloc, "explain")
         .about("Prints the plan of a query")
+        .arg(tree)?
         .arg(file)
 }
 
@@ -101,6 +116,15 @@ fn file_in(alloc: Global, matches: &ArgMatches) -> Result<Option<String>, AllocE
     }
 }
 
+// The form in which the words of `explain` ask for a plan.
+fn form_in(matches: &ArgMatches) -> PlanForm {
+    if matches.get_flag("tree") {
+        PlanForm::Tree
+    } else {
+        PlanForm::Line
+    }
+}
+
 // What the words ask for where they match `pack` or `unpack`.
 fn tuple_request_in(alloc: Global, matches: &ArgMatches) -> Result<Option<Request>, AllocError> {
     let pack_words = matches.subcommand_matches("pack");
@@ -120,7 +144,7 @@ fn request_in(alloc: Global, matches: &ArgMatches) -> Result<Request, AllocError
         return Ok(request);
     }
     if let Some(words) = matches.subcommand_matches("explain") {
-        return Ok(Request::Explain(file_in(alloc, words)?));
+        return Ok(Request::Explain(form_in(words), file_in(alloc, words)?));
     }
     match matches.subcommand_matches("run") {
         Some(words) => Ok(Request::Run(file_in(alloc, words)?)),

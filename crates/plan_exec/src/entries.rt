@@ -1,5 +1,6 @@
 // What the pairs of an index's entries stand for.
-ghost use Rattle.std.specs.Prelude.{◌≡◌, ◌∷◌, [], IfOk, IfErr, MatchBool, Ok, bytes_eq, drop, if◌then◌else◌, length, not, pos, take, None, Some, ◌&&◌};
+ghost use Rattle.std.specs.Prelude.{◌≡◌, ◌∷◌, [], IfOk, IfErr, MatchBool, Ok, bytes_eq, drop};
+ghost use Rattle.std.specs.Prelude.{if◌then◌else◌, length, not, pos, take, None, Some, ◌&&◌};
 ghost use Rattle.std.specs.List.{list_any};
 ghost use Rattle.metadata.specs.declared.cells.Cell.TheVariants.{Int};
 ghost use Rattle.metadata.specs.Cell.{all_fit, is_null};

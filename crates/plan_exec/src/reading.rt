@@ -1,5 +1,6 @@
 // How the pairs of a range and the value of a key are read, and what they stand for.
-ghost use Rattle.std.specs.Prelude.{◌≡◌, ◌∷◌, ◌++◌, [], List, ℕ, IfOk, IfErr, IsTrue, Ok, OnErr, if◌then◌else◌, reverse};
+ghost use Rattle.std.specs.Prelude.{◌≡◌, ◌∷◌, ◌++◌, [], List, ℕ, IfOk, IfErr, IsTrue, Ok, OnErr};
+ghost use Rattle.std.specs.Prelude.{if◌then◌else◌, reverse};
 ghost use Rattle.std.specs.FinMap.{entries};
 ghost use Rattle.kv_core.specs.Bytes.{end_of_keys, key_lt};
 ghost use Rattle.record_store.specs.Layout.{place};

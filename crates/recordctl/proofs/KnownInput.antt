@@ -11,7 +11,8 @@ use Rattle.json_forms.specs.Json.{value_in}
 use Rattle.script.specs.Script.{IsScript}
 use Rattle.planner.specs.Asked.{AskedPlan}
 use Rattle.explain.specs.Planning.{IsPlanAskedBy}
-use Rattle.recordctl.specs.PlanLines.{IsPlanLine, explains_plan}
+use Rattle.command_line.specs.declared.request.PlanForm.{PlanForm}
+use Rattle.recordctl.specs.PlanLines.{IsShownPlan, explains_plan}
 use Rattle.recordctl.specs.Run.{IsTranscriptOf, explains_run}
 
 -- no more than so many bytes are read
@@ -66,11 +67,11 @@ untold_moved a b e fault (inl memory) = inl memory
 untold_moved a b e fault (inr told) = inr (told.0, rw e at told.1, told.2)
 
 -- the same of the plan that is asked for
-pub plan_line_of_front : (known : Option (List ℕ)) (bytes : List ℕ) (r : Result (String Global) Fault) → IfSome known (λ text. bytes ≡ take 4000001 text) → IfOk r (λ line. IsPlanLine bytes (string_bytes line))
-    → IfOk r (λ line. IfSome known (λ text. IsPlanLine text (string_bytes line)))
-plan_line_of_front known bytes (Err fault) h is = tt
-plan_line_of_front None bytes (Ok line) h is = tt
-plan_line_of_front (Some text) bytes (Ok line) h is = record { plan = is.plan; asked = asked_moved bytes text (ap value_in h ∙ value_of_front text) is.plan is.asked; printed = is.printed }
+pub shown_of_front : (form : PlanForm) (known : Option (List ℕ)) (bytes : List ℕ) (r : Result (String Global) Fault) → IfSome known (λ text. bytes ≡ take 4000001 text) → IfOk r (λ printed. IsShownPlan form bytes (string_bytes printed))
+    → IfOk r (λ printed. IfSome known (λ text. IsShownPlan form text (string_bytes printed)))
+shown_of_front form known bytes (Err fault) h is = tt
+shown_of_front form None bytes (Ok printed) h is = tt
+shown_of_front form (Some text) bytes (Ok printed) h is = record { plan = is.plan; asked = asked_moved bytes text (ap value_in h ∙ value_of_front text) is.plan is.asked; is = is.is }
 
 pub no_plan_of_front : (known : Option (List ℕ)) (bytes : List ℕ) (r : Result (String Global) Fault) → IfSome known (λ text. bytes ≡ take 4000001 text) → IfErr r (λ fault. explains_plan bytes fault)
     → IfErr r (λ fault. (fault ≡ CannotRead) ⊎ IfSome known (λ text. explains_plan text fault))

@@ -2,9 +2,13 @@
 use Rattle.std.specs.Prelude.{◌≡◌, ◌⊎◌, ℕ, List, Some}
 use Rattle.metadata.specs.declared.refusal.Refusal.TheVariants as refusals
 use Rattle.planner.specs.Asked.{AskedPlan}
+use Rattle.planner.specs.Plan.{Plan}
 use Rattle.planner.specs.View.{plan_of}
+use Rattle.command_line.specs.declared.request.PlanForm.{PlanForm}
+use Rattle.command_line.specs.declared.request.PlanForm.TheVariants.{Line, Tree}
 use Rattle.explain.specs.PlanText.{plan_text}
 use Rattle.explain.specs.Planning.{IsPlanAskedBy, text_refusal}
+use Rattle.explain.specs.Tree.{plan_tree}
 use Rattle.explain.specs.declared.error.ExplainError.{ExplainError}
 use Rattle.explain.specs.declared.error.ExplainError.TheVariants as errors
 use Rattle.recordctl.specs.TupleLines.{line_of}
@@ -12,11 +16,16 @@ use Rattle.recordctl.specs.declared.fault.Fault.{Fault}
 use Rattle.recordctl.specs.declared.fault.Fault.TheVariants.{OutOfMemory, BadScript, RefusedSchema, RefusedQuery}
 use Rattle.recordctl.specs.declared.fault.Fault.TheVariants.{SortNotServed}
 
--- the line that `explain` prints of a text: that of the plan that it asks for
-pub record IsPlanLine (text line : List ℕ) : Type 0 where
+-- what `explain` prints of a plan: the line of its text, or its tree
+abbrev pub shown : PlanForm → Plan → List ℕ
+shown Line plan = line_of (plan_text plan)
+shown Tree plan = plan_tree plan
+
+-- what `explain` prints of a text: the plan that it asks for
+pub record IsShownPlan (form : PlanForm) (text printed : List ℕ) : Type 0 where
   pub plan : AskedPlan
   pub asked : IsPlanAskedBy text plan
-  pub printed : line ≡ line_of (plan_text (plan_of plan))
+  pub is : printed ≡ shown form (plan_of plan)
 
 -- the fault by which it is told why there is no plan
 abbrev pub fault_of : ExplainError → Fault

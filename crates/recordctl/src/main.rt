@@ -12,7 +12,7 @@ mod printing;
 mod run;
 mod tuples;
 
-use command_line::{CommandLineError, Request, request_of};
+use command_line::{CommandLineError, PlanForm, Request, request_of};
 use fault::Fault;
 use plans::print_plan;
 use run::{refuse, run};
@@ -53,9 +53,10 @@ fn run_file<W: Write, E: Write>(
     }
 }
 
-// Prints the plan that the text in a file asks for.
+// Prints in this form the plan that the text in a file asks for.
 fn explain_file<W: Write, E: Write>(
     rt: &HostRuntime,
+    form: PlanForm,
     path: &str,
     output: &mut W,
     errors: &mut E,
@@ -63,7 +64,7 @@ fn explain_file<W: Write, E: Write>(
     ensures { exit_status result ≤ 1 }
 {
     match File::open(rt, path) {
-        Ok(mut file) => print_plan(rt.alloc(), &mut file, output, errors),
+        Ok(mut file) => print_plan(rt.alloc(), form, &mut file, output, errors),
         Err(_) => refuse(errors, Fault::CannotRead),
     }
 }
@@ -82,8 +83,10 @@ fn perform<R: Read, W: Write, E: Write>(
     match request_of(alloc, words) {
         Ok(Request::Run(Some(path))) => run_file(rt, path.as_str(), output, errors),
         Ok(Request::Run(None)) => run(alloc, input, output, errors),
-        Ok(Request::Explain(Some(path))) => explain_file(rt, path.as_str(), output, errors),
-        Ok(Request::Explain(None)) => print_plan(alloc, input, output, errors),
+        Ok(Request::Explain(form, Some(path))) => {
+            explain_file(rt, form, path.as_str(), output, errors)
+        }
+        Ok(Request::Explain(form, None)) => print_plan(alloc, form, input, output, errors),
         Ok(Request::Pack(word)) => pack(alloc, word.as_str(), output, errors),
         Ok(Request::Unpack(word)) => unpack(alloc, word.as_str(), output, errors),
         Err(error) => refuse_command_line(errors, &error),
