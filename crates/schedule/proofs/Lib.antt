@@ -16,6 +16,7 @@ pub mod Stops
 pub mod Outcomes
 pub mod Serving
 pub mod IndexServing
+pub mod Plans
 pub mod Creating
 pub mod Examples
 pub mod IndexExamples

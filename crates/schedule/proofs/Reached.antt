@@ -20,7 +20,7 @@ use Rattle.record_store.specs.Opening.{opening_reach}
 use Rattle.record_store.specs.Steps.{IsBeginning, IsNextRefused}
 use Rattle.record_store.proofs.Stopping.{all_begin, begin_more}
 use Rattle.schedule.specs.declared.step.Command.{Command}
-use Rattle.schedule.specs.declared.step.Command.TheVariants.{Create, «Type», Save, Load, Remove, Query, Index, Drop, Disable, State}
+use Rattle.schedule.specs.declared.step.Command.TheVariants.{Create, «Type», Save, Load, Remove, Query, Plan, Index, Drop, Disable, State}
 use Rattle.schedule.specs.declared.reply.Reply.{Reply}
 use Rattle.schedule.specs.declared.reply.Reply.TheVariants as reply
 use Rattle.schedule.specs.Layout.{store_prefix}
@@ -36,6 +36,7 @@ alone (Save name cells) = refl
 alone (Load name cells) = refl
 alone (Remove name cells) = refl
 alone (Query query) = refl
+alone (Plan query) = refl
 alone (Index request) = refl
 alone (Drop name) = refl
 alone (Disable name) = refl
@@ -111,6 +112,7 @@ told_accepted opened command (reply.Found cells) m is sound = sound
 told_accepted opened command reply.Absent m is sound = sound
 told_accepted opened command reply.Removed m is sound = sound
 told_accepted opened command (reply.Rows rows) m is sound = sound
+told_accepted opened command (reply.Planned plan) m is sound = sound
 told_accepted opened command (reply.State state) m is sound = sound
 told_accepted opened command (reply.Submitted version) m is sound = sound
 told_accepted opened command reply.ReadOnly m is sound = sound
@@ -129,6 +131,7 @@ sound_none (Save name cells) m none = none
 sound_none (Load name cells) m none = none
 sound_none (Remove name cells) m none = none
 sound_none (Query query) m none = none
+sound_none (Plan query) m none = none
 sound_none (Index request) m none = none
 sound_none (Drop name) m none = none
 sound_none (Disable name) m none = none

@@ -9,7 +9,7 @@ use Rattle.schedule.specs.declared.step.Command.{Command}
 use Rattle.schedule.specs.declared.step.Step.{Step}
 use Rattle.schedule.specs.declared.step.Step.TheVariants.{Begin, Perform, Commit, Abandon, Resolve, Log, Pull, Report, Lost, Settle}
 use Rattle.schedule.specs.declared.reply.Reply.{Reply}
-use Rattle.schedule.specs.declared.reply.Reply.TheVariants.{Begun, Done, SavedNew, SavedOver, Found, Absent, Removed, Rows, State, Submitted, ReadOnly, Nothing, Reported, Refused, Corrupt}
+use Rattle.schedule.specs.declared.reply.Reply.TheVariants.{Begun, Done, SavedNew, SavedOver, Found, Absent, Removed, Rows, Planned, State, Submitted, ReadOnly, Nothing, Reported, Refused, Corrupt}
 use Rattle.schedule.specs.declared.reply.Report as telling
 use Rattle.schedule.specs.Past.{Past, Attempt, Open, accepted, is_accepted, grown, open_of}
 use Rattle.schedule.specs.Standing.{cluster_after}
@@ -83,6 +83,7 @@ leaves_any config requests past step (Found cells) right = tt
 leaves_any config requests past step Absent right = tt
 leaves_any config requests past step Removed right = tt
 leaves_any config requests past step (Rows rows) right = tt
+leaves_any config requests past step (Planned plan) right = tt
 leaves_any config requests past step (State state) right = tt
 leaves_any config requests past step (Submitted version) right = tt
 leaves_any config requests past step ReadOnly right = tt

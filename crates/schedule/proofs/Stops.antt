@@ -25,7 +25,7 @@ use Rattle.record_store.specs.Opening.{IsOpened, IsThereAs, opening_reach}
 use Rattle.record_store.specs.Steps.{IsBeginning}
 use Rattle.record_store.proofs.Stopping.{all_begin, none_begin}
 use Rattle.schedule.specs.declared.step.Command.{Command}
-use Rattle.schedule.specs.declared.step.Command.TheVariants.{Create, «Type», Save, Load, Remove, Query, Index, Drop, Disable, State}
+use Rattle.schedule.specs.declared.step.Command.TheVariants.{Create, «Type», Save, Load, Remove, Query, Plan, Index, Drop, Disable, State}
 use Rattle.schedule.specs.declared.reply.Reply.{Reply}
 use Rattle.schedule.specs.declared.reply.Reply.TheVariants as reply
 use Rattle.schedule.specs.Layout.{store_prefix}
@@ -58,6 +58,7 @@ refuses_all (Save name cells) refusal = refl
 refuses_all (Load name cells) refusal = refl
 refuses_all (Remove name cells) refusal = refl
 refuses_all (Query query) refusal = refl
+refuses_all (Plan query) refusal = refl
 refuses_all (Index request) refusal = refl
 refuses_all (Drop name) refusal = refl
 refuses_all (Disable name) refusal = refl
@@ -70,6 +71,7 @@ corrupts_all (Save name cells) key = refl
 corrupts_all (Load name cells) key = refl
 corrupts_all (Remove name cells) key = refl
 corrupts_all (Query query) key = refl
+corrupts_all (Plan query) key = refl
 corrupts_all (Index request) key = refl
 corrupts_all (Drop name) key = refl
 corrupts_all (Disable name) key = refl
@@ -218,7 +220,7 @@ told_limit opened command write.TransactionTooLarge answer m is sound = let same
 told_limit opened command write.Memory answer m is sound = absurd (cc)
 
 -- a reply by which the command writes nothing
-served_idle : (before : List Mutation) (serial : Serial) (command : Command) (answer : Reply) → writes serial command ≡ [] → IsReply serial command answer → IsServed before serial command answer
+pub served_idle : (before : List Mutation) (serial : Serial) (command : Command) (answer : Reply) → writes serial command ≡ [] → IsReply serial command answer → IsServed before serial command answer
 served_idle before serial command answer none is = subst (λ ms. IsLimited (write_all_refusal before ms) serial command answer) (sym none) is
 
 -- a refusal of the command's own, where it writes nothing

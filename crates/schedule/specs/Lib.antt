@@ -1,4 +1,6 @@
 pub mod Query
+pub mod QueryCode
+pub mod Planning
 pub mod Refusals
 pub mod Serve
 pub mod Values

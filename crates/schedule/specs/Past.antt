@@ -4,7 +4,7 @@ use Rattle.std.specs.Prelude.{Option, Some, None, ◌==◌, if◌then◌else◌,
 use Rattle.std.specs.List.{list_any}
 use Rattle.std.specs.Option.{option_map}
 use Rattle.schedule.specs.declared.step.Command.{Command}
-use Rattle.schedule.specs.declared.step.Command.TheVariants.{Load, Query, Remove, State}
+use Rattle.schedule.specs.declared.step.Command.TheVariants.{Load, Plan, Query, Remove, State}
 use Rattle.schedule.specs.declared.step.Step.{Step}
 use Rattle.schedule.specs.declared.step.Step.TheVariants.{Begin, Perform, Commit, Abandon}
 use Rattle.schedule.specs.declared.reply.Reply.{Reply}
@@ -40,6 +40,7 @@ is_reading command (Refused refusal) = true
 is_reading command (Corrupt key) = true
 is_reading (Load type cells) reply = true
 is_reading (Query query) reply = true
+is_reading (Plan query) reply = true
 is_reading (State name) reply = true
 is_reading (Remove type cells) Absent = true
 is_reading command reply = false

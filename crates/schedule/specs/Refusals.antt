@@ -1,11 +1,14 @@
--- The refusals that a step replies: those that the schema or a record meets, and their names.
+-- The refusals that a step replies: those that the schema, a record or a query meets, and their names.
 use Rattle.std.specs.Prelude.{ℕ, List, codes}
 use Rattle.metadata.specs.declared.refusal.Refusal.{Refusal as SchemaRefusal}
 use Rattle.metadata.specs.declared.refusal.Refusal.TheVariants as schema
+use Rattle.query.specs.declared.error.QueryError.{QueryError}
+use Rattle.query.specs.declared.error.QueryError.TheVariants as query
 use Rattle.schedule.specs.declared.refusal.Refusal.{Refusal}
 use Rattle.schedule.specs.declared.refusal.Refusal.TheVariants.{NoSuchClient, NoSuchRole, Busy, NoTransaction, BadName}
 use Rattle.schedule.specs.declared.refusal.Refusal.TheVariants.{NameTaken, UnknownType, UnknownIndex, UnknownField}
 use Rattle.schedule.specs.declared.refusal.Refusal.TheVariants.{WrongKind, NullKey, BadSchema, TooMany, AlreadyThere}
+use Rattle.schedule.specs.declared.refusal.Refusal.TheVariants.{TooDeep, TooLarge, SortTwice, SortNotServed}
 use Rattle.schedule.specs.declared.refusal.Refusal.TheVariants.{NoStore, OtherSchema, FutureVersion, TooOld}
 use Rattle.schedule.specs.declared.refusal.Refusal.TheVariants.{VersionsExhausted, KeyOutside}
 use Rattle.schedule.specs.declared.refusal.Refusal.TheVariants.{KeyTooLarge, ValueTooLarge}
@@ -23,6 +26,15 @@ of_schema schema.NullKey = NullKey
 of_schema schema.BadSchema = BadSchema
 of_schema schema.TooMany = TooMany
 
+-- the refusal of a step whose query is refused so
+abbrev pub of_query : QueryError → Refusal
+of_query query.UnknownType = UnknownType
+of_query query.TooDeep = TooDeep
+of_query query.TooLarge = TooLarge
+of_query query.UnknownField = UnknownField
+of_query query.WrongKind = WrongKind
+of_query query.SortTwice = SortTwice
+
 -- the name that is printed
 abbrev pub name_of : Refusal → List ℕ
 name_of NoSuchClient = codes "NoSuchClient"
@@ -38,6 +50,10 @@ name_of WrongKind = codes "WrongKind"
 name_of NullKey = codes "NullKey"
 name_of BadSchema = codes "BadSchema"
 name_of TooMany = codes "TooMany"
+name_of TooDeep = codes "TooDeep"
+name_of TooLarge = codes "TooLarge"
+name_of SortTwice = codes "SortTwice"
+name_of SortNotServed = codes "SortNotServed"
 name_of AlreadyThere = codes "AlreadyThere"
 name_of NoStore = codes "NoStore"
 name_of OtherSchema = codes "OtherSchema"

@@ -16,7 +16,7 @@ use Rattle.metadata.specs.IndexChange.{new_index}
 use Rattle.metadata.specs.Record.{Record, primary_key, record_of, key_of}
 use Rattle.schedule.specs.declared.step.Command.{Command}
 use Rattle.schedule.specs.declared.step.Command.TheVariants.{Create, «Type», Save, Load, Remove}
-use Rattle.schedule.specs.declared.step.Command.TheVariants.{Query, Index, Drop, Disable, State}
+use Rattle.schedule.specs.declared.step.Command.TheVariants.{Query, Plan, Index, Drop, Disable, State}
 use Rattle.schedule.specs.declared.reply.Reply.{Reply}
 use Rattle.schedule.specs.declared.reply.Reply.TheVariants as reply
 use Rattle.schedule.specs.declared.reply.Reply.TheVariants.{Refused}
@@ -25,6 +25,7 @@ use Rattle.record_store.specs.Store.{Store, Serial, created, disabled, dropped, 
 use Rattle.record_store.specs.Store.{indexed, new_state, removed, saved, state_of}
 use Rattle.record_store.specs.Calls.{index_number}
 use Rattle.schedule.specs.Query.{AreRows}
+use Rattle.schedule.specs.Planning.{IsPlanReply, states_of}
 
 -- a reply, and what is there after it
 abbrev pub Served : Type 0
@@ -84,7 +85,7 @@ served_disable store number = (reply.Done, Some (disabled store number))
 abbrev pub served_state : Store → ℕ → Served
 served_state store number = (reply.State (state_of store number), Some store)
 
--- a command on a store. A query isn't served here, since its reply is free
+-- a command on a store. A query and its plan aren't served here, since more than one value may be the reply
 abbrev pub served_in : Store → Command → Served
 served_in store (Create request) = refused (Some store) AlreadyThere
 served_in store («Type» request) = served_by store (served_type store) (add_type store.schema request)
@@ -96,6 +97,7 @@ served_in store (Drop name) = served_by store (served_drop store) (index_number 
 served_in store (Disable name) = served_by store (served_disable store) (index_number (find_index store.schema name))
 served_in store (State name) = served_by store (served_state store) (index_number (find_index store.schema name))
 served_in store (Query query) = (reply.Nothing, Some store)
+served_in store (Plan query) = (reply.Nothing, Some store)
 
 -- a store is made where there is none, once its schema is accepted
 abbrev pub served_create : Serial → Result Schema SchemaRefusal → Served
@@ -130,4 +132,5 @@ IsQueryReply store (Some type) answer = ⊥
 -- the reply is one that the serial store gives to the command
 abbrev pub IsReply : Serial → Command → Reply → Type 0
 IsReply (Some store) (Query query) answer = IsQueryReply store (find_type store.schema query.record_type) answer
+IsReply (Some store) (Plan query) answer = IsPlanReply store.schema (states_of store) query answer
 IsReply serial command answer = answer ≡ (served serial command).0

@@ -5,6 +5,7 @@ ghost use Rattle.schedule.specs.Calls.{IsRefused, read_reply, reply_of, write_re
 
 use crate::commands::{add_type, create, load, query, remove, save};
 use crate::index_commands::{add_index, disable_index, drop_index, index_state};
+use crate::planning::plan;
 use crate::refusal::Refusal;
 use crate::reply::Reply;
 use crate::step::Command;
@@ -78,6 +79,7 @@ fn answer<S: Snapshot>(
         Command::Load(type_name, cells) => load(alloc, tx, db, type_name, cells),
         Command::Remove(type_name, cells) => remove(alloc, tx, db, type_name, cells),
         Command::Query(asked) => query(alloc, tx, db, asked),
+        Command::Plan(asked) => plan(alloc, tx, db, asked),
         Command::Index(request) => add_index(alloc, tx, db, request),
         Command::Drop(name) => drop_index(alloc, tx, db, name),
         Command::Disable(name) => disable_index(alloc, tx, db, name),

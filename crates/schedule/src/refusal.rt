@@ -1,7 +1,8 @@
 ghost use Rattle.std.specs.Prelude.{◌≡◌};
-ghost use Rattle.schedule.specs.Refusals.{name_of, of_schema};
+ghost use Rattle.schedule.specs.Refusals.{name_of, of_query, of_schema};
 
 use metadata::Refusal as SchemaRefusal;
+use query::QueryError;
 
 /// Why a step is refused. A refused step changes nothing, but that a refused commit ends its
 /// transaction.
@@ -36,6 +37,14 @@ pub enum Refusal {
     /// More types, fields, key fields, indexes or columns than there may be, or no index number is
     /// left.
     TooMany,
+    /// A filter has more than 32 levels.
+    TooDeep,
+    /// A filter has more than 256 nodes, or a query has more than 8 sort fields.
+    TooLarge,
+    /// A sort field stands twice.
+    SortTwice,
+    /// Neither the primary key nor a readable VALUE index of the type serves the sort.
+    SortNotServed,
     /// The store is there already.
     AlreadyThere,
     /// There is no store.
@@ -76,6 +85,21 @@ impl From<SchemaRefusal> for Refusal {
     }
 }
 
+impl From<QueryError> for Refusal {
+    ghost from_gives = { λ error made. made ≡ of_query error };
+
+    fn from(error: QueryError) -> Refusal {
+        match error {
+            QueryError::UnknownType => Refusal::UnknownType,
+            QueryError::TooDeep => Refusal::TooDeep,
+            QueryError::TooLarge => Refusal::TooLarge,
+            QueryError::UnknownField => Refusal::UnknownField,
+            QueryError::WrongKind => Refusal::WrongKind,
+            QueryError::SortTwice => Refusal::SortTwice,
+        }
+    }
+}
+
 impl Refusal {
     /// The name of the refusal, as it is printed.
     pub fn name(self) -> &'static str
@@ -95,6 +119,10 @@ impl Refusal {
             Refusal::NullKey => "NullKey",
             Refusal::BadSchema => "BadSchema",
             Refusal::TooMany => "TooMany",
+            Refusal::TooDeep => "TooDeep",
+            Refusal::TooLarge => "TooLarge",
+            Refusal::SortTwice => "SortTwice",
+            Refusal::SortNotServed => "SortNotServed",
             Refusal::AlreadyThere => "AlreadyThere",
             Refusal::NoStore => "NoStore",
             Refusal::OtherSchema => "OtherSchema",

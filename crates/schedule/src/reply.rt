@@ -1,6 +1,7 @@
 ghost use Rattle.std.specs.Prelude.{◌≡◌};
 
 use crate::refusal::Refusal;
+use crate::shared_plan::SharedPlan;
 use kv_core::{Bytes, KeyRange};
 use metadata::{Cells, State};
 use std::marker::Model;
@@ -107,6 +108,8 @@ pub enum Reply {
     Removed,
     /// The rows that answer the query.
     Rows(Rows),
+    /// The plan of the query.
+    Planned(SharedPlan),
     /// The state of the index.
     State(State),
     /// The transaction is submitted at this version.

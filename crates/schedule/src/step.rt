@@ -1,5 +1,6 @@
 ghost use Rattle.std.specs.Prelude.{◌≡◌, IfOk};
 
+use crate::asked_query::AskedQuery;
 use metadata::{Cells, IndexRequest, SchemaRequest, TypeRequest};
 use std::alloc::AllocError;
 use tuple_codec::Text;
@@ -39,6 +40,8 @@ pub enum Command {
     Remove(Text, Cells),
     /// Asks for the answer to a query.
     Query(Query),
+    /// Asks for the plan of a query.
+    Plan(AskedQuery),
     /// Adds this index to the store.
     Index(IndexRequest),
     /// Drops the index of this name.
@@ -61,6 +64,7 @@ impl Command {
             Command::Load(name, cells) => Ok(Command::Load(name.copy()?, cells.copy()?)),
             Command::Remove(name, cells) => Ok(Command::Remove(name.copy()?, cells.copy()?)),
             Command::Query(query) => Ok(Command::Query(query.copy()?)),
+            Command::Plan(query) => Ok(Command::Plan(query.copy()?)),
             Command::Index(request) => Ok(Command::Index(request.copy()?)),
             Command::Drop(name) => Ok(Command::Drop(name.copy()?)),
             Command::Disable(name) => Ok(Command::Disable(name.copy()?)),

@@ -15,8 +15,12 @@ pub struct Replies {
 impl Model for Replies {
     ghost use Rattle.std.specs.Prelude.{List};
     ghost use Rattle.schedule.specs.declared.reply.Reply.{Reply};
+    ghost use Rattle.schedule.specs.contracts.reply.Reply as one;
+    ghost use Rattle.std.specs.Coded.{codes};
 
     ghost Value = { List Reply };
+
+    ghost coded = { Prim.hlevel (codes, one.the_row.coded) };
 
     ghost view = { λ r. r.replies.items };
 }
@@ -46,8 +50,12 @@ pub struct Commands {
 impl Model for Commands {
     ghost use Rattle.std.specs.Prelude.{List};
     ghost use Rattle.schedule.specs.declared.step.Command.{Command};
+    ghost use Rattle.schedule.specs.contracts.step.Command as one;
+    ghost use Rattle.std.specs.Coded.{codes};
 
     ghost Value = { List Command };
+
+    ghost coded = { Prim.hlevel (codes, one.the_row.coded) };
 
     ghost view = { λ c. c.commands.items };
 }
@@ -90,8 +98,12 @@ pub struct Commits {
 impl Model for Commits {
     ghost use Rattle.std.specs.Prelude.{List};
     ghost use Rattle.schedule.specs.declared.transcript.CommitEntry.{CommitEntry};
+    ghost use Rattle.schedule.specs.contracts.transcript.CommitEntry as one;
+    ghost use Rattle.std.specs.Coded.{codes};
 
     ghost Value = { List CommitEntry };
+
+    ghost coded = { Prim.hlevel (codes, one.the_row.coded) };
 
     ghost view = { λ c. c.commits.items };
 }

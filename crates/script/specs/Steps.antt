@@ -10,6 +10,7 @@ use Rattle.serde_json.specs.Data.{Data}
 use Rattle.serde_json.specs.Find.{as_str}
 use Rattle.json_forms.specs.CellJson.{cells_in}
 use Rattle.json_forms.specs.Json.{list_in, named, number_in, only_member}
+use Rattle.json_forms.specs.QueryJson.{query_in as asked_in}
 use Rattle.json_forms.specs.SchemaJson.{index_in, schema_in, type_in}
 
 -- the query that an object asks: all records of the type of this name
@@ -23,6 +24,7 @@ command_with name part =
     (named ((codes "create", λ d. option_map commands.Create (schema_in d))
     ∷ (codes "type", λ d. option_map commands.«Type» (type_in d))
     ∷ (codes "query", λ d. option_map commands.Query (query_in d))
+    ∷ (codes "plan", λ d. option_map commands.Plan (asked_in d))
     ∷ (codes "index", λ d. option_map commands.Index (index_in d))
     ∷ (codes "drop", λ d. option_map commands.Drop (as_str d))
     ∷ (codes "disable", λ d. option_map commands.Disable (as_str d))

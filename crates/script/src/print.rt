@@ -1,7 +1,8 @@
+use explain::explain;
 use json_forms::{cells_text, rows_text};
 use kv_core::{Bytes, KeyRange};
 use metadata::{Cells, State};
-use schedule::{Reply, Report, Rows};
+use schedule::{Reply, Report, Rows, SharedPlan};
 use std::alloc::{AllocError, Global};
 use std::fmt::Write;
 
@@ -19,6 +20,11 @@ fn push_cells(
 fn push_rows(alloc: Global, line: &mut String, rows: &Rows) -> Result<(), AllocError> {
     let text = rows_text(alloc, rows.as_slice())?;
     write!(line, "rows {text}")
+}
+
+fn push_plan(alloc: Global, line: &mut String, plan: &SharedPlan) -> Result<(), AllocError> {
+    let text = explain(alloc, plan.plan())?;
+    write!(line, "plan {text}")
 }
 
 // Writes a conflict: the version that wrote in the range, and the range's ends in hexadecimal.
@@ -83,6 +89,7 @@ fn push_reply(alloc: Global, line: &mut String, reply: &Reply) -> Result<(), All
         Reply::Absent => line.push_str("none"),
         Reply::Removed => line.push_str("removed"),
         Reply::Rows(rows) => push_rows(alloc, line, rows),
+        Reply::Planned(plan) => push_plan(alloc, line, plan),
         Reply::State(state) => line.push_str(state_name(*state)),
         Reply::Submitted(version) => write!(line, "submitted {version}"),
         Reply::ReadOnly => line.push_str("read only"),

@@ -1,5 +1,6 @@
 ghost use Rattle.std.specs.Prelude.{◌≡◌, Some, None, IfOk, IfErr, map};
 ghost use Rattle.serde_json.specs.View.{view};
+ghost use Rattle.json_forms.specs.QueryJson.{query_in as asked_in};
 ghost use Rattle.script.specs.Steps.{command_on, command_with, common_step};
 ghost use Rattle.script.specs.Steps.{numbered_step, query_in, step_in, step_of_number};
 ghost use Rattle.schedule.specs.Values.{AsksValues, StepAsksValues};
@@ -8,7 +9,7 @@ use json_forms::{
     PartError, cells_of, index_of, list_of, number_of, only_member, schema_of, str_of, text_of,
     type_of,
 };
-use schedule::{Command, Query, Step};
+use schedule::{AskedQuery, Command, Query, Step};
 use serde_json::Value;
 use std::alloc::Global;
 
@@ -21,6 +22,15 @@ fn query_of(alloc: Global, value: &Value) -> Result<Query, PartError>
     Ok(Query { record_type })
 }
 
+// A query that is to be planned.
+fn asked_of(alloc: Global, value: &Value) -> Result<AskedQuery, PartError>
+    ensures ok { IfOk result (λ query. asked_in (view value.now) ≡ Some query) }
+    ensures err { IfErr result (λ error. error ≡ PartError.BadForm → asked_in (view value.now) ≡ None) }
+{
+    let query = json_forms::query_of(alloc, value)?;
+    Ok(AskedQuery::new(alloc, query)?)
+}
+
 // A command with one part behind the client.
 fn command_of_one(alloc: Global, name: &str, part: &Value) -> Result<Command, PartError>
     ensures ok { IfOk result (λ command. command_with name.now (view part.now) ≡ Some command) }
@@ -31,6 +41,7 @@ fn command_of_one(alloc: Global, name: &str, part: &Value) -> Result<Command, Pa
         "create" => Ok(Command::Create(schema_of(alloc, part)?)),
         "type" => Ok(Command::Type(type_of(alloc, part)?)),
         "query" => Ok(Command::Query(query_of(alloc, part)?)),
+        "plan" => Ok(Command::Plan(asked_of(alloc, part)?)),
         "index" => Ok(Command::Index(index_of(alloc, part)?)),
         "drop" => Ok(Command::Drop(text_of(alloc, part)?)),
         "disable" => Ok(Command::Disable(text_of(alloc, part)?)),

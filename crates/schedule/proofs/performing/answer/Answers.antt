@@ -51,3 +51,8 @@ pub returns-in-Disable-clause-performed : goal.returns-in-Disable-clause-perform
 returns-in-Disable-clause-performed g c =
     subst (λ command. IfOk c.disable_index.result (λ answer. IsPerformed (g.S.Snapshot.map_at c.args.db.now) (λ range. g.S.Snapshot.may_refuse c.args.db.now range c.args.tx.now.read_version) command answer c.args.tx.now c.disable_index.new.tx))
     (sym c.in-Disable.is) c.disable_index.ensures.performed
+
+pub returns-in-Plan-clause-performed : goal.returns-in-Plan-clause-performed
+returns-in-Plan-clause-performed g c =
+    subst (λ command. IfOk c.plan.result (λ answer. IsPerformed (g.S.Snapshot.map_at c.args.db.now) (λ range. g.S.Snapshot.may_refuse c.args.db.now range c.args.tx.now.read_version) command answer c.args.tx.now c.plan.new.tx))
+    (sym c.in-Plan.is) c.plan.ensures.performed

@@ -1,0 +1,89 @@
+-- What the plan of a query replies, from what opening the store found.
+use Rattle.std.proofs.Common.{◌≡◌, ℕ, Bool, true, false, List, refl, sym, subst, Option, Some, None}
+use Rattle.kv_core.specs.Range.{KeyRange}
+use Rattle.kv_core.specs.Map.{Map}
+use Rattle.kv_core.specs.declared.change.CommitRequest.{CommitRequest}
+use Rattle.cluster_core.specs.declared.answers.ReadError.{ReadError}
+use Rattle.metadata.specs.declared.index.State.{State}
+use Rattle.metadata.specs.Schema.{Schema, find_type}
+use Rattle.record_store.specs.Store.{Store}
+use Rattle.record_store.specs.Call.{IsOpenAs, Opened}
+use Rattle.record_store.specs.Calls.{index_states}
+use Rattle.record_store.specs.Opening.{IsOpened}
+use Rattle.query.specs.declared.error.QueryError.{QueryError}
+use Rattle.query.specs.Checked.{refusal}
+use Rattle.query.specs.Query.{Query}
+use Rattle.query.specs.View.{query_of}
+use Rattle.planner.specs.Asked.{AskedPlan}
+use Rattle.planner.specs.Planned.{planned}
+use Rattle.planner.specs.Rules.{usable}
+use Rattle.planner.specs.View.{plan_of}
+use Rattle.planner.specs.Right.{is_served}
+use Rattle.schedule.specs.declared.refusal.Refusal.{Refusal}
+use Rattle.schedule.specs.declared.refusal.Refusal.TheVariants.{SortNotServed}
+use Rattle.schedule.specs.declared.step.Command.TheVariants.{Plan}
+use Rattle.schedule.specs.declared.reply.Reply.{Reply}
+use Rattle.schedule.specs.declared.reply.Reply.TheVariants as reply
+use Rattle.schedule.specs.Layout.{store_prefix}
+use Rattle.schedule.specs.Planning.{IsPlanReply, IsPlanned, IsPlannedSo, IsPlannedUnless, states_of}
+use Rattle.schedule.specs.Performed.{IsPerformed, IsSound, IsTold}
+use Rattle.schedule.specs.Past.{is_reading}
+use Rattle.schedule.specs.Refusals.{of_query}
+use Rattle.schedule.proofs.Outcomes.{Looks, looked}
+use Rattle.schedule.proofs.Reached.{told_accepted, told_refusal}
+use Rattle.schedule.proofs.Stops.{at}
+
+-- PLANNED: the planner's plan is the reply
+pub plan_told : (schema : Schema) (states : List (ℕ × State)) (query : Query) (plan : AskedPlan) → refusal schema query ≡ None → is_served schema states query ≡ true → query_of plan.query ≡ query → find_type schema query.record_type ≡ Some plan.definition →
+    planned plan.definition (usable schema states plan.definition) query ≡ Some (plan_of plan).root → IsPlanReply schema states query (reply.Planned plan)
+plan_told schema states query plan none served asked typed is =
+    subst (λ why. IsPlannedUnless why schema states query (reply.Planned plan)) (sym none)
+    (subst (λ b. IsPlannedSo b schema states query (reply.Planned plan)) (sym served) (record { plan = plan; shown = refl; asked = asked; typed = typed; is = is }))
+
+-- what the reply to a plan tells, whatever is there
+record IsLook (opened : Opened) (query : Query) (answer : Reply) : Type 0 where
+  reading : is_reading (Plan query) answer ≡ true
+  told : (m : Map) → IsSound (Some opened) (Plan query) answer m → IsTold (Some opened) (Plan query) answer m
+
+look_refused : (opened : Opened) (query : Query) (refusal : Refusal) (answer : Reply) → answer ≡ reply.Refused refusal → IsLook opened query answer
+look_refused opened query refusal answer is = subst (IsLook opened query) (sym is) (record { reading = refl; told = told_refusal (Some opened) (Plan query) refusal })
+
+look_planned : (opened : Opened) (query : Query) (answer : Reply) → IsPlanned opened.schema (index_states opened) query answer → IsLook opened query answer
+look_planned opened query answer is = subst (IsLook opened query) (sym is.shown) (record { reading = refl; told = λ m sound. told_accepted (Some opened) (Plan query) (reply.Planned is.plan) m refl sound })
+
+look : (opened : Opened) (query : Query) (answer : Reply) → IsPlanReply opened.schema (index_states opened) query answer → IsLook opened query answer
+look opened query answer is = by_refusal (refusal opened.schema query) is
+  where
+    by_sort : (b : Bool) → IsPlannedSo b opened.schema (index_states opened) query answer → IsLook opened query answer
+    by_sort true planned = look_planned opened query answer planned
+    by_sort false refused = look_refused opened query SortNotServed answer refused
+
+    by_refusal : (why : Option QueryError) → IsPlannedUnless why opened.schema (index_states opened) query answer → IsLook opened query answer
+    by_refusal (Some error) refused = look_refused opened query (of_query error) answer refused
+    by_refusal None so = by_sort (is_served opened.schema (index_states opened) query) so
+
+-- each store that was opened so has the schema and the states that were found
+there : (opened : Opened) (store : Store) → IsOpenAs opened store → index_states opened ≡ states_of store
+there opened store same = λ i. index_states (record { prefix = opened.prefix; schema = sym same.schema i; states = sym same.states i })
+
+replies : (opened : Opened) (query : Query) (answer : Reply) (store : Store) → IsOpenAs opened store → IsPlanReply opened.schema (index_states opened) query answer → IsPlanReply store.schema (states_of store) query answer
+replies opened query answer store same is = subst (λ states. IsPlanReply store.schema states query answer) (there opened store same) (subst (λ schema. IsPlanReply schema (index_states opened) query answer) (sym same.schema) is)
+
+-- PLANNED: the reply by the schema and the states that opening found is the one that the plan of the query has
+pub plan_performed : {maps : ℕ → Map} {refuses : KeyRange → ReadError → Type 0} {old new : CommitRequest} (opened : Opened) (query : Query) (answer : Reply) → opened.prefix ≡ store_prefix →
+    IsOpened maps opened old new → IsPlanReply opened.schema (index_states opened) query answer → IsPerformed maps refuses (Plan query) answer old new
+plan_performed opened query answer here is_opened is = looked opened (Plan query) answer here looks is_opened
+  where
+    tells : IsLook (at opened) query answer
+    tells = look (at opened) query answer is
+
+    looks : Looks (at opened) (Plan query) answer
+    looks = record {
+      opens = refl;
+      reads = refl;
+      reading = tells.reading;
+      told = tells.told;
+      replies = λ store same. replies (at opened) query answer store same is;
+      idle = λ store same. refl;
+      leaves = λ store same. refl;
+    }
