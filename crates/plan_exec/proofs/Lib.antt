@@ -14,3 +14,4 @@ pub mod Merges
 pub mod Neighbours
 pub mod FirstOnes
 pub mod Shares
+pub mod Turns
