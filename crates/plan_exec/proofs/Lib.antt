@@ -15,3 +15,5 @@ pub mod Neighbours
 pub mod FirstOnes
 pub mod Shares
 pub mod Turns
+pub mod Steps
+pub mod Fetches

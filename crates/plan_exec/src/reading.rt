@@ -101,11 +101,7 @@ pub(crate) fn index_entries<S: Snapshot>(
 }
 
 // The key of the first of the entries with this primary key.
-fn entry_with(
-    alloc: Global,
-    entries: &[Entry],
-    primary_key: &Cells,
-) -> Result<Bytes, AllocError>
+fn entry_with(alloc: Global, entries: &[Entry], primary_key: &Cells) -> Result<Bytes, AllocError>
     ensures { IfOk result (λ key. key ≡ entry_with primary_key.now entries.now) }
 {
     match entries {
