@@ -15,3 +15,6 @@ pub mod Merges
 pub mod Neighbours
 pub mod FirstOnes
 pub mod Shares
+pub mod Turns
+pub mod Steps
+pub mod Fetches

@@ -21,7 +21,7 @@ use Rattle.planner.specs.Layout.{entry_primary_key, primary_cells, record_of}
 use Rattle.planner.specs.Meaning.{all_rows, common, fetched, first_of_each, in_key_order, node_rows, of_each, pairs_in, placed, scanned_keys, source_keys}
 use Rattle.planner.specs.Plan.{IndexScan, Node, Nodes, Scan, Source, distinct, fetch, filtered, intersection, no_nodes, node, one, scan, union, unordered_union}
 use Rattle.planner.specs.Range as planned
-use Rattle.plan_exec.specs.Reads.{Reading, and_then, behind, common_entries, each_found, entries_reading, entry_of, fetch_reading, found_at_once, in_front, in_turn, made_of, node_reading, nodes_reading, or_damaged, record_found, record_reading, source_reading}
+use Rattle.plan_exec.specs.Reads.{Reading, Wanted, and_then, behind, each_found, entries_reading, entry_of, fetch_reading, first_entries, found_at_once, in_front, in_turn, keys_of, made_of, node_reading, nodes_reading, or_damaged, record_found, record_reading, source_reading}
 use Rattle.plan_exec.specs.declared.entry.Entry.{Entry}
 
 -- ---- readings
@@ -94,49 +94,6 @@ twice : {A B C : Type 0} (g : B → C) (f : A → B) (o : Option A) → option_m
 twice g f None = refl
 twice g f (Some a) = refl
 
--- ---- entries and the primary keys in them
-
-abbrev keys : List Entry → List (List Cell)
-keys es = map (λ (e : Entry). e.primary_key) es
-
-keys_placed : (e : Entry) (es : List Entry) → keys (placed (λ (x : Entry). x.primary_key) e es) ≡ placed (λ k. k) e.primary_key (keys es)
-keys_placed e [] = refl
-keys_placed e (x ∷ es) = by (cells_cmp e.primary_key x.primary_key) (keys_placed e es)
-  where
-    by : (o : Ordering) → keys (placed (λ (y : Entry). y.primary_key) e es) ≡ placed (λ k. k) e.primary_key (keys es) → keys (match_ordering o (e ∷ x ∷ es) (x ∷ es) (x ∷ placed (λ (y : Entry). y.primary_key) e es))
-        ≡ match_ordering o (e.primary_key ∷ x.primary_key ∷ keys es) (x.primary_key ∷ keys es) (x.primary_key ∷ placed (λ k. k) e.primary_key (keys es))
-    by Less more = refl
-    by Equal more = refl
-    by Greater more = ap (λ ks. x.primary_key ∷ ks) more
-
-keys_in_order : (es : List Entry) → keys (in_key_order (λ (e : Entry). e.primary_key) es) ≡ in_key_order (λ k. k) (keys es)
-keys_in_order [] = refl
-keys_in_order (e ∷ es) = keys_placed e (in_key_order (λ (x : Entry). x.primary_key) es) ∙ ap (placed (λ k. k) e.primary_key) (keys_in_order es)
-
-any_key : (k : List Cell) (es : List Entry) → list_any (λ (e : Entry). eq_by_cmp cells_cmp k e.primary_key) es ≡ list_any (eq_by_cmp cells_cmp k) (keys es)
-any_key k [] = refl
-any_key k (e ∷ es) = ap (λ b. eq_by_cmp cells_cmp k e.primary_key || b) (any_key k es)
-
-all_keys : (k : List Cell) (more : List (List Entry)) → list_all (list_any (λ (e : Entry). eq_by_cmp cells_cmp k e.primary_key)) more ≡ list_all (list_any (eq_by_cmp cells_cmp k)) (map keys more)
-all_keys k [] = refl
-all_keys k (es ∷ more) = λ i. any_key k es i && all_keys k more i
-
-keys_where : (more : List (List Entry)) (es : List Entry) → keys (filter (λ (e : Entry). list_all (list_any (λ (x : Entry). eq_by_cmp cells_cmp e.primary_key x.primary_key)) more) es)
-    ≡ filter (λ k. list_all (list_any (eq_by_cmp cells_cmp k)) (map keys more)) (keys es)
-keys_where more [] = refl
-keys_where more (e ∷ es) =
-    by (list_all (list_any (λ (x : Entry). eq_by_cmp cells_cmp e.primary_key x.primary_key)) more)
-    ∙ (λ i. cond (all_keys e.primary_key more i) (e.primary_key ∷ keys_where more es i) (keys_where more es i))
-  where
-    by : (b : Bool) → keys (cond b (e ∷ filter (λ (y : Entry). list_all (list_any (λ (x : Entry). eq_by_cmp cells_cmp y.primary_key x.primary_key)) more) es) (filter (λ (y : Entry). list_all (list_any (λ (x : Entry). eq_by_cmp cells_cmp y.primary_key x.primary_key)) more) es))
-        ≡ cond b (e.primary_key ∷ keys (filter (λ (y : Entry). list_all (list_any (λ (x : Entry). eq_by_cmp cells_cmp y.primary_key x.primary_key)) more) es)) (keys (filter (λ (y : Entry). list_all (list_any (λ (x : Entry). eq_by_cmp cells_cmp y.primary_key x.primary_key)) more) es))
-    by true = refl
-    by false = refl
-
-keys_common : (ess : List (List Entry)) → keys (common_entries ess) ≡ common (map keys ess)
-keys_common [] = refl
-keys_common (es ∷ more) = keys_where more es
-
 -- ---- steps
 
 module _ (prefix : List ℕ) (pairs : List Pair) (t : TypeDefinition) where
@@ -147,47 +104,47 @@ module _ (prefix : List ℕ) (pairs : List Pair) (t : TypeDefinition) where
       by None = refl
       by (Some key) = refl
 
-  scanned_ok : (s : IndexScan) → option_map keys (result_ok (entries_reading prefix pairs t s).found) ≡ scanned_keys prefix pairs t s
+  scanned_ok : (s : IndexScan) → option_map keys_of (result_ok (entries_reading prefix pairs t s).found) ≡ scanned_keys prefix pairs t s
   scanned_ok s =
       let found = pairs_in (planned.behind (entries_prefix prefix s.index.number) s.range) s.reverse pairs in
-      ap (option_map keys) (each_ok (entry_of prefix t s.index) found)
+      ap (option_map keys_of) (each_ok (entry_of prefix t s.index) found)
       ∙ map_each (λ (e : Entry). e.primary_key) (entry_of prefix t s.index) found
       ∙ each_same (λ p. option_map (λ (e : Entry). e.primary_key) (entry_of prefix t s.index p)) (entry_primary_key prefix t s.index) (entry_key s.index) found
 
-  source_ok : (s : Source) → option_map keys (result_ok (source_reading prefix pairs t s).found) ≡ source_keys prefix pairs t s
-  source_ok (one s) = scanned_ok s
+  source_ok : (s : Source) → option_map (λ (w : Wanted). w.keys) (result_ok (source_reading prefix pairs t s).found) ≡ source_keys prefix pairs t s
+  source_ok (one s) =
+      ap (option_map (λ (w : Wanted). w.keys)) (made_ok (λ es. record { entries = es; keys = keys_of es }) (entries_reading prefix pairs t s).found)
+      ∙ twice (λ (w : Wanted). w.keys) (λ es. record { entries = es; keys = keys_of es }) (result_ok (entries_reading prefix pairs t s).found)
+      ∙ scanned_ok s
   source_ok (intersection ss) =
-      ap (option_map keys) (made_ok (λ es. in_key_order (λ (e : Entry). e.primary_key) (common_entries es)) (in_turn (map (entries_reading prefix pairs t) ss)).found ∙ ap (option_map (λ es. in_key_order (λ (e : Entry). e.primary_key) (common_entries es))) (turn_ok (entries_reading prefix pairs t) ss))
-      ∙ ordered (of_each (λ s. result_ok (entries_reading prefix pairs t s).found) ss)
-      ∙ ap (option_map (λ ks. in_key_order (λ k. k) (common ks))) (map_each keys (λ s. result_ok (entries_reading prefix pairs t s).found) ss ∙ each_same _ _ scanned_ok ss)
-    where
-      ordered : (o : Option (List (List Entry))) → option_map keys (option_map (λ es. in_key_order (λ (e : Entry). e.primary_key) (common_entries es)) o) ≡ option_map (λ ks. in_key_order (λ k. k) (common ks)) (option_map (map keys) o)
-      ordered None = refl
-      ordered (Some es) = ap (λ ks. Some ks) (keys_in_order (common_entries es) ∙ ap (in_key_order (λ k. k)) (keys_common es))
+      ap (option_map (λ (w : Wanted). w.keys)) (made_ok (λ ess. record { entries = first_entries ess; keys = in_key_order (λ k. k) (common (map keys_of ess)) }) (in_turn (map (entries_reading prefix pairs t) ss)).found)
+      ∙ twice (λ (w : Wanted). w.keys) (λ ess. record { entries = first_entries ess; keys = in_key_order (λ k. k) (common (map keys_of ess)) }) (result_ok (in_turn (map (entries_reading prefix pairs t) ss)).found)
+      ∙ sym (twice (λ ks. in_key_order (λ k. k) (common ks)) (map keys_of) (result_ok (in_turn (map (entries_reading prefix pairs t) ss)).found))
+      ∙ ap (option_map (λ ks. in_key_order (λ k. k) (common ks)))
+      (ap (option_map (map keys_of)) (turn_ok (entries_reading prefix pairs t) ss) ∙ map_each keys_of (λ s. result_ok (entries_reading prefix pairs t s).found) ss ∙ each_same _ _ scanned_ok ss)
 
-  record_ok : (e : Entry) → result_ok (record_reading prefix pairs t e).found ≡ fetched prefix pairs t e.primary_key
-  record_ok e = by (find bytes_cmp (record_key prefix (items_of e.primary_key)) pairs)
+  record_ok : (entries : List Entry) (key : List Cell) → result_ok (record_reading prefix pairs t entries key).found ≡ fetched prefix pairs t key
+  record_ok entries key = by (find bytes_cmp (record_key prefix (items_of key)) pairs)
     where
-      whether : (o : Option Record) → result_ok (or_damaged (record_key prefix (items_of e.primary_key)) o) ≡ o
+      whether : (o : Option Record) → result_ok (or_damaged (record_key prefix (items_of key)) o) ≡ o
       whether None = refl
       whether (Some r) = refl
 
-      by : (o : Option (List ℕ)) → result_ok (record_found prefix t e o) ≡ option_and_then (λ value. record_of prefix t (record_key prefix (items_of e.primary_key), value)) o
+      by : (o : Option (List ℕ)) → result_ok (record_found prefix t entries key o) ≡ option_and_then (λ value. record_of prefix t (record_key prefix (items_of key), value)) o
       by None = refl
-      by (Some value) = whether (record_of prefix t (record_key prefix (items_of e.primary_key), value))
+      by (Some value) = whether (record_of prefix t (record_key prefix (items_of key), value))
 
   fetch_ok : (s : Source) → result_ok (fetch_reading prefix pairs t s).found ≡ option_and_then (of_each (fetched prefix pairs t)) (source_keys prefix pairs t s)
   fetch_ok s =
-      then_ok (λ es. in_turn (map (record_reading prefix pairs t) es)) (source_reading prefix pairs t s)
+      then_ok (λ w. in_turn (map (record_reading prefix pairs t w.entries) w.keys)) (source_reading prefix pairs t s)
       ∙ by (result_ok (source_reading prefix pairs t s).found)
       ∙ ap (option_and_then (of_each (fetched prefix pairs t))) (source_ok s)
     where
-      by : (o : Option (List Entry)) → option_and_then (λ es. result_ok (in_turn (map (record_reading prefix pairs t) es)).found) o ≡ option_and_then (of_each (fetched prefix pairs t)) (option_map keys o)
+      by : (o : Option Wanted) → option_and_then (λ w. result_ok (in_turn (map (record_reading prefix pairs t w.entries) w.keys)).found) o ≡ option_and_then (of_each (fetched prefix pairs t)) (option_map (λ (w : Wanted). w.keys) o)
       by None = refl
-      by (Some es) =
-          turn_ok (record_reading prefix pairs t) es
-          ∙ each_same (λ e. result_ok (record_reading prefix pairs t e).found) (λ e. fetched prefix pairs t e.primary_key) record_ok es
-          ∙ sym (each_map (fetched prefix pairs t) (λ (e : Entry). e.primary_key) es)
+      by (Some w) =
+          turn_ok (record_reading prefix pairs t w.entries) w.keys
+          ∙ each_same (λ k. result_ok (record_reading prefix pairs t w.entries k).found) (fetched prefix pairs t) (record_ok w.entries) w.keys
 
   mutual
     -- MEANING: a step finds its rows

@@ -1,8 +1,7 @@
 -- What executing the steps of a plan reads of the pairs of a map, in reading order, and what it finds there.
-use Rattle.std.specs.Prelude.{ℕ, Bool, List, [], ◌∷◌, ◌++◌, filter, map, Option, Some, None, option_map}
-use Rattle.std.specs.Prelude.{Result, Ok, Err}
+use Rattle.std.specs.Prelude.{ℕ, Bool, List, [], ◌∷◌, ◌++◌, filter, map, Option, Some, None, if◌then◌else◌}
+use Rattle.std.specs.Prelude.{option_map, Result, Ok, Err}
 use Rattle.std.specs.FinMap.Entries.{find}
-use Rattle.std.specs.List.{list_all, list_any}
 use Rattle.std.specs.Ordering.{eq_by_cmp}
 use Rattle.std.specs.Result.{result_map_both}
 use Rattle.tuple_codec.specs.Order.{bytes_cmp}
@@ -17,7 +16,7 @@ use Rattle.query.specs.Truth.{selects}
 use Rattle.metadata.specs.Cell.{items_of}
 use Rattle.metadata.specs.Layout.{Pair, entries_prefix, record_key, records_prefix}
 use Rattle.planner.specs.Layout.{entry_primary_key, primary_cells, record_of}
-use Rattle.planner.specs.Meaning.{first_of_each, in_key_order, pairs_in}
+use Rattle.planner.specs.Meaning.{common, first_of_each, in_key_order, pairs_in}
 use Rattle.planner.specs.Plan.{IndexScan, Node, Nodes, Scan, Source, distinct, fetch, filtered, intersection}
 use Rattle.planner.specs.Plan.{no_nodes, node, one, scan, union, unordered_union}
 use Rattle.planner.specs.Range as planned
@@ -71,22 +70,36 @@ each_found h (pair ∷ pairs) = in_front (or_damaged pair.0 (h pair)) (each_foun
 abbrev pub scan_range : List ℕ → planned.KeyRange → KeyRange
 scan_range key range = record { begin = key ++ range.begin; end = key_max (key ++ range.begin) (key ++ range.end) }
 
--- the entries of the first list whose primary keys all others have
-abbrev pub common_entries : List (List Entry) → List Entry
-common_entries [] = []
-common_entries (entries ∷ more) =
-    filter (λ e. list_all (list_any (λ other. eq_by_cmp cells_cmp e.primary_key other.primary_key)) more) entries
+-- what a fetch goes by: the entries of its first scan, and the primary keys of its records
+pub record Wanted : Type 0 where
+  pub entries : List Entry
+  pub keys : List (List Cell)
+
+-- the primary keys in entries
+abbrev pub keys_of : List Entry → List (List Cell)
+keys_of entries = map (λ e. e.primary_key) entries
+
+-- the entries of the first list
+abbrev pub first_entries : List (List Entry) → List Entry
+first_entries [] = []
+first_entries (entries ∷ more) = entries
+
+-- the key of the first entry with this primary key
+abbrev pub entry_with : List Cell → List Entry → List ℕ
+entry_with key [] = []
+entry_with key (e ∷ es) = if eq_by_cmp cells_cmp key e.primary_key then e.key else entry_with key es
 
 -- the entry that a pair stands for, if it is of the written form
 abbrev pub entry_of : List ℕ → TypeDefinition → IndexDefinition → Pair → Option Entry
 entry_of prefix t i pair =
     option_map (λ key. record { key = pair.0; primary_key = key }) (entry_primary_key prefix t i pair)
 
--- the record of an entry by what stands at the record's key: where nothing does, the entry is damaged
-abbrev pub record_found : List ℕ → TypeDefinition → Entry → Option (List ℕ) → Result Record (List ℕ)
-record_found prefix t e None = Err e.key
-record_found prefix t e (Some value) =
-    let key = record_key prefix (items_of e.primary_key) in or_damaged key (record_of prefix t (key, value))
+-- the record with a primary key by what stands at its key: where nothing does, the first entry with it is damaged
+abbrev pub record_found :
+    List ℕ → TypeDefinition → List Entry → List Cell → Option (List ℕ) → Result Record (List ℕ)
+record_found prefix t entries key None = Err (entry_with key entries)
+record_found prefix t entries key (Some value) =
+    let at = record_key prefix (items_of key) in or_damaged at (record_of prefix t (at, value))
 
 -- the pairs of the map in key order, the store's prefix and its type
 module _ (prefix : List ℕ) (pairs : List Pair) (t : TypeDefinition) where
@@ -104,20 +117,21 @@ module _ (prefix : List ℕ) (pairs : List Pair) (t : TypeDefinition) where
   abbrev pub entries_reading : IndexScan → Reading (List Entry)
   entries_reading s = scanned (entries_prefix prefix s.index.number) s.range s.reverse (entry_of prefix t s.index)
 
-  -- the entries whose records a fetch gives: of an intersection those that all scans have, in key order
-  abbrev pub source_reading : Source → Reading (List Entry)
-  source_reading (one s) = entries_reading s
+  -- what a fetch goes by: of an intersection the primary keys that all scans have, in key order
+  abbrev pub source_reading : Source → Reading Wanted
+  source_reading (one s) = made_of (λ es. record { entries = es; keys = keys_of es }) (entries_reading s)
   source_reading (intersection ss) =
-      made_of (λ es. in_key_order (λ e. e.primary_key) (common_entries es)) (in_turn (map entries_reading ss))
+      made_of (λ ess. record { entries = first_entries ess; keys = in_key_order (λ k. k) (common (map keys_of ess)) })
+      (in_turn (map entries_reading ss))
 
-  -- the record of an entry
-  abbrev pub record_reading : Entry → Reading Record
-  record_reading e =
-      let key = record_key prefix (items_of e.primary_key) in
-      record { ranges = point key ∷ []; found = record_found prefix t e (find bytes_cmp key pairs) }
+  -- the record with a primary key
+  abbrev pub record_reading : List Entry → List Cell → Reading Record
+  record_reading entries key =
+      let at = record_key prefix (items_of key) in
+      record { ranges = point at ∷ []; found = record_found prefix t entries key (find bytes_cmp at pairs) }
 
   abbrev pub fetch_reading : Source → Reading (List Record)
-  fetch_reading s = and_then (λ es. in_turn (map record_reading es)) (source_reading s)
+  fetch_reading s = and_then (λ w. in_turn (map (record_reading w.entries) w.keys)) (source_reading s)
 
   abbrev mutual
     -- a step

@@ -1,6 +1,6 @@
 // How the pairs of a range and the value of a key are read, and what they stand for.
 ghost use Rattle.std.specs.Prelude.{◌≡◌, ◌∷◌, ◌++◌, [], List, ℕ, IfOk, IfErr, IsTrue, Ok, OnErr};
-ghost use Rattle.std.specs.Prelude.{if◌then◌else◌, reverse};
+ghost use Rattle.std.specs.Prelude.{if◌then◌else◌, map, reverse};
 ghost use Rattle.std.specs.FinMap.{entries};
 ghost use Rattle.kv_core.specs.Bytes.{end_of_keys, key_lt};
 ghost use Rattle.record_store.specs.Layout.{place};
@@ -12,7 +12,8 @@ ghost use Rattle.planner.specs.Range.{behind};
 ghost use Rattle.planner.specs.View.{index_scan_of, range_of, scan_of};
 ghost use Rattle.plan_exec.specs.Decoding.{IsDamage, IsRefusedRead};
 ghost use Rattle.plan_exec.specs.Executing.{HasFound, HasStopped};
-ghost use Rattle.plan_exec.specs.Reads.{entries_reading, record_found, record_reading, scan_range, scan_reading};
+ghost use Rattle.plan_exec.specs.Reads.{entries_reading, entry_with, in_turn, record_found, record_reading};
+ghost use Rattle.plan_exec.specs.Reads.{scan_range, scan_reading};
 
 use crate::decoding::{record_in, records_in};
 use crate::entries::{entries_in, entry_form};
@@ -20,9 +21,10 @@ use crate::entry::Entry;
 use crate::error::ExecError;
 use crate::keys::{entries_key, record_key, records_key, records_place, scan_range};
 use kv_core::{Bytes, Pair};
-use metadata::{Record, TypeDefinition};
+use metadata::{Cells, Record, TypeDefinition};
 use planner::{IndexScan, KeyRange, Scan};
 use record_store::Store;
+use std::alloc::{AllocError, Global};
 use txn::{Snapshot, Transaction};
 
 // The pairs, turned round where that is asked for.
@@ -100,19 +102,38 @@ pub(crate) fn index_entries<S: Snapshot>(
     Ok(entries)
 }
 
-// The record of an entry by what was found at the record's key.
+// The key of the first of the entries with this primary key.
+fn entry_with(alloc: Global, entries: &[Entry], primary_key: &Cells) -> Result<Bytes, AllocError>
+    ensures { IfOk result (λ key. key ≡ entry_with primary_key.now entries.now) }
+{
+    match entries {
+        [] => Ok(Bytes::new(Vec::new(alloc))),
+        [entry, others @ ..] => {
+            if primary_key.compare(&entry.primary_key).is_eq() {
+                entry.key.copy()
+            } else {
+                entry_with(alloc, others, primary_key)
+            }
+        }
+    }
+}
+
+// The record with a primary key by what was found at its key.
 fn record_at(
     store: &Store,
     front: &[u8],
     definition: &TypeDefinition,
-    entry: &Entry,
+    entries: &[Entry],
+    primary_key: &Cells,
     key: Bytes,
     value: Option<Bytes>,
 ) -> Result<Record, ExecError>
     requires front { front.now ≡ place store.now.prefix 1 }
-    requires key { key ≡ key_of_record store.now.prefix (items_of entry.now.primary_key) }
-    ensures found { IfOk result (λ found. record_found store.now.prefix definition.now entry.now value ≡ Ok found) }
-    ensures damaged { IfErr result (IsDamage (record_found store.now.prefix definition.now entry.now value)) }
+    requires key { key ≡ key_of_record store.now.prefix (items_of primary_key.now) }
+    ensures found { IfOk result (λ found.
+        record_found store.now.prefix definition.now entries.now primary_key.now value ≡ Ok found) }
+    ensures damaged { IfErr result (IsDamage
+        (record_found store.now.prefix definition.now entries.now primary_key.now value)) }
 {
     match value {
         Some(value) => {
@@ -122,27 +143,63 @@ fn record_at(
                 None => Err(ExecError::Corrupt(pair.0)),
             }
         }
-        None => Err(ExecError::Corrupt(entry.key.copy()?)),
+        None => Err(ExecError::Corrupt(entry_with(store.alloc(), entries, primary_key)?)),
     }
 }
 
-// Reads the record of an entry.
-pub(crate) fn fetch_record<S: Snapshot>(
+// Reads the record with a primary key, which one of the entries has.
+fn fetch_record<S: Snapshot>(
     store: &Store,
     front: &[u8],
     definition: &TypeDefinition,
     tx: &mut Transaction,
     db: &S,
-    entry: &Entry,
+    entries: &[Entry],
+    primary_key: &Cells,
 ) -> Result<Record, ExecError>
     requires { front.now ≡ place store.now.prefix 1 }
     ensures found { IfOk result (λ found. HasFound (S.map_at db.now)
-        (λ pairs. record_reading store.now.prefix pairs definition.now entry.now) found tx.old tx.new) }
+        (λ pairs. record_reading store.now.prefix pairs definition.now entries.now primary_key.now) found
+        tx.old tx.new) }
     ensures stopped { IfErr result (λ error. HasStopped (S.map_at db.now) (S.may_refuse db.now)
-        (λ pairs. record_reading store.now.prefix pairs definition.now entry.now) error tx.old tx.new) }
+        (λ pairs. record_reading store.now.prefix pairs definition.now entries.now primary_key.now) error
+        tx.old tx.new) }
 {
-    let key = record_key(store, &entry.primary_key)?;
+    let key = record_key(store, primary_key)?;
     let value = tx.get(db, &key)?;
-    let found = record_at(store, front, definition, entry, key, value)?;
+    let found = record_at(store, front, definition, entries, primary_key, key, value)?;
     Ok(found)
+}
+
+// Reads the records with primary keys, which the entries have.
+pub(crate) fn fetch_records<S: Snapshot>(
+    store: &Store,
+    definition: &TypeDefinition,
+    tx: &mut Transaction,
+    db: &S,
+    entries: &[Entry],
+    primary_keys: &[Cells],
+) -> Result<Vec<Record>, ExecError>
+    ensures found { IfOk result (λ rows. HasFound (S.map_at db.now) (λ pairs. in_turn
+        (map (record_reading store.now.prefix pairs definition.now entries.now) primary_keys.now)) rows.items
+        tx.old tx.new) }
+    ensures stopped { IfErr result (λ error. HasStopped (S.map_at db.now) (S.may_refuse db.now) (λ pairs. in_turn
+        (map (record_reading store.now.prefix pairs definition.now entries.now) primary_keys.now)) error
+        tx.old tx.new) }
+{
+    let front = records_place(store)?;
+    let mut rows = Vec::new(store.alloc());
+    for primary_key in primary_keys {
+        let found = fetch_record(
+            store,
+            front.as_slice(),
+            definition,
+            tx,
+            db,
+            entries,
+            primary_key,
+        )?;
+        rows.push(found)?;
+    }
+    Ok(rows)
 }
