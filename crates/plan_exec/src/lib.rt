@@ -11,6 +11,7 @@ mod distinct;
 mod entries;
 mod entry;
 mod error;
+mod executing;
 mod fetching;
 mod keyed;
 mod keys;
