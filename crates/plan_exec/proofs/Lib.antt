@@ -18,3 +18,4 @@ pub mod Shares
 pub mod Turns
 pub mod Steps
 pub mod Fetches
+pub mod Views

@@ -12,6 +12,7 @@ mod distinct;
 mod entries;
 mod entry;
 mod error;
+mod executing;
 mod fetching;
 mod keyed;
 mod keys;
