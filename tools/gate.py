@@ -19,6 +19,8 @@ import time
 
 PROGRAMS = ["crates/recordctl/out/recordctl", "crates/recordctl/out/recordctl.by-rattle"]
 COUNTED = re.compile(r"(\d+) (?:passed|refused), (\d+) (?:failed|not)")
+# what the wrong bodies' tool says of each of its checks
+CHECKED = re.compile(r"\w+: (?:proved without edits|a round of \d+, \d+ told|\w+ alone): .*\n")
 TESTED = re.compile(r"Ran (\d+) tests?.*?(?:FAILED \((.*)\)|OK)", re.S)
 
 
@@ -71,7 +73,7 @@ def main():
         wrong.wait()
         log.seek(0)
         text = log.read()
-        print(text, end="", flush=True)
+        print(CHECKED.sub("", text), end="", flush=True)
         tests.append(counts(text))
     passed, failed = (sum(them) for them in zip(*tests))
     print(spent(begun))

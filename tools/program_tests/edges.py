@@ -13,7 +13,7 @@ MANY_STEPS = (
     (b'{"steps":[' + b",".join([b'["settle"]'] * 50_000) + b"]}").ljust(4_000_000),
     b"".join(b"%d nothing\n" % it for it in range(1, 50_001)),
 )
-MEMORY_LIMITS = [4, 8, 12, 16, 24, 32, 40, 44, 48, 52, 56, 60, 64, 80, 128, 192, 512]
+MEMORY_LIMITS = [8, 12, 16, 24, 32, 40, 44, 48, 52, 56, 60, 64, 80, 128, 192, 512]
 
 
 def long_line():

@@ -98,17 +98,19 @@ def rests_on(root, crates, name):
 
 
 def digest(root, crates, name):
-    """A sum of the toolchain's line and of all texts on which it rests that a crate's edits are refused."""
-    made = hashlib.sha256(toolchain())
+    """A sum of the toolchain's logic and of all texts on which it rests that a crate's edits are refused."""
+    made = hashlib.sha256(logic())
     for row in sorted(rests_on(root, crates, name).items()):
         made.update(repr(row).encode())
     return made.hexdigest()
 
 
 @functools.cache
-def toolchain():
-    """The line by which the toolchain names itself."""
-    return subprocess.run(["rt", "version"], stdin=subprocess.DEVNULL, stdout=subprocess.PIPE, check=True).stdout
+def logic():
+    """The name of the toolchain's logic, which kits that prove the same share; else the toolchain's line."""
+    said = subprocess.run(["rt", "version"], stdin=subprocess.DEVNULL, stdout=subprocess.PIPE, check=True).stdout
+    named = re.search(rb"logic \S+", said)
+    return named[0] if named else said
 
 
 def recorded(root):

@@ -15,7 +15,7 @@ fn field(alloc: Global, name: &str, kind: Kind) -> Result<Field, AllocError> {
 }
 
 /// The names of one field.
-fn only(alloc: Global, name: &str) -> Result<Names, AllocError> {
+pub(crate) fn only(alloc: Global, name: &str) -> Result<Names, AllocError> {
     Ok(Names::new(vec![in alloc; Text::from_str(alloc, name)?]?))
 }
 

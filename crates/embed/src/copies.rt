@@ -11,7 +11,7 @@ use tuple_codec::Text;
 use txn::{Commit, Transaction};
 
 /// What each key of the store begins with: the pack of (1).
-const PREFIX: [u8; 2] = [0x15, 0x01];
+pub(crate) const PREFIX: [u8; 2] = [0x15, 0x01];
 
 /// Makes the store.
 pub(crate) fn make_store(alloc: Global, cluster: &mut Cluster) -> Result<Reported, EmbedError>

@@ -1,5 +1,8 @@
 use cluster_core::ConfigError;
 use metadata::MetadataError;
+use plan_exec::ExecError;
+use planner::PlanError;
+use query::QueryError;
 use record_store::StoreError;
 use std::alloc::{AllocError, AllocFailed};
 use thiserror::Error;
@@ -14,6 +17,15 @@ pub(crate) enum EmbedError {
     /// A call on the store isn't answered.
     #[error("{0}")]
     Store(#[from] StoreError),
+    /// A query may not be asked.
+    #[error("{0}")]
+    Query(#[from] QueryError),
+    /// A query isn't planned.
+    #[error("{0}")]
+    Plan(#[from] PlanError),
+    /// A plan isn't executed.
+    #[error("{0}")]
+    Execution(#[from] ExecError),
     /// A transaction isn't committed.
     #[error("{0}")]
     Commit(#[from] HoldError),

@@ -8,10 +8,12 @@ ghost use Rattle.cluster_core.specs.Roles.{is_caught_up};
 mod books;
 mod copies;
 mod error;
+mod queries;
 
 use cluster_core::{Cluster, Config, Reported};
 use copies::{add_copies, copies, make_store};
 use error::EmbedError;
+use queries::books_with;
 use std::alloc::{AllocError, Global};
 use std::io;
 use std::process::ExitCode;
@@ -74,6 +76,17 @@ fn add_until_committed(alloc: Global, cluster: &mut Cluster) -> Result<u64, Embe
     Err(EmbedError::Conflict)
 }
 
+/// Reads in a transaction what is committed, and queries it together with what the transaction
+/// itself writes, whatever becomes of that.
+fn read(alloc: Global, cluster: &Cluster) -> Result<Vec<String>, EmbedError> {
+    let mut tx = Transaction::begin(alloc, cluster.read_version());
+    let found = copies(alloc, cluster, &mut tx, "Emma")?;
+    add_copies(alloc, cluster, &mut tx, "Persuasion", 7)?;
+    let mut lines = books_with(alloc, cluster, &mut tx, 5)?;
+    lines.push(format!(in alloc; "committed of Emma: {found}")?)?;
+    Ok(lines)
+}
+
 /// Does all of it, and answers the lines that tell it.
 fn demonstrate(alloc: Global) -> Result<Vec<String>, EmbedError> {
     let mut cluster = Cluster::new(alloc, &Config::single(alloc))?;
@@ -81,10 +94,9 @@ fn demonstrate(alloc: Global) -> Result<Vec<String>, EmbedError> {
     let (one, other) = meet(alloc, &mut cluster)?;
     let version = add_until_committed(alloc, &mut cluster)?;
     let again = line(alloc, "again", &Reported::Committed(version))?;
-    let mut tx = Transaction::begin(alloc, cluster.read_version());
-    let found = copies(alloc, &cluster, &mut tx, "Emma")?;
-    let read = format!(in alloc; "Emma: {found} copies")?;
-    Ok(vec![in alloc; made, one, other, again, read]?)
+    let mut lines = vec![in alloc; made, one, other, again]?;
+    lines.append(&mut read(alloc, &cluster)?)?;
+    Ok(lines)
 }
 
 fn main(rt: HostRuntime) -> io::Result<ExitCode> {

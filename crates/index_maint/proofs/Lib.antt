@@ -1,4 +1,5 @@
 mod Examples
+mod TotalExamples
 pub mod RecordLists
 pub mod Replaced
 pub mod EntryKeys
@@ -7,5 +8,8 @@ pub mod Places
 pub mod Lookups
 pub mod ValueLaw
 pub mod OnlyChanges
+pub mod TotalLaw
+pub mod TotalChanges
 pub mod Several
 pub mod RecordIndexes
+pub mod KeptLaw

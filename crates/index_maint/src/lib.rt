@@ -7,7 +7,9 @@ mod entry;
 mod laws;
 mod layout;
 mod maintainer;
+mod total;
 
 pub use laws::{entries_tell_records, places_are_apart};
 pub use layout::entries_prefix;
-pub use maintainer::{Maintainer, ValueIndex};
+pub use maintainer::{CountIndex, Maintainer, SumIndex, ValueIndex};
+pub use total::group_key;

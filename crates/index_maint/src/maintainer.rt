@@ -5,8 +5,10 @@ ghost use Rattle.index_maint.specs.Changes.{HasEntries, entry_changes, value_cha
 ghost use Rattle.index_maint.specs.Entries.{entry_of};
 ghost use Rattle.index_maint.specs.Laws.{Follows, HasWithin, IgnoresOthers, Keeping};
 ghost use Rattle.index_maint.specs.Laws.{OnlyChanges, WritesWithin, Writing};
+ghost use Rattle.index_maint.specs.Totals.{HasCounts, HasSums, count_changes, sum_changes};
 
 use crate::entry::Entry;
+use crate::total::{count_part, push_parts, sum_part};
 use kv_core::Mutation;
 use metadata::{IndexDefinition, Record};
 use std::alloc::{AllocError, Global};
@@ -143,5 +145,55 @@ impl Maintainer for ValueIndex {
         let old = entry_if(alloc, index, old)?;
         let new = entry_if(alloc, index, new)?;
         push_entries(alloc, prefix, index.number, old, new, mutations)
+    }
+}
+
+/// Keeps COUNT indexes: for each group the number of its records.
+#[derive(Drop)]
+pub struct CountIndex {}
+
+impl Maintainer for CountIndex {
+    ghost Has = { HasCounts };
+
+    ghost writes = { count_changes };
+
+    fn laws() {}
+
+    fn push_changes(
+        alloc: Global,
+        prefix: &[u8],
+        index: &IndexDefinition,
+        old: Option<&Record>,
+        new: Option<&Record>,
+        mutations: &mut Vec<Mutation>,
+    ) -> Result<(), AllocError> {
+        let old = count_part(alloc, index, old)?;
+        let new = count_part(alloc, index, new)?;
+        push_parts(alloc, prefix, index.number, old, new, mutations)
+    }
+}
+
+/// Keeps SUM indexes: for each group the sum of the summed field over its records, null as 0.
+#[derive(Drop)]
+pub struct SumIndex {}
+
+impl Maintainer for SumIndex {
+    ghost Has = { HasSums };
+
+    ghost writes = { sum_changes };
+
+    fn laws() {}
+
+    fn push_changes(
+        alloc: Global,
+        prefix: &[u8],
+        index: &IndexDefinition,
+        old: Option<&Record>,
+        new: Option<&Record>,
+        mutations: &mut Vec<Mutation>,
+    ) -> Result<(), AllocError> {
+        let old = sum_part(alloc, index, old)?;
+        let new = sum_part(alloc, index, new)?;
+        push_parts(alloc, prefix, index.number, old, new, mutations)
     }
 }

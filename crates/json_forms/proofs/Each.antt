@@ -55,11 +55,6 @@ each_none f [] i v h at e = absurd (omega arith)
 each_none f (x ∷ vs) zero v h at e = rw (← at, e)
 each_none f (x ∷ vs) (suc i) v h at e = none_first (f (view x)) (each_in f (map view vs)) (each_none f vs i v (omega arith) at e)
 
--- all have a property, and one more has it
-pub all_append : {A : Type 0} (P : A → Type 0) (things : List A) (last : A) → AllByRecursion P things → P last → AllByRecursion P (things ++ last ∷ [])
-all_append P [] last all is = (is, tt)
-all_append P (one ∷ things) last all is = (all.0, all_append P things last all.1 is)
-
 pub depth_pushed : (n : ℕ) (vs : List Value) (v : Value) → items_depth (items_view vs) ≤ n → depth (view v) ≤ n → items_depth (items_view (vs ++ v ∷ [])) ≤ n
 depth_pushed n [] v h k = omega arith
 depth_pushed n (x ∷ vs) v h k = let rest = depth_pushed n vs v (omega arith) k in omega arith

@@ -6,7 +6,7 @@ use Rattle.metadata.specs.declared.cells.Kind.TheVariants.{Int, Text, Bytes}
 use Rattle.metadata.specs.declared.definition.Field.{Field}
 use Rattle.metadata.specs.declared.definition.TypeRequest.{TypeRequest}
 use Rattle.metadata.specs.declared.index.IndexKind.{IndexKind}
-use Rattle.metadata.specs.declared.index.IndexKind.TheVariants.{Value}
+use Rattle.metadata.specs.declared.index.IndexKind.TheVariants.{Value, Count, Sum}
 use Rattle.metadata.specs.declared.index.IndexRequest.{IndexRequest}
 use Rattle.metadata.specs.Asked.{SchemaRequest}
 use Rattle.serde_json.specs.Data.{Data}
@@ -49,27 +49,41 @@ type_in d =
     (member_in names_in (codes "key") d)) (member_in fields_in (codes "fields") d)) (member_in as_str (codes "name") d)
     else None
 
--- the kind of index of this name: VALUE indexes are the only ones that are kept so far
+-- the kind of index of this name
 abbrev pub index_kind_named : List ℕ → Option IndexKind
-index_kind_named name = named ((codes "value", Value) ∷ []) name
+index_kind_named name = named ((codes "value", Value) ∷ (codes "count", Count) ∷ (codes "sum", Sum) ∷ []) name
 
 -- the kind of index that a text names
 abbrev pub index_kind_in : Data → Option IndexKind
 index_kind_in d = option_and_then index_kind_named (as_str d)
 
--- the keys that an index has
-abbrev pub index_keys : List (List ℕ)
-index_keys = codes "name" ∷ codes "kind" ∷ codes "type" ∷ codes "columns" ∷ []
+-- the keys that an index of a kind has: a SUM also has its summed field
+abbrev pub index_keys : IndexKind → List (List ℕ)
+index_keys Value = codes "name" ∷ codes "kind" ∷ codes "type" ∷ codes "columns" ∷ []
+index_keys Count = codes "name" ∷ codes "kind" ∷ codes "type" ∷ codes "columns" ∷ []
+index_keys Sum = codes "name" ∷ codes "kind" ∷ codes "type" ∷ codes "columns" ∷ codes "summed" ∷ []
 
--- the index that an object asks for: its name, its kind, the name of its type and those of its columns
-abbrev pub index_in : Data → Option IndexRequest
-index_in d =
-    if has_only index_keys d then
-    option_and_then (λ name. option_and_then (λ kind. option_and_then (λ type_name.
-    option_map (λ columns. record { name = name; kind = kind; type_name = type_name; columns = columns; summed = None })
-    (member_in names_in (codes "columns") d)) (member_in as_str (codes "type") d))
-    (member_in index_kind_in (codes "kind") d)) (member_in as_str (codes "name") d)
+-- the name of the summed field of an index of a kind, which a SUM alone has
+abbrev pub summed_in : IndexKind → Data → Option (Option (List ℕ))
+summed_in Value d = Some None
+summed_in Count d = Some None
+summed_in Sum d = option_map (λ name. Some name) (member_in as_str (codes "summed") d)
+
+-- the index of a kind that an object asks for: its name, the name of its type, those of its columns, and that of its
+-- summed field
+abbrev pub index_of : IndexKind → Data → Option IndexRequest
+index_of kind d =
+    if has_only (index_keys kind) d then
+    option_and_then (λ name. option_and_then (λ type_name. option_and_then (λ columns.
+    option_map (λ summed.
+    record { name = name; kind = kind; type_name = type_name; columns = columns; summed = summed })
+    (summed_in kind d)) (member_in names_in (codes "columns") d)) (member_in as_str (codes "type") d))
+    (member_in as_str (codes "name") d)
     else None
+
+-- the index that an object asks for
+abbrev pub index_in : Data → Option IndexRequest
+index_in d = option_and_then (λ kind. index_of kind d) (member_in index_kind_in (codes "kind") d)
 
 -- the types and the indexes in a list
 abbrev pub types_in : Data → Option (List TypeRequest)

@@ -1,16 +1,16 @@
 ghost use Rattle.std.specs.Prelude.{◌≡◌, Some, None, IfOk, IfErr};
-ghost use Rattle.std.specs.List.{AllByRecursion};
-ghost use Rattle.metadata.specs.declared.index.IndexKind.TheVariants.{Value as OfValues};
 ghost use Rattle.serde_json.specs.View.{view};
-ghost use Rattle.json_forms.specs.SchemaJson.{field_in, fields_in, index_in, index_kind_in};
-ghost use Rattle.json_forms.specs.SchemaJson.{index_kind_named, indexes_in, indexes_of};
-ghost use Rattle.json_forms.specs.SchemaJson.{kind_named, names_in, schema_in, type_in, types_in};
+ghost use Rattle.json_forms.specs.SchemaJson.{field_in, fields_in, index_in, index_kind_in, index_keys};
+ghost use Rattle.json_forms.specs.Json.{has_only};
+ghost use Rattle.json_forms.specs.SchemaJson.{index_kind_named, index_of, indexes_in, indexes_of};
+ghost use Rattle.json_forms.specs.SchemaJson.{kind_named, names_in, schema_in, summed_in, type_in, types_in};
 
 use crate::error::PartError;
 use crate::form::{has_only, list_of, member, str_of, text_of};
 use metadata::{Field, Fields, IndexKind, IndexRequest, Kind, Names, SchemaRequest, TypeRequest};
 use serde_json::Value;
 use std::alloc::Global;
+use tuple_codec::Text;
 
 // The kind of this name.
 fn kind_of(name: &str) -> Result<Kind, PartError>
@@ -93,14 +93,15 @@ fn types_of(alloc: Global, value: &Value) -> Result<Vec<TypeRequest>, PartError>
     Ok(types)
 }
 
-// The kind of index of this name. VALUE indexes are the only ones that are kept so far.
+// The kind of index of this name.
 fn index_kind_of(name: &str) -> Result<IndexKind, PartError>
     ensures ok { IfOk result (λ read. index_kind_named name.now ≡ Some read) }
-    ensures value { IfOk result (λ read. read ≡ OfValues) }
     ensures err { IfErr result (λ error. error ≡ PartError.BadForm → index_kind_named name.now ≡ None) }
 {
     match name {
         "value" => Ok(IndexKind::Value),
+        "count" => Ok(IndexKind::Count),
+        "sum" => Ok(IndexKind::Sum),
         _ => Err(PartError::BadForm),
     }
 }
@@ -108,42 +109,72 @@ fn index_kind_of(name: &str) -> Result<IndexKind, PartError>
 // The kind of index that a text names.
 fn index_kind_in(value: &Value) -> Result<IndexKind, PartError>
     ensures ok { IfOk result (λ read. index_kind_in (view value.now) ≡ Some read) }
-    ensures value { IfOk result (λ read. read ≡ OfValues) }
     ensures err { IfErr result (λ error. error ≡ PartError.BadForm → index_kind_in (view value.now) ≡ None) }
 {
     index_kind_of(str_of(value)?)
 }
 
-// The keys that an index has.
+// The keys that an index has, and those of a SUM.
 const INDEX_KEYS: [&str; 4] = ["name", "kind", "type", "columns"];
 
-/// The index that an object with just the keys `name`, `kind`, `type` and `columns` asks for: its
-/// name, its kind, the name of its type and those of its columns. `BadForm` of another value.
-pub fn index_of(alloc: Global, value: &Value) -> Result<IndexRequest, PartError>
-    ensures ok { IfOk result (λ read. index_in (view value.now) ≡ Some read) }
-    ensures value { IfOk result (λ read. read.kind ≡ OfValues) }
-    ensures err { IfErr result (λ error. error ≡ PartError.BadForm → index_in (view value.now) ≡ None) }
+const SUM_KEYS: [&str; 5] = ["name", "kind", "type", "columns", "summed"];
+
+// Whether a value is an object that has no key but those of an index of this kind.
+fn has_index_keys(kind: IndexKind, value: &Value) -> bool
+    ensures { result ≡ has_only (index_keys kind) (view value.now) }
 {
-    if !has_only(value, &INDEX_KEYS) {
+    match kind {
+        IndexKind::Value | IndexKind::Count => has_only(value, &INDEX_KEYS),
+        IndexKind::Sum => has_only(value, &SUM_KEYS),
+    }
+}
+
+// The name of the summed field, which a SUM alone has.
+fn summed_of(alloc: Global, kind: IndexKind, value: &Value) -> Result<Option<Text>, PartError>
+    ensures ok { IfOk result (λ read. summed_in kind (view value.now) ≡ Some read) }
+    ensures err { IfErr result (λ error. error ≡ PartError.BadForm → summed_in kind (view value.now) ≡ None) }
+{
+    match kind {
+        IndexKind::Value | IndexKind::Count => Ok(None),
+        IndexKind::Sum => Ok(Some(text_of(alloc, member(value, "summed")?)?)),
+    }
+}
+
+// The index of a kind that an object asks for.
+fn index_of_kind(alloc: Global, kind: IndexKind, value: &Value) -> Result<IndexRequest, PartError>
+    ensures ok { IfOk result (λ read. index_of kind (view value.now) ≡ Some read) }
+    ensures err { IfErr result (λ error. error ≡ PartError.BadForm → index_of kind (view value.now) ≡ None) }
+{
+    if !has_index_keys(kind, value) {
         return Err(PartError::BadForm);
     }
     let name = text_of(alloc, member(value, "name")?)?;
-    let kind = index_kind_in(member(value, "kind")?)?;
     let type_name = text_of(alloc, member(value, "type")?)?;
     let columns = names_of(alloc, member(value, "columns")?)?;
+    let summed = summed_of(alloc, kind, value)?;
     Ok(IndexRequest {
         name,
         kind,
         type_name,
         columns,
-        summed: None,
+        summed,
     })
+}
+
+/// The index that an object with just the keys `name`, `kind`, `type` and `columns` asks for, and
+/// `summed` for a SUM: its name, its kind (`value`, `count` or `sum`), the name of its type, those
+/// of its columns, and that of its summed field. `BadForm` of another value.
+pub fn index_of(alloc: Global, value: &Value) -> Result<IndexRequest, PartError>
+    ensures ok { IfOk result (λ read. index_in (view value.now) ≡ Some read) }
+    ensures err { IfErr result (λ error. error ≡ PartError.BadForm → index_in (view value.now) ≡ None) }
+{
+    let kind = index_kind_in(member(value, "kind")?)?;
+    index_of_kind(alloc, kind, value)
 }
 
 // A list of indexes.
 fn indexes_in(alloc: Global, value: &Value) -> Result<Vec<IndexRequest>, PartError>
     ensures ok { IfOk result (λ read. indexes_in (view value.now) ≡ Some read.items) }
-    ensures values { IfOk result (λ read. AllByRecursion (λ index. index.kind ≡ OfValues) read.items) }
     ensures err { IfErr result (λ error. error ≡ PartError.BadForm → indexes_in (view value.now) ≡ None) }
 {
     let mut indexes = Vec::new(alloc);
@@ -156,7 +187,6 @@ fn indexes_in(alloc: Global, value: &Value) -> Result<Vec<IndexRequest>, PartErr
 // The indexes of a schema, none where it has no list of them.
 fn indexes_of(alloc: Global, value: &Value) -> Result<Vec<IndexRequest>, PartError>
     ensures ok { IfOk result (λ read. indexes_of (view value.now) ≡ Some read.items) }
-    ensures values { IfOk result (λ read. AllByRecursion (λ index. index.kind ≡ OfValues) read.items) }
     ensures err { IfErr result (λ error. error ≡ PartError.BadForm → indexes_of (view value.now) ≡ None) }
 {
     match value.get("indexes") {
@@ -172,7 +202,6 @@ const SCHEMA_KEYS: [&str; 2] = ["types", "indexes"];
 /// `indexes`, with no other key. `BadForm` of another value.
 pub fn schema_of(alloc: Global, value: &Value) -> Result<SchemaRequest, PartError>
     ensures ok { IfOk result (λ read. schema_in (view value.now) ≡ Some read) }
-    ensures values { IfOk result (λ read. AllByRecursion (λ index. index.kind ≡ OfValues) read.indexes) }
     ensures err { IfErr result (λ error. error ≡ PartError.BadForm → schema_in (view value.now) ≡ None) }
 {
     if !has_only(value, &SCHEMA_KEYS) {

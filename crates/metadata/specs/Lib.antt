@@ -15,3 +15,4 @@ pub mod Order
 pub mod Entries
 pub mod Layout
 pub mod Index
+pub mod Group

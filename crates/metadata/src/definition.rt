@@ -68,7 +68,7 @@ impl Fields {
     }
 
     // The kind of the field at this place.
-    fn kind_at(&self, place: usize) -> Option<Kind>
+    pub(crate) fn kind_at(&self, place: usize) -> Option<Kind>
         ensures { result ≡ kind_at self.now place }
     {
         self.fields.get(place).map(|field| field.kind)

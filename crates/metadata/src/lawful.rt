@@ -54,7 +54,7 @@ fn is_index_over(index: &IndexDefinition, definition: &TypeDefinition) -> bool
 }
 
 // The type with this number.
-fn type_at(types: &[TypeDefinition], number: u64) -> Option<&TypeDefinition>
+pub(crate) fn type_at(types: &[TypeDefinition], number: u64) -> Option<&TypeDefinition>
     ensures { option_copied result ≡ type_at types.now number }
 {
     types.iter().find(|definition| definition.number == number)

@@ -6,6 +6,7 @@
 
 mod cells;
 mod definition;
+mod group;
 mod index;
 mod index_change;
 mod index_reading;

@@ -22,6 +22,7 @@ use Rattle.planner.specs.Meaning.{rows_of}
 use Rattle.planner.specs.Plan.{Plan}
 use Rattle.planner.specs.Right.{Extends, IsRightFor, indexes_of}
 use Rattle.planner.specs.Rules.{MayBeUsed}
+use Rattle.planner.proofs.Uses.{value_is}
 use Rattle.planner.proofs.Lists.{all_each, member_contained}
 use Rattle.planner.proofs.Residual.{each_member}
 use Rattle.plan_exec.specs.Scannable.{AreStatesOf, IsScannable}
@@ -31,6 +32,7 @@ use Rattle.plan_exec.proofs.Exactly.{exactly}
 pub scannable : (store : Store) (states : List (ℕ × State)) (t : TypeDefinition) (i : IndexDefinition) → AreStatesOf store states → MayBeUsed store.schema states t i → IsScannable store t i
 scannable store states t i told may = record {
   there = may.in_schema;
+  value = value_is i.kind may.of_values;
   over = may.of_type;
   readable = told i.number Readable (is_told (listed_state states i.number) may.readable);
 }

@@ -19,3 +19,4 @@ pub mod Turns
 pub mod Steps
 pub mod Fetches
 pub mod Views
+pub mod Executed

@@ -1,5 +1,5 @@
 -- What an execution of a plan establishes, whatever map the snapshot turns out to have.
-use Rattle.std.specs.Prelude.{◌≡◌, ℕ, List, Option, Some, Ok}
+use Rattle.std.specs.Prelude.{◌≡◌, ℕ, List, Option, Some, None, Ok}
 use Rattle.std.specs.FinMap.{entries}
 use Rattle.std.specs.Result.{result_err}
 use Rattle.kv_core.specs.Map.{Map}
@@ -8,11 +8,16 @@ use Rattle.kv_core.specs.declared.change.CommitRequest.{CommitRequest}
 use Rattle.cluster_core.specs.declared.answers.ReadError.{ReadError}
 use Rattle.metadata.specs.declared.definition.TypeDefinition.{TypeDefinition}
 use Rattle.metadata.specs.Record.{Record}
-use Rattle.record_store.specs.Call.{Opened}
+use Rattle.metadata.specs.Records.{of_type}
+use Rattle.record_store.specs.Call.{AtStore, Opened}
 use Rattle.record_store.specs.Steps.{DidRead, IsBeginning, IsNextRefused}
 use Rattle.metadata.specs.Layout.{Pair}
+use Rattle.query.specs.Query.{Allows}
+use Rattle.query.specs.View.{query_of}
+use Rattle.planner.specs.Asked.{AskedPlan}
 use Rattle.planner.specs.Meaning.{rows_of}
-use Rattle.planner.specs.Plan.{Node, Plan}
+use Rattle.planner.specs.Plan.{Node}
+use Rattle.planner.specs.View.{plan_of}
 use Rattle.plan_exec.specs.Accepting.{Accepts, IsNotAccepted}
 use Rattle.plan_exec.specs.Reads.{Reading, node_reading}
 use Rattle.plan_exec.specs.declared.error.ExecError.{ExecError}
@@ -26,17 +31,21 @@ reads_of prefix pairs t n = (node_reading prefix pairs t n).ranges
 abbrev pub damage_of : List ℕ → List Pair → TypeDefinition → Node → Option (List ℕ)
 damage_of prefix pairs t n = result_err (node_reading prefix pairs t n).found
 
--- a plan was executed: the store accepts it and, over every map that agrees with what was read, the ranges read are
--- those of the plan, in order, and the rows are its meaning
-pub record IsExecuted (maps : ℕ → Map) (opened : Opened) (plan : Plan) (rows : List Record) (old new : CommitRequest) :
-    Type 0 where
+-- what executing a plan finds in a map: the ranges read are those of the plan, in order, and the rows are its meaning;
+-- where the map holds a store that was opened so, its records of the type answer the plan's query by these rows
+pub record HasRows (opened : Opened) (plan : AskedPlan) (type : TypeDefinition) (rows : List Record)
+    (added : List KeyRange) (m : Map) : Type 0 where
+  pub reads : added ≡ reads_of opened.prefix (entries m) type (plan_of plan).root
+  pub meaning : rows_of opened.prefix (entries m) type (plan_of plan) ≡ Some rows
+  pub answers : AtStore opened m (λ store. Allows (query_of plan.query) (of_type type.number store.records) rows)
+
+-- a plan was executed: the store accepts it, and so it is over every map that agrees with what was read
+pub record IsExecuted (maps : ℕ → Map) (opened : Opened) (plan : AskedPlan) (rows : List Record)
+    (old new : CommitRequest) : Type 0 where
   pub type : TypeDefinition
-  pub accepted : Accepts opened plan type
+  pub accepted : Accepts opened (plan_of plan) type
   pub added : List KeyRange
-  pub ran :
-      DidRead maps added old new
-      (λ m. (added ≡ reads_of opened.prefix (entries m) type plan.root)
-      × (rows_of opened.prefix (entries m) type plan ≡ Some rows))
+  pub ran : DidRead maps added old new (HasRows opened plan type rows added)
 
 -- why reads stopped behind the ones that were added: memory is wanting, or the next read is refused so; or none is, and
 -- the first damaged pair has this key
@@ -47,23 +56,36 @@ IsStopped refuses reads damage (Read error) added = IsBeginning added reads × I
 IsStopped refuses reads damage (Corrupt key) added = (added ≡ reads) × (damage ≡ Some key)
 IsStopped refuses reads damage error added = ⊥
 
+-- where a damaged pair is told, the plan has no meaning, and the map holds no store that was opened so
+abbrev pub HasNoMeaning : Opened → AskedPlan → TypeDefinition → ExecError → Map → Type 0
+HasNoMeaning opened plan type (Corrupt key) m =
+    (rows_of opened.prefix (entries m) type (plan_of plan) ≡ None) × AtStore opened m (λ store. ⊥)
+HasNoMeaning opened plan type error m = Unit {0}
+
+-- what a plan that wasn't executed met in a map
+pub record HasNoRows (refuses : KeyRange → ReadError → Type 0) (opened : Opened) (plan : AskedPlan)
+    (type : TypeDefinition) (error : ExecError) (added : List KeyRange) (m : Map) : Type 0 where
+  pub stopped :
+      IsStopped refuses (reads_of opened.prefix (entries m) type (plan_of plan).root)
+      (damage_of opened.prefix (entries m) type (plan_of plan).root) error added
+  pub damage : HasNoMeaning opened plan type error m
+
 -- a plan that the store accepts wasn't executed
-pub record IsUnexecuted (maps : ℕ → Map) (refuses : KeyRange → ℕ → ReadError → Type 0) (opened : Opened) (plan : Plan)
-    (error : ExecError) (old new : CommitRequest) : Type 0 where
+pub record IsUnexecuted (maps : ℕ → Map) (refuses : KeyRange → ℕ → ReadError → Type 0) (opened : Opened)
+    (plan : AskedPlan) (error : ExecError) (old new : CommitRequest) : Type 0 where
   pub type : TypeDefinition
-  pub accepted : Accepts opened plan type
+  pub accepted : Accepts opened (plan_of plan) type
   pub added : List KeyRange
   pub ran :
-      DidRead maps added old new
-      (λ m. IsStopped (λ range. refuses range old.read_version) (reads_of opened.prefix (entries m) type plan.root)
-      (damage_of opened.prefix (entries m) type plan.root) error added)
+      DidRead maps added old new (HasNoRows (λ range. refuses range old.read_version) opened plan type error added)
 
 -- why a plan wasn't executed: the store doesn't accept it, and nothing was read; or it accepts it
 abbrev pub IsRefused :
-    (ℕ → Map) → (KeyRange → ℕ → ReadError → Type 0) → Opened → Plan → ExecError → CommitRequest → CommitRequest →
-    Type 0
-IsRefused maps refuses opened plan OtherSchema old new = IsNotAccepted opened plan OtherSchema × (new ≡ old)
-IsRefused maps refuses opened plan IndexNotReadable old new = IsNotAccepted opened plan IndexNotReadable × (new ≡ old)
+    (ℕ → Map) → (KeyRange → ℕ → ReadError → Type 0) → Opened → AskedPlan → ExecError → CommitRequest →
+    CommitRequest → Type 0
+IsRefused maps refuses opened plan OtherSchema old new = IsNotAccepted opened (plan_of plan) OtherSchema × (new ≡ old)
+IsRefused maps refuses opened plan IndexNotReadable old new =
+    IsNotAccepted opened (plan_of plan) IndexNotReadable × (new ≡ old)
 IsRefused maps refuses opened plan error old new = IsUnexecuted maps refuses opened plan error old new
 
 -- beneath whole plans: a reading was done, and found this

@@ -1,8 +1,7 @@
-//! What the plans of queries find in the map of a store, and the plan of a query over an open
-//! store.
+//! The plan of a query over an open store, and its execution in a transaction.
 //!
-//! The planner's words speak of pairs of keys and values; these laws say that the map of a store has
-//! just the pairs that they ask for. No call executes a plan yet.
+//! The planner's words speak of pairs of keys and values; laws say that the map of a store has just
+//! the pairs that they ask for.
 #![tactic(auto)]
 
 mod accepting;
@@ -13,6 +12,7 @@ mod entries;
 mod entry;
 mod error;
 mod executing;
+mod execution;
 mod fetching;
 mod keyed;
 mod keys;
@@ -22,5 +22,6 @@ mod planning;
 mod reading;
 
 pub use error::ExecError;
+pub use execution::execute;
 pub use laws::{plans_answer, states_are_told, stores_are_exact, usable_are_scannable};
 pub use planning::plan_for_store;

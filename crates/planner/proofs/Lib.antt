@@ -24,3 +24,4 @@ pub mod LongestMatch
 pub mod Theorem
 pub mod KeyOrder
 pub mod Bodies
+pub mod ByField

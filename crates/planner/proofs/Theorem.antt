@@ -61,7 +61,7 @@ use Rattle.planner.proofs.Sorted.{GivesSorted, sorted_gives}
 use Rattle.planner.proofs.Extended.{planned_same}
 use Rattle.planner.specs.Choice.{IsChosen}
 use Rattle.planner.proofs.Choices.{planned_served, planned_chosen}
-use Rattle.planner.proofs.Uses.{planned_uses}
+use Rattle.planner.proofs.Uses.{planned_uses, value_is}
 
 -- ---- a query's answer
 
@@ -265,7 +265,11 @@ module _ (laws : PackLaws IsCell) (reads_back : ReadsBack IsCell) (schema : Sche
 
   -- and it is of the type that the query names
   pub planned_for : (root : Node) → planned t (usable schema states t) query ≡ Some root → IsPlanFor query (record { definition = t; root = root })
-  planned_for root plan_is = record { typed = found_named schema query.record_type t its_type; right = planned_right root plan_is }
+  planned_for root plan_is = record {
+    typed = found_named schema query.record_type t its_type;
+    over = λ i c. let may = each_member (MayBeUsed schema states t) (planned_usable schema states t query root plan_is) (member_contained i (indexes_of root) c) in record { kind = value_is i.kind may.of_values; type = may.of_type };
+    right = planned_right root plan_is;
+  }
 
   -- it is the promised one
   pub planned_promised : (root : Node) → planned t (usable schema states t) query ≡ Some root → IsChosen t (usable schema states t) query root

@@ -4,6 +4,9 @@ use Rattle.std.specs.List.{list_all, list_any}
 use Rattle.std.proofs.Common.{sym, subst}
 use Rattle.std.proofs.lemmas.Option.{same_Some}
 use Rattle.metadata.specs.declared.index.IndexDefinition.{IndexDefinition}
+use Rattle.metadata.specs.declared.index.IndexKind.{IndexKind}
+use Rattle.metadata.specs.declared.index.IndexKind.TheVariants.{Value, Count, Sum}
+use Rattle.metadata.specs.Index.{is_value}
 use Rattle.metadata.specs.declared.definition.TypeDefinition.{TypeDefinition}
 use Rattle.query.specs.Filter.{Filter, compare, null_field, starts, all_of, some_of, negation, Filters, no_filters, filter as part, parts, conjuncts, conjuncts_of}
 use Rattle.query.specs.Query.{Query}
@@ -15,6 +18,12 @@ use Rattle.planner.specs.Right.{indexes_of, indexes_of_all, indexes_of_scans}
 use Rattle.planner.proofs.Ranges.{Each}
 use Rattle.planner.proofs.Residual.{each_append, each_of_map, each_where}
 use Rattle.planner.proofs.Unsorted.{residual_indexes, longest_has}
+
+-- VALUE: a kind that is told to be VALUE is
+pub value_is : (kind : IndexKind) → is_value kind ≡ true → kind ≡ Value
+value_is Value is = refl
+value_is Count is = absurd (cc)
+value_is Sum is = absurd (cc)
 
 module _ (t : TypeDefinition) (indexes : List IndexDefinition) (P : IndexDefinition → Type 0) (all : Each P indexes) where
   -- a node scans only such indexes

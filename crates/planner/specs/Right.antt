@@ -1,10 +1,11 @@
 -- When a plan is right for a query: over all pairs that are exactly the records and their entries, its rows are the
 -- query's.
-use Rattle.std.specs.Prelude.{◌≡◌, ℕ, Bool, false, ◌||◌, List, [], ◌∷◌, ◌++◌, Some}
+use Rattle.std.specs.Prelude.{◌≡◌, ℕ, Bool, false, ◌||◌, List, [], ◌∷◌, ◌++◌, Some, Contains}
 use Rattle.std.specs.List.{list_any}
 use Rattle.std.specs.Option.{option_map_or}
 use Rattle.metadata.specs.declared.definition.Field.{Field}
 use Rattle.metadata.specs.declared.index.IndexDefinition.{IndexDefinition}
+use Rattle.metadata.specs.declared.index.IndexKind.TheVariants.{Value}
 use Rattle.metadata.specs.Record.{Record}
 use Rattle.metadata.specs.Schema.{Schema}
 use Rattle.metadata.specs.declared.index.State.{State}
@@ -58,9 +59,20 @@ IsRightFor query plan =
     Extends plan.definition t → IsExact prefix pairs t (indexes_of plan.root) records →
     (rows : List Record) × (rows_of prefix pairs t plan ≡ Some rows) × Allows query records rows
 
--- a plan for a query: of the type that the query names, and right for it
+-- a VALUE index over the type
+pub record IsValueOver (t : TypeDefinition) (i : IndexDefinition) : Type 0 where
+  pub kind : i.kind ≡ Value
+  pub type : i.type_number ≡ t.number
+
+-- the indexes that a plan scans are all VALUE indexes over its type
+abbrev pub ScansOwn : Plan → Type 0
+ScansOwn plan = (i : IndexDefinition) → Contains (indexes_of plan.root) i → IsValueOver plan.definition i
+
+-- a plan for a query: of the type that the query names, scanning VALUE indexes over that type alone, and right for the
+-- query
 pub record IsPlanFor (query : Query) (plan : Plan) : Type 0 where
   pub typed : plan.definition.name ≡ query.record_type
+  pub over : ScansOwn plan
   pub right : IsRightFor query plan
 
 -- whether a path to the records of the type serves the query's sort

@@ -1,9 +1,10 @@
 //! The plan of a filter along one path, or along several indexes whose columns are all fixed.
 ghost use Rattle.std.specs.Prelude.{◌≡◌, ◌≤◌, length, ◌++◌, ◌∷◌, ◌==◌, false, not, [], map, filter, flat_map};
-ghost use Rattle.std.specs.Prelude.{IfOk, OnOk};
+ghost use Rattle.std.specs.Prelude.{if◌then◌else◌, IfOk, OnOk};
 ghost use Rattle.std.specs.List.{list_any};
+ghost use Rattle.planner.specs.ByField.{IsByField, SaysTheSame};
 ghost use Rattle.planner.specs.Match.{along, used, others};
-ghost use Rattle.planner.specs.Planned.{all_draft, fixes_all, index_scan, joining, other_than, path_draft};
+ghost use Rattle.planner.specs.Planned.{all_draft, fixes_all, index_draft, index_scan, joining, other_than, path_draft};
 ghost use Rattle.planner.specs.Planned.{path_scan, residual};
 ghost use Rattle.planner.specs.Plan.{fetch, intersection};
 ghost use Rattle.planner.specs.View.{conjunct_of, draft_of, index_scan_of, joined_of, match_of, node_of, path_of};
@@ -58,7 +59,8 @@ fn add_others_than<'a>(
     }
 }
 
-/// Adds the indexes that join an intersection, each with its match of the conjuncts that none before it uses.
+/// Adds the indexes that join an intersection, each with its match of the conjuncts that none before it
+/// uses; they stand in the order of their fields.
 fn add_joining<'a>(
     alloc: Global,
     t: &TypeDefinition,
@@ -66,6 +68,7 @@ fn add_joining<'a>(
     conjuncts: &[Conjunct<'a>],
     into: &mut Vec<Joined<'a>>,
 ) -> Result<(), AllocError>
+    requires { IsByField (map conjunct_of conjuncts.now) }
     ensures { OnOk result (map joined_of into.new.items ≡ map joined_of into.old.items
         ++ joining t.now (map (λ i. i.now) indexes.now) (map conjunct_of conjuncts.now)) }
 {
@@ -206,21 +209,26 @@ fn all_draft(alloc: Global, all: &[Joined], conjuncts: &[Conjunct]) -> Result<Dr
     }
 }
 
-/// The plan along an index, or along it and others.
+/// The plan along an index, or along it and others, by conjuncts that also stand in the order of their
+/// fields.
 fn along_index<'a>(
     alloc: Global,
     t: &TypeDefinition,
     indexes: &[&'a IndexDefinition],
     conjuncts: &[Conjunct<'a>],
+    by_field: &[Conjunct<'a>],
     index: &'a IndexDefinition,
     m: Match<'a>,
 ) -> Result<Draft, AllocError>
+    requires { IsByField (map conjunct_of by_field.now) }
     ensures { IfOk result (λ draft. draft_of draft
-        ≡ path_draft t.now (map (λ i. i.now) indexes.now) (map conjunct_of conjuncts.now)
-        (along index.now) (match_of m.entry)) }
+        ≡ index_draft (map conjunct_of conjuncts.now) index.now (match_of m.entry)
+        (if fixes_all index.now (match_of m.entry)
+        then joining t.now (other_than index.now (map (λ i. i.now) indexes.now))
+        (others (used (match_of m.entry)) (map conjunct_of by_field.now)) else [])) }
 {
     let joins = fixes_all(index, &m);
-    let left = others(alloc, &m, conjuncts)?;
+    let left = others(alloc, &m, by_field)?;
     let mut all = Vec::new(alloc);
     all.push(Joined { index, columns: m })?;
     if joins {
@@ -231,15 +239,18 @@ fn along_index<'a>(
     all_draft(alloc, all.as_slice(), conjuncts)
 }
 
-/// The plan of a path with its match.
+/// The plan of a path with its match, by conjuncts that also stand in the order of their fields.
 pub(crate) fn path_draft<'a>(
     alloc: Global,
     t: &TypeDefinition,
     indexes: &[&'a IndexDefinition],
     conjuncts: &[Conjunct<'a>],
+    by_field: &[Conjunct<'a>],
     path: Path<'a>,
     m: Match<'a>,
 ) -> Result<Draft, AllocError>
+    requires order { IsByField (map conjunct_of by_field.now) }
+    requires same { SaysTheSame (map conjunct_of by_field.now) (map conjunct_of conjuncts.now) }
     ensures { IfOk result (λ draft. draft_of draft
         ≡ path_draft t.now (map (λ i. i.now) indexes.now) (map conjunct_of conjuncts.now)
         (path_of path.entry) (match_of m.entry)) }
@@ -252,6 +263,6 @@ pub(crate) fn path_draft<'a>(
                 in_key_order: true,
             })
         }
-        Path::Along(index) => along_index(alloc, t, indexes, conjuncts, index, m),
+        Path::Along(index) => along_index(alloc, t, indexes, conjuncts, by_field, index, m),
     }
 }

@@ -2,10 +2,11 @@
 //! them, so that the records that come out are the query's.
 //!
 //! A plan is made from a schema, the states of its indexes and a query that was checked. Nothing is
-//! read for it, and no call executes it yet.
+//! read for it.
 #![tactic(auto)]
 
 mod bounds;
+mod by_field;
 mod conjuncts;
 mod draft;
 mod fixing;

@@ -22,7 +22,7 @@ pub(crate) struct Matched<'a> {
 }
 
 /// The number of a path; that of the primary path is 0.
-fn path_number(path: Path) -> u64
+pub(crate) fn path_number(path: Path) -> u64
     ensures { result ≡ path_number (path_of path.entry) }
 {
     match path {

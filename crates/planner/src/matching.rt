@@ -1,8 +1,10 @@
 //! How conjuncts match the columns of a path.
 ghost use Rattle.std.specs.Prelude.{◌≡◌, ◌+◌, ◌∷◌, ◌++◌, [], map, option_map, IfOk, OnOk};
+ghost use Rattle.planner.specs.ByField.{IsByField};
 ghost use Rattle.planner.specs.Match.{name_at, first, said, fixing, bounding, matching, reach, is_longer};
 ghost use Rattle.planner.specs.View.{conjunct_of, fixed_of, bounds_of, match_of};
 
+use crate::by_field::on_field;
 use crate::fixing::{Bound, Fixed, bounding, fixing};
 use metadata::TypeDefinition;
 use query::Filter;
@@ -47,7 +49,7 @@ fn first_fixing<'a>(name: &[u8], conjuncts: &[Conjunct<'a>]) -> Option<(usize, F
 }
 
 /// How many columns are fixed and bounded together.
-fn reach(m: &Match) -> usize
+pub(crate) fn reach(m: &Match) -> usize
     ensures { result ≡ reach (match_of m.now) }
 {
     if m.bounds.is_empty() {
@@ -85,6 +87,7 @@ fn match_columns<'a>(
     conjuncts: &[Conjunct<'a>],
     fixed: &mut Vec<(usize, Fixed<'a>)>,
 ) -> Result<Vec<(usize, Bound<'a>)>, AllocError>
+    requires { IsByField (map conjunct_of conjuncts.now) }
     ensures fixed { OnOk result (map fixed_of fixed.new.items ≡ map fixed_of fixed.old.items
         ++ (matching (map conjunct_of conjuncts.now) (map (name_at t.now) columns.now)).fixed) }
     ensures bounds { IfOk result (λ b. map bounds_of b.items
@@ -94,14 +97,15 @@ fn match_columns<'a>(
         [] => Ok(Vec::new(alloc)),
         [column, rest @ ..] => {
             let name = name_at(t, *column);
-            match first_fixing(name, conjuncts) {
+            let own = on_field(name, conjuncts);
+            match first_fixing(name, own) {
                 Some(cell) => {
                     fixed.push(cell)?;
                     match_columns(alloc, t, rest, conjuncts, fixed)
                 }
                 None => {
                     let mut bounds = Vec::new(alloc);
-                    add_bounds(name, conjuncts, &mut bounds)?;
+                    add_bounds(name, own, &mut bounds)?;
                     Ok(bounds)
                 }
             }
@@ -109,13 +113,14 @@ fn match_columns<'a>(
     }
 }
 
-/// The match of the conjuncts along columns.
+/// The match of conjuncts along columns; they stand in the order of their fields.
 pub(crate) fn matching<'a>(
     alloc: Global,
     t: &TypeDefinition,
     columns: &[usize],
     conjuncts: &[Conjunct<'a>],
 ) -> Result<Match<'a>, AllocError>
+    requires { IsByField (map conjunct_of conjuncts.now) }
     ensures { IfOk result (λ m. match_of m ≡ matching (map conjunct_of conjuncts.now)
         (map (name_at t.now) columns.now)) }
 {

@@ -64,7 +64,8 @@ pub enum Node {
 }
 
 /// How the records of a query are found: those of a type, by the steps from the last one to the
-/// first. Each plan is of the type that its query names, and right for it.
+/// first. Each plan is of the type that its query names, scans indexes over that type alone, and is
+/// right for its query.
 #[derive(Drop)]
 pub struct Plan {
     pub(crate) definition: TypeDefinition,
@@ -92,7 +93,7 @@ impl Model for Plan {
 }
 
 impl Plan {
-    ghost use Rattle.planner.specs.Right.{IsRightFor};
+    ghost use Rattle.planner.specs.Right.{IsRightFor, ScansOwn};
     ghost use Rattle.planner.specs.View.{node_of, plan_of};
     ghost use Rattle.query.specs.View.{query_of};
 
@@ -114,6 +115,7 @@ impl Plan {
     pub fn query(&self) -> &Query
         ensures query { result.now ≡ self.now.query }
         ensures typed { (plan_of self.now).definition.name ≡ (query_of result.now).record_type }
+        ensures over { ScansOwn (plan_of self.now) }
         ensures right { IsRightFor (query_of result.now) (plan_of self.now) }
     {
         &self.query

@@ -1,14 +1,17 @@
 //! The plan of a query.
-ghost use Rattle.std.specs.Prelude.{◌≡◌, ◌++◌, ◌==◌, ◌&&◌, false, None, Some, filter, map, option_map, IfOk, OnOk};
+ghost use Rattle.std.specs.Prelude.{◌≡◌, ◌++◌, ◌==◌, ◌&&◌, false, None, Some, filter, map, option_map};
+ghost use Rattle.std.specs.Prelude.{[], ◌||◌, true, nat_lt, fold, IfOk, OnOk};
 ghost use Rattle.std.specs.Option.{option_map_or};
 ghost use Rattle.metadata.specs.Index.{is_readable, is_value, listed_state};
-ghost use Rattle.planner.specs.Match.{along};
-ghost use Rattle.planner.specs.Planned.{matched_paths};
+ghost use Rattle.planner.specs.ByField.{IsByField};
+ghost use Rattle.planner.specs.Match.{along, match_of as match_of_path, matching, name_at, path_number, reach};
+ghost use Rattle.planner.specs.Planned.{longer_of, matched_paths};
 ghost use Rattle.planner.specs.Rules.{usable};
 ghost use Rattle.planner.specs.View.{conjunct_of, match_of, matched_of, path_of};
 
-use crate::longest::{Matched, Path};
-use crate::matching::Conjunct;
+use crate::by_field::on_field;
+use crate::longest::{Matched, Path, path_number};
+use crate::matching::{Conjunct, is_longer, name_at, reach};
 use crate::serving::match_of;
 use metadata::{IndexDefinition, IndexKind, Schema, State, TypeDefinition};
 use std::alloc::{AllocError, Global};
@@ -67,25 +70,76 @@ fn add_usable<'a>(
     }
 }
 
-/// Adds the paths along indexes with their matches.
-pub(crate) fn add_matched<'a>(
+/// Whether no conjunct speaks of the first column, so that none of the columns is matched.
+fn is_untold(t: &TypeDefinition, columns: &[usize], conjuncts: &[Conjunct]) -> bool
+    requires { IsByField (map conjunct_of conjuncts.now) }
+    ensures { result ≡ true → matching (map conjunct_of conjuncts.now)
+        (map (name_at t.now) columns.now) ≡ record { fixed = []; bounds = [] } }
+{
+    match columns {
+        [] => true,
+        [first, ..] => {
+            let own = on_field(name_at(t, *first), conjuncts);
+            own.is_empty()
+        }
+    }
+}
+
+/// Whether no match without columns is longer: the path is the primary one, or its match has columns.
+fn outdoes_none(m: &Matched) -> bool
+    ensures { result ≡ (path_number (matched_of m.now).0 == 0
+        || nat_lt 0 (reach (matched_of m.now).1)) }
+{
+    path_number(m.path) == 0 || 0 < reach(&m.columns)
+}
+
+/// Keeps the longer of a path's match and of an index's, by conjuncts in the order of their fields.
+fn keep_longer<'a>(
+    alloc: Global,
+    t: &TypeDefinition,
+    index: &'a IndexDefinition,
+    conjuncts: &[Conjunct<'a>],
+    best: &mut Matched<'a>,
+) -> Result<(), AllocError>
+    requires { IsByField (map conjunct_of conjuncts.now) }
+    ensures { OnOk result (matched_of best.new ≡ longer_of (matched_of best.old)
+        (along index.now, match_of_path t.now (map conjunct_of conjuncts.now) (along index.now))) }
+{
+    if outdoes_none(best) && is_untold(t, index.columns.as_slice(), conjuncts) {
+        return Ok(());
+    }
+    let path = Path::Along(index);
+    let columns = match_of(alloc, t, path, conjuncts)?;
+    if is_longer(
+        path_number(path),
+        &columns,
+        path_number(best.path),
+        &best.columns,
+    ) {
+        *best = Matched { path, columns };
+    }
+    Ok(())
+}
+
+/// Keeps the longest of a path's match and of those of indexes, by conjuncts in the order of their
+/// fields.
+pub(crate) fn keep_longest<'a>(
     alloc: Global,
     t: &TypeDefinition,
     indexes: &[&'a IndexDefinition],
     conjuncts: &[Conjunct<'a>],
-    into: &mut Vec<Matched<'a>>,
+    best: &mut Matched<'a>,
 ) -> Result<(), AllocError>
-    ensures { OnOk result (map matched_of into.new.items ≡ map matched_of into.old.items
-        ++ matched_paths t.now (map conjunct_of conjuncts.now)
-        (map along (map (λ i. i.now) indexes.now))) }
+    requires { IsByField (map conjunct_of conjuncts.now) }
+    ensures { OnOk result (matched_of best.new ≡ fold longer_of (matched_of best.old)
+        (matched_paths t.now (map conjunct_of conjuncts.now)
+        (map along (map (λ i. i.now) indexes.now)))) }
 {
     match indexes {
         [] => Ok(()),
         [first, rest @ ..] => {
-            let path = Path::Along(*first);
-            let columns = match_of(alloc, t, path, conjuncts)?;
-            into.push(Matched { path, columns })?;
-            add_matched(alloc, t, rest, conjuncts, into)
+            keep_longer(alloc, t, *first, conjuncts, best)?;
+            keep_longest(alloc, t, rest, conjuncts, best)
         }
     }
 }

@@ -1,11 +1,13 @@
 //! The plan for a sort: the serving path of the longest match, and the other conjuncts.
 ghost use Rattle.std.specs.Prelude.{◌≡◌, ◌++◌, ◌∷◌, [], None, Some, filter, length, map, option_map, IfOk};
 ghost use Rattle.std.specs.Prelude.{OnOk, MatchOption};
+ghost use Rattle.planner.specs.ByField.{IsByField};
 ghost use Rattle.planner.specs.Match.{columns, match_of as match_of_path, paths, serves, sort_columns};
 ghost use Rattle.planner.specs.Match as names;
 ghost use Rattle.planner.specs.Planned.{matched_paths, path_scan, residual, sorted_plan};
 ghost use Rattle.planner.specs.View.{conjunct_of, match_of, matched_of, node_of, path_of};
 
+use crate::by_field::by_field;
 use crate::left_over::others;
 use crate::longest::{Matched, Path, longest};
 use crate::matching::{Conjunct, Match, matching};
@@ -16,13 +18,14 @@ use metadata::{IndexDefinition, TypeDefinition};
 use std::alloc::{AllocError, Global};
 use tuple_codec::Text;
 
-/// The match of a path.
+/// The match of a path by conjuncts in the order of their fields.
 pub(crate) fn match_of<'a>(
     alloc: Global,
     t: &TypeDefinition,
     path: Path,
     conjuncts: &[Conjunct<'a>],
 ) -> Result<Match<'a>, AllocError>
+    requires { IsByField (map conjunct_of conjuncts.now) }
     ensures { IfOk result (λ m. match_of m ≡ match_of_path t.now (map conjunct_of conjuncts.now)
         (path_of path.entry)) }
 {
@@ -69,6 +72,7 @@ fn add_serving<'a>(
     sort: &[Text],
     into: &mut Vec<Matched<'a>>,
 ) -> Result<(), AllocError>
+    requires { IsByField (map conjunct_of conjuncts.now) }
     ensures { OnOk result (map matched_of into.new.items ≡ map matched_of into.old.items
         ++ matched_paths t.now (map conjunct_of conjuncts.now)
         (filter (names.serves t.now (map conjunct_of conjuncts.now) sort.now) (path_of path.entry
@@ -91,6 +95,7 @@ fn add_serving_indexes<'a>(
     sort: &[Text],
     into: &mut Vec<Matched<'a>>,
 ) -> Result<(), AllocError>
+    requires { IsByField (map conjunct_of conjuncts.now) }
     ensures { OnOk result (map matched_of into.new.items ≡ map matched_of into.old.items
         ++ matched_paths t.now (map conjunct_of conjuncts.now)
         (filter (names.serves t.now (map conjunct_of conjuncts.now) sort.now)
@@ -106,6 +111,27 @@ fn add_serving_indexes<'a>(
     }
 }
 
+/// The paths that serve a sort, with their matches.
+fn serving_paths<'a>(
+    alloc: Global,
+    t: &TypeDefinition,
+    indexes: &[&'a IndexDefinition],
+    conjuncts: &[Conjunct<'a>],
+    sort: &[Text],
+) -> Result<Vec<Matched<'a>>, AllocError>
+    ensures { IfOk result (λ found. map matched_of found.items
+        ≡ matched_paths t.now (map conjunct_of conjuncts.now)
+        (filter (names.serves t.now (map conjunct_of conjuncts.now) sort.now)
+        (paths (map (λ i. i.now) indexes.now)))) }
+{
+    let sorted = by_field(alloc, conjuncts)?;
+    let told = sorted.as_slice();
+    let mut serving = Vec::new(alloc);
+    add_serving(alloc, t, Path::Primary, told, sort, &mut serving)?;
+    add_serving_indexes(alloc, t, indexes, told, sort, &mut serving)?;
+    Ok(serving)
+}
+
 /// The plan for a sort: the serving path of the longest match, and the other conjuncts.
 pub(crate) fn sorted_plan<'a>(
     alloc: Global,
@@ -119,9 +145,7 @@ pub(crate) fn sorted_plan<'a>(
         ≡ sorted_plan t.now (map (λ i. i.now) indexes.now) (map conjunct_of conjuncts.now) sort.now
         reverse) }
 {
-    let mut serving = Vec::new(alloc);
-    add_serving(alloc, t, Path::Primary, conjuncts, sort, &mut serving)?;
-    add_serving_indexes(alloc, t, indexes, conjuncts, sort, &mut serving)?;
+    let serving = serving_paths(alloc, t, indexes, conjuncts, sort)?;
     match longest(serving.as_slice()) {
         None => Ok(None),
         Some(best) => {

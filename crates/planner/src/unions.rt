@@ -8,14 +8,14 @@ ghost use Rattle.planner.specs.Match.{numbered, paths};
 ghost use Rattle.planner.specs.Planned.{is_empty, matched_paths, nodes_of, only_union_plan, part_plans};
 ghost use Rattle.planner.specs.Planned.{planned, single_plan, union_of, union_plan, unsorted_plan};
 ghost use Rattle.planner.specs.Scanned.{is_full, scans_all, scans_of, scans_of_all, source_scans};
-ghost use Rattle.planner.specs.View.{conjunct_of, draft_of, match_of, matched_of, node_of, source_of};
+ghost use Rattle.planner.specs.View.{conjunct_of, draft_of, matched_of, node_of, source_of};
 
+use crate::by_field::by_field;
 use crate::conjuncts::conjuncts;
 use crate::draft::{Draft, path_draft};
-use crate::longest::{Matched, Path, longest};
-use crate::matching::Match;
+use crate::longest::{Matched, Path};
 use crate::plan::{Node, Source};
-use crate::planning::add_matched;
+use crate::planning::keep_longest;
 use crate::serving::{match_of, sorted_plan};
 use metadata::{IndexDefinition, TypeDefinition};
 use query::{Filter, Query};
@@ -87,15 +87,6 @@ fn one_scans_all(parts: &[Node]) -> bool
     }
 }
 
-/// An equal match.
-fn copy_match<'a>(alloc: Global, m: &Match<'a>) -> Result<Match<'a>, AllocError>
-    ensures { IfOk result (λ copy. match_of copy ≡ match_of m.now) }
-{
-    let fixed = Vec::from_slice(alloc, m.fixed.as_slice())?;
-    let bounds = Vec::from_slice(alloc, m.bounds.as_slice())?;
-    Ok(Match { fixed, bounds })
-}
-
 /// The plan of the longest match, where no path matches the scan of all records.
 fn single_plan<'a>(
     alloc: Global,
@@ -108,26 +99,21 @@ fn single_plan<'a>(
         (numbered (conjuncts (filter_of filter.now)))) }
 {
     let all = conjuncts(alloc, filter)?;
-    let mut matched = Vec::new(alloc);
-    let columns = match_of(alloc, t, Path::Primary, all.as_slice())?;
-    matched.push(Matched {
-        path: Path::Primary,
-        columns,
-    })?;
-    add_matched(alloc, t, indexes, all.as_slice(), &mut matched)?;
-    match longest(matched.as_slice()) {
-        None => {
-            let m = Match {
-                fixed: Vec::new(alloc),
-                bounds: Vec::new(alloc),
-            };
-            path_draft(alloc, t, indexes, all.as_slice(), Path::Primary, m)
-        }
-        Some(best) => {
-            let m = copy_match(alloc, &best.columns)?;
-            path_draft(alloc, t, indexes, all.as_slice(), best.path, m)
-        }
-    }
+    let sorted = by_field(alloc, all.as_slice())?;
+    let told = sorted.as_slice();
+    let path = Path::Primary;
+    let columns = match_of(alloc, t, path, told)?;
+    let mut best = Matched { path, columns };
+    keep_longest(alloc, t, indexes, told, &mut best)?;
+    path_draft(
+        alloc,
+        t,
+        indexes,
+        all.as_slice(),
+        told,
+        best.path,
+        best.columns,
+    )
 }
 
 /// Whether one of the drafts has a full record scan, and whether all are in primary key order.

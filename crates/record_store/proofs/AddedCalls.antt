@@ -30,7 +30,7 @@ use Rattle.record_store.specs.declared.error.StoreError.TheVariants.{Memory}
 use Rattle.record_store.specs.Layout.{schema_key, type_range}
 use Rattle.record_store.specs.Holds.{Holds}
 use Rattle.record_store.specs.Call.{AtStore, IsAnswered, IsOpenAs, IsRefused, Opened, first_of}
-use Rattle.record_store.specs.Form.{IsRecordPair}
+use Rattle.record_store.specs.Form.{IsWritten}
 use Rattle.txn.proofs.Running.{ran_because}
 use Rattle.record_store.specs.Calls.{IsIndexedAs, done_with, index_call, index_service}
 use Rattle.record_store.specs.Reading.{HasNotFound, HasRead}
@@ -90,6 +90,7 @@ pub index_served : (opened : Opened) (index : IndexDefinition) (state : State) (
     IsServed opened (index_service opened index) state list m store
 index_served opened index state list wrote made m store holds same is =
     let writes = index_wrote opened index state list wrote store same is in record {
+      accepted = refl;
       answers = is;
       wrote = writes;
       holds =
@@ -118,7 +119,7 @@ module _ (maps : ℕ → Map) (refuses : KeyRange → ℕ → ReadError → Type
     own = subst (λ (n : ℕ). HasRead maps opened n state old mid) same_number first
 
     read : DidRead maps (own.added ∷ []) old mid (λ m. (own.added ∷ [] ≡ (index_service opened index).reading.added m)
-        × (AllByRecursion (IsRecordPair opened.prefix opened.schema) ((index_service opened index).reading.pairs m) × AtStore opened m (λ store. state ≡ new_state (of_type index.type_number store.records))))
+        × (AllByRecursion (IsWritten opened.prefix opened.schema) ((index_service opened index).reading.pairs m) × AtStore opened m (λ store. state ≡ new_state (of_type index.type_number store.records))))
     read = ran_because own.ran (λ m found. (ap (λ range. range ∷ []) found.0, (found.1, found.2)))
 
     -- MEMORY: it was wanting after the read
@@ -136,7 +137,7 @@ module _ (maps : ℕ → Map) (refuses : KeyRange → ℕ → ReadError → Type
       pub index_limited : {new : CommitRequest} (error : WriteError) → new ≡ mid → (error ≡ write.Memory) ⊎ (write_all_refusal mid.mutations list ≡ Some error) → IsRefused maps refuses opened (index_call opened request) (of_write error) old new
       index_limited error same says =
           refused_limit maps refuses opened (index_call opened request) (index_service opened index) list error accepted read
-          (λ m store holds schema is. index_wrote opened index state list list_is store schema is) same says
+          (λ m store holds schema is. (refl, index_wrote opened index state list list_is store schema is)) same says
 
       -- ANSWERED: the index is there
       pub index_answered : {new : CommitRequest} → IsLawfulSchema next → new ≡ with_mutations list mid → IsNone (write_all_refusal mid.mutations list) → IsAnswered maps opened (index_call opened request) state old new

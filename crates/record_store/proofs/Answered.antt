@@ -28,11 +28,11 @@ use Rattle.metadata.specs.Record.{Record, key_items, key_of, record_in}
 use Rattle.metadata.specs.Schema.{Schema, find_type, key_kinds}
 use Rattle.metadata.proofs.SameTypes.{same_type-Decides}
 use Rattle.record_store.specs.declared.error.StoreError.{StoreError}
-use Rattle.record_store.specs.declared.error.StoreError.TheVariants.{Memory, Read, Write, Corrupt, Refused, NoStore, AlreadyThere, OtherSchema}
+use Rattle.record_store.specs.declared.error.StoreError.TheVariants.{Memory, Read, Write, Corrupt, Refused, NoStore, AlreadyThere, OtherSchema, NotAggregate, NotReadable}
 use Rattle.record_store.specs.Store.{Store}
 use Rattle.record_store.specs.Holds.{Holds, IsOfSchema}
-use Rattle.record_store.specs.Form.{IsRecordPair}
-use Rattle.record_store.specs.Call.{AtStore, Call, IsAnswered, IsFailure, IsOpenAs, IsRefused, IsUndone, IsUnread, Opened, Service}
+use Rattle.record_store.specs.Form.{IsWritten}
+use Rattle.record_store.specs.Call.{AtStore, Call, IsAnswered, IsFailure, IsOpenAs, IsRefused, IsUndone, IsUnread, Opened, Service, is_objected}
 use Rattle.record_store.specs.Calls.{done_with, is_own}
 use Rattle.record_store.specs.Reading.{HasNotFound, IsKeyOf}
 use Rattle.record_store.specs.Steps.{DidRead, IsBeginning, no_memory, of_metadata, of_write}
@@ -92,6 +92,7 @@ own_typed schema r is made = ap (λ t. elim t [ None ↦ Err UnknownType | Some 
 
 -- what is so at a store once the call is done, but for the limits
 pub record IsServed {A : Type 0} (opened : Opened) (service : Service A) (answer : A) (list : List Mutation) (m : Map) (store : Store) : Type 0 where
+  pub accepted : is_objected service.objection store ≡ false
   pub answers : answer ≡ service.answer store
   pub wrote : list ≡ service.writes store
   pub holds : Holds opened.prefix (after_all list m) (Some (service.after store))
@@ -112,6 +113,8 @@ refused_anyway maps refuses opened (Ok service) error old new is = record { adde
     by_error NoStore ranges m says = says
     by_error AlreadyThere ranges m says = says
     by_error OtherSchema ranges m says = says
+    by_error NotAggregate ranges m says = says
+    by_error NotReadable ranges m says = says
 
 module _ {A : Type 0} (maps : ℕ → Map) (refuses : KeyRange → ℕ → ReadError → Type 0) (opened : Opened) where
   -- OWN REFUSAL: the call's own, before it read anything
@@ -132,6 +135,8 @@ module _ {A : Type 0} (maps : ℕ → Map) (refuses : KeyRange → ℕ → ReadE
   failure_of refused service NoStore before added m says = absurd says
   failure_of refused service AlreadyThere before added m says = absurd says
   failure_of refused service OtherSchema before added m says = absurd says
+  failure_of refused service NotAggregate before added m says = absurd says
+  failure_of refused service NotReadable before added m says = absurd says
 
   pub refused_unread : {old new : CommitRequest} (call : Call A) (service : Service A) (error : StoreError) → call ≡ Ok service → HasNotFound maps refuses opened service.reading error old new →
       IsRefused maps refuses opened call error old new
@@ -153,7 +158,7 @@ module _ {A : Type 0} (maps : ℕ → Map) (refuses : KeyRange → ℕ → ReadE
 
   -- LIMIT: what the call writes was refused
   pub refused_limit : {added : List KeyRange} {old mid new : CommitRequest} {F : Store → Type 0} (call : Call A) (service : Service A) (list : List Mutation) (error : WriteError) → call ≡ Ok service →
-      DidRead maps added old mid (λ m. (added ≡ service.reading.added m) × (AllByRecursion (IsRecordPair opened.prefix opened.schema) (service.reading.pairs m) × AtStore opened m F)) → ((m : Map) (store : Store) → Holds opened.prefix m (Some store) → IsOpenAs opened store → F store → list ≡ service.writes store) → new ≡ mid →
+      DidRead maps added old mid (λ m. (added ≡ service.reading.added m) × (AllByRecursion (IsWritten opened.prefix opened.schema) (service.reading.pairs m) × AtStore opened m F)) → ((m : Map) (store : Store) → Holds opened.prefix m (Some store) → IsOpenAs opened store → F store → (is_objected service.objection store ≡ false) × (list ≡ service.writes store)) → new ≡ mid →
       (error ≡ write.Memory) ⊎ (write_all_refusal mid.mutations list ≡ Some error) → IsRefused maps refuses opened call (of_write error) old new
   refused_limit {added = added} {old = old} {mid = mid} {new = new} {F = F} call service list error accepted ran wrote same says =
       subst (λ c. IsRefused maps refuses opened c (of_write error) old new) (sym accepted)
@@ -164,14 +169,16 @@ module _ {A : Type 0} (maps : ℕ → Map) (refuses : KeyRange → ℕ → ReadE
             (λ m found. of_limit (λ e. IsFailure (λ range. refuses range old.read_version) opened service e old.mutations added m) error says (subst (IsBeginning added) found.0 (all_begin added)) (λ e is. (found.0, found.1.0, limit e m found.1.1 is)));
       }))
     where
-      limit : (e : WriteError) (m : Map) → AtStore opened m F → write_all_refusal mid.mutations list ≡ Some e → AtStore opened m (λ store. write_all_refusal old.mutations (service.writes store) ≡ Some e)
-      limit e m found is store holds schema =
-          ap (λ ms. write_all_refusal ms (service.writes store)) (sym (ran.wrote ∙ append-nil old.mutations))
-          ∙ ap (write_all_refusal mid.mutations) (sym (wrote m store holds schema (found store holds schema))) ∙ is
+      limit : (e : WriteError) (m : Map) → AtStore opened m F → write_all_refusal mid.mutations list ≡ Some e → AtStore opened m (λ store. (is_objected service.objection store ≡ false) × (write_all_refusal old.mutations (service.writes store) ≡ Some e))
+      limit e m found is store holds schema = (
+        (wrote m store holds schema (found store holds schema)).0,
+        ap (λ ms. write_all_refusal ms (service.writes store)) (sym (ran.wrote ∙ append-nil old.mutations))
+            ∙ ap (write_all_refusal mid.mutations) (sym ((wrote m store holds schema (found store holds schema)).1)) ∙ is,
+      )
 
   -- ANSWERED: reads, and then writes that no limit refuses
   pub answered : {added : List KeyRange} {old mid new : CommitRequest} {F : Store → Type 0} (call : Call A) (service : Service A) (answer : A) (list : List Mutation) → call ≡ Ok service → (length list == 0) ≡ not (service.changes answer) →
-      DidRead maps added old mid (λ m. (added ≡ service.reading.added m) × (AllByRecursion (IsRecordPair opened.prefix opened.schema) (service.reading.pairs m) × AtStore opened m F)) →
+      DidRead maps added old mid (λ m. (added ≡ service.reading.added m) × (AllByRecursion (IsWritten opened.prefix opened.schema) (service.reading.pairs m) × AtStore opened m F)) →
       new ≡ with_mutations list mid → IsNone (write_all_refusal mid.mutations list) →
       ((m : Map) (store : Store) → Holds opened.prefix m (Some store) → IsOpenAs opened store → F store → IsServed opened service answer list m store) → IsAnswered maps opened call answer old new
   answered {added = added} {old = old} {mid = mid} call service answer list accepted changes ran is allowed serves = record {
@@ -188,6 +195,7 @@ module _ {A : Type 0} (maps : ℕ → Map) (refuses : KeyRange → ℕ → ReadE
           found.1.0,
           λ store holds schema.
               let served = serves m store holds schema (found.1.1 store holds schema) in record {
+                accepted = served.accepted;
                 answers = served.answers;
                 wrote = served.wrote;
                 allowed = ap (λ ms. write_all_refusal ms list) (sym (ran.wrote ∙ append-nil old.mutations)) ∙ is_none (write_all_refusal mid.mutations list) allowed;
@@ -198,7 +206,7 @@ module _ {A : Type 0} (maps : ℕ → Map) (refuses : KeyRange → ℕ → ReadE
 
   -- ANSWERED: reads alone
   pub answered_reading : {added : List KeyRange} {old new : CommitRequest} {F : Store → Type 0} (call : Call A) (service : Service A) (answer : A) → call ≡ Ok service → true ≡ not (service.changes answer) →
-      DidRead maps added old new (λ m. (added ≡ service.reading.added m) × (AllByRecursion (IsRecordPair opened.prefix opened.schema) (service.reading.pairs m) × AtStore opened m F)) →
+      DidRead maps added old new (λ m. (added ≡ service.reading.added m) × (AllByRecursion (IsWritten opened.prefix opened.schema) (service.reading.pairs m) × AtStore opened m F)) →
       ((m : Map) (store : Store) → Holds opened.prefix m (Some store) → IsOpenAs opened store → F store → IsServed opened service answer [] m store) → IsAnswered maps opened call answer old new
   answered_reading {added = added} {old = old} call service answer accepted changes ran serves = record {
     service = service;
@@ -210,7 +218,7 @@ module _ {A : Type 0} (maps : ℕ → Map) (refuses : KeyRange → ℕ → ReadE
       found.0,
       found.1.0,
       λ store holds schema.
-          let served = serves m store holds schema (found.1.1 store holds schema) in record { answers = served.answers; wrote = served.wrote; allowed = refl; holds = served.holds },
+          let served = serves m store holds schema (found.1.1 store holds schema) in record { accepted = served.accepted; answers = served.answers; wrote = served.wrote; allowed = refl; holds = served.holds },
     ));
   }
 

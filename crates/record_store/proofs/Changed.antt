@@ -26,13 +26,13 @@ use Rattle.metadata.specs.Records.{IsStorable, has_primary_key, placed, with_rec
 use Rattle.metadata.specs.Schema.{Schema}
 use Rattle.metadata.specs.Lawful.{IsLawfulSchema}
 use Rattle.metadata.specs.Written.{schema_bytes}
-use Rattle.index_maint.specs.Layout.{entries_prefix}
+use Rattle.index_maint.proofs.KeptLaw.{defined_none}
 use Rattle.index_maint.proofs.RecordLists.{all_filter, all_with_record, ordered-filter, ordered-with_record}
 use Rattle.record_store.specs.Store.{Store, created, extended, removed, saved, state_of}
 use Rattle.record_store.specs.Layout.{place, record_key, record_pair, record_value, schema_key}
-use Rattle.record_store.specs.Holds.{HasIndex, HasPairs, Holds, IsListed, IsNoEntry, IsOfSchema}
+use Rattle.record_store.specs.Holds.{HasPairs, Holds, IsListed, IsNoEntry, IsOfSchema}
 use Rattle.record_store.proofs.Held.{id, id_order, tie}
-use Rattle.record_store.proofs.Kept.{clear_leaves, itself, kept_indexes, no_entry_in, no_entry_schema, nothing_at, other_place, record_in_place, set_leaves, set_there}
+use Rattle.record_store.proofs.Kept.{HasIndex, clear_leaves, itself, kept_indexes, no_entry_in, no_entry_schema, nothing_at, other_place, record_in_place, set_leaves, set_there}
 
 module _ (prefix : List ℕ) where
   -- pairs that go as a change does are had after it
@@ -170,7 +170,8 @@ module _ (prefix : List ℕ) where
       each : (indexes : List IndexDefinition) → AllByRecursion (λ index. HasIndex prefix [] (after (Set (schema_key prefix) (schema_bytes schema)) m) index (state_of (created schema) index.number)) indexes
       each [] = tt
       each (index ∷ indexes) = (
-        λ bytes. made_nothing m (schema_bytes schema) 2 (int (pos index.number) ∷ []) bytes refl holds ∙ sym (get-stored [] (entries_prefix prefix index.number ++ bytes)),
+        defined_none index.kind prefix index [] (after (Set (schema_key prefix) (schema_bytes schema)) m) refl
+            (λ bytes. made_nothing m (schema_bytes schema) 2 (int (pos index.number) ∷ []) bytes refl holds),
         each indexes,
       )
 

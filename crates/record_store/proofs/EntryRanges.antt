@@ -1,6 +1,6 @@
 -- The range of an index's entries: what clearing it leaves, and that it has all entries.
 use Rattle.std.proofs.Common.{◌≡◌, ◌⊎◌, inl, inr, ℕ, Bool, true, false, not, cond, ◌&&◌, ◌||◌, ◌==◌, List, [], ◌∷◌, ◌++◌, append-nil, refl, sym, ap, subst, ◌∙◌, None, map}
-use Rattle.std.specs.Prelude.{MatchBool}
+use Rattle.std.specs.Prelude.{All, MatchBool}
 use Rattle.std.specs.FinMap.{get}
 use Rattle.std.specs.List.{AllByRecursion, starts_with}
 use Rattle.std.specs.Ordering.{is_lt}
@@ -19,20 +19,27 @@ use Rattle.kv_core.specs.Range.{contains}
 use Rattle.kv_core.specs.declared.change.Mutation.TheVariants.{ClearRange}
 use Rattle.kv_core.proofs.Changes.{get-after, get-kept}
 use Rattle.kv_core.proofs.Stored.{get-stored}
+use Rattle.metadata.specs.declared.cells.Cell.{Cell}
 use Rattle.metadata.specs.declared.index.IndexDefinition.{IndexDefinition}
+use Rattle.metadata.specs.declared.index.IndexKind.{IndexKind}
+use Rattle.metadata.specs.declared.index.IndexKind.TheVariants.{Value, Count, Sum}
 use Rattle.metadata.specs.declared.index.State.{State}
 use Rattle.metadata.specs.declared.index.State.TheVariants.{Readable, WriteOnly, Disabled}
-use Rattle.metadata.specs.Cell.{cells_at, items_of}
+use Rattle.metadata.specs.Cell.{IsCell, cells_at, items_of}
 use Rattle.metadata.specs.Record.{Record, primary_key}
 use Rattle.metadata.specs.Records.{IsStorable, of_type}
 use Rattle.metadata.proofs.CellItems.{all-cells_at, are_items-items_of}
+use Rattle.index_maint.specs.Changes.{HasEntries}
 use Rattle.index_maint.specs.Entries.{entry_items, entry_of}
+use Rattle.index_maint.specs.Kept.{HasDefined}
 use Rattle.index_maint.specs.Layout.{entries_prefix, entry_pair, entry_pairs}
+use Rattle.index_maint.specs.Totals.{HasTotals, Share, count_share, sum_share}
 use Rattle.index_maint.proofs.Lookups.{lookup-none}
 use Rattle.index_maint.proofs.RecordLists.{all_filter}
 use Rattle.record_store.specs.Layout.{entries_range}
-use Rattle.record_store.specs.Holds.{HasIndex, has_number}
+use Rattle.record_store.specs.Holds.{has_number}
 use Rattle.record_store.proofs.Held.{under}
+use Rattle.record_store.proofs.Kept.{HasIndex}
 use Rattle.record_store.proofs.Keys.{above_itself}
 
 -- a key begins so, or doesn't
@@ -54,6 +61,10 @@ entry_low : (index : IndexDefinition) (r : Record) → IsStorable r → key_lt (
 entry_low index r can =
     ap is_lt (before_escape (spelling (entry_items (entry_of index r))) [] (outer_tail (entry_items (entry_of index r))
     (are_items-append (items_of (cells_at r.cells index.columns)) (primary_key r) (are_items-items_of (cells_at r.cells index.columns) (all-cells_at r.cells index.columns can.cells)) can.key.items)))
+
+-- nor does that of a group
+group_low : (group : List Cell) → All IsCell group → key_lt (spelling (items_of group)) (255 ∷ []) ≡ true
+group_low group cells = ap is_lt (before_escape (spelling (items_of group)) [] (outer_tail (items_of group) (are_items-items_of group cells)))
 
 module _ (prefix : List ℕ) (number : ℕ) where
   -- the keys of the range begin with the prefix of the entries
@@ -92,11 +103,27 @@ module _ (prefix : List ℕ) (records : List Record) (storable : AllByRecursion 
 
   pub nothing_out : (index : IndexDefinition) (state : State) (bytes : List ℕ) → HasIndex prefix records m index state →
       contains (entries_range prefix index.number) (entries_prefix prefix index.number ++ bytes) ≡ false → get m (entries_prefix prefix index.number ++ bytes) ≡ None
-  nothing_out index Readable bytes has out =
-      has bytes ∙ get-stored (entry_pairs prefix index records) (entries_prefix prefix index.number ++ bytes)
-      ∙ lookup-none (entries_prefix prefix index.number ++ bytes) (entry_pairs prefix index records)
-      (others_keys index (entries_prefix prefix index.number ++ bytes) (of_type index.type_number records) out (all_filter IsStorable (λ r. r.definition.number == index.type_number) records storable))
-  nothing_out index WriteOnly bytes has out = has bytes
+  nothing_out index Readable bytes has out = by_kind index.kind has
+    where
+      entries_out : HasEntries prefix index records m → get m (entries_prefix prefix index.number ++ bytes) ≡ None
+      entries_out has =
+          has bytes ∙ get-stored (entry_pairs prefix index records) (entries_prefix prefix index.number ++ bytes)
+          ∙ lookup-none (entries_prefix prefix index.number ++ bytes) (entry_pairs prefix index records)
+          (others_keys index (entries_prefix prefix index.number ++ bytes) (of_type index.type_number records) out (all_filter IsStorable (λ r. r.definition.number == index.type_number) records storable))
+
+      totals_out : (share : Share) → HasTotals share prefix index records m → get m (entries_prefix prefix index.number ++ bytes) ≡ None
+      totals_out share has =
+          has.groups bytes
+          (λ group is same.
+          true≢false
+          (sym (low_inside prefix index.number (spelling (items_of group)) (group_low group is.cells))
+          ∙ ap (λ bs. contains (entries_range prefix index.number) (entries_prefix prefix index.number ++ bs)) (sym same) ∙ out))
+
+      by_kind : (kind : IndexKind) → HasDefined kind prefix index records m → get m (entries_prefix prefix index.number ++ bytes) ≡ None
+      by_kind Value has = entries_out has
+      by_kind Count has = totals_out count_share has
+      by_kind Sum has = totals_out sum_share has
+  nothing_out index WriteOnly bytes has out = absurd has
   nothing_out index Disabled bytes has out = has bytes
 
   -- so has the index with a number

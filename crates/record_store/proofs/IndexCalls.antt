@@ -119,6 +119,7 @@ drop_served opened number next list wrote is there lawful m store holds same =
     let left : next ≡ without_index store.schema number = is ∙ ap (λ s. without_index s number) (sym same.schema) in
     let writes : list ≡ drop_writes opened.prefix store number =
     wrote ∙ ap (λ s. Set (schema_key opened.prefix) (schema_bytes s) ∷ ClearRange (entries_range opened.prefix number) ∷ ClearRange (point (state_key opened.prefix number)) ∷ []) left in record {
+      accepted = refl;
       answers = left;
       wrote = writes;
       holds =
@@ -137,6 +138,7 @@ drop_wrote opened number next list wrote is store same =
 pub disable_served : (opened : Opened) (number : ℕ) (states : List (ℕ × State)) (list : List Mutation) → list ≡ disable_writes opened.prefix number → states ≡ with_state number Disabled opened.states → has_number opened.schema.indexes number ≡ true →
     (m : Map) (store : Store) → Holds opened.prefix m (Some store) → IsOpenAs opened store → IsServed opened (disable_service opened number) states list m store
 disable_served opened number states list wrote is there m store holds same = record {
+  accepted = refl;
   answers = is ∙ ap (with_state number Disabled) (sym same.states);
   wrote = wrote;
   holds =

@@ -21,14 +21,11 @@ use Rattle.index_maint.proofs.Places.{indexes_apart}
 use Rattle.index_maint.proofs.Several.{AreApart}
 use Rattle.record_store.specs.Store.{Store, disabled, dropped, state_of, with_state}
 use Rattle.record_store.specs.Layout.{entries_range, place, record_pair, schema_key, state_key, state_value}
-use Rattle.record_store.specs.Holds.{HasIndex, HasPairs, Holds, IsElsewhere, IsListed, IsNoEntry, has_number}
+use Rattle.record_store.specs.Holds.{HasPairs, Holds, IsElsewhere, IsListed, IsNoEntry, has_number}
 use Rattle.record_store.specs.IndexWrites.{disable_writes, drop_writes}
 use Rattle.record_store.proofs.EntryRanges.{begins_or_other, nothing_out_of, range_clears, range_leaves}
-use Rattle.record_store.proofs.Kept.{clear_leaves, itself, kept_index, not_entry, other_place, set_leaves, set_there, state_in_place}
+use Rattle.record_store.proofs.Kept.{HasIndex, clear_leaves, itself, kept_index, not_entry, other_place, set_leaves, set_there, state_in_place}
 use Rattle.record_store.proofs.States.{all_with_state, listed_without, number_low, rising_with, rising_without, schema_apart, state_itself, state_other, state_without, states_cleared, states_low, states_put}
-
-pub not_readable : ◌≡◌ {A = State} Disabled Readable → ⊥
-not_readable is = cc
 
 -- a change of an index leaves what is neither the schema's pair, nor its state, nor its entries
 module _ (prefix : List ℕ) (m n : Map) (store : Store) (number : ℕ) (low : number < 2 ^ 64) (holds : Holds prefix m (Some store))
@@ -76,8 +73,8 @@ module _ (prefix : List ℕ) (m : Map) (store : Store) (number : ℕ) (there : h
       storable = holds.lawful.storable;
       rising = rising_with number Disabled store.states holds.lawful.rising;
       listed =
-          all_with_state (IsListed store.schema.indexes) number Disabled store.states (record { there = there; state = not_readable })
-          (λ one is. record { there = is.there; state = not_readable }) holds.lawful.listed;
+          all_with_state (IsListed store.schema.indexes) number Disabled store.states (record { there = there; state = refl })
+          (λ one is. record { there = is.there; state = refl }) holds.lawful.listed;
     };
     schema =
         range_leaves prefix number first (schema_key prefix) (not_entry prefix number 0 [] (schema_key prefix) refl (itself (schema_key prefix)))

@@ -1,5 +1,5 @@
 -- How the code goes through indexes and states, step by step.
-use Rattle.std.proofs.Common.{◌≡◌, ℕ, Bool, true, false, cond, ◌&&◌, ◌==◌, ◌<◌, List, [], ◌∷◌, ◌++◌, refl, sym, ap, ◌∙◌, Option, Some, append-nil, append_assoc, length, take, unwrap_or}
+use Rattle.std.proofs.Common.{◌≡◌, ℕ, Bool, true, false, cond, ◌==◌, ◌<◌, List, [], ◌∷◌, ◌++◌, refl, sym, ap, ◌∙◌, Option, Some, append-nil, append_assoc, length, take, unwrap_or}
 use Rattle.std.specs.Prelude.{get_or, suc, find}
 use Rattle.std.specs.Option.{option_map}
 use Rattle.std.specs.Map.{lookup}
@@ -10,13 +10,12 @@ use Rattle.kv_core.specs.declared.change.Mutation.{Mutation}
 use Rattle.metadata.specs.declared.index.IndexDefinition.{IndexDefinition}
 use Rattle.metadata.specs.declared.index.State.{State}
 use Rattle.metadata.specs.declared.index.State.TheVariants.{Readable}
-use Rattle.metadata.specs.Index.{is_readable}
 use Rattle.metadata.specs.Record.{Record}
-use Rattle.index_maint.specs.Changes.{value_changes}
+use Rattle.index_maint.specs.Kept.{kept_writes}
+use Rattle.index_maint.proofs.RecordIndexes.{flat_map-filter}
 use Rattle.record_store.specs.Store.{state_in}
 use Rattle.record_store.specs.Call.{Opened}
 use Rattle.record_store.specs.IndexWrites.{index_writes, one_index_writes, store_of}
-use Rattle.record_store.proofs.IndexedRecords.{writes_are}
 
 -- ---- states
 
@@ -51,14 +50,7 @@ module _ (opened : Opened) (number : ℕ) (old new : Option Record) where
       ∙ sym (flat_map-append (one_index_writes opened number old new) (take i indexes) (get_or indexes i index ∷ []))
       ∙ ap (flat_map (one_index_writes opened number old new)) (sym (take-suc indexes i index within)))
 
-  same_one : (index : IndexDefinition) (a b : Bool) → cond (a && b) (value_changes opened.prefix index old new) [] ≡ cond b (cond a (value_changes opened.prefix index old new) []) []
-  same_one index true true = refl
-  same_one index true false = refl
-  same_one index false true = refl
-  same_one index false false = refl
-
   -- all of them
   pub writes_all : flat_map (one_index_writes opened number old new) opened.schema.indexes ≡ index_writes opened.prefix (store_of opened) number old new
   writes_all =
-      (λ i. flat_map (λ index. same_one index (index.type_number == number) (is_readable (state_in opened.states index.number)) i) opened.schema.indexes)
-      ∙ sym (writes_are opened.prefix (store_of opened) number old new)
+      sym (flat_map-filter (λ index. kept_writes (state_in opened.states index.number) opened.prefix index old new) (λ index. index.type_number == number) opened.schema.indexes)

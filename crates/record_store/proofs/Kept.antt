@@ -18,13 +18,18 @@ use Rattle.kv_core.proofs.Order.{tied_keys}
 use Rattle.kv_core.proofs.Pairs.{contains-point-is}
 use Rattle.metadata.specs.declared.index.IndexDefinition.{IndexDefinition}
 use Rattle.metadata.specs.declared.index.State.{State}
-use Rattle.metadata.specs.declared.index.State.TheVariants.{Readable, WriteOnly, Disabled}
 use Rattle.metadata.specs.Record.{Record}
+use Rattle.index_maint.specs.Kept.{HasKept}
 use Rattle.index_maint.specs.Layout.{entries_prefix}
+use Rattle.index_maint.proofs.KeptLaw.{kept_within}
 use Rattle.index_maint.proofs.Places.{begins_before, entries_elsewhere, places_differ}
 use Rattle.record_store.specs.Layout.{place, record_key, schema_key, state_key}
-use Rattle.record_store.specs.Holds.{HasIndex, Holds, IsNoEntry}
+use Rattle.record_store.specs.Holds.{Holds, IsNoEntry}
 use Rattle.record_store.proofs.Keys.{record_key_is}
+
+-- what a map has of an index, by its state
+abbrev pub HasIndex : List ℕ → List Record → Map → IndexDefinition → State → Type 0
+HasIndex prefix records m index state = HasKept state prefix index records m
 
 -- ---- one key
 
@@ -94,9 +99,7 @@ module _ (prefix : List ℕ) where
   -- what a map has of an index it has where it is the same at the index's keys
   pub kept_index : (records : List Record) (m n : Map) (index : IndexDefinition) (state : State) →
       ((bytes : List ℕ) → get n (entries_prefix prefix index.number ++ bytes) ≡ get m (entries_prefix prefix index.number ++ bytes)) → HasIndex prefix records m index state → HasIndex prefix records n index state
-  kept_index records m n index Readable same has = λ bytes. same bytes ∙ has bytes
-  kept_index records m n index WriteOnly same has = λ bytes. same bytes ∙ has bytes
-  kept_index records m n index Disabled same has = λ bytes. same bytes ∙ has bytes
+  kept_index records m n index state same has = kept_within state prefix index records m n (λ bytes. sym (same bytes)) has
 
   pub kept_indexes : (records : List Record) (states : ℕ → State) (m n : Map) (indexes : List IndexDefinition) →
       ((number : ℕ) (bytes : List ℕ) → get n (entries_prefix prefix number ++ bytes) ≡ get m (entries_prefix prefix number ++ bytes)) →

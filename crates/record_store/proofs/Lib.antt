@@ -15,9 +15,10 @@ pub mod IndexedRecords
 pub mod EntryRanges
 pub mod IndexChanges
 pub mod NewIndexes
-pub mod Plain
 pub mod StatePairs
 pub mod IndexSteps
 pub mod StateSteps
 pub mod IndexCalls
 pub mod AddedCalls
+pub mod Aggregates
+pub mod EightBytes

@@ -1,6 +1,5 @@
 -- What a map holds of a store after an index is added.
 use Rattle.std.proofs.Common.{◌≡◌, ℕ, Bool, true, false, ◌||◌, ◌==◌, ◌<◌, ◌^◌, List, [], ◌∷◌, ◌++◌, refl, sym, ap, subst, ◌∙◌, Some, None, map, pos, unwrap_or}
-use Rattle.std.specs.BTreeMap.{is_at}
 use Rattle.std.specs.FinMap.{get}
 use Rattle.std.specs.List.{AllByRecursion}
 use Rattle.std.specs.Map.{lookup}
@@ -9,10 +8,8 @@ use Rattle.std.proofs.lemmas.List.Folds.{list_any-append}
 use Rattle.tuple_codec.specs.Item.{int}
 use Rattle.tuple_codec.specs.Spelling.{spelling}
 use Rattle.tuple_codec.specs.Subspace.{BeginsWith}
-use Rattle.kv_core.specs.Bytes.{key_cmp}
 use Rattle.kv_core.specs.Map.{Map, after, after_all}
 use Rattle.kv_core.specs.declared.change.Mutation.TheVariants.{Set}
-use Rattle.kv_core.proofs.Stored.{get-stored}
 use Rattle.metadata.specs.declared.index.IndexDefinition.{IndexDefinition}
 use Rattle.metadata.specs.declared.index.State.{State}
 use Rattle.metadata.specs.declared.index.State.TheVariants.{Readable, Disabled}
@@ -21,17 +18,16 @@ use Rattle.metadata.specs.Lawful.{IsLawfulSchema}
 use Rattle.metadata.specs.Record.{Record}
 use Rattle.metadata.specs.Records.{of_type}
 use Rattle.metadata.specs.Written.{schema_bytes}
-use Rattle.index_maint.specs.Changes.{HasEntries}
-use Rattle.index_maint.specs.Entries.{entry_of}
-use Rattle.index_maint.specs.Layout.{entries_prefix, entry_pair, entry_pairs}
+use Rattle.index_maint.specs.Layout.{entries_prefix}
+use Rattle.index_maint.proofs.KeptLaw.{defined_none}
 use Rattle.index_maint.proofs.Places.{begins_before, indexes_apart}
 use Rattle.index_maint.proofs.Several.{AreApart}
 use Rattle.record_store.specs.Store.{Store, indexed, listed_as, new_state, state_of, with_state}
 use Rattle.record_store.specs.Layout.{place, schema_key, state_key, state_pair, state_value}
-use Rattle.record_store.specs.Holds.{HasIndex, HasPairs, Holds, IsLawful, IsListed, IsNoEntry, has_number}
+use Rattle.record_store.specs.Holds.{HasPairs, Holds, IsLawful, IsListed, IsNoEntry, has_number}
 use Rattle.record_store.specs.IndexWrites.{index_added_writes, state_writes}
-use Rattle.record_store.proofs.IndexChanges.{not_readable, nothing_stays, other_stays, records_stay}
-use Rattle.record_store.proofs.Kept.{itself, not_entry, other_place, set_leaves, set_there}
+use Rattle.record_store.proofs.IndexChanges.{nothing_stays, other_stays, records_stay}
+use Rattle.record_store.proofs.Kept.{HasIndex, itself, not_entry, other_place, set_leaves, set_there}
 use Rattle.record_store.proofs.States.{all_with_state, listed_more, rising_with, schema_apart, state_itself, state_of_none, state_other, states_low, states_put}
 
 -- ---- the last index
@@ -144,13 +140,7 @@ module _ (prefix : List ℕ) (m : Map) (store : Store) (index : IndexDefinition)
         listed = listed_more store.schema.indexes (index ∷ []) store.states holds.lawful.listed;
       }) (λ at schema state entry. first_leaves at schema) (λ number differ. refl)
       (set_there m (schema_key prefix) (schema_bytes (with_index store.schema index))) first_states
-      (subst (HasIndex prefix store.records first index) (sym (ap (λ o. unwrap_or o Readable) (state_of_none store.schema.indexes index.number store.states (none_before store.schema.indexes index.number others) holds.lawful.listed))) no_entries)
-    where
-      no_entries : HasEntries prefix index store.records first
-      no_entries bytes =
-          first_nothing bytes
-          ∙ sym (get-stored (entry_pairs prefix index store.records) (entries_prefix prefix index.number ++ bytes)
-          ∙ ap (λ rs. lookup (is_at (key_cmp (entries_prefix prefix index.number ++ bytes))) (map (entry_pair prefix index.number) (map (entry_of index) rs))) none)
+      (subst (HasIndex prefix store.records first index) (sym (ap (λ o. unwrap_or o Readable) (state_of_none store.schema.indexes index.number store.states (none_before store.schema.indexes index.number others) holds.lawful.listed))) (defined_none index.kind prefix index store.records first none first_nothing))
 
   -- RECORDS: where there are some it is disabled
   disabled_now : Holds prefix (after (Set (state_key prefix index.number) (state_value Disabled)) first) (Some (record store { schema = with_index store.schema index; states = with_state index.number Disabled store.states }))
@@ -162,8 +152,8 @@ module _ (prefix : List ℕ) (m : Map) (store : Store) (index : IndexDefinition)
         storable = holds.lawful.storable;
         rising = rising_with index.number Disabled store.states holds.lawful.rising;
         listed =
-            all_with_state (IsListed (store.schema.indexes ++ index ∷ [])) index.number Disabled store.states (record { there = itself_there; state = not_readable })
-            (λ one is. record { there = is.there; state = not_readable }) (listed_more store.schema.indexes (index ∷ []) store.states holds.lawful.listed);
+            all_with_state (IsListed (store.schema.indexes ++ index ∷ [])) index.number Disabled store.states (record { there = itself_there; state = refl })
+            (λ one is. record { there = is.there; state = refl }) (listed_more store.schema.indexes (index ∷ []) store.states holds.lawful.listed);
       }) (λ at schema state entry. put_leaves at state ∙ first_leaves at schema) (λ number differ. state_other index.number number Disabled store.states differ)
       (put_leaves (schema_key prefix) (other_place prefix 5 (int (pos index.number) ∷ []) 0 [] (schema_key prefix) refl (itself (schema_key prefix))) ∙ set_there m (schema_key prefix) (schema_bytes (with_index store.schema index)))
       (states_put prefix index.number Disabled store.states first low (states_low store.schema.indexes store.states apart_old holds.lawful.listed) first_states)

@@ -1,5 +1,5 @@
 -- What reading the key of one record tells.
-use Rattle.std.proofs.Common.{◌≡◌, ℕ, List, [], ◌∷◌, ◌++◌, refl, sym, ap, subst, ◌∙◌, Option, Some, None, append-nil, pos}
+use Rattle.std.proofs.Common.{◌≡◌, inl, inr, ℕ, List, [], ◌∷◌, ◌++◌, refl, sym, ap, subst, ◌∙◌, Option, Some, None, append-nil, pos}
 use Rattle.std.specs.List.{AllByRecursion}
 use Rattle.std.specs.FinMap.{get}
 use Rattle.tuple_codec.specs.Item.{Item, IsTuple}
@@ -18,17 +18,18 @@ use Rattle.metadata.specs.Schema.{find_type}
 use Rattle.metadata.specs.Stored.{IsOfNoRecord, IsStoredAs, IsTypeOf}
 use Rattle.metadata.proofs.StoredApart.{named_typed}
 use Rattle.record_store.specs.declared.error.StoreError.{StoreError}
-use Rattle.record_store.specs.declared.error.StoreError.TheVariants.{Memory, Read, Write, Corrupt, Refused, NoStore, AlreadyThere, OtherSchema}
+use Rattle.record_store.specs.declared.error.StoreError.TheVariants.{Memory, Read, Write, Corrupt, Refused, NoStore, AlreadyThere, OtherSchema, NotAggregate, NotReadable}
 use Rattle.record_store.specs.Layout.{record_key}
-use Rattle.record_store.specs.Form.{IsFirstBad, IsRecordPair, read_in}
+use Rattle.record_store.specs.Form.{IsFirstBad, IsRecordPair, IsWritten, read_in}
 use Rattle.record_store.specs.Call.{IsUnread, Opened, whole}
 use Rattle.record_store.proofs.Stopping.{all_begin}
 use Rattle.record_store.specs.Reading.{HasNotFound, IsFound, IsKeyOf, IsNotFound, IsRead}
 use Rattle.record_store.specs.Steps.{DidRead}
-use Rattle.record_store.proofs.RecordPairs.{at_key, key_form, no_record_pair, none_bad, none_there, of_stored, pairs_at, record_there}
+use Rattle.record_store.proofs.Kept.{itself}
+use Rattle.record_store.proofs.RecordPairs.{all_written, at_key, key_form, no_record_pair, no_total_pair, none_bad, none_there, of_stored, pairs_at, record_there}
 
 -- the pairs read at one key
-read_at : (m : Map) (key : List ℕ) (value : Option (List ℕ)) → get m key ≡ value → read_in m (point key ∷ []) ≡ at_key key value
+pub read_at : (m : Map) (key : List ℕ) (value : Option (List ℕ)) → get m key ≡ value → read_in m (point key ∷ []) ≡ at_key key value
 read_at m key value is = append-nil (pairs_in m (point key)) ∙ pairs_at m key value is
 
 module _ (opened : Opened) (type : TypeDefinition) (key : List Item) (lawful : IsLawfulSchema opened.schema) (found_type : find_type opened.schema type.name ≡ Some type) (key_of : IsKeyOf type key) where
@@ -48,12 +49,12 @@ module _ (opened : Opened) (type : TypeDefinition) (key : List Item) (lawful : I
   -- READ: the record, or none, that was found
   read_there : (m : Map) (value : Option (List ℕ)) (found : Option Record) → get m (record_key opened.prefix key) ≡ value → IsFound type (spelling key) value found → IsRead opened key found m
   read_there m None found is says = (
-    subst (AllByRecursion (IsRecordPair opened.prefix opened.schema)) (sym (read_at m (record_key opened.prefix key) None is)) tt,
+    subst (AllByRecursion (IsWritten opened.prefix opened.schema)) (sym (read_at m (record_key opened.prefix key) None is)) tt,
     λ store holds same. says ∙ none_there opened.prefix m store holds key key_of.tuple is,
   )
   read_there m (Some value) None is says = absurd says
   read_there m (Some value) (Some r) is says = (
-    subst (AllByRecursion (IsRecordPair opened.prefix opened.schema)) (sym (read_at m (record_key opened.prefix key) (Some value) is)) (stored_form value r says, tt),
+    subst (AllByRecursion (IsWritten opened.prefix opened.schema)) (sym (read_at m (record_key opened.prefix key) (Some value) is)) (inl (stored_form value r says), tt),
     λ store holds same.
         subst (λ k. Some r ≡ record_at k store.records) (sym key_of.is)
         (record_there opened.prefix m store holds type key_of.cells value r (subst (λ s. IsTypeOf s type) (sym same.schema) own) (subst IsTuple key_of.is key_of.tuple)
@@ -70,6 +71,8 @@ module _ (opened : Opened) (type : TypeDefinition) (key : List Item) (lawful : I
   unread_there refuses m None NoStore is says = absurd says
   unread_there refuses m None AlreadyThere is says = absurd says
   unread_there refuses m None OtherSchema is says = absurd says
+  unread_there refuses m None NotAggregate is says = absurd says
+  unread_there refuses m None NotReadable is says = absurd says
   unread_there refuses m None (Corrupt at) is says = absurd says
   unread_there refuses m (Some value) (Read error) is says = absurd says
   unread_there refuses m (Some value) (Write error) is says = absurd says
@@ -77,13 +80,16 @@ module _ (opened : Opened) (type : TypeDefinition) (key : List Item) (lawful : I
   unread_there refuses m (Some value) NoStore is says = absurd says
   unread_there refuses m (Some value) AlreadyThere is says = absurd says
   unread_there refuses m (Some value) OtherSchema is says = absurd says
+  unread_there refuses m (Some value) NotAggregate is says = absurd says
+  unread_there refuses m (Some value) NotReadable is says = absurd says
   unread_there refuses m (Some value) (Corrupt at) is says = (
     refl,
     bad,
     λ store holds same.
         none_bad (read_in m (point (record_key opened.prefix key) ∷ [])) at
-        (subst (AllByRecursion (IsRecordPair opened.prefix opened.schema)) (sym (append-nil (pairs_in m (point (record_key opened.prefix key)))))
-        (subst (λ s. AllByRecursion (IsRecordPair opened.prefix s) (pairs_in m (point (record_key opened.prefix key)))) same.schema (key_form opened.prefix m store holds key key_of.tuple))) bad,
+        (subst (AllByRecursion (IsWritten opened.prefix opened.schema)) (sym (append-nil (pairs_in m (point (record_key opened.prefix key)))))
+        (all_written opened.prefix opened.schema (pairs_in m (point (record_key opened.prefix key)))
+        (subst (λ s. AllByRecursion (IsRecordPair opened.prefix s) (pairs_in m (point (record_key opened.prefix key)))) same.schema (key_form opened.prefix m store holds key key_of.tuple)))) bad,
   )
     where
       none : IsRecordPair opened.prefix opened.schema (record_key opened.prefix key, value) → ⊥
@@ -91,14 +97,18 @@ module _ (opened : Opened) (type : TypeDefinition) (key : List Item) (lawful : I
           no_record_pair opened.prefix opened.schema type key_of.cells value lawful own (subst IsTuple key_of.is key_of.tuple)
           (subst (λ k. IsOfNoRecord type (spelling k) value) key_of.is says.1) (subst (λ k. IsRecordPair opened.prefix opened.schema (record_key opened.prefix k, value)) key_of.is pair)
 
-      bad : IsFirstBad (IsRecordPair opened.prefix opened.schema) (read_in m (point (record_key opened.prefix key) ∷ [])) at
+      neither : IsWritten opened.prefix opened.schema (record_key opened.prefix key, value) → ⊥
+      neither (inl pair) = none pair
+      neither (inr total) = no_total_pair opened.prefix key opened.schema.indexes (record_key opened.prefix key, value) (itself (record_key opened.prefix key)) total
+
+      bad : IsFirstBad (IsWritten opened.prefix opened.schema) (read_in m (point (record_key opened.prefix key) ∷ [])) at
       bad = record {
         before = [];
         bad = (record_key opened.prefix key, value);
         behind = [];
         split = read_at m (record_key opened.prefix key) (Some value) is;
         good = tt;
-        malformed = none;
+        malformed = neither;
         at = says.0;
       }
 

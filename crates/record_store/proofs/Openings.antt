@@ -1,10 +1,9 @@
 -- What reading a record and opening a store establish.
-use Rattle.std.proofs.Common.{◌≡◌, inl, inr, ℕ, Bool, true, false, cond, List, [], ◌∷◌, ◌++◌, refl, sym, ap, subst, subst₂, ◌∙◌, Option, Some, None, Result, append-nil, map, pos, ◌&&◌}
+use Rattle.std.proofs.Common.{◌≡◌, inl, inr, ℕ, Bool, true, false, cond, List, [], ◌∷◌, ◌++◌, refl, sym, ap, subst, subst₂, ◌∙◌, Option, Some, None, Result, append-nil, map, pos}
 use Rattle.std.specs.Prelude.{IfErr}
 use Rattle.std.specs.Result.{IsErr, IsErrAnd}
 use Rattle.std.proofs.lemmas.Result.{err_from_is_err_and}
-use Rattle.std.proofs.lemmas.Bool.{and_parts}
-use Rattle.std.specs.List.{AllByRecursion, filter, list_all}
+use Rattle.std.specs.List.{AllByRecursion, filter}
 use Rattle.std.specs.FinMap.{entries, get}
 use Rattle.tuple_codec.specs.Item.{int}
 use Rattle.kv_core.specs.Range.{KeyRange, contains, point}
@@ -14,27 +13,22 @@ use Rattle.kv_core.proofs.Pairs.{entries-kept}
 use Rattle.cluster_core.specs.declared.answers.ReadError.{ReadError}
 use Rattle.txn.proofs.Running.{ran_because, ran_then}
 use Rattle.metadata.specs.declared.index.IndexDefinition.{IndexDefinition}
-use Rattle.metadata.specs.declared.index.IndexKind.{IndexKind}
-use Rattle.metadata.specs.declared.index.IndexKind.TheVariants.{Value, Count, Sum}
 use Rattle.metadata.specs.declared.index.State.{State}
-use Rattle.metadata.specs.declared.index.State.TheVariants.{Disabled}
-use Rattle.metadata.specs.Index.{is_value}
 use Rattle.metadata.specs.Lawful.{IsLawfulSchema}
 use Rattle.metadata.specs.Schema.{Schema}
 use Rattle.metadata.specs.Written.{schema_bytes}
 use Rattle.metadata.proofs.OneSchema.{written_once}
 use Rattle.record_store.specs.declared.error.StoreError.{StoreError}
-use Rattle.record_store.specs.declared.error.StoreError.TheVariants.{Memory, Read, Write, Corrupt, Refused, NoStore, AlreadyThere, OtherSchema}
+use Rattle.record_store.specs.declared.error.StoreError.TheVariants.{Memory, Read, Write, Corrupt, Refused, NoStore, AlreadyThere, OtherSchema, NotAggregate, NotReadable}
 use Rattle.record_store.specs.Store.{Serial}
 use Rattle.record_store.specs.Layout.{schema_key, state_pair, states_range}
-use Rattle.record_store.specs.Holds.{HasPlainIndexes, Holds, IsListed, IsPlain}
-use Rattle.record_store.specs.Form.{IsDisabledOf, IsFirstBad, IsOpeningPair, IsSchemaPair, IsStatePair, read_in}
+use Rattle.record_store.specs.Holds.{Holds, IsListed}
+use Rattle.record_store.specs.Form.{IsFirstBad, IsOpeningPair, IsSchemaPair, IsStatePair, read_in}
 use Rattle.record_store.specs.Opening.{HasSchema, IsOpenFailure, IsOpened, IsThereAs, IsUnopened, opening_reach}
 use Rattle.record_store.proofs.Stopping.{all_begin, error_behind, error_more}
-use Rattle.record_store.specs.Reading.{AreOfNoSchema, AreStates, HasNotRead, HaveNoStates, IsBadSchema, IsBadStateAmong, IsNoSchema, IsNoState, IsReadError, IsSchema}
+use Rattle.record_store.specs.Reading.{AreStates, HasNotRead, HaveNoStates, IsBadSchema, IsBadStateAmong, IsNoSchema, IsNoState, IsReadError, IsSchema}
 use Rattle.record_store.specs.Steps.{DidRead, no_memory}
 use Rattle.record_store.proofs.Held.{no_schema_held, no_schema_state, no_states, schema_held}
-use Rattle.record_store.proofs.IndexChanges.{not_readable}
 use Rattle.record_store.proofs.Kept.{itself, other_place}
 use Rattle.record_store.proofs.StatePairs.{same_states, states_held}
 use Rattle.record_store.proofs.States.{schema_apart, states_low}
@@ -48,28 +42,6 @@ pub exit_with : {T : Type 0} (r : Result T StoreError) (error : StoreError) (P :
 exit_with r error P says p =
     let (made, is, same) = err_from_is_err_and r says.1 in
     subst (λ x. IfErr x P) (sym is) (subst P (sym same) p)
-
--- ---- the schema
--- indexes that are told to be VALUE indexes are
-value_kind : (kind : IndexKind) → is_value kind ≡ true → kind ≡ Value
-value_kind Value is = refl
-value_kind Count is = cc
-value_kind Sum is = cc
-
-pub all_values : (indexes : List IndexDefinition) → list_all (λ index. is_value index.kind) indexes ≡ true → AllByRecursion (λ index. index.kind ≡ Value) indexes
-all_values [] all = tt
-all_values (index ∷ indexes) all =
-    let both = and_parts (is_value index.kind) (list_all (λ index. is_value index.kind) indexes) all in (value_kind index.kind both.0, all_values indexes both.1)
-
-values_all : (indexes : List IndexDefinition) → AllByRecursion (λ (index : IndexDefinition). index.kind ≡ Value) indexes → list_all (λ index. is_value index.kind) indexes ≡ true
-values_all [] all = refl
-values_all (index ∷ indexes) all = λ i. is_value (all.0 i) && values_all indexes all.1 i
-
--- the bytes of a schema with another index are those of none whose indexes are VALUE indexes
-pub of_no_schema : (bytes : List ℕ) (schema : Schema) → IsLawfulSchema schema → bytes ≡ schema_bytes schema → list_all (λ index. is_value index.kind) schema.indexes ≡ false → AreOfNoSchema bytes
-of_no_schema bytes schema made is some other made_other kinds same =
-    let one : schema ≡ other = written_once schema other made made_other (sym is ∙ same) in
-    let both : false ≡ true = sym some ∙ ap (λ (s : Schema). list_all (λ (index : IndexDefinition). is_value index.kind) s.indexes) one ∙ values_all other.indexes kinds in cc
 
 module _ (prefix : List ℕ) where
   pub both_read : {maps : ℕ → Map} {old mid new : CommitRequest} {F G : Map → Type 0} → DidRead maps (point (schema_key prefix) ∷ []) old mid F → DidRead maps (states_range prefix ∷ []) mid new G →
@@ -86,6 +58,8 @@ module _ (prefix : List ℕ) where
   open_error refuses added NoStore m says = absurd says
   open_error refuses added AlreadyThere m says = absurd says
   open_error refuses added OtherSchema m says = absurd says
+  open_error refuses added NotAggregate m says = absurd says
+  open_error refuses added NotReadable m says = absurd says
 
   -- the first read of an opening came to an error, or the second did
   pub first_failed : {maps : ℕ → Map} {refuses : KeyRange → ℕ → ReadError → Type 0} {old new : CommitRequest} (error : StoreError) → HasNotRead maps refuses (point (schema_key prefix) ∷ []) error old new →
@@ -112,11 +86,7 @@ module _ (prefix : List ℕ) where
   -- OPENED: the map has the schema and the states that were read, and all that it holds is a store with them
   has_schema : (m : Map) (schema : Schema) (states : List (ℕ × State)) (written : Option (List ℕ)) (pairs : List Pair) → IsSchema written schema → AreStates prefix schema.indexes pairs states →
       written ≡ get m (schema_key prefix) → pairs ≡ pairs_in m (states_range prefix) → HasSchema (record { prefix = prefix; schema = schema; states = states }) m
-  has_schema m schema states written pairs is are found listed = record { made = is.made; kinds = is.kinds; listed = are.disabled; bytes = sym found ∙ is.bytes; states = sym listed ∙ are.are }
-
-  listed_of : (indexes : List IndexDefinition) (states : List (ℕ × State)) → AllByRecursion (IsDisabledOf indexes) states → AllByRecursion (IsListed indexes) states
-  listed_of indexes [] all = tt
-  listed_of indexes (one ∷ states) all = (record { there = all.0.there; state = λ is. not_readable (sym all.0.state ∙ is) }, listed_of indexes states all.1)
+  has_schema m schema states written pairs is are found listed = record { made = is.made; listed = are.disabled; bytes = sym found ∙ is.bytes; states = sym listed ∙ are.are }
 
   opened_there : (m : Map) (schema : Schema) (states : List (ℕ × State)) (serial : Serial) → HasSchema (record { prefix = prefix; schema = schema; states = states }) m → Holds prefix m serial →
       IsThereAs (record { prefix = prefix; schema = schema; states = states }) serial
@@ -128,7 +98,7 @@ module _ (prefix : List ℕ) where
         schema = written_once store.schema schema holds.lawful.schema has.made bytes;
         states =
             same_states prefix store.states states (states_low store.schema.indexes store.states (schema_apart store.schema holds.lawful.schema) holds.lawful.listed)
-            (states_low schema.indexes states (schema_apart schema has.made) (listed_of schema.indexes states has.listed)) (sym (states_held prefix m store holds) ∙ has.states);
+            (states_low schema.indexes states (schema_apart schema has.made) has.listed) (sym (states_held prefix m store holds) ∙ has.states);
       }
 
   pub opened_now : {maps : ℕ → Map} {old mid new : CommitRequest} (written : Option (List ℕ)) (pairs : List Pair) (schema : Schema) (states : List (ℕ × State)) →
@@ -138,14 +108,6 @@ module _ (prefix : List ℕ) where
     ran = ran_because (both_read one two) (λ m found.
         let has = has_schema m schema states written pairs is are found.0 found.1 in (has, λ serial holds. opened_there m schema states serial has holds));
   }
-
-  -- its indexes are VALUE indexes, each readable or disabled
-  pub opened_plain : (written : Option (List ℕ)) (pairs : List Pair) (schema : Schema) (states : List (ℕ × State)) → IsSchema written schema → AreStates prefix schema.indexes pairs states → HasPlainIndexes schema states
-  opened_plain written pairs schema states is are = record { kinds = is.kinds; listed = all_disabled states are.disabled }
-    where
-      all_disabled : (left : List (ℕ × State)) → AllByRecursion (IsDisabledOf schema.indexes) left → AllByRecursion (λ (one : ℕ × State). one.1 ≡ Disabled) left
-      all_disabled [] all = tt
-      all_disabled (one ∷ left) all = (all.0.state, all_disabled left all.1)
 
   -- the pairs of a range lie in it
   kept_lie : (range : KeyRange) (es : List Pair) → AllByRecursion (λ (e : Pair). contains range e.0 ≡ true) (filter (λ (e : Pair). contains range e.0) es)
@@ -172,30 +134,26 @@ module _ (prefix : List ℕ) where
       (λ i. pairs_at m (schema_key prefix) written (sym found) i ++ append-nil (pairs_in m (states_range prefix)) i) ∙ ap (λ ps. at_key (schema_key prefix) written ++ ps) (sym listed)
 
   -- the pairs of states of a schema that the map has are of the form
-  states_form : (m : Map) (schema : Schema) (states : List (ℕ × State)) → IsLawfulSchema schema → get m (schema_key prefix) ≡ Some (schema_bytes schema) → AllByRecursion (IsDisabledOf schema.indexes) states →
+  states_form : (m : Map) (schema : Schema) (states : List (ℕ × State)) → IsLawfulSchema schema → get m (schema_key prefix) ≡ Some (schema_bytes schema) → AllByRecursion (IsListed schema.indexes) states →
       AllByRecursion (IsOpeningPair prefix m) (map (state_pair prefix) states)
   states_form m schema [] made written all = tt
   states_form m schema (one ∷ states) made written all =
       (inr (record { schema = schema; made = made; written = written; is = record { listed = one; disabled = all.0; is = refl } }), states_form m schema states made written all.1)
 
-  disabled_of : (indexes : List IndexDefinition) (states : List (ℕ × State)) → AllByRecursion (IsListed indexes) states → AllByRecursion (λ (one : ℕ × State). one.1 ≡ Disabled) states → AllByRecursion (IsDisabledOf indexes) states
-  disabled_of indexes [] listed plain = tt
-  disabled_of indexes (one ∷ states) listed plain = (record { there = listed.0.there; state = plain.0 }, disabled_of indexes states listed.1 plain.1)
-
-  -- all pairs read of what holds a store of VALUE indexes that are readable or disabled are of the form
-  opening_form : (m : Map) (serial : Serial) → IsPlain serial → Holds prefix m serial → AllByRecursion (IsOpeningPair prefix m) (read_in m (opening_reach prefix))
-  opening_form m None plain holds =
+  -- all pairs read of what holds a store are of the form
+  opening_form : (m : Map) (serial : Serial) → Holds prefix m serial → AllByRecursion (IsOpeningPair prefix m) (read_in m (opening_reach prefix))
+  opening_form m None holds =
       subst (AllByRecursion (IsOpeningPair prefix m)) (sym (opening_pairs m None [] (sym (no_schema_held prefix m holds)) (sym (no_states prefix m holds)))) tt
-  opening_form m (Some store) plain holds =
+  opening_form m (Some store) holds =
       subst (AllByRecursion (IsOpeningPair prefix m)) (sym (opening_pairs m (Some (schema_bytes store.schema)) (map (state_pair prefix) store.states) (sym (schema_held prefix m store holds)) (sym (states_held prefix m store holds)))) (
-        inl (record { schema = store.schema; made = holds.lawful.schema; kinds = plain.kinds; is = refl }),
-        states_form m store.schema store.states holds.lawful.schema (schema_held prefix m store holds) (disabled_of store.schema.indexes store.states holds.lawful.listed plain.listed),
+        inl (record { schema = store.schema; made = holds.lawful.schema; is = refl }),
+        states_form m store.schema store.states holds.lawful.schema (schema_held prefix m store holds) holds.lawful.listed,
       )
 
   -- a damaged opening
   damaged : (refuses : KeyRange → ReadError → Type 0) (m : Map) (bytes key : List ℕ) → Some bytes ≡ get m (schema_key prefix) → IsFirstBad (IsOpeningPair prefix m) (read_in m (opening_reach prefix)) key →
       IsOpenFailure refuses prefix (Corrupt key) (opening_reach prefix) m
-  damaged refuses m bytes key found bad = (refl, λ none. let some : ◌≡◌ {A = Option (List ℕ)} (Some bytes) None = found ∙ none in absurd (cc), bad, λ serial holds plain. none_bad (read_in m (opening_reach prefix)) key (opening_form m serial plain holds) bad)
+  damaged refuses m bytes key found bad = (refl, λ none. let some : ◌≡◌ {A = Option (List ℕ)} (Some bytes) None = found ∙ none in absurd (cc), bad, λ serial holds. none_bad (read_in m (opening_reach prefix)) key (opening_form m serial holds) bad)
 
   bad_schema : (refuses : KeyRange → ReadError → Type 0) (m : Map) (bytes : List ℕ) (pairs : List Pair) (error : StoreError) → Some bytes ≡ get m (schema_key prefix) → pairs ≡ pairs_in m (states_range prefix) →
       IsBadSchema prefix bytes error → IsOpenFailure refuses prefix error (opening_reach prefix) m
@@ -206,6 +164,8 @@ module _ (prefix : List ℕ) where
   bad_schema refuses m bytes pairs NoStore found listed says = absurd says
   bad_schema refuses m bytes pairs AlreadyThere found listed says = absurd says
   bad_schema refuses m bytes pairs OtherSchema found listed says = absurd says
+  bad_schema refuses m bytes pairs NotAggregate found listed says = absurd says
+  bad_schema refuses m bytes pairs NotReadable found listed says = absurd says
   bad_schema refuses m bytes pairs (Corrupt key) found listed says =
       damaged refuses m bytes key found (record {
         before = [];
@@ -218,7 +178,7 @@ module _ (prefix : List ℕ) where
       })
     where
       malformed : IsOpeningPair prefix m (schema_key prefix, bytes) → ⊥
-      malformed (inl pair) = says.1 pair.schema pair.made pair.kinds (ap (λ (p : Pair). p.1) pair.is)
+      malformed (inl pair) = says.1 pair.schema pair.made (ap (λ (p : Pair). p.1) pair.is)
       malformed (inr state) = other_place prefix 5 (int (pos state.is.listed.0) ∷ []) 0 [] (schema_key prefix) refl (itself (schema_key prefix)) (ap (λ (p : Pair). p.0) state.is.is)
 
   -- what lies in the middle
@@ -234,7 +194,7 @@ module _ (prefix : List ℕ) where
       behind = among.behind;
       split = opening_pairs m (Some bytes) pairs found listed ∙ ap (λ ps. (schema_key prefix, bytes) ∷ ps) among.split;
       good = (
-        inl (record { schema = schema; made = is.made; kinds = is.kinds; is = λ i. (schema_key prefix, written i) }),
+        inl (record { schema = schema; made = is.made; is = λ i. (schema_key prefix, written i) }),
         subst (AllByRecursion (IsOpeningPair prefix m)) (sym among.good.are) (states_form m schema among.states is.made (sym found ∙ is.bytes) among.good.disabled),
       );
       malformed = malformed;
@@ -268,6 +228,8 @@ module _ (prefix : List ℕ) where
         by_error NoStore says = absurd says
         by_error AlreadyThere says = absurd says
         by_error OtherSchema says = absurd says
+        by_error NotAggregate says = absurd says
+        by_error NotReadable says = absurd says
         by_error (Corrupt key) says = damaged refuses m bytes key found (bad_state error key among says)
 
   -- nothing is there

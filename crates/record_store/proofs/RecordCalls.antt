@@ -32,7 +32,7 @@ use Rattle.std.specs.Str.{bytes_eq}
 use Rattle.record_store.proofs.RecordPairs.{own_type}
 use Rattle.metadata.specs.declared.refusal.Refusal.TheVariants.{UnknownType}
 use Rattle.record_store.specs.Steps.{DidRead}
-use Rattle.record_store.specs.Form.{IsRecordPair}
+use Rattle.record_store.specs.Form.{IsWritten}
 use Rattle.record_store.specs.Layout.{record_key, record_value}
 use Rattle.metadata.specs.Cell.{IsCell}
 
@@ -41,7 +41,7 @@ use Rattle.metadata.specs.Cell.{IsCell}
 -- LOAD: it answers the record that is there
 pub load_served : (opened : Opened) (key : List Item) (found : Option Record) (m : Map) (store : Store) → Holds opened.prefix m (Some store) → found ≡ record_at key store.records →
     IsServed opened (load_service opened key) found [] m store
-load_served opened key found m store holds is = record { answers = is; wrote = refl; holds = holds }
+load_served opened key found m store holds is = record { accepted = refl; answers = is; wrote = refl; holds = holds }
 
 -- a list that begins with something isn't empty
 pub filled : {X : Type 0} (x : X) (xs : List X) → (length (x ∷ xs) == 0) ≡ false
@@ -76,6 +76,7 @@ pub save_served : (opened : Opened) (new : Record) (old : Option Record) (list :
     IsServed opened (save_service opened new) old list m store
 save_served opened new old list wrote typed can m store holds same is =
     let writes = save_wrote opened new old list wrote store same is in record {
+      accepted = refl;
       answers = is;
       wrote = writes;
       holds = subst (λ ms. Holds opened.prefix (after_all ms m) (Some (saved store new))) (sym writes) (saved_holds_all opened.prefix m store new (subst (λ s. IsOfSchema s new) (sym same.schema) typed) can holds);
@@ -91,6 +92,7 @@ pub remove_served : (opened : Opened) (key : List Item) (old : Option Record) (w
     IsServed opened (remove_service opened key) was_there list m store
 remove_served opened key old was_there list wrote there tuple m store holds same is =
     let writes = remove_wrote opened key old list wrote store same is in record {
+      accepted = refl;
       answers = there ∙ ap is_some is;
       wrote = writes;
       holds = subst (λ ms. Holds opened.prefix (after_all ms m) (Some (removed store key))) (sym writes) (removed_holds_all opened.prefix m store key tuple holds);
@@ -148,6 +150,7 @@ same_indexes schema next request added = made (type_refusal schema request) adde
 pub type_served : (opened : Opened) (next : Schema) (request : TypeRequest) (list : List Mutation) → list ≡ schema_writes opened.prefix next → IsLawfulSchema next → add_type opened.schema request ≡ Ok next →
     (m : Map) (store : Store) → Holds opened.prefix m (Some store) → IsOpenAs opened store → IsServed opened (schema_service opened next) next list m store
 type_served opened next request list wrote lawful added m store holds same = record {
+  accepted = refl;
   answers = refl;
   wrote = wrote;
   holds =
@@ -157,7 +160,7 @@ type_served opened next request list wrote lawful added m store holds same = rec
 
 -- a call that reads nothing
 pub nothing_read : (maps : ℕ → Map) (opened : Opened) {old : CommitRequest} → DidRead maps [] old old (λ m.
-    ([] ≡ (whole []).added m) × (AllByRecursion (IsRecordPair opened.prefix opened.schema) [] × AtStore opened m (λ store. Unit {0})))
+    ([] ≡ (whole []).added m) × (AllByRecursion (IsWritten opened.prefix opened.schema) [] × AtStore opened m (λ store. Unit {0})))
 nothing_read maps opened = ran_still refl (λ m. (refl, (tt, λ store holds same. tt)))
 
 -- ---- saves and scans, by their parts
@@ -177,4 +180,4 @@ save_serves opened new old list key wrote own made same tuple cells m store hold
     save_served opened new old list wrote (own_typed opened.schema new own made) (record { key = subst IsTuple same tuple; cells = cells }) m store holds schema is
 
 pub records_served : (opened : Opened) (number : ℕ) (rows : List Record) (m : Map) (store : Store) → Holds opened.prefix m (Some store) → rows ≡ of_type number store.records → IsServed opened (records_service opened number) rows [] m store
-records_served opened number rows m store holds is = record { answers = is; wrote = refl; holds = holds }
+records_served opened number rows m store holds is = record { accepted = refl; answers = is; wrote = refl; holds = holds }

@@ -1,5 +1,5 @@
 -- Pairs that stand for records: what a map that holds a store has at a record's key and in a type's range, and which pairs are of the written form.
-use Rattle.std.proofs.Common.{◌≡◌, ℕ, Bool, true, false, cond, ◌==◌, ◌<◌, ◌^◌, List, [], ◌∷◌, ◌++◌, refl, sym, ap, subst, ◌∙◌, Option, Some, None, Ok, Err, map, pos}
+use Rattle.std.proofs.Common.{◌≡◌, inl, ℕ, Bool, true, false, cond, ◌==◌, ◌<◌, ◌^◌, List, [], ◌∷◌, ◌++◌, refl, sym, ap, subst, ◌∙◌, Option, Some, None, Ok, Err, map, pos}
 use Rattle.std.specs.List.{AllByRecursion}
 use Rattle.std.specs.List.Sorted.{IsStrictlySortedBy}
 use Rattle.std.specs.Option.{option_map}
@@ -10,6 +10,7 @@ use Rattle.tuple_codec.specs.Item.{Item, IsTuple}
 use Rattle.tuple_codec.specs.Item as item
 use Rattle.tuple_codec.specs.Order.{tuple_cmp}
 use Rattle.tuple_codec.specs.Spelling.{int_spelling, spelling, Spells}
+use Rattle.tuple_codec.specs.Subspace.{BeginsWith, key_of}
 use Rattle.tuple_codec.proofs.Spellings.{one_tuple, spelling_spells}
 use Rattle.tuple_codec.proofs.TupleOrder.{tuple_order}
 use Rattle.kv_core.specs.Bytes.{key_cmp}
@@ -21,6 +22,8 @@ use Rattle.kv_core.proofs.Pairs.{contains-point-is}
 use Rattle.kv_core.proofs.Stored.{stored, get-stored, pairs_in-stored}
 use Rattle.metadata.specs.declared.cells.Cell.{Cell}
 use Rattle.metadata.specs.declared.definition.TypeDefinition.{TypeDefinition}
+use Rattle.metadata.specs.declared.index.IndexDefinition.{IndexDefinition}
+use Rattle.metadata.specs.Cell.{items_of}
 use Rattle.metadata.specs.Lawful.{IsLawfulSchema}
 use Rattle.metadata.specs.Record.{Record, key_items, primary_key, record_in, record_of}
 use Rattle.metadata.specs.Records.{IsStorable, has_primary_key, of_type, record_at}
@@ -31,8 +34,9 @@ use Rattle.metadata.proofs.StoredOnce.{made_is, stored_once}
 use Rattle.record_store.specs.Store.{Store}
 use Rattle.record_store.specs.Layout.{record_key, record_pair, record_value, type_range}
 use Rattle.record_store.specs.Holds.{Holds, IsOfSchema}
-use Rattle.record_store.specs.Form.{IsFirstBad, IsRecordPair}
+use Rattle.record_store.specs.Form.{IsFirstBad, IsRecordPair, IsTotalPair, IsWritten}
 use Rattle.record_store.proofs.Held.{type_held, value_held}
+use Rattle.record_store.proofs.Kept.{not_entry}
 use Rattle.metadata.specs.declared.refusal.Refusal.TheVariants.{UnknownType}
 use Rattle.index_maint.proofs.RecordLists.{all_filter}
 
@@ -70,6 +74,17 @@ pairs_at m key (Some value) is =
 
     tied : (q : List ℕ) → contains (point key) q ≡ true → is_eq (key_cmp q key) ≡ true
     tied q h = ap (λ k. is_eq (key_cmp k key)) (sym (at q h)) ∙ sym (contains-point-is key key) ∙ contains-point key
+
+-- ---- the written form of places
+
+-- the pairs of records are of the written form
+pub all_written : (prefix : List ℕ) (schema : Schema) (pairs : List Pair) → AllByRecursion (IsRecordPair prefix schema) pairs → AllByRecursion (IsWritten prefix schema) pairs
+all_written prefix schema [] all = tt
+all_written prefix schema (pair ∷ pairs) all = (inl all.0, all_written prefix schema pairs all.1)
+
+-- a pair in the place of records isn't that of a total
+pub no_total_pair : (prefix : List ℕ) (ns : List Item) (indexes : List IndexDefinition) (pair : Pair) → BeginsWith (key_of prefix (item.int (pos 1) ∷ ns)) pair.0 → IsTotalPair prefix indexes pair → ⊥
+no_total_pair prefix ns indexes pair begins total = not_entry prefix total.index.number 1 ns pair.0 refl begins (spelling (items_of total.group), total.key)
 
 -- ---- records of a schema
 

@@ -1,7 +1,8 @@
 -- What reading the records of a type comes to.
-use Rattle.std.proofs.Common.{◌≡◌, inl, inr, ℕ, Bool, true, false, cond, ◌==◌, ◌<◌, ◌^◌, List, [], ◌∷◌, ◌++◌, refl, sym, ap, subst, ◌∙◌, Option, Some, None, map, append-nil, length, take, drop, arith}
+use Rattle.std.proofs.Common.{◌≡◌, inl, inr, ℕ, Bool, true, false, cond, ◌==◌, ◌<◌, ◌^◌, List, [], ◌∷◌, ◌++◌, refl, sym, ap, subst, ◌∙◌, Option, Some, None, map, append-nil, length, take, drop, arith, pos}
 use Rattle.std.specs.Prelude.{get_or, zero, suc}
 use Rattle.std.specs.List.{AllByRecursion}
+use Rattle.tuple_codec.specs.Item as item
 use Rattle.tuple_codec.specs.Spelling.{spelling}
 use Rattle.kv_core.specs.Range.{KeyRange, contains}
 use Rattle.kv_core.specs.Map.{Map, Agree, pairs_in}
@@ -13,6 +14,7 @@ use Rattle.txn.specs.Reads.{has_read, seen}
 use Rattle.txn.proofs.Running.{ran_added, ran_read}
 use Rattle.metadata.specs.declared.definition.TypeDefinition.{TypeDefinition}
 use Rattle.metadata.specs.Cell.{items_of}
+use Rattle.metadata.specs.Layout.{records_prefix}
 use Rattle.metadata.specs.Lawful.{IsLawfulSchema}
 use Rattle.metadata.specs.Record.{Record, key_cells, primary_key}
 use Rattle.metadata.specs.Records.{IsStorable, of_type}
@@ -21,20 +23,20 @@ use Rattle.metadata.specs.Stored.{IsStoredAs, IsTypeOf, IsOfNoRecord}
 use Rattle.metadata.proofs.StoredApart.{named_typed, number_small}
 use Rattle.metadata.proofs.StoredOnce.{made_is, stored_once}
 use Rattle.record_store.specs.declared.error.StoreError.{StoreError}
-use Rattle.record_store.specs.declared.error.StoreError.TheVariants.{Memory, Read, Write, Corrupt, Refused, NoStore, AlreadyThere, OtherSchema}
+use Rattle.record_store.specs.declared.error.StoreError.TheVariants.{Memory, Read, Write, Corrupt, Refused, NoStore, AlreadyThere, OtherSchema, NotAggregate, NotReadable}
 use Rattle.record_store.specs.Layout.{place, record_key, record_pair, record_value, type_range}
 use Rattle.record_store.specs.Store.{Store}
 use Rattle.record_store.specs.Holds.{Holds, IsOfSchema}
-use Rattle.record_store.specs.Form.{IsFirstBad, IsRecordPair, read_in}
+use Rattle.record_store.specs.Form.{IsFirstBad, IsRecordPair, IsWritten, read_in}
 use Rattle.record_store.specs.Call.{AtStore, IsOpenAs, IsUnread, Opened, Reading, first_of, whole}
 use Rattle.record_store.specs.Store.{new_state}
 use Rattle.record_store.specs.Reading.{ArePairsOf, HasNotFound, HasRead, HaveNoRecords, IsPairOf, IsPairOfNone}
 use Rattle.record_store.specs.Steps.{DidRead, IsBeginning}
 use Rattle.record_store.proofs.Stopping.{all_begin}
-use Rattle.record_store.proofs.Held.{type_held}
+use Rattle.record_store.proofs.Held.{type_held, under}
 use Rattle.record_store.proofs.Keys.{in_type_range, record_key_is}
 use Rattle.record_store.proofs.Openings.{pairs_lie}
-use Rattle.record_store.proofs.RecordPairs.{none_bad, of_stored, stored_as, type_form, key_bytes}
+use Rattle.record_store.proofs.RecordPairs.{all_written, key_bytes, no_total_pair, none_bad, of_stored, stored_as, type_form}
 use Rattle.std.proofs.lemmas.Bool.{eqb-true}
 use Rattle.std.specs.Option.{IfNone}
 use Rattle.std.proofs.lemmas.List.{append_cancel_left, length-map, take-map}
@@ -76,13 +78,13 @@ module _ (opened : Opened) (type : TypeDefinition) (lawful : IsLawfulSchema open
   pair_is : (pair : Pair) (r : Record) → IsPairOf (place opened.prefix 1) type pair r → pair ≡ record_pair opened.prefix r
   pair_is pair r is i = ((is.behind ∙ ap (λ rest. place opened.prefix 1 ++ rest) is.is.has_key ∙ record_key_is opened.prefix (primary_key r)) i, is.is.has_value i)
 
-  good_form : (pairs : List Pair) (records : List Record) → ArePairsOf (place opened.prefix 1) type pairs records → AllByRecursion (IsRecordPair opened.prefix opened.schema) pairs
+  good_form : (pairs : List Pair) (records : List Record) → ArePairsOf (place opened.prefix 1) type pairs records → AllByRecursion (IsWritten opened.prefix opened.schema) pairs
   good_form [] [] good = tt
   good_form [] (r ∷ records) good = absurd good
   good_form (pair ∷ pairs) [] good = absurd good
   good_form (pair ∷ pairs) (r ∷ records) good =
       let stored = of_stored opened.schema type good.0.rest pair.1 r lawful found_type good.0.is in
-      (record { stored = r; typed = stored.0; storable = stored.1; is = pair_is pair r good.0 }, good_form pairs records good.1)
+      (inl (record { stored = r; typed = stored.0; storable = stored.1; is = pair_is pair r good.0 }), good_form pairs records good.1)
 
   -- a pair in the type's range that is that of no record of the type is of no form
   bad_form : (pair : Pair) → contains (type_range opened.prefix type.number) pair.0 ≡ true → type.number < 2 ^ 64 → ((r : Record) → IsPairOf (place opened.prefix 1) type pair r → ⊥) → IsRecordPair opened.prefix opened.schema pair → ⊥
@@ -96,6 +98,14 @@ module _ (opened : Opened) (type : TypeDefinition) (lawful : IsLawfulSchema open
         behind = key_is ∙ sym (record_key_is opened.prefix (primary_key is.stored));
         is = record { made = put.made; cells = put.cells; has_key = refl; has_value = ap (λ (p : Pair). p.1) is.is };
       })
+
+  -- nor is it that of a total
+  bad_written : (pair : Pair) → contains (type_range opened.prefix type.number) pair.0 ≡ true → type.number < 2 ^ 64 → ((r : Record) → IsPairOf (place opened.prefix 1) type pair r → ⊥) → IsWritten opened.prefix opened.schema pair → ⊥
+  bad_written pair inside small none (inl is) = bad_form pair inside small none is
+  bad_written pair inside small none (inr is) =
+      let q = records_prefix opened.prefix type.number in
+      no_total_pair opened.prefix (item.int (pos type.number) ∷ []) opened.schema.indexes pair
+      (under q [] (255 ∷ []) pair.0 (ap (λ b. contains (record { begin = b; end = q ++ 255 ∷ [] }) pair.0) (append-nil q) ∙ inside)) is
 
   -- records that stand for the same pairs are the same
   same_records : (records others : List Record) (pairs : List Pair) → ArePairsOf (place opened.prefix 1) type pairs records → pairs ≡ map (record_pair opened.prefix) others →
@@ -138,7 +148,7 @@ module _ (opened : Opened) (type : TypeDefinition) (lawful : IsLawfulSchema open
 
   -- FOUND: of the pairs of the type the first ones were read, up to a limit, and the rows are the first records
   rows_there : (m : Map) (limit : ℕ) (pairs : List Pair) (rows : List Record) → pairs ≡ take limit (pairs_in m here) → ArePairsOf (place opened.prefix 1) type pairs rows →
-      AllByRecursion (IsRecordPair opened.prefix opened.schema) pairs × AtStore opened m (λ store. rows ≡ take limit (of_type type.number store.records))
+      AllByRecursion (IsWritten opened.prefix opened.schema) pairs × AtStore opened m (λ store. rows ≡ take limit (of_type type.number store.records))
   rows_there m limit pairs rows is good = (
     good_form pairs rows good,
     λ store holds same.
@@ -162,21 +172,21 @@ module _ (opened : Opened) (type : TypeDefinition) (lawful : IsLawfulSchema open
   unread_there refuses reading added m limit pairs error is all read (inl memory) = subst (λ e. IsUnread refuses opened reading e added m) (sym memory) (subst (IsBeginning added) all (all_begin added))
   unread_there refuses reading added m limit pairs error is all read (inr among) = by_error error among.none
     where
-      first : (key : List ℕ) → IsPairOfNone (place opened.prefix 1) type among.bad (Corrupt key) → IsFirstBad (IsRecordPair opened.prefix opened.schema) (reading.pairs m) key
+      first : (key : List ℕ) → IsPairOfNone (place opened.prefix 1) type among.bad (Corrupt key) → IsFirstBad (IsWritten opened.prefix opened.schema) (reading.pairs m) key
       first key says = record {
         before = among.before;
         bad = among.bad;
         behind = among.behind;
         split = read ∙ among.split;
         good = good_form among.before among.records among.good;
-        malformed = bad_form among.bad (bad_inside m limit among.before among.behind among.bad (sym is ∙ among.split)) small says.1;
+        malformed = bad_written among.bad (bad_inside m limit among.before among.behind among.bad (sym is ∙ among.split)) small says.1;
         at = says.0;
       }
 
-      all_good : (store : Store) → Holds opened.prefix m (Some store) → IsOpenAs opened store → AllByRecursion (IsRecordPair opened.prefix opened.schema) (reading.pairs m)
+      all_good : (store : Store) → Holds opened.prefix m (Some store) → IsOpenAs opened store → AllByRecursion (IsWritten opened.prefix opened.schema) (reading.pairs m)
       all_good store holds same =
-          subst (AllByRecursion (IsRecordPair opened.prefix opened.schema)) (sym (read ∙ is))
-          (All-take (IsRecordPair opened.prefix opened.schema) limit (pairs_in m here) (subst (λ s. AllByRecursion (IsRecordPair opened.prefix s) (pairs_in m here)) same.schema (type_form opened.prefix m store holds type.number small)))
+          subst (AllByRecursion (IsWritten opened.prefix opened.schema)) (sym (read ∙ is))
+          (all_written opened.prefix opened.schema (take limit (pairs_in m here)) (All-take (IsRecordPair opened.prefix opened.schema) limit (pairs_in m here) (subst (λ s. AllByRecursion (IsRecordPair opened.prefix s) (pairs_in m here)) same.schema (type_form opened.prefix m store holds type.number small))))
 
       by_error : (e : StoreError) → IsPairOfNone (place opened.prefix 1) type among.bad e → IsUnread refuses opened reading e added m
       by_error Memory says = subst (IsBeginning added) all (all_begin added)
@@ -186,6 +196,8 @@ module _ (opened : Opened) (type : TypeDefinition) (lawful : IsLawfulSchema open
       by_error NoStore says = absurd says
       by_error AlreadyThere says = absurd says
       by_error OtherSchema says = absurd says
+      by_error NotAggregate says = absurd says
+      by_error NotReadable says = absurd says
       by_error (Corrupt key) says = (all, first key says, λ store holds same. none_bad (reading.pairs m) key (all_good store holds same) (first key says))
 
   -- ---- all of them
@@ -205,13 +217,13 @@ module _ (opened : Opened) (type : TypeDefinition) (lawful : IsLawfulSchema open
 
   pub rows_read : {maps : ℕ → Map} {old new : CommitRequest} (range : KeyRange) (pairs : List Pair) (records_place : List ℕ) (rows : List Record) → range ≡ here → records_place ≡ place opened.prefix 1 →
       new ≡ has_read range old → ((m : Map) → Agree new.reads (maps old.read_version) m → pairs ≡ pairs_in (seen old m) range) → ArePairsOf records_place type pairs rows →
-      DidRead maps (here ∷ []) old new (λ m. AllByRecursion (IsRecordPair opened.prefix opened.schema) (read_in m (here ∷ [])) × AtStore opened m (λ store. rows ≡ of_type type.number store.records))
+      DidRead maps (here ∷ []) old new (λ m. AllByRecursion (IsWritten opened.prefix opened.schema) (read_in m (here ∷ [])) × AtStore opened m (λ store. rows ≡ of_type type.number store.records))
   rows_read {old = old} range pairs records_place rows is at read answer found =
       ran_added (ap (λ r. r ∷ []) is)
       (ran_read range read (λ m agree.
       let all : pairs ≡ pairs_in (seen old m) here = answer m agree ∙ ap (pairs_in (seen old m)) is in
       let good = subst (λ p. ArePairsOf p type pairs rows) at found in
-      (subst (AllByRecursion (IsRecordPair opened.prefix opened.schema)) (all ∙ sym (read_pairs (seen old m))) (good_form pairs rows good), whole_rows (seen old m) pairs rows all good)))
+      (subst (AllByRecursion (IsWritten opened.prefix opened.schema)) (all ∙ sym (read_pairs (seen old m))) (good_form pairs rows good), whole_rows (seen old m) pairs rows all good)))
 
   pub rows_unread : {maps : ℕ → Map} {refuses : KeyRange → ℕ → ReadError → Type 0} {old new : CommitRequest} (range : KeyRange) (pairs : List Pair) (records_place : List ℕ) (error : StoreError) → range ≡ here → records_place ≡ place opened.prefix 1 →
       new ≡ has_read range old → ((m : Map) → Agree new.reads (maps old.read_version) m → pairs ≡ pairs_in (seen old m) range) → HaveNoRecords records_place type pairs error →
@@ -246,7 +258,7 @@ module _ (opened : Opened) (type : TypeDefinition) (lawful : IsLawfulSchema open
         let some : pairs ≡ take 1 (pairs_in (seen old m) here) = answer m agree ∙ ap (λ r. take 1 (pairs_in (seen old m) r)) is in
         let there = rows_there (seen old m) 1 pairs rows some (subst (λ p. ArePairsOf p type pairs rows) at found) in (
           first_added (seen old m) range pairs is (answer m agree),
-          subst (AllByRecursion (IsRecordPair opened.prefix opened.schema)) some there.0,
+          subst (AllByRecursion (IsWritten opened.prefix opened.schema)) some there.0,
           λ store holds same. ap new_state (there.1 store holds same) ∙ state_first (of_type type.number store.records),
         ));
   }

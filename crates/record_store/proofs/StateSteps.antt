@@ -14,8 +14,8 @@ use Rattle.metadata.specs.declared.index.State.{State}
 use Rattle.metadata.specs.declared.index.State.TheVariants.{Disabled}
 use Rattle.record_store.specs.declared.error.StoreError.{StoreError}
 use Rattle.record_store.specs.Layout.{state_key, state_pair, state_value}
-use Rattle.record_store.specs.Holds.{has_number}
-use Rattle.record_store.specs.Form.{IsDisabledOf, IsStatePair}
+use Rattle.record_store.specs.Holds.{IsListed, has_number}
+use Rattle.record_store.specs.Form.{IsStatePair}
 use Rattle.record_store.specs.Reading.{AreStates, HaveNoStates, IsNoState, IsPairOfState, same_pair}
 use Rattle.record_store.proofs.NewIndexes.{all_append}
 use Rattle.record_store.proofs.Scanning.{split_at}
@@ -80,7 +80,7 @@ module _ (prefix : List ℕ) where
   pub states_more : (i : ℕ) (indexes : List IndexDefinition) (pairs : List Pair) (pair : Pair) (states : List (ℕ × State)) (one : ℕ × State) → i < length pairs → pair ≡ get_or pairs i pair →
       AreStates prefix indexes (take i pairs) states → IsPairOfState prefix indexes pair one → AreStates prefix indexes (take (suc i) pairs) (states ++ one ∷ [])
   states_more i indexes pairs pair states one within is good more = record {
-    disabled = all_append (IsDisabledOf indexes) states one good.disabled more.disabled;
+    disabled = all_append (IsListed indexes) states one good.disabled more.disabled;
     are =
         take-suc pairs i pair within ∙ ap (λ p. take i pairs ++ p ∷ []) (sym is ∙ more.is) ∙ ap (λ ps. ps ++ state_pair prefix one ∷ []) good.are ∙ sym (map-append (state_pair prefix) states (one ∷ []));
   }

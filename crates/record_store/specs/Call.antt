@@ -1,5 +1,6 @@
 -- What a call on an open store establishes, whatever map the snapshot turns out to have.
-use Rattle.std.specs.Prelude.{◌≡◌, ◌⊎◌, ℕ, Bool, false, not, List, [], ◌∷◌, Some, None, Result, Ok, Err, length, ◌==◌}
+use Rattle.std.specs.Prelude.{◌≡◌, ◌⊎◌, ℕ, Bool, true, false, not, List, [], ◌∷◌, Some, None}
+use Rattle.std.specs.Prelude.{Result, Ok, Err, length, ◌==◌}
 use Rattle.std.specs.List.{AllByRecursion}
 use Rattle.kv_core.specs.Range.{KeyRange}
 use Rattle.kv_core.specs.Map.{Map, after_all}
@@ -15,7 +16,7 @@ use Rattle.record_store.specs.declared.error.StoreError.{StoreError}
 use Rattle.record_store.specs.declared.error.StoreError.TheVariants.{Memory, Read, Write, Corrupt}
 use Rattle.record_store.specs.Store.{Store}
 use Rattle.record_store.specs.Holds.{Holds}
-use Rattle.record_store.specs.Form.{IsFirstBad, IsRecordPair, read_in}
+use Rattle.record_store.specs.Form.{IsFirstBad, IsWritten, read_in}
 use Rattle.record_store.specs.Steps.{DidRead, IsBeginning, IsNextRefused}
 
 -- a store that was opened: the prefix of its keys, and the schema and the states of indexes that were found there
@@ -49,16 +50,28 @@ first_of range =
       pairs = λ m. read_of m range 1 false;
     }
 
--- what a call does that isn't refused: what it reads, and by the store that is there what it answers, the store after
--- it, and exactly what it writes; and whether an answer tells that something was written
+-- what a call may be refused for once it has read: nothing, or by the store that is there so
+pub data Objection : Type 0 where
+  Never : Objection
+  Where : StoreError → (Store → Bool) → Objection
+
+-- the store that is there is objected to
+abbrev pub is_objected : Objection → Store → Bool
+is_objected Never store = false
+is_objected (Where error test) store = test store
+
+-- what a call does that isn't refused before it reads: what it reads, what it may be refused for then, and by the store
+-- that is there what it answers, the store after it, and exactly what it writes; and whether an answer tells that
+-- something was written
 pub record Service (A : Type 0) : Type 0 where
   pub reading : Reading
+  pub objection : Objection
   pub answer : Store → A
   pub after : Store → Store
   pub writes : Store → List Mutation
   pub changes : A → Bool
 
--- a call: what it does, or its own refusal
+-- a call: what it does, or its own refusal, before it reads
 abbrev pub Call : Type 0 → Type 0
 Call A = Result (Service A) StoreError
 
@@ -66,10 +79,11 @@ Call A = Result (Service A) StoreError
 abbrev pub AtStore : Opened → Map → (Store → Type 0) → Type 0
 AtStore opened m Fact = (store : Store) → Holds opened.prefix m (Some store) → IsOpenAs opened store → Fact store
 
--- what is so at the store that is there: the answer is the store's, these mutations are exactly what the call writes,
--- no limit refuses them, and they lead to a map that holds the store after it
+-- what is so at the store that is there: it isn't objected to, the answer is the store's, these mutations are exactly
+-- what the call writes, no limit refuses them, and they lead to a map that holds the store after it
 pub record IsDone {A : Type 0} (opened : Opened) (service : Service A) (answer : A) (before written : List Mutation)
     (m : Map) (store : Store) : Type 0 where
+  pub accepted : is_objected service.objection store ≡ false
   pub answers : answer ≡ service.answer store
   pub wrote : written ≡ service.writes store
   pub allowed : write_all_refusal before written ≡ None
@@ -85,7 +99,7 @@ pub record IsAnswered {A : Type 0} (maps : ℕ → Map) (opened : Opened) (call 
   pub written : List Mutation
   pub changes : (length written == 0) ≡ not (service.changes answer)
   pub ran : Ran maps added old new written (λ m. (added ≡ service.reading.added m)
-      × AllByRecursion (IsRecordPair opened.prefix opened.schema) (service.reading.pairs m)
+      × AllByRecursion (IsWritten opened.prefix opened.schema) (service.reading.pairs m)
       × AtStore opened m (IsDone opened service answer old.mutations written m))
 
 -- why reads aren't answered: memory is wanting, or a read is refused, in either case behind the first ones; or all were
@@ -95,20 +109,36 @@ IsUnread refuses opened reading Memory added m = IsBeginning added (reading.adde
 IsUnread refuses opened reading (Read error) added m =
     IsBeginning added (reading.added m) × IsNextRefused refuses (reading.asked m) added error
 IsUnread refuses opened reading (Corrupt key) added m =
-    (added ≡ reading.added m) × IsFirstBad (IsRecordPair opened.prefix opened.schema) (reading.pairs m) key
+    (added ≡ reading.added m) × IsFirstBad (IsWritten opened.prefix opened.schema) (reading.pairs m) key
     × AtStore opened m (λ store. ⊥)
 IsUnread refuses opened reading error added m = ⊥
 
--- why a service isn't done: its reads aren't answered, or all were, all pairs are of the written form, and a limit
--- refuses what is to be written
+-- why a call is refused for what it read: all was answered, all pairs are of the written form, and the store that is
+-- there is objected to so
+abbrev pub IsObjectedTo : Opened → Reading → Objection → StoreError → List KeyRange → Map → Type 0
+IsObjectedTo opened reading Never error added m = ⊥
+IsObjectedTo opened reading (Where own test) error added m =
+    (error ≡ own) × (added ≡ reading.added m)
+    × AllByRecursion (IsWritten opened.prefix opened.schema) (reading.pairs m)
+    × AtStore opened m (λ store. test store ≡ true)
+
+-- why a service isn't done: its reads aren't answered; or all were, all pairs are of the written form, and a limit
+-- refuses what is to be written, or the store is objected to
 abbrev pub IsFailure :
     {A : Type 0} → (KeyRange → ReadError → Type 0) → Opened → Service A → StoreError → List Mutation → List KeyRange →
     Map → Type 0
+IsFailure refuses opened service Memory before added m = IsUnread refuses opened service.reading Memory added m
+IsFailure refuses opened service (Read error) before added m =
+    IsUnread refuses opened service.reading (Read error) added m
+IsFailure refuses opened service (Corrupt key) before added m =
+    IsUnread refuses opened service.reading (Corrupt key) added m
 IsFailure refuses opened service (Write error) before added m =
     (added ≡ service.reading.added m)
-    × AllByRecursion (IsRecordPair opened.prefix opened.schema) (service.reading.pairs m)
-    × AtStore opened m (λ store. write_all_refusal before (service.writes store) ≡ Some error)
-IsFailure refuses opened service error before added m = IsUnread refuses opened service.reading error added m
+    × AllByRecursion (IsWritten opened.prefix opened.schema) (service.reading.pairs m)
+    × AtStore opened m (λ store. (is_objected service.objection store ≡ false)
+    × (write_all_refusal before (service.writes store) ≡ Some error))
+IsFailure refuses opened service error before added m =
+    IsObjectedTo opened service.reading service.objection error added m
 
 -- a service wasn't done: it added these ranges to those read, and wrote nothing
 pub record IsUndone {A : Type 0} (maps : ℕ → Map) (refuses : KeyRange → ℕ → ReadError → Type 0) (opened : Opened)

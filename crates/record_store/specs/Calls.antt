@@ -1,5 +1,5 @@
 -- The calls on an open store, one by one: what each reads, answers, leaves and writes.
-use Rattle.std.specs.Prelude.{◌≡◌, ℕ, Bool, true, false, List, [], ◌∷◌, Option, Some, None, Result, Ok, Err}
+use Rattle.std.specs.Prelude.{◌≡◌, ℕ, ℤ, Bool, true, false, List, [], ◌∷◌, Option, Some, None, Result, Ok, Err}
 use Rattle.std.specs.Prelude.{is_some, map, if◌then◌else◌}
 use Rattle.tuple_codec.specs.Item.{Item}
 use Rattle.kv_core.specs.Range.{point}
@@ -9,24 +9,29 @@ use Rattle.metadata.specs.declared.cells.Cell.{Cell}
 use Rattle.metadata.specs.declared.definition.TypeDefinition.{TypeDefinition}
 use Rattle.metadata.specs.declared.definition.TypeRequest.{TypeRequest}
 use Rattle.metadata.specs.declared.index.IndexDefinition.{IndexDefinition}
+use Rattle.metadata.specs.declared.index.IndexKind.{IndexKind}
+use Rattle.metadata.specs.declared.index.IndexKind.TheVariants.{Value, Count, Sum}
 use Rattle.metadata.specs.declared.index.IndexRequest.{IndexRequest}
 use Rattle.metadata.specs.declared.index.State.{State}
-use Rattle.metadata.specs.declared.index.State.TheVariants.{Disabled}
+use Rattle.metadata.specs.declared.index.State.TheVariants.{Readable, Disabled}
 use Rattle.metadata.specs.declared.refusal.Refusal.{Refusal}
-use Rattle.metadata.specs.declared.refusal.Refusal.TheVariants.{UnknownIndex, UnknownType}
-use Rattle.record_store.specs.declared.error.StoreError.TheVariants.{Refused, OtherSchema}
+use Rattle.metadata.specs.declared.refusal.Refusal.TheVariants.{UnknownIndex, UnknownType, WrongKind}
+use Rattle.record_store.specs.declared.error.StoreError.{StoreError}
+use Rattle.record_store.specs.declared.error.StoreError.TheVariants.{Refused, OtherSchema, NotAggregate, NotReadable}
 use Rattle.metadata.specs.Change.{add_type}
+use Rattle.metadata.specs.Group.{fits_group}
 use Rattle.metadata.specs.IndexChange.{new_index, with_index, without_index}
 use Rattle.metadata.specs.Record.{Record, key_of, primary_key}
 use Rattle.metadata.specs.Records.{of_type, record_at}
 use Rattle.metadata.specs.Same.{same_type}
 use Rattle.metadata.specs.Schema.{Schema, find_index, find_type}
 use Rattle.metadata.specs.Written.{schema_bytes}
+use Rattle.index_maint.specs.Totals.{as_signed, count_share, group_key, sum_share, total}
 use Rattle.record_store.specs.Store.{disabled, dropped, extended, indexed, listed_as, new_state}
 use Rattle.record_store.specs.Store.{removed, saved, state_in, with_state, without_state}
 use Rattle.record_store.specs.Layout.{record_key, schema_key, type_range}
 use Rattle.record_store.specs.IndexWrites.{disable_writes, drop_writes, index_added_writes, remove_writes, save_writes}
-use Rattle.record_store.specs.Call.{Call, Opened, Service, first_of, whole}
+use Rattle.record_store.specs.Call.{Call, Never, Opened, Service, first_of, whole}
 
 -- what is done with a value, or the refusal that the schema or the record meets
 abbrev pub done_with : {K A : Type 0} → (K → Service A) → Result K Refusal → Call A
@@ -37,6 +42,7 @@ done_with service (Err refusal) = Err (Refused refusal)
 abbrev pub load_service : Opened → List Item → Service (Option Record)
 load_service opened key = record {
   reading = whole (point (record_key opened.prefix key) ∷ []);
+  objection = Never;
   answer = λ store. record_at key store.records;
   after = λ store. store;
   writes = λ store. [];
@@ -50,6 +56,7 @@ load_call opened name cells = done_with (load_service opened) (key_of opened.sch
 abbrev pub save_service : Opened → Record → Service (Option Record)
 save_service opened r = record {
   reading = whole (point (record_key opened.prefix (primary_key r)) ∷ []);
+  objection = Never;
   answer = λ store. record_at (primary_key r) store.records;
   after = λ store. saved store r;
   writes = λ store. save_writes opened.prefix store r;
@@ -69,6 +76,7 @@ save_call opened r =
 abbrev pub remove_service : Opened → List Item → Service Bool
 remove_service opened key = record {
   reading = whole (point (record_key opened.prefix key) ∷ []);
+  objection = Never;
   answer = λ store. is_some (record_at key store.records);
   after = λ store. removed store key;
   writes = λ store. remove_writes opened.prefix store key (record_at key store.records);
@@ -86,6 +94,7 @@ number_of (Some type) = Ok type.number
 abbrev pub records_service : Opened → ℕ → Service (List Record)
 records_service opened number = record {
   reading = whole (type_range opened.prefix number ∷ []);
+  objection = Never;
   answer = λ store. of_type number store.records;
   after = λ store. store;
   writes = λ store. [];
@@ -95,6 +104,43 @@ records_service opened number = record {
 abbrev pub records_call : Opened → List ℕ → Call (List Record)
 records_call opened name = done_with (records_service opened) (number_of (find_type opened.schema name))
 
+-- AGGREGATE: the total of a group is answered, by the index's kind, read as signed; a VALUE index has none
+abbrev pub total_of : IndexKind → IndexDefinition → List Cell → List Record → ℤ
+total_of Value index group records = as_signed 0
+total_of Count index group records = as_signed (total count_share index group records)
+total_of Sum index group records = as_signed (total sum_share index group records)
+
+abbrev pub aggregate_service : Opened → IndexDefinition → List Cell → Service ℤ
+aggregate_service opened index group = record {
+  reading = whole (point (group_key opened.prefix index.number group) ∷ []);
+  objection = Never;
+  answer = λ store. total_of index.kind index group store.records;
+  after = λ store. store;
+  writes = λ store. [];
+  changes = λ total. false;
+}
+
+-- why no total is answered, in this order: the index is a VALUE index, the cells are no group of it, it isn't readable
+abbrev pub total_refusal : IndexKind → Bool → State → Option StoreError
+total_refusal Value fit state = Some NotAggregate
+total_refusal kind false state = Some (Refused WrongKind)
+total_refusal kind true Readable = None
+total_refusal kind true state = Some NotReadable
+
+-- what is done, unless a refusal stands against it
+abbrev pub unless : {A : Type 0} → Option StoreError → Service A → Call A
+unless None service = Ok service
+unless (Some refusal) service = Err refusal
+
+abbrev pub aggregate_call : Opened → List ℕ → List Cell → Call ℤ
+aggregate_call opened name group =
+    elim (find_index opened.schema name) [
+      | None ↦ Err (Refused UnknownIndex)
+      | Some index ↦
+          unless (total_refusal index.kind (fits_group opened.schema index group) (state_in opened.states index.number))
+          (aggregate_service opened index group)
+    ]
+
 -- TYPE: the schema is written with one more type, and answered
 abbrev pub schema_writes : List ℕ → Schema → List Mutation
 schema_writes prefix schema = Set (schema_key prefix) (schema_bytes schema) ∷ []
@@ -102,6 +148,7 @@ schema_writes prefix schema = Set (schema_key prefix) (schema_bytes schema) ∷ 
 abbrev pub schema_service : Opened → Schema → Service Schema
 schema_service opened schema = record {
   reading = whole [];
+  objection = Never;
   answer = λ store. schema;
   after = λ store. extended store schema;
   writes = λ store. schema_writes opened.prefix schema;
@@ -115,6 +162,7 @@ type_call opened request = done_with (schema_service opened) (add_type opened.sc
 abbrev pub index_service : Opened → IndexDefinition → Service State
 index_service opened index = record {
   reading = first_of (type_range opened.prefix index.type_number);
+  objection = Never;
   answer = λ store. new_state (of_type index.type_number store.records);
   after = λ store. indexed store index;
   writes = λ store. index_added_writes opened.prefix store index;
@@ -139,6 +187,7 @@ index_number (Some index) = Ok index.number
 abbrev pub drop_service : Opened → ℕ → Service Schema
 drop_service opened number = record {
   reading = whole [];
+  objection = Never;
   answer = λ store. without_index store.schema number;
   after = λ store. dropped store number;
   writes = λ store. drop_writes opened.prefix store number;
@@ -152,6 +201,7 @@ drop_call opened name = done_with (drop_service opened) (index_number (find_inde
 abbrev pub disable_service : Opened → ℕ → Service (List (ℕ × State))
 disable_service opened number = record {
   reading = whole [];
+  objection = Never;
   answer = λ store. with_state number Disabled store.states;
   after = λ store. disabled store number;
   writes = λ store. disable_writes opened.prefix number;

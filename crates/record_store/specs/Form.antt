@@ -1,20 +1,20 @@
 -- The written form of pairs, and the first pair of those read that isn't of it.
-use Rattle.std.specs.Prelude.{◌≡◌, ◌⊎◌, ℕ, IsTrue, List, [], ◌∷◌, ◌++◌, Some}
-use Rattle.std.specs.List.{AllByRecursion}
+use Rattle.std.specs.Prelude.{◌≡◌, ◌⊎◌, ℕ, List, [], ◌∷◌, ◌++◌, Some, length}
+use Rattle.std.specs.List.{AllByRecursion, Contains}
 use Rattle.std.specs.FinMap.{get}
 use Rattle.kv_core.specs.Map.{Map, pairs_in}
 use Rattle.kv_core.specs.Range.{KeyRange}
+use Rattle.metadata.specs.declared.cells.Cell.{Cell}
 use Rattle.metadata.specs.declared.index.IndexDefinition.{IndexDefinition}
-use Rattle.metadata.specs.declared.index.IndexKind.TheVariants.{Value}
 use Rattle.metadata.specs.declared.index.State.{State}
-use Rattle.metadata.specs.declared.index.State.TheVariants.{Disabled}
 use Rattle.metadata.specs.Lawful.{IsLawfulSchema}
 use Rattle.metadata.specs.Record.{Record}
 use Rattle.metadata.specs.Records.{IsStorable}
 use Rattle.metadata.specs.Schema.{Schema}
 use Rattle.metadata.specs.Written.{schema_bytes}
+use Rattle.index_maint.specs.Totals.{IsGroup, group_key}
 use Rattle.record_store.specs.Layout.{record_pair, schema_key, schema_pair, state_pair}
-use Rattle.record_store.specs.Holds.{IsOfSchema, has_number}
+use Rattle.record_store.specs.Holds.{IsListed, IsOfSchema}
 
 -- a pair stands for a record of the schema
 pub record IsRecordPair (prefix : List ℕ) (schema : Schema) (pair : List ℕ × List ℕ) : Type 0 where
@@ -23,22 +23,29 @@ pub record IsRecordPair (prefix : List ℕ) (schema : Schema) (pair : List ℕ �
   pub storable : IsStorable stored
   pub is : pair ≡ record_pair prefix stored
 
--- a pair stands for a schema, all of whose indexes are VALUE indexes
+-- a pair stands for the total of a group of one of these indexes: it has 8 bytes
+pub record IsTotalPair (prefix : List ℕ) (indexes : List IndexDefinition) (pair : List ℕ × List ℕ) : Type 0 where
+  pub index : IndexDefinition
+  pub there : Contains indexes index
+  pub group : List Cell
+  pub fits : IsGroup index group
+  pub key : pair.0 ≡ group_key prefix index.number group
+  pub bytes : length pair.1 ≡ 8
+
+-- a pair that a call reads is of the written form of its place: it stands for a record or for a total
+abbrev pub IsWritten : List ℕ → Schema → List ℕ × List ℕ → Type 0
+IsWritten prefix schema pair = IsRecordPair prefix schema pair ⊎ IsTotalPair prefix schema.indexes pair
+
+-- a pair stands for a schema
 pub record IsSchemaPair (prefix : List ℕ) (pair : List ℕ × List ℕ) : Type 0 where
   pub schema : Schema
   pub made : IsLawfulSchema schema
-  pub kinds : AllByRecursion (λ index. index.kind ≡ Value) schema.indexes
   pub is : pair ≡ schema_pair prefix schema
-
--- one of these indexes is disabled
-pub record IsDisabledOf (indexes : List IndexDefinition) (listed : ℕ × State) : Type 0 where
-  pub there : IsTrue (has_number indexes listed.0)
-  pub state : listed.1 ≡ Disabled
 
 -- a pair stands for the state of one of these indexes, which is disabled
 pub record IsStatePair (prefix : List ℕ) (indexes : List IndexDefinition) (pair : List ℕ × List ℕ) : Type 0 where
   pub listed : ℕ × State
-  pub disabled : IsDisabledOf indexes listed
+  pub disabled : IsListed indexes listed
   pub is : pair ≡ state_pair prefix listed
 
 -- a pair stands for the state of an index of the schema that the map has

@@ -5,15 +5,14 @@ use Rattle.std.specs.FinMap.{from_entries, get}
 use Rattle.tuple_codec.specs.Subspace.{BeginsWith}
 use Rattle.kv_core.specs.Map.{Map}
 use Rattle.metadata.specs.declared.index.IndexDefinition.{IndexDefinition}
-use Rattle.metadata.specs.declared.index.IndexKind.TheVariants.{Value}
 use Rattle.metadata.specs.declared.index.State.{State}
-use Rattle.metadata.specs.declared.index.State.TheVariants.{Readable, Disabled}
+use Rattle.metadata.specs.declared.index.State.TheVariants.{Disabled}
 use Rattle.metadata.specs.Lawful.{IsLawfulSchema}
 use Rattle.metadata.specs.Record.{Record, record_of}
 use Rattle.metadata.specs.Records.{AreOrdered, IsStorable}
 use Rattle.metadata.specs.Schema.{Schema}
 use Rattle.metadata.specs.Written.{schema_bytes}
-use Rattle.index_maint.specs.Changes.{HasEntries}
+use Rattle.index_maint.specs.Kept.{HasKept}
 use Rattle.index_maint.specs.Layout.{entries_prefix}
 use Rattle.record_store.specs.Store.{Store, Serial, state_of}
 use Rattle.record_store.specs.Layout.{place, record_pair, schema_key, state_pair}
@@ -26,10 +25,11 @@ IsOfSchema schema r = record_of schema r.definition.name r.cells ≡ Ok r
 abbrev pub has_number : List IndexDefinition → ℕ → Bool
 has_number indexes number = list_any (λ index. index.number == number) indexes
 
--- a state that is listed: of an index that is there, and that isn't readable
+-- a state that is listed: of an index that is there, and that is disabled; readable ones are not listed, and there are
+-- no write-only ones so far
 pub record IsListed (indexes : List IndexDefinition) (listed : ℕ × State) : Type 0 where
   pub there : IsTrue (has_number indexes listed.0)
-  pub state : listed.1 ≡ Readable → ⊥
+  pub state : listed.1 ≡ Disabled
 
 -- the numbers of states rise strictly
 abbrev pub AreRising : List (ℕ × State) → Type 0
@@ -37,7 +37,7 @@ AreRising [] = Unit {0}
 AreRising (one ∷ states) = AllByRecursion (λ later. one.0 < later.0) states × AreRising states
 
 -- a lawful store: its schema is one that calls make, its records are of the schema, in order, and can be stored, and
--- its states are those of indexes that aren't readable, by rising numbers
+-- its states are those of indexes that are disabled, by rising numbers
 pub record IsLawful (store : Store) : Type 0 where
   pub schema : IsLawfulSchema store.schema
   pub typed : AllByRecursion (IsOfSchema store.schema) store.records
@@ -54,16 +54,11 @@ map_of pairs = from_entries pairs
 abbrev pub HasPairs : List ℕ → List (List ℕ × List ℕ) → Map → Type 0
 HasPairs begin pairs m = (bytes : List ℕ) → get m (begin ++ bytes) ≡ get (map_of pairs) (begin ++ bytes)
 
--- what the map has of an index by its state: its entries where it is readable, else none
-abbrev pub HasIndex : List ℕ → List Record → Map → IndexDefinition → State → Type 0
-HasIndex prefix records m index Readable = HasEntries prefix index records m
-HasIndex prefix records m index state = (bytes : List ℕ) → get m (entries_prefix prefix index.number ++ bytes) ≡ None
-
--- no entry of these indexes can have the key
+-- no entry and no total of these indexes can have the key
 abbrev pub IsNoEntry : List ℕ → List IndexDefinition → List ℕ → Type 0
 IsNoEntry prefix indexes key = AllByRecursion (λ index. BeginsWith (entries_prefix prefix index.number) key → ⊥) indexes
 
--- a key of no place: it isn't the schema's, and no record, entry or state can have it
+-- a key of no place: it isn't the schema's, and no record, entry, total or state can have it
 pub record IsElsewhere (prefix : List ℕ) (indexes : List IndexDefinition) (key : List ℕ) : Type 0 where
   pub schema : key ≡ schema_key prefix → ⊥
   pub records : BeginsWith (place prefix 1) key → ⊥
@@ -76,7 +71,7 @@ pub record HoldsStore (prefix : List ℕ) (m : Map) (store : Store) : Type 0 whe
   pub schema : get m (schema_key prefix) ≡ Some (schema_bytes store.schema)
   pub records : HasPairs (place prefix 1) (map (record_pair prefix) store.records) m
   pub entries :
-      AllByRecursion (λ index. HasIndex prefix store.records m index (state_of store index.number)) store.schema.indexes
+      AllByRecursion (λ index. HasKept (state_of store index.number) prefix index store.records m) store.schema.indexes
   pub states : HasPairs (place prefix 5) (map (state_pair prefix) store.states) m
   pub nothing_else :
       (key : List ℕ) → BeginsWith prefix key → IsElsewhere prefix store.schema.indexes key → get m key ≡ None
@@ -85,12 +80,3 @@ pub record HoldsStore (prefix : List ℕ) (m : Map) (store : Store) : Type 0 whe
 abbrev pub Holds : List ℕ → Map → Serial → Type 0
 Holds prefix m None = (bytes : List ℕ) → get m (prefix ++ bytes) ≡ None
 Holds prefix m (Some store) = HoldsStore prefix m store
-
--- each index is a VALUE index, and is readable or disabled
-pub record HasPlainIndexes (schema : Schema) (states : List (ℕ × State)) : Type 0 where
-  pub kinds : AllByRecursion (λ index. index.kind ≡ Value) schema.indexes
-  pub listed : AllByRecursion (λ one. one.1 ≡ Disabled) states
-
-abbrev pub IsPlain : Serial → Type 0
-IsPlain None = Unit {0}
-IsPlain (Some store) = HasPlainIndexes store.schema store.states

@@ -1,5 +1,5 @@
 -- What calls on a store with indexes write.
-use Rattle.std.specs.Prelude.{ℕ, ◌==◌, ◌&&◌, if◌then◌else◌, List, [], ◌∷◌, Option, Some, None, filter}
+use Rattle.std.specs.Prelude.{ℕ, ◌==◌, if◌then◌else◌, List, [], ◌∷◌, Option, Some, None, filter}
 use Rattle.std.specs.List.{flat_map}
 use Rattle.tuple_codec.specs.Item.{Item}
 use Rattle.kv_core.specs.Range.{point}
@@ -8,12 +8,11 @@ use Rattle.kv_core.specs.declared.change.Mutation.TheVariants.{Set, ClearRange}
 use Rattle.metadata.specs.declared.index.IndexDefinition.{IndexDefinition}
 use Rattle.metadata.specs.declared.index.State.{State}
 use Rattle.metadata.specs.declared.index.State.TheVariants.{Readable, Disabled}
-use Rattle.metadata.specs.Index.{is_readable}
 use Rattle.metadata.specs.IndexChange.{with_index, without_index}
 use Rattle.metadata.specs.Record.{Record, primary_key}
 use Rattle.metadata.specs.Records.{of_type, record_at}
 use Rattle.metadata.specs.Written.{schema_bytes}
-use Rattle.index_maint.specs.Changes.{value_changes}
+use Rattle.index_maint.specs.Kept.{kept_writes}
 use Rattle.record_store.specs.Store.{Store, new_state, state_in, state_of}
 use Rattle.record_store.specs.Call.{Opened}
 use Rattle.record_store.specs.Layout.{entries_range, record_key, record_value, schema_key, state_key, state_value}
@@ -22,23 +21,18 @@ use Rattle.record_store.specs.Layout.{entries_range, record_key, record_value, s
 abbrev pub store_of : Opened → Store
 store_of opened = record { schema = opened.schema; records = []; states = opened.states }
 
--- the indexes that may be read, in the order of their numbers
-abbrev pub readable_indexes : Store → List IndexDefinition
-readable_indexes store = filter (λ index. is_readable (state_of store index.number)) store.schema.indexes
-
--- what is written for one index where a record of the type with this number gives way to another: its changes, where it
--- is of the type and readable
+-- what is written for one index where a record of the type with this number gives way to another: what its kind and its
+-- state want written, where it is of the type
 abbrev pub one_index_writes : Opened → ℕ → Option Record → Option Record → IndexDefinition → List Mutation
 one_index_writes opened number old new index =
-    if index.type_number == number && is_readable (state_in opened.states index.number)
-    then value_changes opened.prefix index old new else []
+    if index.type_number == number
+    then kept_writes (state_in opened.states index.number) opened.prefix index old new else []
 
--- what is written for the indexes where a record of the type with this number gives way to another: the changes of each
--- readable index of the type
+-- what is written for the indexes where a record of the type with this number gives way to another, by their numbers
 abbrev pub index_writes : List ℕ → Store → ℕ → Option Record → Option Record → List Mutation
 index_writes prefix store number old new =
-    flat_map (λ index. value_changes prefix index old new)
-    (filter (λ index. index.type_number == number) (readable_indexes store))
+    flat_map (λ index. kept_writes (state_of store index.number) prefix index old new)
+    (filter (λ index. index.type_number == number) store.schema.indexes)
 
 -- SAVE: the record is put, then its indexes follow
 abbrev pub save_writes : List ℕ → Store → Record → List Mutation
@@ -52,7 +46,7 @@ remove_writes prefix store key None = []
 remove_writes prefix store key (Some old) =
     ClearRange (point (record_key prefix key)) ∷ index_writes prefix store old.definition.number (Some old) None
 
--- DISABLE: the state is put, and the entries are taken out
+-- DISABLE: the state is put, and the entries or totals are taken out
 abbrev pub disable_writes : List ℕ → ℕ → List Mutation
 disable_writes prefix number =
     Set (state_key prefix number) (state_value Disabled) ∷ ClearRange (entries_range prefix number) ∷ []
@@ -68,7 +62,7 @@ index_added_writes prefix store index =
     Set (schema_key prefix) (schema_bytes (with_index store.schema index))
     ∷ state_writes prefix index.number (new_state (of_type index.type_number store.records))
 
--- DROP: the schema is written without the index, whose entries and state are taken out
+-- DROP: the schema is written without the index, whose entries or totals and whose state are taken out
 abbrev pub drop_writes : List ℕ → Store → ℕ → List Mutation
 drop_writes prefix store number =
     Set (schema_key prefix) (schema_bytes (without_index store.schema number))

@@ -9,7 +9,6 @@ use Rattle.kv_core.specs.declared.change.CommitRequest.{CommitRequest}
 use Rattle.kv_core.specs.declared.change.Mutation.{Mutation}
 use Rattle.cluster_core.specs.declared.answers.ReadError.{ReadError}
 use Rattle.txn.specs.Runs.{Ran}
-use Rattle.metadata.specs.declared.index.IndexKind.TheVariants.{Value}
 use Rattle.metadata.specs.Lawful.{IsLawfulSchema}
 use Rattle.metadata.specs.Schema.{Schema}
 use Rattle.metadata.specs.Written.{schema_bytes}
@@ -18,8 +17,8 @@ use Rattle.record_store.specs.declared.error.StoreError.TheVariants.{Memory, Rea
 use Rattle.record_store.specs.declared.error.StoreError.TheVariants.{AlreadyThere}
 use Rattle.record_store.specs.Store.{Serial, created}
 use Rattle.record_store.specs.Layout.{schema_key, state_pair, states_range}
-use Rattle.record_store.specs.Holds.{HasPlainIndexes, Holds, IsPlain}
-use Rattle.record_store.specs.Form.{IsDisabledOf, IsFirstBad, IsOpeningPair, read_in}
+use Rattle.record_store.specs.Holds.{Holds, IsListed}
+use Rattle.record_store.specs.Form.{IsFirstBad, IsOpeningPair, read_in}
 use Rattle.record_store.specs.Call.{IsOpenAs, Opened}
 use Rattle.record_store.specs.Calls.{schema_writes}
 use Rattle.record_store.specs.Steps.{DidRead, IsBeginning, IsNextRefused}
@@ -32,12 +31,10 @@ opening_reach prefix = point (schema_key prefix) ∷ states_range prefix ∷ []
 abbrev pub AtSerials : List ℕ → Map → (Serial → Type 0) → Type 0
 AtSerials prefix m Fact = (serial : Serial) → Holds prefix m serial → Fact serial
 
--- the map has the bytes of this schema, all of whose indexes are VALUE indexes, and the pairs of these states, each of
--- an index that is disabled
+-- the map has the bytes of this schema, and the pairs of these states, each of an index that is disabled
 pub record HasSchema (opened : Opened) (m : Map) : Type 0 where
   pub made : IsLawfulSchema opened.schema
-  pub kinds : AllByRecursion (λ index. index.kind ≡ Value) opened.schema.indexes
-  pub listed : AllByRecursion (IsDisabledOf opened.schema.indexes) opened.states
+  pub listed : AllByRecursion (IsListed opened.schema.indexes) opened.states
   pub bytes : get m (schema_key opened.prefix) ≡ Some (schema_bytes opened.schema)
   pub states : pairs_in m (states_range opened.prefix) ≡ map (state_pair opened.prefix) opened.states
 
@@ -55,7 +52,7 @@ pub record IsOpened (maps : ℕ → Map) (opened : Opened) (old new : CommitRequ
 
 -- why no store is opened: memory is wanting, or a read is refused, in either case behind the first ones; or all was
 -- read, and no schema stands there, or a pair does and the first pair read that isn't of the written form has this key,
--- which no store has whose indexes are VALUE indexes, each readable or disabled
+-- which no store has, nor is there none
 abbrev pub IsOpenFailure : (KeyRange → ReadError → Type 0) → List ℕ → StoreError → List KeyRange → Map → Type 0
 IsOpenFailure refuses prefix Memory added m = IsBeginning added (opening_reach prefix)
 IsOpenFailure refuses prefix (Read error) added m =
@@ -66,7 +63,7 @@ IsOpenFailure refuses prefix NoStore added m =
 IsOpenFailure refuses prefix (Corrupt key) added m =
     (added ≡ opening_reach prefix) × (get m (schema_key prefix) ≡ None → ⊥)
     × IsFirstBad (IsOpeningPair prefix m) (read_in m (opening_reach prefix)) key
-    × AtSerials prefix m (λ serial. IsPlain serial → ⊥)
+    × AtSerials prefix m (λ serial. ⊥)
 IsOpenFailure refuses prefix error added m = ⊥
 
 -- a store wasn't opened: these ranges were added to those read, and nothing was written
@@ -96,8 +93,6 @@ pub record IsNewStore (maps : ℕ → Map) (prefix : List ℕ) (schema : Schema)
   pub schema_is : store.schema ≡ schema
   -- all of whose indexes are readable
   pub readable : store.states ≡ []
-  -- and records can be saved in it
-  pub plain : HasPlainIndexes store.schema store.states
 
 -- why no store is made: memory is wanting, or a read is refused, in either case behind the first ones; or all was read
 -- that an opening reads, and a pair stands where a schema does, or a limit refuses the schema

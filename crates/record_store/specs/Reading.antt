@@ -1,8 +1,9 @@
 -- What the reads of a store and the decoding of what they find establish, beneath whole calls.
-use Rattle.std.specs.Prelude.{◌≡◌, ◌⊎◌, ℕ, Bool, false, ◌&&◌, List, [], ◌∷◌, ◌++◌, Option, Some, None, map}
-use Rattle.std.specs.List.{AllByRecursion}
+use Rattle.std.specs.Prelude.{◌≡◌, ◌⊎◌, ℕ, ℤ, Bool, false, ◌&&◌, List, [], ◌∷◌, ◌++◌, Option, Some, None, length, map}
+use Rattle.std.specs.List.{AllByRecursion, Contains}
 use Rattle.std.specs.Ordering.{is_eq}
 use Rattle.tuple_codec.specs.Item.{Item, IsTuple}
+use Rattle.kv_core.specs.Addition.{number_of}
 use Rattle.kv_core.specs.Bytes.{key_cmp}
 use Rattle.kv_core.specs.Range.{KeyRange, point}
 use Rattle.kv_core.specs.Map.{Map}
@@ -14,18 +15,22 @@ use Rattle.metadata.specs.declared.definition.TypeDefinition.{TypeDefinition}
 use Rattle.metadata.specs.declared.index.IndexDefinition.{IndexDefinition}
 use Rattle.metadata.specs.declared.index.IndexKind.TheVariants.{Value}
 use Rattle.metadata.specs.declared.index.State.{State}
+use Rattle.metadata.specs.declared.index.State.TheVariants.{Readable}
 use Rattle.metadata.specs.Lawful.{IsLawfulSchema}
 use Rattle.metadata.specs.Record.{Record, key_items}
 use Rattle.metadata.specs.Records.{of_type, record_at}
 use Rattle.metadata.specs.Schema.{Schema}
 use Rattle.metadata.specs.Stored.{IsOfNoRecord, IsStoredAs}
 use Rattle.metadata.specs.Written.{schema_bytes}
+use Rattle.index_maint.specs.Totals.{as_signed, group_key}
 use Rattle.record_store.specs.declared.error.StoreError.{StoreError}
 use Rattle.record_store.specs.declared.error.StoreError.TheVariants.{Memory, Read, Corrupt, NoStore, AlreadyThere}
 use Rattle.record_store.specs.Layout.{record_key, schema_key, state_pair, type_range}
-use Rattle.record_store.specs.Form.{IsDisabledOf, IsRecordPair, IsStatePair, read_in}
+use Rattle.record_store.specs.Form.{IsStatePair, IsWritten, read_in}
+use Rattle.record_store.specs.Holds.{IsListed}
 use Rattle.record_store.specs.Call.{AtStore, IsUnread, Opened, Reading}
-use Rattle.record_store.specs.Store.{new_state}
+use Rattle.record_store.specs.Calls.{total_of}
+use Rattle.record_store.specs.Store.{new_state, state_in}
 use Rattle.record_store.specs.Steps.{DidRead, IsBeginning, IsNextRefused}
 
 -- why reads of these ranges stopped behind the ones that were added: memory is wanting, or the next read is refused so
@@ -44,17 +49,15 @@ pub record HasNotRead (maps : ℕ → Map) (refuses : KeyRange → ℕ → ReadE
 abbrev pub same_pair : List ℕ × List ℕ → List ℕ × List ℕ → Bool
 same_pair pair other = is_eq (key_cmp pair.0 other.0) && is_eq (key_cmp pair.1 other.1)
 
--- what was found where a schema may stand is the bytes of this schema, all of whose indexes are VALUE indexes
+-- what was found where a schema may stand is the bytes of this schema
 pub record IsSchema (written : Option (List ℕ)) (schema : Schema) : Type 0 where
   pub made : IsLawfulSchema schema
-  pub kinds : AllByRecursion (λ index. index.kind ≡ Value) schema.indexes
   pub bytes : written ≡ Some (schema_bytes schema)
 
--- the bytes are those of no schema whose indexes are all VALUE indexes
+-- the bytes are those of no schema
 abbrev pub AreOfNoSchema : List ℕ → Type 0
 AreOfNoSchema bytes =
-    (schema : Schema) → IsLawfulSchema schema → AllByRecursion (λ index. index.kind ≡ Value) schema.indexes →
-    bytes ≡ schema_bytes schema → ⊥
+    (schema : Schema) → IsLawfulSchema schema → bytes ≡ schema_bytes schema → ⊥
 
 -- why bytes are no schema: memory is wanting, or they are those of none
 abbrev pub IsBadSchema : List ℕ → List ℕ → StoreError → Type 0
@@ -70,7 +73,7 @@ IsNoSchema prefix (Some bytes) error = IsBadSchema prefix bytes error
 -- a pair is that of the state of one of the indexes
 pub record IsPairOfState (prefix : List ℕ) (indexes : List IndexDefinition) (pair : List ℕ × List ℕ)
     (listed : ℕ × State) : Type 0 where
-  pub disabled : IsDisabledOf indexes listed
+  pub disabled : IsListed indexes listed
   pub is : pair ≡ state_pair prefix listed
 
 -- why a pair is that of no state: memory is wanting, or it isn't
@@ -82,7 +85,7 @@ IsNoState prefix indexes pair error = ⊥
 -- the pairs are those of these states, each of one of the indexes
 pub record AreStates (prefix : List ℕ) (indexes : List IndexDefinition) (pairs : List (List ℕ × List ℕ))
     (states : List (ℕ × State)) : Type 0 where
-  pub disabled : AllByRecursion (IsDisabledOf indexes) states
+  pub disabled : AllByRecursion (IsListed indexes) states
   pub are : pairs ≡ map (state_pair prefix) states
 
 -- behind pairs of states one isn't
@@ -118,11 +121,36 @@ IsNotFound type key at value Memory = Unit {0}
 IsNotFound type key at (Some value) (Corrupt damaged) = (damaged ≡ at) × IsOfNoRecord type key value
 IsNotFound type key at value error = ⊥
 
+-- the total whose bytes were found at a group's key: of 8 bytes their number, the least significant one first, read as
+-- signed; where there are none it is 0
+abbrev pub IsTotalFound : Option (List ℕ) → ℤ → Type 0
+IsTotalFound None total = total ≡ as_signed 0
+IsTotalFound (Some value) total = (length value ≡ 8) × (total ≡ as_signed (number_of value))
+
+-- why what was found at a key is no total: memory is wanting, or it has more or fewer than 8 bytes
+abbrev pub IsNoTotal : List ℕ → Option (List ℕ) → StoreError → Type 0
+IsNoTotal at value Memory = Unit {0}
+IsNoTotal at (Some value) (Corrupt damaged) = (damaged ≡ at) × (length value ≡ 8 → ⊥)
+IsNoTotal at value error = ⊥
+
+-- the total of a group of an index was read: what was read is of the written form, and this is the group's total
+abbrev pub IsTotalRead : Opened → IndexDefinition → List Cell → ℤ → Map → Type 0
+IsTotalRead opened index group total m =
+    AllByRecursion (IsWritten opened.prefix opened.schema)
+    (read_in m (point (group_key opened.prefix index.number group) ∷ []))
+    × AtStore opened m (λ store. total ≡ total_of index.kind index group store.records)
+
+-- an index of which totals are read: one of the schema's, a COUNT or a SUM, which is readable
+pub record IsTotalled (opened : Opened) (index : IndexDefinition) : Type 0 where
+  pub there : Contains opened.schema.indexes index
+  pub kind : index.kind ≡ Value → ⊥
+  pub readable : state_in opened.states index.number ≡ Readable
+
 -- the record of a primary key was read: what was read is of the written form, and this record, or none, is the one that
 -- is there
 abbrev pub IsRead : Opened → List Item → Option Record → Map → Type 0
 IsRead opened key found m =
-    AllByRecursion (IsRecordPair opened.prefix opened.schema) (read_in m (point (record_key opened.prefix key) ∷ []))
+    AllByRecursion (IsWritten opened.prefix opened.schema) (read_in m (point (record_key opened.prefix key) ∷ []))
     × AtStore opened m (λ store. found ≡ record_at key store.records)
 
 -- the first record of a type was read, if there is one: this range was added, what was read is of the written form, and
@@ -130,7 +158,7 @@ IsRead opened key found m =
 abbrev pub IsStateRead : Opened → ℕ → State → KeyRange → Map → Type 0
 IsStateRead opened number state added m =
     (added ≡ range_read (type_range opened.prefix number) 1 false (read_of m (type_range opened.prefix number) 1 false))
-    × AllByRecursion (IsRecordPair opened.prefix opened.schema) (read_of m (type_range opened.prefix number) 1 false)
+    × AllByRecursion (IsWritten opened.prefix opened.schema) (read_of m (type_range opened.prefix number) 1 false)
     × AtStore opened m (λ store. state ≡ new_state (of_type number store.records))
 
 -- so was the state of a new index

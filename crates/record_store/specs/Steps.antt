@@ -9,7 +9,7 @@ use Rattle.cluster_core.specs.declared.answers.ReadError.{ReadError}
 use Rattle.cluster_core.specs.declared.answers.ReadError.TheVariants as read
 use Rattle.metadata.specs.declared.refusal.MetadataError.{MetadataError}
 use Rattle.metadata.specs.declared.refusal.MetadataError.TheVariants as meta
-use Rattle.metadata.specs.declared.refusal.Refusal.TheVariants.{UnknownType}
+use Rattle.metadata.specs.declared.refusal.Refusal.TheVariants.{UnknownIndex, UnknownType}
 use Rattle.txn.specs.Runs.{Ran}
 use Rattle.record_store.specs.declared.error.StoreError.{StoreError}
 use Rattle.record_store.specs.declared.error.StoreError.TheVariants.{Memory, Read, Write, Refused}
@@ -21,6 +21,10 @@ no_memory = Memory
 -- the error that a name of no type is
 abbrev pub unknown_type : StoreError
 unknown_type = Refused UnknownType
+
+-- the error that a name of no index is
+abbrev pub unknown_index : StoreError
+unknown_index = Refused UnknownIndex
 
 -- the error that a refused read is
 abbrev pub of_read : ReadError → StoreError

@@ -6,12 +6,9 @@ ghost use Rattle.metadata.specs.IndexChange.{add_index};
 ghost use Rattle.metadata.specs.Lawful.{IsLawfulSchema};
 ghost use Rattle.metadata.specs.Schema.{find_type};
 ghost use Rattle.metadata.specs.Written.{schema_bytes};
-ghost use Rattle.metadata.specs.declared.index.IndexKind.TheVariants.{Value};
-ghost use Rattle.metadata.specs.declared.index.State.TheVariants.{WriteOnly};
 ghost use Rattle.record_store.specs.Call.{IsAnswered, IsRefused, first_of};
 ghost use Rattle.record_store.specs.Calls.{IsIndexedAs, index_call};
 ghost use Rattle.record_store.specs.Store.{listed_as, new_state};
-ghost use Rattle.record_store.specs.Holds.{HasPlainIndexes};
 ghost use Rattle.record_store.specs.IndexWrites.{state_writes};
 ghost use Rattle.record_store.specs.Layout.{schema_key, type_range};
 ghost use Rattle.record_store.specs.Reading.{HasNotFound, HasRead};
@@ -75,7 +72,6 @@ impl Store {
         definition: &TypeDefinition,
     ) -> Result<State, StoreError>
         requires { find_type self.now.schema definition.now.name ≡ Some definition.now }
-        ensures plain { IfOk result (λ state. state ≡ WriteOnly → ⊥) }
         ensures found { IfOk result (λ state.
             HasRead (S.map_at db.now) self.now definition.now.number state tx.old tx.new) }
         ensures refused { IfErr result (λ error.
@@ -111,8 +107,8 @@ impl Store {
         Ok(mutations)
     }
 
-    /// Adds a VALUE index to the store's schema, and answers its state: it is readable where no
-    /// record of its type is there, else disabled. Of the type's records only the first is read.
+    /// Adds an index to the store's schema, and answers its state: it is readable where no record of
+    /// its type is there, else disabled. Of the type's records only the first is read.
     ///
     /// Refused as `Schema::add_index` is, before anything is read; then with the snapshot's refusal
     /// of the read, with `Corrupt` and the first record's key where its pair isn't of the written
@@ -123,12 +119,9 @@ impl Store {
         db: &S,
         request: &IndexRequest,
     ) -> Result<State, StoreError>
-        requires kind { request.now.kind ≡ Value }
-        requires plain { HasPlainIndexes self.old.schema self.old.states }
         ensures added { IfOk result (λ state.
             IsAnswered (S.map_at db.now) self.old (index_call self.old request.now) state tx.old tx.new) }
         ensures opened { IfOk result (λ state. IsIndexedAs self.old self.new request.now state) }
-        ensures plain { OnOk result (HasPlainIndexes self.new.schema self.new.states) }
         ensures kept { OnErr result (self.new ≡ self.old) }
         ensures refused { IfErr result (λ error.
             IsRefused (S.map_at db.now) (S.may_refuse db.now) self.old

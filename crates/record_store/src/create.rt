@@ -1,7 +1,5 @@
 ghost use Rattle.std.specs.Prelude.{◌≡◌, [], None, IfOk, IfErr, IsTrue, OnOk};
-ghost use Rattle.std.specs.List.{AllByRecursion};
 ghost use Rattle.kv_core.specs.Bytes.{end_of_keys, key_lt};
-ghost use Rattle.metadata.specs.declared.index.IndexKind.TheVariants.{Value};
 ghost use Rattle.record_store.specs.Calls.{schema_writes};
 ghost use Rattle.record_store.specs.Opening.{IsNewStore, IsUncreated};
 ghost use Rattle.record_store.specs.Reading.{IsThere};
@@ -43,8 +41,8 @@ pub(crate) fn schema_mutations(
 }
 
 impl Store {
-    /// Makes a store of this schema, all of whose indexes are VALUE indexes, without records, under
-    /// this prefix, which doesn't begin with the byte FF. Its indexes are readable.
+    /// Makes a store of this schema, without records, under this prefix, which doesn't begin with
+    /// the byte FF. Its indexes are readable.
     ///
     /// It reads what opening a store reads. Refused with `AlreadyThere` where a pair stands at the
     /// schema's key, with the snapshot's refusal of a read, and with the write limit that the
@@ -56,8 +54,7 @@ impl Store {
         db: &S,
         schema: &Schema,
     ) -> Result<Store, StoreError>
-        requires below { IsTrue (key_lt prefix.now end_of_keys) }
-        requires kinds { AllByRecursion (λ index. index.kind ≡ Value) schema.now.indexes }
+        requires { IsTrue (key_lt prefix.now end_of_keys) }
         ensures made { IfOk result (IsNewStore (S.map_at db.now) prefix.now schema.now tx.old tx.new) }
         ensures refused { IfErr result (λ error.
             IsUncreated (S.map_at db.now) (S.may_refuse db.now)

@@ -34,6 +34,12 @@ pub enum StoreError {
     /// The record's type isn't that of the store's schema.
     #[error("the record's type isn't that of the store's schema")]
     OtherSchema,
+    /// The index is neither a COUNT nor a SUM index.
+    #[error("the index is neither a COUNT nor a SUM index")]
+    NotAggregate,
+    /// The index isn't readable.
+    #[error("the index isn't readable")]
+    NotReadable,
 }
 
 impl From<AllocError> for StoreError {

@@ -1,15 +1,38 @@
 // How the indexes of a store follow its records.
-ghost use Rattle.std.specs.Prelude.{◌≡◌, ◌==◌, ◌++◌, OnOk, find};
+ghost use Rattle.std.specs.Prelude.{◌≡◌, ◌==◌, ◌++◌, IsTrue, OnOk, find};
 ghost use Rattle.std.specs.Option.{option_copied};
-ghost use Rattle.metadata.specs.Index.{is_readable};
+ghost use Rattle.kv_core.specs.Bytes.{end_of_keys, key_lt};
+ghost use Rattle.index_maint.specs.Kept.{changes_by};
 ghost use Rattle.record_store.specs.IndexWrites.{index_writes, one_index_writes, store_of};
 ghost use Rattle.record_store.specs.Store.{state_in};
 
 use crate::store::Store;
-use index_maint::{Maintainer, ValueIndex};
+use index_maint::{CountIndex, Maintainer, SumIndex, ValueIndex};
 use kv_core::Mutation;
-use metadata::{IndexDefinition, Record, State};
-use std::alloc::AllocError;
+use metadata::{IndexDefinition, IndexKind, Record, State};
+use std::alloc::{AllocError, Global};
+
+// Puts what an index whose entries or totals are kept wants written, by its kind.
+fn push_defined(
+    alloc: Global,
+    prefix: &[u8],
+    index: &IndexDefinition,
+    old: Option<&Record>,
+    new: Option<&Record>,
+    mutations: &mut Vec<Mutation>,
+) -> Result<(), AllocError>
+    requires { IsTrue (key_lt prefix.now end_of_keys) }
+    ensures { OnOk result (mutations.new.items
+        ≡ mutations.old.items ++ changes_by index.now.kind prefix.now index.now (option_copied old.entry)
+        (option_copied new.entry)) }
+{
+    match index.kind {
+        IndexKind::Value => ValueIndex::push_changes(alloc, prefix, index, old, new, mutations)?,
+        IndexKind::Count => CountIndex::push_changes(alloc, prefix, index, old, new, mutations)?,
+        IndexKind::Sum => SumIndex::push_changes(alloc, prefix, index, old, new, mutations)?,
+    }
+    Ok(())
+}
 
 impl Store {
     // What is listed for the index with this number.
@@ -29,18 +52,7 @@ impl Store {
         }
     }
 
-    // Whether the index with this number may be read.
-    fn is_readable(&self, number: u64) -> bool
-        ensures { result ≡ is_readable (state_in self.now.states number) }
-    {
-        match self.state_of(number) {
-            State::Readable => true,
-            State::WriteOnly => false,
-            State::Disabled => false,
-        }
-    }
-
-    // Puts what one index wants written, where it is readable and of the type with this number.
+    // Puts what one index wants written, where it is of the type with this number, by its state.
     fn push_changes_of(
         &self,
         index: &IndexDefinition,
@@ -53,14 +65,21 @@ impl Store {
             ≡ mutations.old.items ++ one_index_writes self.now number (option_copied old.entry)
             (option_copied new.entry) index.now) }
     {
-        if index.type_number == number && self.is_readable(index.number) {
-            ValueIndex::push_changes(self.alloc(), self.prefix(), index, old, new, mutations)?;
+        if index.type_number != number {
+            return Ok(());
+        }
+        match self.state_of(index.number) {
+            State::Readable => {
+                push_defined(self.alloc(), self.prefix(), index, old, new, mutations)?
+            }
+            State::WriteOnly => {}
+            State::Disabled => {}
         }
         Ok(())
     }
 
-    // Puts what the readable indexes of the type with this number want written where one record of
-    // it gives way to another.
+    // Puts what the indexes of the type with this number want written where one record of it gives
+    // way to another.
     pub(crate) fn push_index_changes(
         &self,
         number: u64,

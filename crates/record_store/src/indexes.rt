@@ -10,7 +10,6 @@ ghost use Rattle.metadata.specs.Lawful.{IsLawfulSchema};
 ghost use Rattle.metadata.specs.Written.{schema_bytes};
 ghost use Rattle.metadata.specs.declared.index.State.{State};
 ghost use Rattle.record_store.specs.IndexWrites.{disable_writes};
-ghost use Rattle.record_store.specs.Holds.{HasPlainIndexes};
 ghost use Rattle.record_store.specs.Layout.{entries_range, schema_key, state_key};
 ghost use Rattle.record_store.specs.Store.{still_listed, with_state};
 ghost use Rattle.txn.specs.Refusing.{NeverRefuses};
@@ -167,8 +166,6 @@ impl Store {
             IsAnswered maps self.old (drop_call self.old name.now) self.new.schema tx.old tx.new) }
         ensures opened { OnOk result ((number : ℕ) → index_number (find_index self.old.schema name.now) ≡ Ok number →
             self.new ≡ opened_without self.old number) }
-        ensures plain { OnOk result (HasPlainIndexes self.old.schema self.old.states →
-            HasPlainIndexes self.new.schema self.new.states) }
         ensures kept { OnErr result (self.new ≡ self.old) }
         ensures refused { IfErr result (λ error.
             (maps : ℕ → Map) → IsRefused maps NeverRefuses self.old (drop_call self.old name.now) error tx.old tx.new) }
@@ -182,7 +179,8 @@ impl Store {
         Ok(())
     }
 
-    /// Disables the index of this name: its state is written, and its entries go. It reads nothing.
+    /// Disables the index of this name: its state is written, and what is kept of it goes. It reads
+    /// nothing.
     ///
     /// Refused with `UnknownIndex` where there is no such index, and last with the write limit that
     /// is met. After a refusal the store is as before.
@@ -192,8 +190,6 @@ impl Store {
             (disable_call self.old name.now) self.new.states tx.old tx.new) }
         ensures opened { OnOk result ((number : ℕ) → index_number (find_index self.old.schema name.now) ≡ Ok number →
             self.new ≡ opened_disabled self.old number) }
-        ensures plain { OnOk result (HasPlainIndexes self.old.schema self.old.states →
-            HasPlainIndexes self.new.schema self.new.states) }
         ensures kept { OnErr result (self.new ≡ self.old) }
         ensures refused { IfErr result (λ error.
             (maps : ℕ → Map) → IsRefused maps NeverRefuses self.old

@@ -5,6 +5,7 @@
 #![tactic(auto)]
 
 mod adding;
+mod aggregate;
 mod create;
 mod error;
 mod following;

@@ -1,26 +1,22 @@
 ghost use Rattle.std.specs.Prelude.{◌≡◌, ◌∷◌, [], IfOk, IfErr, IsTrue};
-ghost use Rattle.std.specs.List.{AllByRecursion, list_all};
 ghost use Rattle.std.specs.FinMap.{get as value_at};
 ghost use Rattle.kv_core.specs.Bytes.{end_of_keys, key_lt};
 ghost use Rattle.kv_core.specs.Map.{pairs_in};
 ghost use Rattle.kv_core.specs.Range.{point};
-ghost use Rattle.metadata.specs.declared.index.IndexKind.TheVariants.{Value};
 ghost use Rattle.metadata.specs.declared.index.State.TheVariants.{Disabled};
-ghost use Rattle.metadata.specs.Index.{is_value};
 ghost use Rattle.metadata.specs.Lawful.{IsLawfulSchema};
 ghost use Rattle.metadata.specs.Written.{schema_bytes};
 ghost use Rattle.record_store.specs.Layout.{schema_key, state_pair, states_range};
 ghost use Rattle.record_store.specs.Opening.{IsOpened, IsUnopened};
 ghost use Rattle.record_store.specs.Reading.{AreStates, HasNotRead, HaveNoStates, IsBadSchema, IsNoSchema};
 ghost use Rattle.record_store.specs.Reading.{IsNoState, IsPairOfState, IsSchema, same_pair};
-ghost use Rattle.record_store.specs.Holds.{HasPlainIndexes};
 ghost use Rattle.record_store.specs.Steps.{DidRead};
 
 use crate::error::StoreError;
 use crate::layout::{schema_key, state_key, state_value, states_range};
 use crate::store::Store;
 use kv_core::{Bytes, Pair};
-use metadata::{IndexDefinition, IndexKind, MetadataError, Schema, State};
+use metadata::{IndexDefinition, MetadataError, Schema, State};
 use std::alloc::{AllocError, Global};
 use txn::{Snapshot, Transaction};
 
@@ -61,40 +57,15 @@ pub(crate) fn read_states<S: Snapshot>(
     Ok(states)
 }
 
-// Whether the kind is that of a VALUE index.
-fn is_value(kind: IndexKind) -> bool
-    ensures { result ≡ is_value kind }
-{
-    match kind {
-        IndexKind::Value => true,
-        IndexKind::Count => false,
-        IndexKind::Sum => false,
-    }
-}
-
-// Whether all indexes are VALUE indexes.
-fn are_values(indexes: &[IndexDefinition]) -> bool
-    ensures { result ≡ list_all (λ index. is_value index.kind) indexes.now }
-{
-    indexes.iter().all(|index| is_value(index.kind))
-}
-
-// The schema of these bytes, all of whose indexes are VALUE indexes.
+// The schema of these bytes.
 fn decode_schema(alloc: Global, prefix: &[u8], bytes: &Bytes) -> Result<Schema, StoreError>
     requires { IsTrue (key_lt prefix.now end_of_keys) }
     ensures made { IfOk result IsLawfulSchema }
-    ensures kinds { IfOk result (λ schema. AllByRecursion (λ index. index.kind ≡ Value) schema.indexes) }
     ensures bytes { IfOk result (λ schema. bytes.now ≡ schema_bytes schema) }
     ensures refused { IfErr result (IsBadSchema prefix.now bytes.now) }
 {
     match Schema::decode(alloc, bytes.as_slice()) {
-        Ok(schema) => {
-            if are_values(schema.indexes()) {
-                Ok(schema)
-            } else {
-                Err(StoreError::Corrupt(schema_key(alloc, prefix)?))
-            }
-        }
+        Ok(schema) => Ok(schema),
         Err(MetadataError::Memory) => Err(StoreError::Memory),
         Err(MetadataError::Refused(_)) => Err(StoreError::Corrupt(schema_key(alloc, prefix)?)),
     }
@@ -172,9 +143,8 @@ impl Store {
     ///
     /// Refused with `NoStore` where no schema stands there, with `Corrupt` and its key where the
     /// first pair that isn't of the written form is the schema's or a state's, and with the
-    /// snapshot's refusal of a read. Of the written form are schemas whose indexes are all VALUE
-    /// indexes, and pairs of those of them that are disabled: where there is an index of another
-    /// kind, or a pair of another state, `Corrupt` is answered.
+    /// snapshot's refusal of a read. Of the written form are the pairs of those of the schema's
+    /// indexes that are disabled: where there is a pair of another state, `Corrupt` is answered.
     pub fn open<S: Snapshot>(
         alloc: Global,
         prefix: &[u8],
@@ -184,7 +154,6 @@ impl Store {
         requires { IsTrue (key_lt prefix.now end_of_keys) }
         ensures opened { IfOk result (λ store. IsOpened (S.map_at db.now) store tx.old tx.new) }
         ensures prefix { IfOk result (λ store. store.prefix ≡ prefix.now) }
-        ensures plain { IfOk result (λ store. HasPlainIndexes store.schema store.states) }
         ensures refused { IfErr result (λ error.
             IsUnopened (S.map_at db.now) (S.may_refuse db.now) prefix.now error tx.old tx.new) }
     {

@@ -1,5 +1,4 @@
 ghost use Rattle.std.specs.Prelude.{◌≡◌, IfOk, IfErr};
-ghost use Rattle.record_store.specs.Holds.{HasPlainIndexes};
 ghost use Rattle.record_store.specs.IndexWrites.{remove_writes, store_of};
 ghost use Rattle.record_store.specs.Call.{IsAnswered, IsRefused};
 ghost use Rattle.record_store.specs.Calls.{remove_call};
@@ -36,7 +35,8 @@ impl Store {
     }
 
     /// Takes out the record of the type of this name with these key cells, and tells whether there
-    /// was one; the readable indexes of its type follow. Where there was none nothing is written.
+    /// was one; the readable indexes of its type follow, of whatever kind. Where there was none
+    /// nothing is written.
     ///
     /// Refused as `load` is, and last with the write limit that the removal meets.
     pub fn remove<S: Snapshot>(
@@ -46,7 +46,6 @@ impl Store {
         type_name: &Text,
         key: &Cells,
     ) -> Result<bool, StoreError>
-        requires { HasPlainIndexes self.now.schema self.now.states }
         ensures removed { IfOk result (λ was_there.
             IsAnswered (S.map_at db.now) self.now
             (remove_call self.now type_name.now key.now) was_there tx.old tx.new) }

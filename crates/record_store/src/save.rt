@@ -6,7 +6,6 @@ ghost use Rattle.metadata.specs.Schema.{find_type};
 ghost use Rattle.record_store.specs.Call.{IsAnswered, IsRefused};
 ghost use Rattle.kv_core.specs.declared.change.Mutation.TheVariants.{Set};
 ghost use Rattle.record_store.specs.Calls.{is_own, save_call};
-ghost use Rattle.record_store.specs.Holds.{HasPlainIndexes};
 ghost use Rattle.record_store.specs.IndexWrites.{index_writes, store_of};
 ghost use Rattle.record_store.specs.Layout.{record_key, record_value};
 
@@ -56,7 +55,7 @@ impl Store {
     }
 
     /// Puts a record in the place of the one with its primary key, which is answered, and has the
-    /// readable indexes of its type follow.
+    /// readable indexes of its type follow, of whatever kind. For an index nothing is read.
     ///
     /// Refused with `OtherSchema` where the store's schema hasn't the record's type, before
     /// anything is read; then with the snapshot's refusal of the read, with `Corrupt` and the
@@ -68,7 +67,6 @@ impl Store {
         db: &S,
         new: &Record,
     ) -> Result<Option<Record>, StoreError>
-        requires { HasPlainIndexes self.now.schema self.now.states }
         ensures saved { IfOk result (λ old.
             IsAnswered (S.map_at db.now) self.now (save_call self.now new.now) old tx.old tx.new) }
         ensures refused { IfErr result (λ error.

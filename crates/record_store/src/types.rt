@@ -6,7 +6,6 @@ ghost use Rattle.metadata.specs.Lawful.{IsLawfulSchema};
 ghost use Rattle.txn.specs.Refusing.{NeverRefuses};
 ghost use Rattle.record_store.specs.Call.{IsAnswered, IsRefused};
 ghost use Rattle.record_store.specs.Calls.{type_call};
-ghost use Rattle.record_store.specs.Holds.{HasPlainIndexes};
 
 use crate::create::schema_mutations;
 use crate::error::StoreError;
@@ -40,8 +39,6 @@ impl Store {
             IsAnswered maps self.old (type_call self.old request.now) self.new.schema tx.old tx.new) }
         ensures prefix { OnOk result (self.new.prefix ≡ self.old.prefix) }
         ensures schema { OnOk result (add_type self.old.schema request.now ≡ Ok self.new.schema) }
-        ensures plain { OnOk result (HasPlainIndexes self.old.schema self.old.states →
-            HasPlainIndexes self.new.schema self.new.states) }
         ensures kept { OnErr result (self.new ≡ self.old) }
         ensures refused { IfErr result (λ error.
             (maps : ℕ → Map) → IsRefused maps NeverRefuses self.old

@@ -41,7 +41,7 @@ Replied serial attempt = is_accepted attempt.reply ≡ true → IsReply serial a
 
 -- an empty map holds no store
 holds_nothing : Stands empty None
-holds_nothing = record { held = λ bytes. get-empty key_cmp (store_prefix ++ bytes); plain = tt }
+holds_nothing = λ bytes. get-empty key_cmp (store_prefix ++ bytes)
 
 serial_replied : (serial : Serial) (attempts : List Attempt) → IsSerialAt serial attempts → AllReplied Stands Replied attempted serial attempts
 serial_replied serial [] is = tt

@@ -1,6 +1,5 @@
 -- What making a store comes to.
 use Rattle.std.proofs.Common.{◌≡◌, ℕ, List, [], ◌++◌, append-nil, refl, sym, ap, subst, ◌∙◌, inl, inr, Option, Some, None, Ok, Err}
-use Rattle.std.specs.List.{AllByRecursion}
 use Rattle.std.specs.FinMap.{get}
 use Rattle.kv_core.specs.Range.{KeyRange}
 use Rattle.kv_core.specs.Map.{Map, after_all}
@@ -18,8 +17,6 @@ use Rattle.kv_core.specs.declared.change.WriteError.{WriteError}
 use Rattle.kv_core.specs.declared.change.WriteError.TheVariants as write
 use Rattle.metadata.specs.Answers.{IsRefusedAs}
 use Rattle.metadata.specs.Asked.{SchemaRequest, schema_asked}
-use Rattle.metadata.specs.declared.index.IndexDefinition.{IndexDefinition}
-use Rattle.metadata.specs.declared.index.IndexKind.TheVariants.{Value}
 use Rattle.metadata.specs.Schema.{Schema}
 use Rattle.record_store.specs.declared.error.StoreError.{StoreError}
 use Rattle.record_store.specs.declared.error.StoreError.TheVariants.{Memory, Read, Write, Corrupt, Refused}
@@ -40,7 +37,6 @@ use Rattle.schedule.specs.Holds.{Stands}
 use Rattle.schedule.specs.Reach.{opened_in, added_by, make_reach, open_reach, reach, schema_written, writes}
 use Rattle.schedule.specs.Performed.{IsLimited, IsMade, IsMadeOf, IsPerformed, IsPerformedAt, IsSound, IsTold}
 use Rattle.schedule.specs.Calls.{IsRefused, reply_of}
-use Rattle.record_store.proofs.Plain.{created_plain}
 use Rattle.schedule.proofs.Reached.{begin_open, next_within, opening_asked}
 use Rattle.schedule.proofs.Stops.{IsRight, IsStop, limit_right, own_right, read_right, refused_by, refused_memory, stop_memory, told_read, told_refused}
 
@@ -118,12 +114,14 @@ uncreated_at {refuses = refuses} {old = old} request schema error made is = refu
     right (Refused refusal) ranges m says serial stands = absurd says
     right fault.NoStore ranges m says serial stands = absurd says
     right fault.OtherSchema ranges m says serial stands = absurd says
-    right fault.AlreadyThere ranges m says None stands = absurd (says.2 None stands.held refl)
+    right fault.NotAggregate ranges m says serial stands = absurd says
+    right fault.NotReadable ranges m says serial stands = absurd says
+    right fault.AlreadyThere ranges m says None stands = absurd (says.2 None stands refl)
     right fault.AlreadyThere ranges m says (Some store) stands =
         own_right refused (Create request) old.mutations fault.AlreadyThere AlreadyThere m (Some store) refl (sym (ap (λ o. (served_create (Some store) o).0) made)) refl
     right (Write reason) ranges m says None stands =
         limit_right refused (Create request) old.mutations reason m None (ap (write_all_refusal old.mutations) (writes_none request schema made) ∙ says.2)
-    right (Write reason) ranges m says (Some store) stands = let none : ◌≡◌ {A = Option Store} (Some store) None = says.3 (Some store) stands.held in absurd (cc)
+    right (Write reason) ranges m says (Some store) stands = let none : ◌≡◌ {A = Option Store} (Some store) None = says.3 (Some store) stands in absurd (cc)
 
     stop : (error : StoreError) (ranges : List KeyRange) (m : Map) → IsCreateFailure refused (fresh_at schema) error old.mutations ranges m → IsStop refused None (Create request) old.mutations error ranges m
     stop Memory ranges m says = stop_memory refused None (Create request) old.mutations ranges m tt (begin_open (Create request) [] opened says) (λ serial stands. subst (IsBeginning ranges) (added_there request m serial) (begin_open (Create request) [] opened says))
@@ -137,6 +135,8 @@ uncreated_at {refuses = refuses} {old = old} request schema error made is = refu
     stop (Refused refusal) ranges m says = absurd says
     stop fault.NoStore ranges m says = absurd says
     stop fault.OtherSchema ranges m says = absurd says
+    stop fault.NotAggregate ranges m says = absurd says
+    stop fault.NotReadable ranges m says = absurd says
     stop fault.AlreadyThere ranges m says = record {
       there = tt;
       reads = all ranges says.0;
@@ -156,15 +156,15 @@ uncreated {maps = maps} {refuses = refuses} {old = old} {new = new} request pref
     uncreated_at request schema error made (subst (λ p. IsUncreated maps refuses (record { prefix = p; schema = schema; states = [] }) error old new) here is)
 
 -- MADE
-created_at : {maps : ℕ → Map} {refuses : KeyRange → ReadError → Type 0} {old new : CommitRequest} (request : SchemaRequest) (schema : Schema) → schema_asked request ≡ Ok schema → AllByRecursion (λ (index : IndexDefinition). index.kind ≡ Value) schema.indexes → IsCreated maps (fresh_at schema) old new → IsPerformed maps refuses (Create request) reply.Done old new
-created_at {refuses = refuses} {old = old} request schema made kinds is = record {
+created_at : {maps : ℕ → Map} {refuses : KeyRange → ReadError → Type 0} {old new : CommitRequest} (request : SchemaRequest) (schema : Schema) → schema_asked request ≡ Ok schema → IsCreated maps (fresh_at schema) old new → IsPerformed maps refuses (Create request) reply.Done old new
+created_at {refuses = refuses} {old = old} request schema made is = record {
   opened = None;
   added = opening_reach store_prefix;
   written = schema_writes store_prefix schema;
   changes = refl;
   ran = ran_because is.ran (λ m fact. (
     record { there = tt; reads = all; told = subst (λ o. IsMadeOf o reply.Done m) (sym made) fact.0 },
-    λ serial stands. right m serial stands (fact.1 serial stands.held),
+    λ serial stands. right m serial stands (fact.1 serial stands),
   ));
 }
   where
@@ -177,11 +177,11 @@ created_at {refuses = refuses} {old = old} request schema made kinds is = record
     right m None stands known = record {
       right = inl (subst (λ o. IsLimited o None (Create request) reply.Done) (sym is.allowed ∙ ap (write_all_refusal old.mutations) (sym (writes_none request schema made))) (sym (ap (λ o. (served_create None o).0) made)));
       wrote = sym (writes_none request schema made);
-      holds = subst (Stands (after_all (schema_writes store_prefix schema) m)) (sym (ap (λ o. (served_create None o).1) made)) (record { held = known.1; plain = created_plain schema kinds });
+      holds = subst (Stands (after_all (schema_writes store_prefix schema) m)) (sym (ap (λ o. (served_create None o).1) made)) known.1;
       reads = all ∙ added_there request m None;
     }
 
 pub created_now : {maps : ℕ → Map} {refuses : KeyRange → ReadError → Type 0} {old new : CommitRequest} (request : SchemaRequest) (opened : Opened) (schema : Schema) → opened.prefix ≡ store_prefix → opened.schema ≡ schema → opened.states ≡ [] →
-    schema_asked request ≡ Ok schema → AllByRecursion (λ (index : IndexDefinition). index.kind ≡ Value) schema.indexes → IsCreated maps opened old new → IsPerformed maps refuses (Create request) reply.Done old new
-created_now {maps = maps} {old = old} {new = new} request opened schema here same none made kinds is =
-    created_at request schema made kinds (subst (λ o. IsCreated maps o old new) (λ i. record { prefix = here i; schema = same i; states = none i }) is)
+    schema_asked request ≡ Ok schema → IsCreated maps opened old new → IsPerformed maps refuses (Create request) reply.Done old new
+created_now {maps = maps} {old = old} {new = new} request opened schema here same none made is =
+    created_at request schema made (subst (λ o. IsCreated maps o old new) (λ i. record { prefix = here i; schema = same i; states = none i }) is)

@@ -6,25 +6,23 @@ use Rattle.kv_core.specs.declared.change.CommitRequest.{CommitRequest}
 use Rattle.cluster_core.specs.declared.answers.ReadError.{ReadError}
 use Rattle.txn.proofs.Running.{ran_still}
 use Rattle.metadata.specs.declared.index.IndexDefinition.{IndexDefinition}
-use Rattle.metadata.specs.declared.index.IndexKind.TheVariants.{Value}
 use Rattle.metadata.specs.declared.index.IndexRequest.{IndexRequest}
 use Rattle.metadata.specs.declared.index.State as states
 use Rattle.metadata.specs.declared.refusal.Refusal.{Refusal}
 use Rattle.metadata.specs.IndexChange.{new_index}
 use Rattle.metadata.specs.Schema.{find_index}
-use Rattle.metadata.proofs.AskedKinds.{added_kinds}
 use Rattle.record_store.specs.Store.{Store, state_in}
 use Rattle.record_store.specs.declared.error.StoreError.TheVariants.{Refused}
-use Rattle.record_store.specs.Call.{Call, IsAnswered, IsOpenAs, Opened, Service, whole}
+use Rattle.record_store.specs.Call.{Call, IsAnswered, IsOpenAs, Never, Opened, Service, whole}
 use Rattle.record_store.specs.Opening.{IsOpened}
 use Rattle.record_store.specs.Calls.{disable_call, disable_service, done_with, drop_call, drop_service, index_call, index_number, index_service, state_named}
-use Rattle.record_store.proofs.Plain.{disabled_plain, dropped_plain, indexed_plain}
 use Rattle.schedule.specs.declared.step.Command.TheVariants.{Index, Drop, Disable, State}
 use Rattle.schedule.specs.declared.reply.Reply.{Reply}
 use Rattle.schedule.specs.declared.reply.Reply.TheVariants as reply
 use Rattle.schedule.specs.Serve.{served_by, served_disable, served_drop, served_index, served_state}
 use Rattle.schedule.specs.Reach.{disabling, dropping, first_reading, indexing}
 use Rattle.schedule.specs.Calls.{IsRefused}
+use Rattle.schedule.specs.Refusals.{of_schema}
 use Rattle.schedule.specs.Performed.{IsPerformed}
 use Rattle.schedule.specs.Layout.{store_prefix}
 use Rattle.schedule.proofs.Outcomes.{Meets, Refuses, Serves, located, performed, refused_own}
@@ -36,8 +34,8 @@ use Rattle.schedule.proofs.Serving.{done_meets}
 abbrev pub told_index : states.State → Reply
 told_index state = reply.State state
 
-pub index_meets : (opened : Opened) (request : IndexRequest) → request.kind ≡ Value → Meets (at opened) (Index request) (index_call (at opened) request) told_index
-index_meets opened request kind = done_meets (at opened) (Index request) (index_service (at opened)) told_index (new_index opened.schema request) serves refuses
+pub index_meets : (opened : Opened) (request : IndexRequest) → Meets (at opened) (Index request) (index_call (at opened) request) told_index
+index_meets opened request = done_meets (at opened) (Index request) (index_service (at opened)) told_index (new_index opened.schema request) serves refuses
   where
     here : {o : Result IndexDefinition Refusal} (store : Store) → IsOpenAs (at opened) store → new_index opened.schema request ≡ o → new_index store.schema request ≡ o
     here store same is = ap (λ s. new_index s request) same.schema ∙ is
@@ -45,18 +43,20 @@ index_meets opened request kind = done_meets (at opened) (Index request) (index_
     serves : (index : IndexDefinition) → new_index opened.schema request ≡ Ok index → Serves (at opened) (Index request) (index_service (at opened) index) told_index
     serves index is = record {
       opens = refl;
+      undamaged = λ m. refl;
       reads = ap first_reading is;
+      unobjected = refl;
       accepted = λ state. refl;
       reading = λ state. refl;
       replies = λ store lawful same. sym (ap (λ o. (served_by store (served_index store) o).0) (here store same is));
       leaves = λ store same. ap (λ o. (served_by store (served_index store) o).1) (here store same is);
       wrote = λ store same. ap (indexing store) (here store same is);
-      plain = λ store same plain. indexed_plain store index (added_kinds opened.schema request index kind is) plain;
     }
 
-    refuses : (refusal : Refusal) → new_index opened.schema request ≡ Err refusal → Refuses (at opened) (Index request) refusal
+    refuses : (refusal : Refusal) → new_index opened.schema request ≡ Err refusal → Refuses (at opened) (Index request) (of_schema refusal)
     refuses refusal is = record {
       opens = refl;
+      undamaged = λ m. refl;
       reads = ap first_reading is;
       replies = λ store same. sym (ap (λ o. (served_by store (served_index store) o).0) (here store same is));
       idle = λ store same. ap (indexing store) (here store same is);
@@ -77,18 +77,20 @@ drop_meets opened name = done_meets (at opened) (Drop name) (drop_service (at op
     serves : (number : ℕ) → index_number (find_index opened.schema name) ≡ Ok number → Serves (at opened) (Drop name) (drop_service (at opened) number) told_done
     serves number is = record {
       opens = refl;
+      undamaged = λ m. refl;
       reads = refl;
+      unobjected = refl;
       accepted = λ answer. refl;
       reading = λ answer. refl;
       replies = λ store lawful same. sym (ap (λ o. (served_by store (served_drop store) o).0) (numbered opened name store same is));
       leaves = λ store same. ap (λ o. (served_by store (served_drop store) o).1) (numbered opened name store same is);
       wrote = λ store same. ap (dropping store) (numbered opened name store same is);
-      plain = λ store same plain. dropped_plain store number plain;
     }
 
-    refuses : (refusal : Refusal) → index_number (find_index opened.schema name) ≡ Err refusal → Refuses (at opened) (Drop name) refusal
+    refuses : (refusal : Refusal) → index_number (find_index opened.schema name) ≡ Err refusal → Refuses (at opened) (Drop name) (of_schema refusal)
     refuses refusal is = record {
       opens = refl;
+      undamaged = λ m. refl;
       reads = refl;
       replies = λ store same. sym (ap (λ o. (served_by store (served_drop store) o).0) (numbered opened name store same is));
       idle = λ store same. ap (dropping store) (numbered opened name store same is);
@@ -100,18 +102,20 @@ disable_meets opened name = done_meets (at opened) (Disable name) (disable_servi
     serves : (number : ℕ) → index_number (find_index opened.schema name) ≡ Ok number → Serves (at opened) (Disable name) (disable_service (at opened) number) told_done
     serves number is = record {
       opens = refl;
+      undamaged = λ m. refl;
       reads = refl;
+      unobjected = refl;
       accepted = λ answer. refl;
       reading = λ answer. refl;
       replies = λ store lawful same. sym (ap (λ o. (served_by store (served_disable store) o).0) (numbered opened name store same is));
       leaves = λ store same. ap (λ o. (served_by store (served_disable store) o).1) (numbered opened name store same is);
       wrote = λ store same. ap disabling (numbered opened name store same is);
-      plain = λ store same plain. disabled_plain store number plain;
     }
 
-    refuses : (refusal : Refusal) → index_number (find_index opened.schema name) ≡ Err refusal → Refuses (at opened) (Disable name) refusal
+    refuses : (refusal : Refusal) → index_number (find_index opened.schema name) ≡ Err refusal → Refuses (at opened) (Disable name) (of_schema refusal)
     refuses refusal is = record {
       opens = refl;
+      undamaged = λ m. refl;
       reads = refl;
       replies = λ store same. sym (ap (λ o. (served_by store (served_disable store) o).0) (numbered opened name store same is));
       idle = λ store same. ap disabling (numbered opened name store same is);
@@ -123,6 +127,7 @@ disable_meets opened name = done_meets (at opened) (Disable name) (disable_servi
 abbrev state_service : ℕ → Service states.State
 state_service number = record {
   reading = whole [];
+  objection = Never;
   answer = λ store. state_in store.states number;
   after = λ store. store;
   writes = λ store. [];
@@ -132,9 +137,10 @@ state_service number = record {
 abbrev state_call : Opened → List ℕ → Call states.State
 state_call opened name = done_with state_service (index_number (find_index opened.schema name))
 
-state_refuses : (opened : Opened) (name : List ℕ) (refusal : Refusal) → index_number (find_index opened.schema name) ≡ Err refusal → Refuses (at opened) (State name) refusal
+state_refuses : (opened : Opened) (name : List ℕ) (refusal : Refusal) → index_number (find_index opened.schema name) ≡ Err refusal → Refuses (at opened) (State name) (of_schema refusal)
 state_refuses opened name refusal is = record {
   opens = refl;
+  undamaged = λ m. refl;
   reads = refl;
   replies = λ store same. sym (ap (λ o. (served_by store (served_state store) o).0) (numbered opened name store same is));
   idle = λ store same. refl;
@@ -146,13 +152,14 @@ state_meets opened name = done_meets (at opened) (State name) state_service told
     serves : (number : ℕ) → index_number (find_index opened.schema name) ≡ Ok number → Serves (at opened) (State name) (state_service number) told_index
     serves number is = record {
       opens = refl;
+      undamaged = λ m. refl;
       reads = refl;
+      unobjected = refl;
       accepted = λ state. refl;
       reading = λ state. refl;
       replies = λ store lawful same. sym (ap (λ o. (served_by store (served_state store) o).0) (numbered opened name store same is));
       leaves = λ store same. ap (λ o. (served_by store (served_state store) o).1) (numbered opened name store same is);
       wrote = λ store same. refl;
-      plain = λ store same plain. plain;
     }
 
 -- the index of a name whose state is known
@@ -176,7 +183,7 @@ state_answered opened name state is =
       added = [];
       written = [];
       changes = refl;
-      ran = ran_still refl (λ m. (refl, tt, λ store holds as_opened. record { answers = same ∙ ap (λ ss. state_in ss number) (sym as_opened.states); wrote = refl; allowed = refl; holds = holds }));
+      ran = ran_still refl (λ m. (refl, tt, λ store holds as_opened. record { accepted = refl; answers = same ∙ ap (λ ss. state_in ss number) (sym as_opened.states); wrote = refl; allowed = refl; holds = holds }));
     }
 
 -- STATE: the state that the opened store has of the index is the reply
@@ -188,5 +195,5 @@ state_performed opened name state here is_opened is =
 pub state_refused : {maps : ℕ → Map} {refuses : KeyRange → ℕ → ReadError → Type 0} {old new : CommitRequest} (opened : Opened) (name : List ℕ) (refusal : Refusal) → opened.prefix ≡ store_prefix → IsOpened maps opened old new →
     state_named opened name ≡ Err refusal → IsRefused maps refuses (State name) (Refused refusal) old new
 state_refused {maps = maps} {old = old} {new = new} opened name refusal here is_opened is =
-    refused_own opened (State name) refusal (state_refuses opened name refusal (state_unknown opened.states (find_index opened.schema name) refusal is))
-    (subst (λ o. IsOpened maps o old new) (located opened here) is_opened)
+    refused_own opened (State name) (of_schema refusal) (state_refuses opened name refusal (state_unknown opened.states (find_index opened.schema name) refusal is))
+    (subst (λ o. IsOpened maps o old new) (located opened here) is_opened) (Refused refusal) refl

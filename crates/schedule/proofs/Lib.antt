@@ -16,7 +16,11 @@ pub mod Stops
 pub mod Outcomes
 pub mod Serving
 pub mod IndexServing
+pub mod Aggregating
 pub mod Plans
 pub mod Creating
+pub mod Executions
+pub mod Querying
+pub mod ExecuteSteps
 pub mod Examples
 pub mod IndexExamples

@@ -1,5 +1,5 @@
 -- What commands come to, from what the calls that they make on the store establish.
-use Rattle.std.proofs.Common.{◌≡◌, ℕ, Bool, true, not, cond, ◌==◌, List, [], ◌∷◌, ◌++◌, inl, inr, refl, sym, ap, subst, ◌∙◌, append-nil, Some, None, Ok, Err, Result, length, arith}
+use Rattle.std.proofs.Common.{◌≡◌, ℕ, Bool, true, not, cond, ◌==◌, List, [], ◌∷◌, ◌++◌, inl, inr, refl, sym, ap, subst, ◌∙◌, append-nil, option_map, Some, None, Ok, Err, Result, length, arith}
 use Rattle.std.proofs.lemmas.Bool.{eqb-true}
 use Rattle.kv_core.specs.Range.{KeyRange}
 use Rattle.kv_core.specs.Map.{Map, after_all}
@@ -12,16 +12,17 @@ use Rattle.txn.proofs.Running.{ran_because, ran_then}
 use Rattle.metadata.specs.declared.refusal.MetadataError.{MetadataError}
 use Rattle.metadata.specs.declared.refusal.MetadataError.TheVariants as meta
 use Rattle.metadata.specs.declared.refusal.Refusal.{Refusal as SchemaRefusal}
-use Rattle.schedule.specs.Refusals.{of_schema}
+use Rattle.schedule.specs.Refusals.{of_schema, own_refusal}
+use Rattle.schedule.specs.declared.refusal.Refusal.{Refusal}
 use Rattle.schedule.specs.declared.refusal.Refusal.TheVariants.{NoStore}
 use Rattle.metadata.specs.Answers.{IsRefusedAs}
 use Rattle.record_store.specs.declared.error.StoreError.{StoreError}
 use Rattle.record_store.specs.declared.error.StoreError.TheVariants.{Memory, Read, Write, Corrupt, Refused}
 use Rattle.record_store.specs.declared.error.StoreError.TheVariants as fault
 use Rattle.record_store.specs.Store.{Store, Serial}
-use Rattle.record_store.specs.Holds.{HasPlainIndexes, Holds, IsLawful}
-use Rattle.record_store.specs.Call.{AtStore, Call, IsAnswered, IsDone, IsFailure, IsOpenAs, Opened, Reading, Service, whole}
-use Rattle.record_store.specs.Form.{IsFirstBad, IsRecordPair}
+use Rattle.record_store.specs.Holds.{Holds, IsLawful}
+use Rattle.record_store.specs.Call.{AtStore, Call, IsAnswered, IsDone, IsFailure, IsObjectedTo, IsOpenAs, Never, Opened, Reading, Service, whole}
+use Rattle.record_store.specs.Form.{IsFirstBad, IsWritten}
 use Rattle.record_store.specs.Call as call
 use Rattle.record_store.specs.Opening.{AtSerials, HasSchema, IsOpenFailure, IsOpened, IsThereAs, IsUnopened, opening_reach}
 use Rattle.record_store.specs.Steps.{IsBeginning, IsNextRefused, of_metadata}
@@ -33,11 +34,11 @@ use Rattle.schedule.specs.Layout.{store_prefix}
 use Rattle.schedule.specs.Serve.{IsReply, effect}
 use Rattle.schedule.specs.Past.{is_accepted, is_reading}
 use Rattle.schedule.specs.Holds.{Stands}
-use Rattle.schedule.specs.Reach.{opened_in, added_by, open_reach, own_reading, reach, writes}
+use Rattle.schedule.specs.Reach.{opened_in, added_by, open_reach, own_damage, own_reading, reach, writes}
 use Rattle.schedule.specs.Performed.{IsLimited, IsPerformed, IsPerformedAt, IsReadAs, IsReadRefusedAs, IsSound, IsTold}
-use Rattle.schedule.specs.Calls.{IsRefused}
+use Rattle.schedule.specs.Calls.{IsRefused, reply_of}
 use Rattle.schedule.proofs.Reached.{added_begin, all_added, alone, begin_open, next_within, opening_added, opening_asked, own_asked, sound_by, sound_none, told_accepted}
-use Rattle.schedule.proofs.Stops.{IsRight, IsStop, at, limit_right, memory_opened, own_right, read_right, refused_by, served_idle, opened_is, stop_memory, told_damage, told_limit, told_read, told_refused}
+use Rattle.schedule.proofs.Stops.{HasStopped, IsRight, IsStop, at, limit_right, memory_opened, own_right, read_right, refused_by, served_idle, opened_is, stop_memory, told_damage, told_limit, told_read, told_refused}
 
 -- UNOPENED: no store was opened
 pub refused_unopened : {maps : ℕ → Map} {refuses : KeyRange → ℕ → ReadError → Type 0} {old new : CommitRequest} (command : Command) (error : StoreError) → open_reach command ≡ opening_reach store_prefix → IsReply None command (reply.Refused NoStore) →
@@ -67,20 +68,22 @@ refused_unopened {refuses = refuses} {old = old} command error opens is none uno
       there = tt;
       reads = says.0 ∙ opening_added None command m opens (alone command);
       told = λ answer same. told_damage None command key answer m same (says.1, says.2);
-      held = λ serial stands. absurd (says.3 serial stands.held stands.plain);
+      held = λ serial stands. absurd (says.3 serial stands);
     }
     stop fault.NoStore ranges m says = record {
       there = tt;
       reads = says.0 ∙ opening_added None command m opens (alone command);
       told = λ answer same. told_refused None command NoStore answer m same (sound_none command m says.1);
       held = λ serial stands. (
-        nothing m serial (says.2 serial stands.held),
-        says.0 ∙ opening_added None command m opens (alone command) ∙ ap (λ (s : Serial). added_by (opened_in s) command m) (sym (says.2 serial stands.held)),
+        nothing m serial (says.2 serial stands),
+        says.0 ∙ opening_added None command m opens (alone command) ∙ ap (λ (s : Serial). added_by (opened_in s) command m) (sym (says.2 serial stands)),
       );
     }
     stop (Refused refusal) ranges m says = absurd says
     stop fault.AlreadyThere ranges m says = absurd says
     stop fault.OtherSchema ranges m says = absurd says
+    stop fault.NotAggregate ranges m says = absurd says
+    stop fault.NotReadable ranges m says = absurd says
 
 -- ---- calls on an open store
 
@@ -88,54 +91,68 @@ refused_unopened {refuses = refuses} {old = old} command error opens is none uno
 pub record Serves {A : Type 0} (opened : Opened) (command : Command) (service : Service A) (told : A → Reply) : Type 0 where
   pub opens : open_reach command ≡ opening_reach store_prefix
   pub reads : own_reading (Some opened) command ≡ service.reading
+  pub unobjected : service.objection ≡ Never
+  pub undamaged : (m : Map) → own_damage (Some opened) command m ≡ None
   pub accepted : (answer : A) → is_accepted (told answer) ≡ true
   pub reading : (answer : A) → not (service.changes answer) ≡ is_reading command (told answer)
   pub replies : (store : Store) → IsLawful store → IsOpenAs opened store → IsReply (Some store) command (told (service.answer store))
   pub leaves : (store : Store) → IsOpenAs opened store → effect (Some store) command ≡ Some (service.after store)
   pub wrote : (store : Store) → IsOpenAs opened store → writes (Some store) command ≡ service.writes store
-  pub plain : (store : Store) → IsOpenAs opened store → HasPlainIndexes store.schema store.states → HasPlainIndexes (service.after store).schema (service.after store).states
 
--- what a command is that is refused by the schema: it reads nothing behind the opening, at each store that was opened so this is its reply, and it writes nothing
-pub record Refuses (opened : Opened) (command : Command) (refusal : SchemaRefusal) : Type 0 where
+-- what a command is whose call has its own refusal: it reads nothing behind the opening, at each store that was opened so this is its reply, and it writes nothing
+pub record Refuses (opened : Opened) (command : Command) (refusal : Refusal) : Type 0 where
   pub opens : open_reach command ≡ opening_reach store_prefix
   pub reads : own_reading (Some opened) command ≡ whole []
-  pub replies : (store : Store) → IsOpenAs opened store → IsReply (Some store) command (reply.Refused (of_schema refusal))
+  pub undamaged : (m : Map) → own_damage (Some opened) command m ≡ None
+  pub replies : (store : Store) → IsOpenAs opened store → IsReply (Some store) command (reply.Refused refusal)
   pub idle : (store : Store) → IsOpenAs opened store → writes (Some store) command ≡ []
 
 -- what a command is by its call
 abbrev pub Meets : {A : Type 0} → Opened → Command → Call A → (A → Reply) → Type 0
 Meets opened command (Ok service) told = Serves opened command service told
-Meets opened command (Err error) told = (refusal : SchemaRefusal) × (error ≡ Refused refusal) × Refuses opened command refusal
+Meets opened command (Err error) told = (refusal : Refusal) × (own_refusal error ≡ Some refusal) × Refuses opened command refusal
 
 -- nothing is written when a store is opened
 unwritten : {maps : ℕ → Map} {old new : CommitRequest} (opened : Opened) → IsOpened maps (at opened) old new → new.mutations ≡ old.mutations
 unwritten {old = old} opened is = is.ran.wrote ∙ append-nil old.mutations
 
 -- the ranges that were added by what was opened are those that are added at what is there
-at_serial : (opened : Opened) (command : Command) (m : Map) (serial : Serial) (ranges : List KeyRange) → Holds store_prefix m serial → IsThereAs (at opened) serial → ranges ≡ added_by (Some (at opened)) command m → ranges ≡ added_by (opened_in serial) command m
+pub at_serial : (opened : Opened) (command : Command) (m : Map) (serial : Serial) (ranges : List KeyRange) → Holds store_prefix m serial → IsThereAs (at opened) serial → ranges ≡ added_by (Some (at opened)) command m → ranges ≡ added_by (opened_in serial) command m
 at_serial opened command m serial ranges holds has is = is ∙ ap (λ s. added_by s command m) (sym (opened_is (at opened) serial refl has))
 
-begin_serial : (opened : Opened) (command : Command) (m : Map) (serial : Serial) (ranges : List KeyRange) → Holds store_prefix m serial → IsThereAs (at opened) serial → IsBeginning ranges (added_by (Some (at opened)) command m) →
+pub begin_serial : (opened : Opened) (command : Command) (m : Map) (serial : Serial) (ranges : List KeyRange) → Holds store_prefix m serial → IsThereAs (at opened) serial → IsBeginning ranges (added_by (Some (at opened)) command m) →
     IsBeginning ranges (added_by (opened_in serial) command m)
 begin_serial opened command m serial ranges holds has begin = subst (IsBeginning ranges) (ap (λ s. added_by s command m) (sym (opened_is (at opened) serial refl has))) begin
 
--- OWN: a store was opened, and the command is refused by its schema
-pub refused_own : {maps : ℕ → Map} {refuses : KeyRange → ℕ → ReadError → Type 0} {old mid : CommitRequest} (opened : Opened) (command : Command) (refusal : SchemaRefusal) →
-    Refuses (at opened) command refusal → IsOpened maps (at opened) old mid → IsRefused maps refuses command (Refused refusal) old mid
-refused_own {refuses = refuses} {old = old} opened command refusal so is =
-    refused_by command (Some (at opened)) (Refused refusal) (opening_reach store_prefix) (ran_because is.ran (λ m has. record {
-      there = (refl, has.0);
-      reads = opening_added (Some (at opened)) command m so.opens so.reads;
-      told = λ answer same. told_refused (Some (at opened)) command (of_schema refusal) answer m same (sound_by (at opened) command (reply.Refused (of_schema refusal)) m (whole []) so.reads tt);
-      held = λ serial stands. (
-        right m serial (has.1 serial stands.held),
-        at_serial opened command m serial (opening_reach store_prefix) stands.held (has.1 serial stands.held) (opening_added (Some (at opened)) command m so.opens so.reads),
-      );
-    }))
-  where
-    right : (m : Map) (serial : Serial) → IsThereAs (at opened) serial → IsRight (λ range. refuses range old.read_version) command old.mutations (Refused refusal) m serial
-    right m None has = absurd has
-    right m (Some store) has = own_right (λ range. refuses range old.read_version) command old.mutations (Refused refusal) (of_schema refusal) m (Some store) refl (so.replies store has) (so.idle store has)
+-- OWN: a store was opened, and the command has its own refusal, which is told by an error behind all reads
+module _ {maps : ℕ → Map} {refuses : KeyRange → ℕ → ReadError → Type 0} {old mid : CommitRequest} (opened : Opened) (command : Command) (refusal : Refusal) (so : Refuses (at opened) command refusal) (is : IsOpened maps (at opened) old mid) where
+  own_stopped : (error : StoreError) → reply_of error ≡ Some (reply.Refused refusal) → ((all ranges : List KeyRange) → ranges ≡ all → HasStopped error all ranges) → IsRefused maps refuses command error old mid
+  own_stopped error replied stopped =
+      refused_by command (Some (at opened)) error (opening_reach store_prefix) (ran_because is.ran (λ m has. record {
+        there = (refl, has.0);
+        reads = stopped _ _ (opening_added (Some (at opened)) command m so.opens so.reads);
+        told = λ answer same. told_refused (Some (at opened)) command refusal answer m (sym replied ∙ same) (sound_by (at opened) command (reply.Refused refusal) m (whole []) so.reads (so.undamaged m) tt);
+        held = λ serial stands. (
+          right m serial (has.1 serial stands),
+          stopped _ _ (at_serial opened command m serial (opening_reach store_prefix) stands (has.1 serial stands) (opening_added (Some (at opened)) command m so.opens so.reads)),
+        );
+      }))
+    where
+      right : (m : Map) (serial : Serial) → IsThereAs (at opened) serial → IsRight (λ range. refuses range old.read_version) command old.mutations error m serial
+      right m None has = absurd has
+      right m (Some store) has = own_right (λ range. refuses range old.read_version) command old.mutations error refusal m (Some store) replied (so.replies store has) (so.idle store has)
+
+  pub refused_own : (error : StoreError) → own_refusal error ≡ Some refusal → IsRefused maps refuses command error old mid
+  refused_own (Refused why) own = own_stopped (Refused why) (ap (option_map reply.Refused) own) (λ all ranges same. same)
+  refused_own fault.NotAggregate own = own_stopped fault.NotAggregate (ap (option_map reply.Refused) own) (λ all ranges same. same)
+  refused_own fault.NotReadable own = own_stopped fault.NotReadable (ap (option_map reply.Refused) own) (λ all ranges same. same)
+  refused_own Memory own = absurd (cc)
+  refused_own (Read reason) own = absurd (cc)
+  refused_own (Write reason) own = absurd (cc)
+  refused_own (Corrupt key) own = absurd (cc)
+  refused_own fault.NoStore own = absurd (cc)
+  refused_own fault.AlreadyThere own = absurd (cc)
+  refused_own fault.OtherSchema own = absurd (cc)
 
 module _ {A : Type 0} (opened : Opened) (command : Command) (service : Service A) (told : A → Reply) (serves : Serves (at opened) command service told) (ranges : List KeyRange) (m : Map) where
   -- the ranges of the opening, and behind them those of the call
@@ -159,9 +176,9 @@ performed_at {refuses = refuses} {old = old} {mid = mid} {A = A} opened command 
     record {
       there = (refl, has.0);
       reads = all_added (told answer) (all_ranges opened command is.service told serves is.added m fact.0);
-      told = told_accepted (Some (at opened)) command (told answer) m (serves.accepted answer) (sound_by (at opened) command (told answer) m is.service.reading serves.reads fact.1);
+      told = told_accepted (Some (at opened)) command (told answer) m (serves.accepted answer) (sound_by (at opened) command (told answer) m is.service.reading serves.reads (serves.undamaged m) fact.1);
     },
-    λ serial stands. here m fact.0 fact.2 serial stands (has.1 serial stands.held),
+    λ serial stands. here m fact.0 fact.2 serial stands (has.1 serial stands),
   ));
 }
   where
@@ -172,15 +189,15 @@ performed_at {refuses = refuses} {old = old} {mid = mid} {A = A} opened command 
         IsPerformedAt refuses command (told answer) old.mutations is.written (opening_reach store_prefix ++ is.added) m serial
     here m reads done None stands has = absurd has
     here m reads done (Some store) stands has =
-        let now = done store stands.held has in
+        let now = done store stands has in
         let wrote : is.written ≡ writes (Some store) command = now.wrote ∙ sym (serves.wrote store has) in record {
           right = inl (subst (λ o. IsLimited o (Some store) command (told answer))
               (sym now.allowed ∙ ap (λ ms. write_all_refusal ms is.written) (unwritten opened is_opened) ∙ ap (write_all_refusal old.mutations) wrote)
-              (subst (λ a. IsReply (Some store) command (told a)) (sym now.answers) (serves.replies store stands.held.lawful has)));
+              (subst (λ a. IsReply (Some store) command (told a)) (sym now.answers) (serves.replies store stands.lawful has)));
           wrote = wrote ∙ ap (λ b. cond b (writes (Some store) command) []) (sym (serves.accepted answer));
           holds = subst (λ b. Stands (after_all is.written m) (cond b (effect (Some store) command) (Some store))) (sym (serves.accepted answer))
-              (subst (Stands (after_all is.written m)) (sym (serves.leaves store has)) (record { held = now.holds; plain = serves.plain store has stands.plain }));
-          reads = all_added (told answer) (at_serial opened command m (Some store) (opening_reach store_prefix ++ is.added) stands.held has (all_ranges opened command is.service told serves is.added m reads));
+              (subst (Stands (after_all is.written m)) (sym (serves.leaves store has)) now.holds);
+          reads = all_added (told answer) (at_serial opened command m (Some store) (opening_reach store_prefix ++ is.added) stands has (all_ranges opened command is.service told serves is.added m reads));
         }
 
 -- NOT ANSWERED: a store was opened, and a call on it was refused
@@ -189,7 +206,7 @@ refused_at : {maps : ℕ → Map} {refuses : KeyRange → ℕ → ReadError → 
 refused_at {maps = maps} {refuses = refuses} {old = old} {mid = mid} {new = new} opened command (Err refusal) told error opens (asked, same, meets) is_opened is =
     subst (λ (t : CommitRequest). IsRefused maps refuses command error old t) (sym is.1) (elim is.0 [
       | inl memory ↦ subst (λ e. IsRefused maps refuses command e old mid) (sym memory) (memory_opened opened command opens is_opened)
-      | inr own ↦ subst (λ e. IsRefused maps refuses command e old mid) (sym (own ∙ same)) (refused_own opened command asked meets is_opened)
+      | inr own ↦ subst (λ e. IsRefused maps refuses command e old mid) (sym own) (refused_own opened command asked meets is_opened refusal same)
     ])
 refused_at {refuses = refuses} {old = old} {mid = mid} opened command (Ok service) told error opens serves is_opened is =
     refused_by command (Some (at opened)) error (opening_reach store_prefix ++ is.added) (ran_then is_opened.ran is.ran (λ m has says. stop error is.added m has says))
@@ -200,28 +217,31 @@ refused_at {refuses = refuses} {old = old} {mid = mid} opened command (Ok servic
     same_version : mid.read_version ≡ old.read_version
     same_version = is_opened.ran.version
 
+    unobjected : (error : StoreError) (ranges : List KeyRange) (m : Map) → IsObjectedTo (at opened) service.reading service.objection error ranges m → ⊥
+    unobjected error ranges m says = subst (λ o. IsObjectedTo (at opened) service.reading o error ranges m) serves.unobjected says
+
     stop : (error : StoreError) (ranges : List KeyRange) (m : Map) → HasSchema (at opened) m × AtSerials store_prefix m (IsThereAs (at opened)) → IsFailure (λ range. refuses range mid.read_version) (at opened) service error mid.mutations ranges m →
         IsStop refused (Some (at opened)) command old.mutations error (opening_reach store_prefix ++ ranges) m
     stop Memory ranges m has says =
         stop_memory refused (Some (at opened)) command old.mutations (opening_reach store_prefix ++ ranges) m (refl, has.0) (first_ranges opened command service told serves ranges m says)
-        (λ serial stands. begin_serial opened command m serial (opening_reach store_prefix ++ ranges) stands.held (has.1 serial stands.held) (first_ranges opened command service told serves ranges m says))
+        (λ serial stands. begin_serial opened command m serial (opening_reach store_prefix ++ ranges) stands (has.1 serial stands) (first_ranges opened command service told serves ranges m says))
     stop (Read reason) ranges m has says = record {
       there = (refl, has.0);
       reads = first_ranges opened command service told serves ranges m says.0;
       told = λ answer same. told_read (Some (at opened)) command reason answer m same;
       held = λ serial stands. (
         λ answer same. inr (read_right refused (reach (opened_in serial) command m) reason answer same
-            (subst (λ s. IsReadRefusedAs refused (reach s command m) reason) (sym (opened_is (at opened) serial refl (has.1 serial stands.held)))
+            (subst (λ s. IsReadRefusedAs refused (reach s command m) reason) (sym (opened_is (at opened) serial refl (has.1 serial stands)))
             (next_within refused (service.reading.asked m) ranges (reach (Some (at opened)) command m) reason (own_asked (Some (at opened)) command m service.reading serves.reads)
             (subst (λ v. IsNextRefused (λ range. refuses range v) (service.reading.asked m) ranges reason) same_version says.1)))),
-        begin_serial opened command m serial (opening_reach store_prefix ++ ranges) stands.held (has.1 serial stands.held) (first_ranges opened command service told serves ranges m says.0),
+        begin_serial opened command m serial (opening_reach store_prefix ++ ranges) stands (has.1 serial stands) (first_ranges opened command service told serves ranges m says.0),
       );
     }
     stop (Corrupt key) ranges m has says = record {
       there = (refl, has.0);
       reads = all_ranges opened command service told serves ranges m says.0;
-      told = λ answer same. told_damage (Some (at opened)) command key answer m same (subst (λ (r : Reading). IsFirstBad (IsRecordPair store_prefix opened.schema) (r.pairs m) key) (sym serves.reads) says.1);
-      held = λ serial stands. damaged serial stands.held (has.1 serial stands.held);
+      told = λ answer same. told_damage (Some (at opened)) command key answer m same (inl (subst (λ (r : Reading). IsFirstBad (IsWritten store_prefix opened.schema) (r.pairs m) key) (sym serves.reads) says.1));
+      held = λ serial stands. damaged serial stands (has.1 serial stands);
     }
       where
         damaged : (serial : Serial) → Holds store_prefix m serial → IsThereAs (at opened) serial → IsRight refused command old.mutations (Corrupt key) m serial × (opening_reach store_prefix ++ ranges ≡ added_by (opened_in serial) command m)
@@ -230,10 +250,10 @@ refused_at {refuses = refuses} {old = old} {mid = mid} opened command (Ok servic
     stop (Write reason) ranges m has says = record {
       there = (refl, has.0);
       reads = all_ranges opened command service told serves ranges m says.0;
-      told = λ answer same. told_limit (Some (at opened)) command reason answer m same (λ refusal other. sound_by (at opened) command (reply.Refused refusal) m service.reading serves.reads says.1);
+      told = λ answer same. told_limit (Some (at opened)) command reason answer m same (λ refusal other. sound_by (at opened) command (reply.Refused refusal) m service.reading serves.reads (serves.undamaged m) says.1);
       held = λ serial stands. (
-        limited serial stands.held (has.1 serial stands.held),
-        at_serial opened command m serial (opening_reach store_prefix ++ ranges) stands.held (has.1 serial stands.held) (all_ranges opened command service told serves ranges m says.0),
+        limited serial stands (has.1 serial stands),
+        at_serial opened command m serial (opening_reach store_prefix ++ ranges) stands (has.1 serial stands) (all_ranges opened command service told serves ranges m says.0),
       );
     }
       where
@@ -241,11 +261,13 @@ refused_at {refuses = refuses} {old = old} {mid = mid} opened command (Ok servic
         limited None holds none = absurd none
         limited (Some store) holds same =
             limit_right refused command old.mutations reason m (Some store)
-            (ap (λ ms. write_all_refusal ms (writes (Some store) command)) (sym (unwritten opened is_opened)) ∙ ap (write_all_refusal mid.mutations) (serves.wrote store same) ∙ says.2 store holds same)
-    stop (Refused refusal) ranges m has says = absurd says
-    stop fault.NoStore ranges m has says = absurd says
-    stop fault.AlreadyThere ranges m has says = absurd says
-    stop fault.OtherSchema ranges m has says = absurd says
+            (ap (λ ms. write_all_refusal ms (writes (Some store) command)) (sym (unwritten opened is_opened)) ∙ ap (write_all_refusal mid.mutations) (serves.wrote store same) ∙ (says.2 store holds same).1)
+    stop (Refused refusal) ranges m has says = absurd (unobjected (Refused refusal) ranges m says)
+    stop fault.NoStore ranges m has says = absurd (unobjected fault.NoStore ranges m says)
+    stop fault.AlreadyThere ranges m has says = absurd (unobjected fault.AlreadyThere ranges m says)
+    stop fault.OtherSchema ranges m has says = absurd (unobjected fault.OtherSchema ranges m says)
+    stop fault.NotAggregate ranges m has says = absurd (unobjected fault.NotAggregate ranges m says)
+    stop fault.NotReadable ranges m has says = absurd (unobjected fault.NotReadable ranges m says)
 
 -- ---- the same where the opened store stands at the store's prefix
 
@@ -263,6 +285,7 @@ performed {maps = maps} {old = old} {mid = mid} {new = new} opened command asked
 pub record Looks (opened : Opened) (command : Command) (answer : Reply) : Type 0 where
   pub opens : open_reach command ≡ opening_reach store_prefix
   pub reads : own_reading (Some opened) command ≡ whole []
+  pub undamaged : (m : Map) → own_damage (Some opened) command m ≡ None
   pub reading : is_reading command answer ≡ true
   pub told : (m : Map) → IsSound (Some opened) command answer m → IsTold (Some opened) command answer m
   pub replies : (store : Store) → IsOpenAs opened store → IsReply (Some store) command answer
@@ -280,9 +303,9 @@ looked_at {refuses = refuses} {old = old} opened command answer looks is = recor
     record {
       there = (refl, has.0);
       reads = all_added answer (opening_added (Some (at opened)) command m looks.opens looks.reads);
-      told = looks.told m (sound_by (at opened) command answer m (whole []) looks.reads tt);
+      told = looks.told m (sound_by (at opened) command answer m (whole []) looks.reads (looks.undamaged m) tt);
     },
-    λ serial stands. here m serial stands (has.1 serial stands.held),
+    λ serial stands. here m serial stands (has.1 serial stands),
   ));
 }
   where
@@ -296,7 +319,7 @@ looked_at {refuses = refuses} {old = old} opened command answer looks is = recor
       right = inl (served_idle old.mutations (Some store) command answer (looks.idle store has) (looks.replies store has));
       wrote = same (is_accepted answer) (writes (Some store) command) [] (looks.idle store has);
       holds = subst (Stands m) (same (is_accepted answer) (effect (Some store) command) (Some store) (looks.leaves store has)) stands;
-      reads = all_added answer (at_serial opened command m (Some store) (opening_reach store_prefix) stands.held has (opening_added (Some (at opened)) command m looks.opens looks.reads));
+      reads = all_added answer (at_serial opened command m (Some store) (opening_reach store_prefix) stands has (opening_added (Some (at opened)) command m looks.opens looks.reads));
     }
 
 -- LOOKED: a store was opened, and the command asks for nothing else
@@ -322,10 +345,10 @@ refused {maps = maps} {refuses = refuses} {old = old} {mid = mid} {new = new} op
 -- OWN REFUSAL: what the command asks for is refused by the schema, before a call is made
 pub refused_asked : {maps : ℕ → Map} {refuses : KeyRange → ℕ → ReadError → Type 0} {old mid : CommitRequest} {A : Type 0} (opened : Opened) (command : Command) (outcome : Result A SchemaRefusal) (error : MetadataError) →
     open_reach command ≡ opening_reach store_prefix → opened.prefix ≡ store_prefix →
-    ((refusal : SchemaRefusal) → outcome ≡ Err refusal → Refuses (at opened) command refusal) → IsOpened maps opened old mid → IsRefusedAs error outcome → IsRefused maps refuses command (of_metadata error) old mid
+    ((refusal : SchemaRefusal) → outcome ≡ Err refusal → Refuses (at opened) command (of_schema refusal)) → IsOpened maps opened old mid → IsRefusedAs error outcome → IsRefused maps refuses command (of_metadata error) old mid
 refused_asked {maps = maps} {old = old} {mid = mid} opened command outcome meta.Memory opens here so is_opened is = memory_opened opened command opens (subst (λ o. IsOpened maps o old mid) (located opened here) is_opened)
 refused_asked {maps = maps} {old = old} {mid = mid} opened command outcome (meta.Refused refusal) opens here so is_opened is =
-    refused_own opened command refusal (so refusal is) (subst (λ o. IsOpened maps o old mid) (located opened here) is_opened)
+    refused_own opened command (of_schema refusal) (so refusal is) (subst (λ o. IsOpened maps o old mid) (located opened here) is_opened) (Refused refusal) refl
 
 -- MEMORY: it is wanting after a call that changed nothing
 pub refused_behind : {maps : ℕ → Map} {refuses : KeyRange → ℕ → ReadError → Type 0} {old mid new : CommitRequest} {A : Type 0} (opened : Opened) (command : Command) (asked : Opened → Call A) (told : A → Reply) (answer : A) → opened.prefix ≡ store_prefix →

@@ -25,7 +25,8 @@ use Rattle.schedule.specs.declared.step.Command.TheVariants.{Plan}
 use Rattle.schedule.specs.declared.reply.Reply.{Reply}
 use Rattle.schedule.specs.declared.reply.Reply.TheVariants as reply
 use Rattle.schedule.specs.Layout.{store_prefix}
-use Rattle.schedule.specs.Planning.{IsPlanReply, IsPlanned, IsPlannedSo, IsPlannedUnless, states_of}
+use Rattle.schedule.specs.Planning.{IsPlanReply, IsPlanned}
+use Rattle.schedule.specs.Query.{Unrefused, states_of}
 use Rattle.schedule.specs.Performed.{IsPerformed, IsSound, IsTold}
 use Rattle.schedule.specs.Past.{is_reading}
 use Rattle.schedule.specs.Refusals.{of_query}
@@ -37,8 +38,8 @@ use Rattle.schedule.proofs.Stops.{at}
 pub plan_told : (schema : Schema) (states : List (ℕ × State)) (query : Query) (plan : AskedPlan) → refusal schema query ≡ None → is_served schema states query ≡ true → query_of plan.query ≡ query → find_type schema query.record_type ≡ Some plan.definition →
     planned plan.definition (usable schema states plan.definition) query ≡ Some (plan_of plan).root → IsPlanReply schema states query (reply.Planned plan)
 plan_told schema states query plan none served asked typed is =
-    subst (λ why. IsPlannedUnless why schema states query (reply.Planned plan)) (sym none)
-    (subst (λ b. IsPlannedSo b schema states query (reply.Planned plan)) (sym served) (record { plan = plan; shown = refl; asked = asked; typed = typed; is = is }))
+    subst (λ why. Unrefused why (is_served schema states query) (IsPlanned schema states query) (reply.Planned plan)) (sym none)
+    (subst (λ b. Unrefused None b (IsPlanned schema states query) (reply.Planned plan)) (sym served) (record { plan = plan; shown = refl; asked = asked; typed = typed; is = is }))
 
 -- what the reply to a plan tells, whatever is there
 record IsLook (opened : Opened) (query : Query) (answer : Reply) : Type 0 where
@@ -52,18 +53,15 @@ look_planned : (opened : Opened) (query : Query) (answer : Reply) → IsPlanned 
 look_planned opened query answer is = subst (IsLook opened query) (sym is.shown) (record { reading = refl; told = λ m sound. told_accepted (Some opened) (Plan query) (reply.Planned is.plan) m refl sound })
 
 look : (opened : Opened) (query : Query) (answer : Reply) → IsPlanReply opened.schema (index_states opened) query answer → IsLook opened query answer
-look opened query answer is = by_refusal (refusal opened.schema query) is
+look opened query answer is = by_refusal (refusal opened.schema query) (is_served opened.schema (index_states opened) query) is
   where
-    by_sort : (b : Bool) → IsPlannedSo b opened.schema (index_states opened) query answer → IsLook opened query answer
-    by_sort true planned = look_planned opened query answer planned
-    by_sort false refused = look_refused opened query SortNotServed answer refused
-
-    by_refusal : (why : Option QueryError) → IsPlannedUnless why opened.schema (index_states opened) query answer → IsLook opened query answer
-    by_refusal (Some error) refused = look_refused opened query (of_query error) answer refused
-    by_refusal None so = by_sort (is_served opened.schema (index_states opened) query) so
+    by_refusal : (why : Option QueryError) (served : Bool) → Unrefused why served (IsPlanned opened.schema (index_states opened) query) answer → IsLook opened query answer
+    by_refusal (Some error) served refused = look_refused opened query (of_query error) answer refused
+    by_refusal None true planned = look_planned opened query answer planned
+    by_refusal None false refused = look_refused opened query SortNotServed answer refused
 
 -- each store that was opened so has the schema and the states that were found
-there : (opened : Opened) (store : Store) → IsOpenAs opened store → index_states opened ≡ states_of store
+pub there : (opened : Opened) (store : Store) → IsOpenAs opened store → index_states opened ≡ states_of store
 there opened store same = λ i. index_states (record { prefix = opened.prefix; schema = sym same.schema i; states = sym same.states i })
 
 replies : (opened : Opened) (query : Query) (answer : Reply) (store : Store) → IsOpenAs opened store → IsPlanReply opened.schema (index_states opened) query answer → IsPlanReply store.schema (states_of store) query answer
@@ -80,6 +78,7 @@ plan_performed opened query answer here is_opened is = looked opened (Plan query
     looks : Looks (at opened) (Plan query) answer
     looks = record {
       opens = refl;
+      undamaged = λ m. refl;
       reads = refl;
       reading = tells.reading;
       told = tells.told;

@@ -13,20 +13,20 @@ use Rattle.schedule.specs.declared.refusal.Refusal.{Refusal}
 use Rattle.schedule.specs.declared.refusal.Refusal.TheVariants.{NoStore}
 use Rattle.metadata.specs.Asked.{schema_asked}
 use Rattle.metadata.specs.Schema.{Schema}
-use Rattle.record_store.specs.Form.{IsRecordPair}
+use Rattle.record_store.specs.Form.{IsWritten}
 use Rattle.record_store.specs.Layout.{schema_key}
 use Rattle.record_store.specs.Call.{Opened, Reading, whole}
 use Rattle.record_store.specs.Opening.{opening_reach}
 use Rattle.record_store.specs.Steps.{IsBeginning, IsNextRefused}
 use Rattle.record_store.proofs.Stopping.{all_begin, begin_more}
 use Rattle.schedule.specs.declared.step.Command.{Command}
-use Rattle.schedule.specs.declared.step.Command.TheVariants.{Create, «Type», Save, Load, Remove, Query, Plan, Index, Drop, Disable, State}
+use Rattle.schedule.specs.declared.step.Command.TheVariants.{Create, «Type», Save, Load, Remove, Query, Plan, Execute, Index, Drop, Disable, State, Aggregate}
 use Rattle.schedule.specs.declared.reply.Reply.{Reply}
 use Rattle.schedule.specs.declared.reply.Reply.TheVariants as reply
 use Rattle.schedule.specs.Layout.{store_prefix}
 use Rattle.schedule.specs.Past.{is_accepted}
 use Rattle.schedule.specs.Performed.{HasAdded, HasAddedSo, IsMadeOf, IsReadRefusedAs, IsSound, IsSoundSo, IsTold, is_unread}
-use Rattle.schedule.specs.Reach.{added_by, open_reach, own_reading, reach}
+use Rattle.schedule.specs.Reach.{added_by, open_reach, own_damage, own_reading, reach}
 
 -- without an open store a command reads nothing of its own
 pub alone : (command : Command) → own_reading None command ≡ whole []
@@ -37,10 +37,12 @@ alone (Load name cells) = refl
 alone (Remove name cells) = refl
 alone (Query query) = refl
 alone (Plan query) = refl
+alone (Execute plan) = refl
 alone (Index request) = refl
 alone (Drop name) = refl
 alone (Disable name) = refl
 alone (State name) = refl
+alone (Aggregate name group) = refl
 
 -- ---- what is asked for
 
@@ -114,6 +116,7 @@ told_accepted opened command reply.Removed m is sound = sound
 told_accepted opened command (reply.Rows rows) m is sound = sound
 told_accepted opened command (reply.Planned plan) m is sound = sound
 told_accepted opened command (reply.State state) m is sound = sound
+told_accepted opened command (reply.Total total) m is sound = sound
 told_accepted opened command (reply.Submitted version) m is sound = sound
 told_accepted opened command reply.ReadOnly m is sound = sound
 told_accepted opened command reply.Nothing m is sound = sound
@@ -132,11 +135,13 @@ sound_none (Load name cells) m none = none
 sound_none (Remove name cells) m none = none
 sound_none (Query query) m none = none
 sound_none (Plan query) m none = none
+sound_none (Execute plan) m none = none
 sound_none (Index request) m none = none
 sound_none (Drop name) m none = none
 sound_none (Disable name) m none = none
 sound_none (State name) m none = none
+sound_none (Aggregate name group) m none = none
 
--- that all pairs of a reading are
-pub sound_by : (opened : Opened) (command : Command) (answer : Reply) (m : Map) (reading : Reading) → own_reading (Some opened) command ≡ reading → AllByRecursion (IsRecordPair store_prefix opened.schema) (reading.pairs m) → IsSound (Some opened) command answer m
-sound_by opened command answer m reading is good = subst (λ (r : Reading). AllByRecursion (IsRecordPair store_prefix opened.schema) (r.pairs m)) (sym is) good
+-- that all pairs of a reading are, and that there is no damage
+pub sound_by : (opened : Opened) (command : Command) (answer : Reply) (m : Map) (reading : Reading) → own_reading (Some opened) command ≡ reading → own_damage (Some opened) command m ≡ None → AllByRecursion (IsWritten store_prefix opened.schema) (reading.pairs m) → IsSound (Some opened) command answer m
+sound_by opened command answer m reading is undamaged good = (subst (λ (r : Reading). AllByRecursion (IsWritten store_prefix opened.schema) (r.pairs m)) (sym is) good, undamaged)

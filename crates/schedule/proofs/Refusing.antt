@@ -7,11 +7,13 @@ use Rattle.cluster_core.specs.declared.answers.Config.{Config}
 use Rattle.schedule.specs.declared.refusal.Refusal.{Refusal}
 use Rattle.schedule.specs.declared.step.Command.{Command}
 use Rattle.schedule.specs.declared.step.Step.{Step}
-use Rattle.schedule.specs.declared.step.Step.TheVariants.{Begin, Perform, Commit, Abandon, Resolve, Log, Pull, Report, Lost, Settle}
+use Rattle.schedule.specs.declared.step.Step.TheVariants.{Begin, Perform, Execute, Commit, Abandon, Resolve, Log, Pull, Report, Lost, Settle}
 use Rattle.schedule.specs.declared.reply.Reply.{Reply}
-use Rattle.schedule.specs.declared.reply.Reply.TheVariants.{Begun, Done, SavedNew, SavedOver, Found, Absent, Removed, Rows, Planned, State, Submitted, ReadOnly, Nothing, Reported, Refused, Corrupt}
+use Rattle.schedule.specs.declared.reply.Reply.TheVariants.{Begun, Done, SavedNew, SavedOver, Found, Absent, Removed, Rows, Planned, State, Total, Submitted, ReadOnly, Nothing, Reported, Refused, Corrupt}
 use Rattle.schedule.specs.declared.reply.Report as telling
-use Rattle.schedule.specs.Past.{Past, Attempt, Open, accepted, is_accepted, grown, open_of}
+use Rattle.planner.specs.Asked.{AskedPlan}
+use Rattle.schedule.specs.declared.step.Command.TheVariants as asks
+use Rattle.schedule.specs.Past.{Past, Attempt, Open, accepted, execution, is_accepted, grown, kept_plan, open_after, open_of}
 use Rattle.schedule.specs.Standing.{cluster_after}
 use Rattle.schedule.specs.Contract.{EachReply, HasRightReplies, IsReplyTo, IsLeft, LeavesAll, open_by_commands, reports_reply}
 
@@ -55,6 +57,20 @@ leaves config requests past (Perform who command) refusal right = record {
         option_map by_commands (cond b (grown (record { command = command; reply = Refused refusal }) (open_of client past)) (open_of client past)) ≡ open_by_commands client past
     by_test true client = grown_same command refusal (open_of client past)
     by_test false client = refl
+leaves config requests past (Execute who) refusal right = record {
+  cluster = refl;
+  submissions = refl;
+  transactions = λ client. by_plan (kept_plan who past) client;
+}
+  where
+    by_test : (plan : AskedPlan) (b : Bool) (client : ℕ) →
+        option_map by_commands (cond b (grown (record { command = asks.Execute plan; reply = Refused refusal }) (open_of client past)) (open_of client past)) ≡ open_by_commands client past
+    by_test plan true client = grown_same (asks.Execute plan) refusal (open_of client past)
+    by_test plan false client = refl
+
+    by_plan : (kept : Option AskedPlan) (client : ℕ) → option_map by_commands (open_after client (execution who kept) (Refused refusal) (open_of client past)) ≡ open_by_commands client past
+    by_plan None client = refl
+    by_plan (Some plan) client = by_test plan (who == client) client
 leaves config requests past (Commit who) refusal right = record {
   cluster = refl;
   submissions = refl;
@@ -85,6 +101,7 @@ leaves_any config requests past step Removed right = tt
 leaves_any config requests past step (Rows rows) right = tt
 leaves_any config requests past step (Planned plan) right = tt
 leaves_any config requests past step (State state) right = tt
+leaves_any config requests past step (Total total) right = tt
 leaves_any config requests past step (Submitted version) right = tt
 leaves_any config requests past step ReadOnly right = tt
 leaves_any config requests past step Nothing right = tt

@@ -18,10 +18,11 @@ use Rattle.schedule.specs.declared.transcript.CommitEntry.{CommitEntry}
 use Rattle.schedule.specs.declared.transcript.Transcript.{Transcript}
 use Rattle.schedule.specs.declared.database.Database.{Database}
 use Rattle.schedule.specs.declared.database.OpenTransaction.{OpenTransaction}
-use Rattle.schedule.specs.Past.{submitted_in}
+use Rattle.planner.specs.Asked.{AskedPlan}
+use Rattle.schedule.specs.Past.{Past, submitted_in}
 use Rattle.schedule.specs.Contract.{AreRequestsOf, HasRightReplies, HoldsCommitted, IsReplyTo, IsRightRun, IsSerial, past_of}
 use Rattle.schedule.specs.Standing.{cluster_after, stepped}
-use Rattle.schedule.specs.Running.{HasRun, IsFirst, IsStandingAt, IsStepped, Stands, Steps, kept}
+use Rattle.schedule.specs.Running.{AreKept, HasRun, IsFirst, IsStandingAt, IsSteppedWith, Stands, Steps, kept}
 use Rattle.schedule.proofs.ClientSteps.{standing_as}
 use Rattle.schedule.proofs.Composed.{are_requests, holds_all, is_serial}
 use Rattle.schedule.proofs.Growing.{each_reply_append, past_of_append}
@@ -56,6 +57,12 @@ first_run config database first = record {
 
 -- ---- one step more
 
+-- the past of a run that is one step longer
+one_more_past : (config : Config) (steps : List Step) (replies : List Reply) (step : Step) (reply : Reply) (database : Database) → HasRun config steps replies database →
+    past_of [] (steps ++ step ∷ []) (replies ++ reply ∷ []) ≡ (step, reply) ∷ past_of [] steps replies
+one_more_past config steps replies step reply database run =
+    past_of_append (λ past one answer. IsReplyTo (cluster_after config (database.cluster.pipeline.requests ++ []) past) past one answer) [] steps replies step reply (run.right [])
+
 pub next_run : (config : Config) (steps : List Step) (replies : List Reply) (step : Step) (reply : Reply) (old new : Database) → HasRun config steps replies old → Steps (past_of [] steps replies) step reply old new →
     HasRun config (steps ++ step ∷ []) (replies ++ reply ∷ []) new
 next_run config steps replies step reply old new run next = record {
@@ -64,30 +71,28 @@ next_run config steps replies step reply old new run next = record {
       (each_reply_append (λ past one answer. IsReplyTo (cluster_after config (old.cluster.pipeline.requests ++ (next.added ++ more)) past) past one answer) [] steps replies step reply (run.right (next.added ++ more))
       (subst (λ c. IsReplyTo c (past_of [] steps replies) step reply) (sym (run.cluster (next.added ++ more))) next.right));
   cluster = λ more.
-      ap (cluster_after config (new.cluster.pipeline.requests ++ more)) one_more
+      ap (cluster_after config (new.cluster.pipeline.requests ++ more)) (one_more_past config steps replies step reply old run)
       ∙ ap (stepped (new.cluster.pipeline.requests ++ more) step reply) (ap (λ full. cluster_after config full (past_of [] steps replies)) (longer more) ∙ run.cluster (next.added ++ more))
       ∙ next.moved more;
-  stands = subst (λ past. Stands past new) (sym one_more) next.after;
+  stands = subst (λ past. Stands past new) (sym (one_more_past config steps replies step reply old run)) next.after;
 }
   where
     longer : (more : List CommitRequest) → new.cluster.pipeline.requests ++ more ≡ old.cluster.pipeline.requests ++ (next.added ++ more)
     longer more = ap (λ rs. rs ++ more) next.grown ∙ append_assoc old.cluster.pipeline.requests next.added more
 
-    one_more : past_of [] (steps ++ step ∷ []) (replies ++ reply ∷ []) ≡ (step, reply) ∷ past_of [] steps replies
-    one_more = past_of_append (λ past one answer. IsReplyTo (cluster_after config (old.cluster.pipeline.requests ++ []) past) past one answer) [] steps replies step reply (run.right [])
+-- the steps were done, and these plans are kept
+abbrev pub RunsWith : Config → List Step → List Reply → Database → List (Option AskedPlan) → Type 0
+RunsWith config steps replies database plans = HasRun config steps replies database × AreKept (past_of [] steps replies) plans
 
 -- a turn of the loop over steps
--- what is so of each step is so of the one in a place
-pub all_at : {X : Type 0} (P : X → Type 0) (xs : List X) (i : ℕ) (x : X) → i < length xs → x ≡ get_or xs i x → AllByRecursion P xs → P x
-all_at P [] i x within is all = absurd (omega (arith, within))
-all_at P (y ∷ ys) zero x within is all = subst P (sym is) all.0
-all_at P (y ∷ ys) (suc i) x within is all = all_at P ys i x (omega (arith, within)) is all.1
-
-pub turn : (config : Config) (steps : List Step) (i : ℕ) (step : Step) (before after : List Reply) (reply : Reply) (old new : Database) → i < length steps → step ≡ get_or steps i step → after ≡ before ++ reply ∷ [] →
-    HasRun config (take i steps) before old → IsStepped step reply old new → HasRun config (take (i + 1) steps) after new
-turn config steps i step before after reply old new within is pushed run stepped_so =
+pub turn : (config : Config) (steps : List Step) (i : ℕ) (step : Step) (before after : List Reply) (reply : Reply) (old new : Database) (plans kept : List (Option AskedPlan)) → i < length steps → step ≡ get_or steps i step → after ≡ before ++ reply ∷ [] →
+    RunsWith config (take i steps) before old plans → IsSteppedWith plans step reply old new → ((past : Past) → AreKept past plans → AreKept ((step, reply) ∷ past) kept) → RunsWith config (take (i + 1) steps) after new kept
+turn config steps i step before after reply old new plans kept within is pushed run stepped_so keeps =
     let longer : take (i + 1) steps ≡ take i steps ++ step ∷ [] = take_more steps i step within ∙ ap (λ s. take i steps ++ s ∷ []) (sym is) in
-    subst₂ (λ ss rs. HasRun config ss rs new) (sym longer) (sym pushed) (next_run config (take i steps) before step reply old new run (stepped_so (past_of [] (take i steps) before) run.stands))
+    subst₂ (λ ss rs. RunsWith config ss rs new kept) (sym longer) (sym pushed) (
+      next_run config (take i steps) before step reply old new run.0 (stepped_so (past_of [] (take i steps) before) run.0.stands run.1),
+      subst (λ past. AreKept past kept) (sym (one_more_past config (take i steps) before step reply old run.0)) (keeps (past_of [] (take i steps) before) run.1),
+    )
 
 -- ---- the end
 

@@ -16,9 +16,7 @@ use Rattle.metadata.specs.declared.definition.TypeRequest.{TypeRequest}
 use Rattle.metadata.specs.declared.refusal.Refusal.{Refusal}
 use Rattle.metadata.specs.declared.refusal.Refusal.TheVariants.{NullKey, UnknownType, WrongKind}
 use Rattle.metadata.specs.Cell.{all_fit, cells_at, is_null}
-use Rattle.metadata.specs.declared.index.IndexDefinition.{IndexDefinition}
-use Rattle.metadata.specs.declared.index.IndexKind.TheVariants.{Value}
-use Rattle.metadata.specs.Change.{add_type, type_refusal, with_type}
+use Rattle.metadata.specs.Change.{add_type}
 use Rattle.metadata.specs.Record.{Record, primary_key, record_of, key_of}
 use Rattle.metadata.specs.Records.{AreOrdered, IsStorable, of_type, record_at}
 use Rattle.metadata.specs.Schema.{Schema, field_kinds, find_type}
@@ -26,31 +24,28 @@ use Rattle.metadata.proofs.SameTypes.{same_type-Decides}
 use Rattle.index_maint.proofs.RecordLists.{id, id_order, all_filter, ordered-filter}
 use Rattle.record_store.specs.Store.{Store}
 use Rattle.record_store.specs.Holds.{IsLawful}
-use Rattle.record_store.proofs.Plain.{removed_plain, saved_plain}
 use Rattle.record_store.specs.Call.{IsOpenAs, Opened, Service, whole}
 use Rattle.record_store.specs.declared.error.StoreError.TheVariants.{OtherSchema}
-use Rattle.record_store.specs.Calls.{done_with, load_call, load_service, number_of, is_own, records_call, records_service, remove_call, remove_service, save_call, save_service, schema_service, type_call}
+use Rattle.record_store.specs.Calls.{done_with, load_call, load_service, is_own, remove_call, remove_service, save_call, save_service, schema_service, type_call}
 use Rattle.schedule.specs.declared.step.Command.{Command}
-use Rattle.schedule.specs.declared.step.Command.TheVariants.{«Type», Save, Load, Remove, Query}
-use Rattle.schedule.specs.declared.step.Query as asked
+use Rattle.schedule.specs.declared.step.Command.TheVariants.{«Type», Save, Load, Remove}
 use Rattle.schedule.specs.declared.reply.Reply.{Reply}
 use Rattle.schedule.specs.declared.reply.Reply.TheVariants as reply
 use Rattle.schedule.specs.Refusals.{of_schema}
-use Rattle.schedule.specs.Serve.{served_by, served_save, served_load, served_remove, served_type, cells_in, reply_to_save, reply_to_load, reply_to_remove, IsQueryReply}
+use Rattle.schedule.specs.Serve.{served_by, served_save, served_load, served_remove, served_type, cells_in, reply_to_save, reply_to_load, reply_to_remove}
 use Rattle.schedule.specs.Past.{is_accepted, is_reading}
-use Rattle.schedule.specs.Query.{Allows}
 use Rattle.schedule.specs.Layout.{store_prefix}
-use Rattle.schedule.specs.Reach.{schema_written, saving, removing, record_reach, key_reach, type_reach}
+use Rattle.schedule.specs.Reach.{schema_written, saving, removing, record_reach, key_reach}
 use Rattle.schedule.specs.Calls.{removal_reply}
 use Rattle.schedule.proofs.Outcomes.{Meets, Refuses, Serves}
 use Rattle.schedule.proofs.Stops.{at}
 
 -- a call that is done with a value, or has its own refusal
 pub done_meets : {K A : Type 0} (opened : Opened) (command : Command) (service : K → Service A) (told : A → Reply) (outcome : Result K Refusal) →
-    ((value : K) → outcome ≡ Ok value → Serves opened command (service value) told) → ((refusal : Refusal) → outcome ≡ Err refusal → Refuses opened command refusal) →
+    ((value : K) → outcome ≡ Ok value → Serves opened command (service value) told) → ((refusal : Refusal) → outcome ≡ Err refusal → Refuses opened command (of_schema refusal)) →
     Meets opened command (done_with service outcome) told
 done_meets opened command service told (Ok value) serves refuses = serves value refl
-done_meets opened command service told (Err refusal) serves refuses = (refusal, refl, refuses refusal refl)
+done_meets opened command service told (Err refusal) serves refuses = (of_schema refusal, refl, refuses refusal refl)
 
 -- ---- load
 
@@ -74,18 +69,20 @@ load_meets opened name cells = done_meets (at opened) (Load name cells) (load_se
     serves : (key : List Item) → key_of opened.schema name cells ≡ Ok key → Serves (at opened) (Load name cells) (load_service (at opened) key) told_load
     serves key is = record {
       opens = refl;
+      undamaged = λ m. refl;
       reads = ap (λ o. whole (key_reach o)) is;
+      unobjected = refl;
       accepted = λ found. load_accepted (cells_in found);
       reading = λ found. load_reads name cells (cells_in found);
       replies = λ store lawful same. sym (ap (λ o. (served_by store (served_load store) o).0) (here store same is));
       leaves = λ store same. ap (λ o. (served_by store (served_load store) o).1) (here store same is);
       wrote = λ store same. refl;
-      plain = λ store same plain. plain;
     }
 
-    refuses : (refusal : Refusal) → key_of opened.schema name cells ≡ Err refusal → Refuses (at opened) (Load name cells) refusal
+    refuses : (refusal : Refusal) → key_of opened.schema name cells ≡ Err refusal → Refuses (at opened) (Load name cells) (of_schema refusal)
     refuses refusal is = record {
       opens = refl;
+      undamaged = λ m. refl;
       reads = ap (λ o. whole (key_reach o)) is;
       replies = λ store same. sym (ap (λ o. (served_by store (served_load store) o).0) (here store same is));
       idle = λ store same. refl;
@@ -114,18 +111,20 @@ remove_meets opened name cells = done_meets (at opened) (Remove name cells) (rem
     serves : (key : List Item) → key_of opened.schema name cells ≡ Ok key → Serves (at opened) (Remove name cells) (remove_service (at opened) key) removal_reply
     serves key is = record {
       opens = refl;
+      undamaged = λ m. refl;
       reads = ap (λ o. whole (key_reach o)) is;
+      unobjected = refl;
       accepted = remove_accepted;
       reading = remove_reads name cells;
       replies = λ store lawful same. removed_reply (record_at key store.records) ∙ sym (ap (λ o. (served_by store (served_remove store) o).0) (here store same is));
       leaves = λ store same. ap (λ o. (served_by store (served_remove store) o).1) (here store same is);
       wrote = λ store same. ap (removing store) (here store same is);
-      plain = λ store same plain. removed_plain store key plain;
     }
 
-    refuses : (refusal : Refusal) → key_of opened.schema name cells ≡ Err refusal → Refuses (at opened) (Remove name cells) refusal
+    refuses : (refusal : Refusal) → key_of opened.schema name cells ≡ Err refusal → Refuses (at opened) (Remove name cells) (of_schema refusal)
     refuses refusal is = record {
       opens = refl;
+      undamaged = λ m. refl;
       reads = ap (λ o. whole (key_reach o)) is;
       replies = λ store same. sym (ap (λ o. (served_by store (served_remove store) o).0) (here store same is));
       idle = λ store same. ap (removing store) (here store same is);
@@ -186,9 +185,10 @@ own schema name cells r is =
     let named : r.definition.name ≡ name = (bytes_eq-Decides r.definition.name name).0 (found_passes (λ (type : TypeDefinition). bytes_eq type.name name) schema.types r.definition found) in
     ap (λ n. is_own (find_type schema n) r) named ∙ ap (λ o. is_own o r) found ∙ (same_type-Decides r.definition r.definition).1 refl
 
-pub save_refuses : (opened : Opened) (name : List ℕ) (cells : List Cell) (refusal : Refusal) → record_of opened.schema name cells ≡ Err refusal → Refuses (at opened) (Save name cells) refusal
+pub save_refuses : (opened : Opened) (name : List ℕ) (cells : List Cell) (refusal : Refusal) → record_of opened.schema name cells ≡ Err refusal → Refuses (at opened) (Save name cells) (of_schema refusal)
 save_refuses opened name cells refusal is = record {
   opens = refl;
+  undamaged = λ m. refl;
   reads = ap (λ o. whole (record_reach o)) is;
   replies = λ store same. sym (ap (λ o. (served_by store (served_save store) o).0) (ap (λ s. record_of s name cells) same.schema ∙ is));
   idle = λ store same. ap (saving store) (ap (λ s. record_of s name cells) same.schema ∙ is);
@@ -203,27 +203,20 @@ save_meets opened name cells r is = subst (λ b. Meets (at opened) (Save name ce
     serves : Serves (at opened) (Save name cells) (save_service (at opened) r) told_save
     serves = record {
       opens = refl;
+      undamaged = λ m. refl;
       reads = ap (λ o. whole (record_reach o)) is;
+      unobjected = refl;
       accepted = λ old. save_accepted (cells_in old);
       reading = λ old. save_changes name cells (cells_in old);
       replies = λ store lawful same. sym (ap (λ o. (served_by store (served_save store) o).0) (here store same));
       leaves = λ store same. ap (λ o. (served_by store (served_save store) o).1) (here store same);
       wrote = λ store same. ap (saving store) (here store same);
-      plain = λ store same plain. saved_plain store r plain;
     }
 
 -- ---- type
 
 abbrev pub told_type : Schema → Reply
 told_type schema = reply.Done
-
--- a type that is added leaves the indexes
-added_plain : (schema next : Schema) (request : TypeRequest) → add_type schema request ≡ Ok next → next.indexes ≡ schema.indexes
-added_plain schema next request is = by_refusal (type_refusal schema request) is
-  where
-    by_refusal : (why : Option Refusal) → ◌≡◌ {A = Result Schema Refusal} (elim why [ None ↦ Ok (with_type schema request) | Some refusal ↦ Err refusal ]) (Ok next) → next.indexes ≡ schema.indexes
-    by_refusal (Some refusal) made = absurd (cc)
-    by_refusal None made = let same : with_type schema request ≡ next = cc in ap (λ (s : Schema). s.indexes) (sym same)
 
 pub type_meets : (opened : Opened) (request : TypeRequest) → Meets (at opened) («Type» request) (type_call (at opened) request) told_type
 type_meets opened request = done_meets (at opened) («Type» request) (schema_service (at opened)) told_type (add_type opened.schema request) serves refuses
@@ -234,94 +227,21 @@ type_meets opened request = done_meets (at opened) («Type» request) (schema_se
     serves : (next : Schema) → add_type opened.schema request ≡ Ok next → Serves (at opened) («Type» request) (schema_service (at opened) next) told_type
     serves next is = record {
       opens = refl;
+      undamaged = λ m. refl;
       reads = refl;
+      unobjected = refl;
       accepted = λ answer. refl;
       reading = λ answer. refl;
       replies = λ store lawful same. sym (ap (λ o. (served_by store (served_type store) o).0) (here store same is));
       leaves = λ store same. ap (λ o. (served_by store (served_type store) o).1) (here store same is);
       wrote = λ store same. ap schema_written (here store same is);
-      plain = λ store same plain. record {
-        kinds = subst (AllByRecursion (λ (index : IndexDefinition). index.kind ≡ Value)) (ap (λ (t : Schema). t.indexes) same.schema ∙ sym (added_plain opened.schema next request is)) plain.kinds;
-        listed = plain.listed;
-      };
     }
 
-    refuses : (refusal : Refusal) → add_type opened.schema request ≡ Err refusal → Refuses (at opened) («Type» request) refusal
+    refuses : (refusal : Refusal) → add_type opened.schema request ≡ Err refusal → Refuses (at opened) («Type» request) (of_schema refusal)
     refuses refusal is = record {
       opens = refl;
+      undamaged = λ m. refl;
       reads = refl;
       replies = λ store same. sym (ap (λ o. (served_by store (served_type store) o).0) (here store same is));
       idle = λ store same. ap schema_written (here store same is);
-    }
-
--- ---- query
-
-abbrev pub told_query : List Record → Reply
-told_query rows = reply.Rows (map (λ r. r.cells) rows)
-
--- records in order have different primary keys
-apart : (r s : Record) → IsStorable r → is_lt (tuple_cmp (primary_key r) (primary_key s)) ≡ true → primary_key r ≡ primary_key s → ⊥
-apart r s storable less same =
-    let itself : is_lt (tuple_cmp (primary_key r) (primary_key r)) ≡ false = ap is_lt (sym (id_order r r storable storable) ∙ tied_itself nat_list_cmp_total (id r)) in
-    let both : true ≡ false = sym less ∙ ap (λ k. is_lt (tuple_cmp (primary_key r) k)) (sym same) ∙ itself in cc
-
-all_apart : (r : Record) (records : List Record) → IsStorable r → AllByRecursion (λ later. IsTrue (is_lt (tuple_cmp (primary_key r) (primary_key later)))) records →
-    All (λ s. primary_key r ≡ primary_key s → ⊥) records
-all_apart r [] storable less = λ k d within. absurd (omega arith)
-all_apart r (s ∷ records) storable less = All-cons (λ q. primary_key r ≡ primary_key q → ⊥) s records (apart r s storable less.0) (all_apart r records storable less.1)
-
-each_once : (records : List Record) → AreOrdered records → AllByRecursion IsStorable records → AllPairs (λ r s. primary_key r ≡ primary_key s → ⊥) records
-each_once [] ordered storable = λ i j d before within. absurd (omega arith)
-each_once (r ∷ records) ordered storable =
-    AllPairs-cons (λ r s. primary_key r ≡ primary_key s → ⊥) r records (all_apart r records storable.0 ordered.0) (each_once records ordered.1 storable.1)
-
--- the records of a type in order are an answer
-allowed : (n : ℕ) (records : List Record) → AreOrdered records → AllByRecursion IsStorable records → Allows (of_type n records) (of_type n records)
-allowed n records ordered storable = record {
-  exactly = λ r. ((λ h. h), (λ h. h));
-  once = each_once (of_type n records) (ordered-filter (λ r. r.definition.number == n) records ordered) (all_filter IsStorable (λ r. r.definition.number == n) records storable);
-}
-
-pub query_meets : (opened : Opened) (query : asked.Query) → Meets (at opened) (Query query) (records_call (at opened) query.record_type) told_query
-query_meets opened query = done_meets (at opened) (Query query) (records_service (at opened)) told_query (number_of (find_type opened.schema query.record_type)) serves refuses
-  where
-    reached : (number : ℕ) (type : Option TypeDefinition) → number_of type ≡ Ok number → type_reach type ≡ Rattle.record_store.specs.Layout.type_range store_prefix number ∷ []
-    reached number None none = absurd (cc)
-    reached number (Some type) some = let same : type.number ≡ number = cc in ap (λ n. Rattle.record_store.specs.Layout.type_range store_prefix n ∷ []) same
-
-    unreached : (refusal : Refusal) (type : Option TypeDefinition) → number_of type ≡ Err refusal → type_reach type ≡ []
-    unreached refusal None none = refl
-    unreached refusal (Some type) some = absurd (cc)
-
-    answered : (number : ℕ) (store : Store) → IsLawful store → (type : Option TypeDefinition) → number_of type ≡ Ok number → IsQueryReply store type (told_query (of_type number store.records))
-    answered number store lawful None none = absurd (cc)
-    answered number store lawful (Some type) found =
-        let same : number ≡ type.number = cc in record {
-          rows = of_type type.number store.records;
-          allowed = allowed type.number store.records lawful.ordered lawful.storable;
-          shown = ap (λ n. map (λ r. r.cells) (of_type n store.records)) same;
-        }
-
-    unknown : (refusal : Refusal) (store : Store) (type : Option TypeDefinition) → number_of type ≡ Err refusal → IsQueryReply store type (reply.Refused (of_schema refusal))
-    unknown refusal store None none = let same : refusal ≡ UnknownType = cc in ap (λ r. reply.Refused (of_schema r)) same
-    unknown refusal store (Some type) known = absurd (cc)
-
-    serves : (number : ℕ) → number_of (find_type opened.schema query.record_type) ≡ Ok number → Serves (at opened) (Query query) (records_service (at opened) number) told_query
-    serves number is = record {
-      opens = refl;
-      reads = ap whole (reached number (find_type opened.schema query.record_type) is);
-      accepted = λ rows. refl;
-      reading = λ rows. refl;
-      replies = λ store lawful same. answered number store lawful (find_type store.schema query.record_type) (ap (λ s. number_of (find_type s query.record_type)) same.schema ∙ is);
-      leaves = λ store same. refl;
-      wrote = λ store same. refl;
-      plain = λ store same plain. plain;
-    }
-
-    refuses : (refusal : Refusal) → number_of (find_type opened.schema query.record_type) ≡ Err refusal → Refuses (at opened) (Query query) refusal
-    refuses refusal is = record {
-      opens = refl;
-      reads = ap whole (unreached refusal (find_type opened.schema query.record_type) is);
-      replies = λ store same. unknown refusal store (find_type store.schema query.record_type) (ap (λ s. number_of (find_type s query.record_type)) same.schema ∙ is);
-      idle = λ store same. refl;
     }

@@ -15,7 +15,7 @@ use Rattle.cluster_core.specs.declared.answers.ReadError.TheVariants as read
 use Rattle.txn.specs.Runs.{Ran}
 use Rattle.txn.proofs.Running.{ran_because, ran_still}
 use Rattle.schedule.specs.declared.refusal.Refusal.{Refusal}
-use Rattle.schedule.specs.declared.refusal.Refusal.TheVariants.{AlreadyThere, NoStore, OtherSchema, FutureVersion, TooOld, KeyOutside, KeyTooLarge, ValueTooLarge, TransactionTooLarge}
+use Rattle.schedule.specs.declared.refusal.Refusal.TheVariants.{AlreadyThere, NoStore, NotAggregate, NotReadable, OtherSchema, FutureVersion, TooOld, KeyOutside, KeyTooLarge, ValueTooLarge, TransactionTooLarge}
 use Rattle.record_store.specs.declared.error.StoreError.{StoreError}
 use Rattle.record_store.specs.declared.error.StoreError.TheVariants.{Memory, Read, Write, Corrupt, Refused}
 use Rattle.record_store.specs.declared.error.StoreError.TheVariants as fault
@@ -25,7 +25,7 @@ use Rattle.record_store.specs.Opening.{IsOpened, IsThereAs, opening_reach}
 use Rattle.record_store.specs.Steps.{IsBeginning}
 use Rattle.record_store.proofs.Stopping.{all_begin, none_begin}
 use Rattle.schedule.specs.declared.step.Command.{Command}
-use Rattle.schedule.specs.declared.step.Command.TheVariants.{Create, «Type», Save, Load, Remove, Query, Plan, Index, Drop, Disable, State}
+use Rattle.schedule.specs.declared.step.Command.TheVariants.{Create, «Type», Save, Load, Remove, Query, Plan, Execute, Index, Drop, Disable, State, Aggregate}
 use Rattle.schedule.specs.declared.reply.Reply.{Reply}
 use Rattle.schedule.specs.declared.reply.Reply.TheVariants as reply
 use Rattle.schedule.specs.Layout.{store_prefix}
@@ -58,11 +58,13 @@ refuses_all (Save name cells) refusal = refl
 refuses_all (Load name cells) refusal = refl
 refuses_all (Remove name cells) refusal = refl
 refuses_all (Query query) refusal = refl
+refuses_all (Execute plan) refusal = refl
 refuses_all (Plan query) refusal = refl
 refuses_all (Index request) refusal = refl
 refuses_all (Drop name) refusal = refl
 refuses_all (Disable name) refusal = refl
 refuses_all (State name) refusal = refl
+refuses_all (Aggregate name group) refusal = refl
 
 corrupts_all : (command : Command) (key : List ℕ) → is_reading command (reply.Corrupt key) ≡ true
 corrupts_all (Create request) key = refl
@@ -71,11 +73,13 @@ corrupts_all (Save name cells) key = refl
 corrupts_all (Load name cells) key = refl
 corrupts_all (Remove name cells) key = refl
 corrupts_all (Query query) key = refl
+corrupts_all (Execute plan) key = refl
 corrupts_all (Plan query) key = refl
 corrupts_all (Index request) key = refl
 corrupts_all (Drop name) key = refl
 corrupts_all (Disable name) key = refl
 corrupts_all (State name) key = refl
+corrupts_all (Aggregate name group) key = refl
 
 refusing : (command : Command) (refusal : Refusal) (answer : Reply) → ◌≡◌ {A = Option Reply} (Some (reply.Refused refusal)) (Some answer) → (is_accepted answer ≡ false) × (is_reading command answer ≡ true)
 refusing command refusal answer is =
@@ -99,6 +103,8 @@ error_refuses command (Refused refusal) answer is = refusing command (of_schema 
 error_refuses command fault.NoStore answer is = refusing command NoStore answer is
 error_refuses command fault.AlreadyThere answer is = refusing command AlreadyThere answer is
 error_refuses command fault.OtherSchema answer is = refusing command OtherSchema answer is
+error_refuses command fault.NotAggregate answer is = refusing command NotAggregate answer is
+error_refuses command fault.NotReadable answer is = refusing command NotReadable answer is
 
 -- what is there, by what was opened
 pub opened_is : (opened : Opened) (serial : Serial) → opened.prefix ≡ store_prefix → IsThereAs opened serial → opened_in serial ≡ Some opened
@@ -120,6 +126,8 @@ stopped_begin (Refused refusal) {ranges = ranges} has = subst (IsBeginning range
 stopped_begin fault.NoStore {ranges = ranges} has = subst (IsBeginning ranges) has (all_begin ranges)
 stopped_begin fault.AlreadyThere {ranges = ranges} has = subst (IsBeginning ranges) has (all_begin ranges)
 stopped_begin fault.OtherSchema {ranges = ranges} has = subst (IsBeginning ranges) has (all_begin ranges)
+stopped_begin fault.NotAggregate {ranges = ranges} has = subst (IsBeginning ranges) has (all_begin ranges)
+stopped_begin fault.NotReadable {ranges = ranges} has = subst (IsBeginning ranges) has (all_begin ranges)
 
 stopped_added : (error : StoreError) (answer : Reply) (all ranges : List KeyRange) → reply_of error ≡ Some answer → HasStopped error all ranges → HasAdded answer all ranges
 stopped_added Memory answer all ranges is has = absurd (cc)
@@ -132,6 +140,8 @@ stopped_added (Refused refusal) answer all ranges is has = all_added answer has
 stopped_added fault.NoStore answer all ranges is has = all_added answer has
 stopped_added fault.AlreadyThere answer all ranges is has = all_added answer has
 stopped_added fault.OtherSchema answer all ranges is has = all_added answer has
+stopped_added fault.NotAggregate answer all ranges is has = all_added answer has
+stopped_added fault.NotReadable answer all ranges is has = all_added answer has
 
 -- why the reply of an error is right at what is there
 abbrev pub IsRight : (KeyRange → ReadError → Type 0) → Command → List Mutation → StoreError → Map → Serial → Type 0

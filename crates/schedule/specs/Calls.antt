@@ -10,7 +10,7 @@ use Rattle.cluster_core.specs.declared.answers.ReadError.TheVariants as read
 use Rattle.schedule.specs.declared.refusal.Refusal.TheVariants.{FutureVersion, TooOld, KeyOutside, KeyTooLarge}
 use Rattle.schedule.specs.declared.refusal.Refusal.TheVariants.{ValueTooLarge, TransactionTooLarge}
 use Rattle.schedule.specs.declared.refusal.Refusal.TheVariants.{NoStore, AlreadyThere}
-use Rattle.schedule.specs.declared.refusal.Refusal.TheVariants.{OtherSchema}
+use Rattle.schedule.specs.declared.refusal.Refusal.TheVariants.{OtherSchema, NotAggregate, NotReadable}
 use Rattle.record_store.specs.declared.error.StoreError.{StoreError}
 use Rattle.record_store.specs.declared.error.StoreError.TheVariants as store
 use Rattle.schedule.specs.declared.step.Command.{Command}
@@ -43,6 +43,8 @@ reply_of (store.Refused refusal) = Some (reply.Refused (of_schema refusal))
 reply_of store.NoStore = Some (reply.Refused NoStore)
 reply_of store.AlreadyThere = Some (reply.Refused AlreadyThere)
 reply_of store.OtherSchema = Some (reply.Refused OtherSchema)
+reply_of store.NotAggregate = Some (reply.Refused NotAggregate)
+reply_of store.NotReadable = Some (reply.Refused NotReadable)
 
 -- the reply to a removal that took a record out, or found none
 abbrev pub removal_reply : Bool → Reply

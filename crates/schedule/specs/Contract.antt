@@ -19,10 +19,12 @@ use Rattle.cluster_core.specs.Roles.{PipelineState, history, may_append, may_rep
 use Rattle.cluster_core.specs.Roles.{may_resolve, outcome, submit_refusal, submitted}
 use Rattle.txn.specs.Refusing.{MayRefuse}
 use Rattle.schedule.specs.declared.refusal.Refusal.TheVariants.{NoSuchClient, NoSuchRole, Busy}
-use Rattle.schedule.specs.declared.refusal.Refusal.TheVariants.{NoTransaction, TooOld, VersionsExhausted}
+use Rattle.schedule.specs.declared.refusal.Refusal.TheVariants.{NoPlan, NoTransaction, TooOld, VersionsExhausted}
 use Rattle.schedule.specs.declared.step.Command.{Command}
+use Rattle.schedule.specs.declared.step.Command.TheVariants as asks
+use Rattle.planner.specs.Asked.{AskedPlan}
 use Rattle.schedule.specs.declared.step.Step.{Step}
-use Rattle.schedule.specs.declared.step.Step.TheVariants.{Begin, Perform, Commit, Abandon, Resolve}
+use Rattle.schedule.specs.declared.step.Step.TheVariants.{Begin, Perform, Execute, Commit, Abandon, Resolve}
 use Rattle.schedule.specs.declared.step.Step.TheVariants.{Log, Pull, Report, Lost, Settle}
 use Rattle.schedule.specs.declared.reply.Reply.{Reply}
 use Rattle.schedule.specs.declared.reply.Reply.TheVariants.{Begun, Done, ReadOnly, Submitted, Nothing, Refused}
@@ -34,7 +36,7 @@ use Rattle.schedule.specs.declared.transcript.Transcript.{Transcript}
 use Rattle.record_store.specs.Store.{Serial}
 use Rattle.schedule.specs.Serve.{IsReply, effect}
 use Rattle.schedule.specs.Past.{Past, Attempt, Open, Submission, accepted}
-use Rattle.schedule.specs.Past.{is_accepted, is_changed, open_of, submitted_in}
+use Rattle.schedule.specs.Past.{is_accepted, is_changed, kept_plan, open_of, submitted_in}
 use Rattle.schedule.specs.Holds.{Stands}
 use Rattle.schedule.specs.Reach.{opened_in, added_by, reach, writes}
 use Rattle.schedule.specs.Performed.{HasAdded, IsServed, IsReadRefusal}
@@ -65,6 +67,11 @@ OfClient client reply IsRight =
 abbrev pub InTransaction : Option Open → (Open → Type 0) → Reply → Type 0
 InTransaction None IsRight reply = reply ≡ Refused NoTransaction
 InTransaction (Some open_now) IsRight reply = IsRight open_now
+
+-- executing wants a plan that the client keeps
+abbrev pub WithPlan : Option AskedPlan → (AskedPlan → Type 0) → Reply → Type 0
+WithPlan None IsRight reply = reply ≡ Refused NoPlan
+WithPlan (Some plan) IsRight reply = IsRight plan
 
 -- the reply to `begin`: the last reported version, unless a transaction is open
 abbrev pub begin_reply : ClusterState → Option Open → Reply
@@ -147,6 +154,10 @@ IsReplyTo c past (Begin client) reply = OfClient client reply (reply ≡ begin_r
 IsReplyTo c past (Perform client command) reply =
     OfClient client reply (InTransaction (open_of client past)
     (λ open_now. IsCommandReply c (commits_of c.pipeline (submitted_in past)) open_now command reply) reply)
+IsReplyTo c past (Execute client) reply =
+    OfClient client reply (InTransaction (open_of client past) (λ open_now. WithPlan (kept_plan client past)
+    (λ plan. IsCommandReply c (commits_of c.pipeline (submitted_in past)) open_now (asks.Execute plan) reply) reply)
+    reply)
 IsReplyTo c past (Commit client) reply =
     OfClient client reply (InTransaction (open_of client past) (λ open_now. reply ≡ commit_reply c open_now) reply)
 IsReplyTo c past (Abandon client) reply =

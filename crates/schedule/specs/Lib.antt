@@ -1,15 +1,16 @@
 pub mod Query
 pub mod QueryCode
 pub mod Planning
+pub mod Executed
 pub mod Refusals
 pub mod Serve
-pub mod Values
 pub mod Past
 pub mod Layout
 pub mod Holds
 pub mod Reach
 pub mod Performed
 pub mod Calls
+pub mod Executions
 pub mod Commits
 pub mod Standing
 pub mod Contract

@@ -4,11 +4,13 @@ use Rattle.std.specs.Prelude.{Option, Some, None, ◌==◌, if◌then◌else◌,
 use Rattle.std.specs.List.{list_any}
 use Rattle.std.specs.Option.{option_map}
 use Rattle.schedule.specs.declared.step.Command.{Command}
-use Rattle.schedule.specs.declared.step.Command.TheVariants.{Load, Plan, Query, Remove, State}
+use Rattle.schedule.specs.declared.step.Command.TheVariants.{Aggregate, Execute, Load, Plan, Query, Remove, State}
 use Rattle.schedule.specs.declared.step.Step.{Step}
 use Rattle.schedule.specs.declared.step.Step.TheVariants.{Begin, Perform, Commit, Abandon}
+use Rattle.schedule.specs.declared.step.Step.TheVariants as steps
 use Rattle.schedule.specs.declared.reply.Reply.{Reply}
-use Rattle.schedule.specs.declared.reply.Reply.TheVariants.{Begun, Done, Submitted, Refused, Corrupt, Absent}
+use Rattle.schedule.specs.declared.reply.Reply.TheVariants.{Begun, Done, Planned, Submitted, Refused, Corrupt, Absent}
+use Rattle.planner.specs.Asked.{AskedPlan}
 
 -- the steps so far with their replies, the newest first
 abbrev pub Past : Type 0
@@ -41,7 +43,9 @@ is_reading command (Corrupt key) = true
 is_reading (Load type cells) reply = true
 is_reading (Query query) reply = true
 is_reading (Plan query) reply = true
+is_reading (Execute plan) reply = true
 is_reading (State name) reply = true
+is_reading (Aggregate name group) reply = true
 is_reading (Remove type cells) Absent = true
 is_reading command reply = false
 
@@ -54,6 +58,24 @@ abbrev pub grown : Attempt → Option Open → Option Open
 grown attempt before =
     option_map (λ (open_now : Open).
     record { read_version = open_now.read_version; attempts = open_now.attempts ++ attempt ∷ [] }) before
+
+-- the plan that a client keeps after one more step: that of its last command that was planned
+abbrev pub kept_after : ℕ → Step → Reply → Option AskedPlan → Option AskedPlan
+kept_after client (Perform who command) (Planned plan) before = if who == client then Some plan else before
+kept_after client step reply before = before
+
+abbrev pub kept_plan : ℕ → Past → Option AskedPlan
+kept_plan client [] = None
+kept_plan client (event ∷ past) = kept_after client event.0 event.1 (kept_plan client past)
+
+-- executing the plan that is kept is the command with this plan
+abbrev pub execution : ℕ → Option AskedPlan → Step
+execution client None = steps.Execute client
+execution client (Some plan) = Perform client (Execute plan)
+
+abbrev pub resolved : Past → Step → Step
+resolved past (steps.Execute client) = execution client (kept_plan client past)
+resolved past step = step
 
 -- a client's open transaction after one more step
 abbrev pub open_after : ℕ → Step → Reply → Option Open → Option Open
@@ -68,7 +90,7 @@ open_after client step reply before = before
 -- a client's open transaction
 abbrev pub open_of : ℕ → Past → Option Open
 open_of client [] = None
-open_of client (event ∷ past) = open_after client event.0 event.1 (open_of client past)
+open_of client (event ∷ past) = open_after client (resolved past event.0) event.1 (open_of client past)
 
 -- a submitted transaction: its version, who submitted it, and the transaction as it was open
 pub record Submission : Type 0 where

@@ -24,7 +24,7 @@ use Rattle.schedule.specs.declared.step.Command.TheVariants.{Create}
 use Rattle.schedule.specs.declared.reply.Reply.TheVariants.{Refused, Corrupt}
 use Rattle.record_store.specs.Call.{Opened}
 use Rattle.record_store.specs.Store.{Serial}
-use Rattle.record_store.specs.Form.{IsFirstBad, IsOpeningPair, IsRecordPair, read_in}
+use Rattle.record_store.specs.Form.{IsFirstBad, IsOpeningPair, IsWritten, read_in}
 use Rattle.record_store.specs.Layout.{schema_key}
 use Rattle.record_store.specs.Opening.{HasSchema, opening_reach}
 use Rattle.record_store.specs.Steps.{IsBeginning}
@@ -32,7 +32,7 @@ use Rattle.schedule.specs.Serve.{IsReply, effect}
 use Rattle.schedule.specs.Past.{is_accepted, is_reading}
 use Rattle.schedule.specs.Holds.{Stands}
 use Rattle.schedule.specs.Layout.{store_prefix}
-use Rattle.schedule.specs.Reach.{added_by, opened_in, own_reading, reach, writes}
+use Rattle.schedule.specs.Reach.{added_by, opened_in, own_damage, own_reading, reach, writes}
 
 -- the reply that a write limit is
 abbrev pub IsLimit : WriteError → Reply → Type 0
@@ -105,22 +105,24 @@ abbrev pub IsMadeOf : Result Schema Refusal → Reply → Map → Type 0
 IsMadeOf (Ok schema) answer m = IsMade answer m
 IsMadeOf (Err refusal) answer m = Unit {0}
 
--- all pairs that the command read of the map are of the written form; where no store was opened, no pair stands where a
--- schema does
+-- all pairs that the command read of the map are of the written form, and its plan met no damage; where no store was
+-- opened, no pair stands where a schema does
 abbrev pub IsSound : Option Opened → Command → Reply → Map → Type 0
 IsSound (Some opened) command answer m =
-    AllByRecursion (IsRecordPair store_prefix opened.schema) ((own_reading (Some opened) command).pairs m)
+    AllByRecursion (IsWritten store_prefix opened.schema) ((own_reading (Some opened) command).pairs m)
+    × (own_damage (Some opened) command m ≡ None)
 IsSound None (Create request) answer m = IsMadeOf (schema_asked request) answer m
 IsSound None command answer m = get m (schema_key store_prefix) ≡ None
 
 -- the first pair read that isn't of the written form has this key: one that opening the store reads, where a pair
--- stands at the schema's key, or behind it one of the command's own
+-- stands at the schema's key, or behind it one of the command's own, or the first damaged one that its plan met
 abbrev pub IsDamaged : Option Opened → Command → List ℕ → Map → Type 0
 IsDamaged None command key m =
     (get m (schema_key store_prefix) ≡ None → ⊥)
     × IsFirstBad (IsOpeningPair store_prefix m) (read_in m (opening_reach store_prefix)) key
 IsDamaged (Some opened) command key m =
-    IsFirstBad (IsRecordPair store_prefix opened.schema) ((own_reading (Some opened) command).pairs m) key
+    IsFirstBad (IsWritten store_prefix opened.schema) ((own_reading (Some opened) command).pairs m) key
+    ⊎ (own_damage (Some opened) command m ≡ Some key)
 
 -- the pairs are sound, unless a read was refused
 abbrev pub IsSoundSo : Bool → Option Opened → Command → Reply → Map → Type 0

@@ -1,30 +1,32 @@
 -- What a command reads, in order, and what it writes.
 use Rattle.std.specs.Prelude.{ℕ, List, [], ◌∷◌, ◌++◌, Option, Some, None, option_map, Result, Ok, Err}
+use Rattle.planner.specs.View.{plan_of}
 use Rattle.tuple_codec.specs.Item.{Item}
 use Rattle.kv_core.specs.Range.{KeyRange, point}
 use Rattle.kv_core.specs.Map.{Map}
 use Rattle.kv_core.specs.declared.change.Mutation.{Mutation}
-use Rattle.metadata.specs.declared.definition.TypeDefinition.{TypeDefinition}
 use Rattle.metadata.specs.declared.refusal.Refusal.{Refusal}
 use Rattle.metadata.specs.declared.index.IndexDefinition.{IndexDefinition}
 use Rattle.metadata.specs.Asked.{schema_asked}
 use Rattle.metadata.specs.Change.{add_type}
 use Rattle.metadata.specs.IndexChange.{new_index}
-use Rattle.metadata.specs.Schema.{Schema, find_index, find_type}
+use Rattle.metadata.specs.Schema.{Schema, find_index}
 use Rattle.metadata.specs.Record.{Record, primary_key, record_of, key_of}
 use Rattle.schedule.specs.declared.step.Command.{Command}
 use Rattle.schedule.specs.declared.step.Command.TheVariants.{Create, «Type», Save, Load, Remove}
-use Rattle.schedule.specs.declared.step.Command.TheVariants.{Query, Index, Drop, Disable}
+use Rattle.schedule.specs.declared.step.Command.TheVariants.{Query, Execute, Index, Drop, Disable, Aggregate}
 use Rattle.metadata.specs.Records.{record_at}
 use Rattle.record_store.specs.Store.{Store, Serial}
 use Rattle.record_store.specs.Layout.{record_key, type_range}
-use Rattle.record_store.specs.Call.{Opened, Reading, first_of, whole}
+use Rattle.record_store.specs.Call.{Call, Opened, Reading, first_of, whole}
 use Rattle.record_store.specs.Opening.{opening_reach}
-use Rattle.record_store.specs.Calls.{index_number, schema_writes}
+use Rattle.record_store.specs.Calls.{aggregate_call, index_number, schema_writes}
 use Rattle.record_store.specs.IndexWrites.{disable_writes, drop_writes, index_added_writes, remove_writes, save_writes}
 use Rattle.schedule.specs.Layout.{store_prefix}
+use Rattle.schedule.specs.Executed.{plan_steps, query_steps, steps_damage, steps_reading}
+use Rattle.schedule.specs.Query.{opened_as}
 
--- the key of a record that is asked for, and the keys of a type's records
+-- the key of a record that is asked for
 abbrev pub key_reach : Result (List Item) Refusal → List KeyRange
 key_reach (Ok key) = point (record_key store_prefix key) ∷ []
 key_reach (Err refusal) = []
@@ -33,30 +35,37 @@ abbrev pub record_reach : Result Record Refusal → List KeyRange
 record_reach (Ok r) = point (record_key store_prefix (primary_key r)) ∷ []
 record_reach (Err refusal) = []
 
-abbrev pub type_reach : Option TypeDefinition → List KeyRange
-type_reach (Some type) = type_range store_prefix type.number ∷ []
-type_reach None = []
-
 -- the first record of the type of an index that is asked for
 abbrev pub first_reading : Result IndexDefinition Refusal → Reading
 first_reading (Ok index) = first_of (type_range store_prefix index.type_number)
 first_reading (Err refusal) = whole []
 
+-- what a call reads that isn't refused
+abbrev pub call_reading : {A : Type 0} → Call A → Reading
+call_reading (Ok service) = service.reading
+call_reading (Err error) = whole []
+
 -- what opening the store finds of what is there
 abbrev pub opened_in : Serial → Option Opened
-opened_in serial =
-    option_map (λ (store : Store). record { prefix = store_prefix; schema = store.schema; states = store.states })
-    serial
+opened_in serial = option_map opened_as serial
 
--- what a command reads behind the opening of the store: the key of its record, or the records of its type, or the first
--- one
+-- what a command reads behind the opening of the store: the key of its record or of its group's total, or the first
+-- record of its type, or what the steps of its plan read
 abbrev pub own_reading : Option Opened → Command → Reading
 own_reading (Some opened) (Save name cells) = whole (record_reach (record_of opened.schema name cells))
 own_reading (Some opened) (Load name cells) = whole (key_reach (key_of opened.schema name cells))
 own_reading (Some opened) (Remove name cells) = whole (key_reach (key_of opened.schema name cells))
-own_reading (Some opened) (Query query) = whole (type_reach (find_type opened.schema query.record_type))
+own_reading (Some opened) (Query query) = steps_reading opened (query_steps opened query)
+own_reading (Some opened) (Execute plan) = steps_reading opened (plan_steps opened (plan_of plan))
 own_reading (Some opened) (Index request) = first_reading (new_index opened.schema request)
+own_reading (Some opened) (Aggregate name group) = call_reading (aggregate_call opened name group)
 own_reading opened command = whole []
+
+-- the key of the first damaged pair that the steps of a command's plan meet in a map, if there is one
+abbrev pub own_damage : Option Opened → Command → Map → Option (List ℕ)
+own_damage (Some opened) (Query query) m = steps_damage opened (query_steps opened query) m
+own_damage (Some opened) (Execute plan) m = steps_damage opened (plan_steps opened (plan_of plan)) m
+own_damage opened command m = None
 
 -- what a command reads to open the store: nothing where it makes one of types and indexes that are refused
 abbrev pub make_reach : Result Schema Refusal → List KeyRange

@@ -1,11 +1,14 @@
--- The refusals that a step replies: those that the schema, a record or a query meets, and their names.
-use Rattle.std.specs.Prelude.{ℕ, List, codes}
+-- The refusals that a step replies: those that the schema, a record, an index or a query meets, and their names.
+use Rattle.std.specs.Prelude.{ℕ, List, Option, Some, None, codes}
 use Rattle.metadata.specs.declared.refusal.Refusal.{Refusal as SchemaRefusal}
 use Rattle.metadata.specs.declared.refusal.Refusal.TheVariants as schema
+use Rattle.record_store.specs.declared.error.StoreError.{StoreError}
+use Rattle.record_store.specs.declared.error.StoreError.TheVariants as store
 use Rattle.query.specs.declared.error.QueryError.{QueryError}
 use Rattle.query.specs.declared.error.QueryError.TheVariants as query
 use Rattle.schedule.specs.declared.refusal.Refusal.{Refusal}
-use Rattle.schedule.specs.declared.refusal.Refusal.TheVariants.{NoSuchClient, NoSuchRole, Busy, NoTransaction, BadName}
+use Rattle.schedule.specs.declared.refusal.Refusal.TheVariants.{NoSuchClient, NoSuchRole, Busy, NoTransaction, NoPlan}
+use Rattle.schedule.specs.declared.refusal.Refusal.TheVariants.{BadName, IndexNotReadable, NotAggregate, NotReadable}
 use Rattle.schedule.specs.declared.refusal.Refusal.TheVariants.{NameTaken, UnknownType, UnknownIndex, UnknownField}
 use Rattle.schedule.specs.declared.refusal.Refusal.TheVariants.{WrongKind, NullKey, BadSchema, TooMany, AlreadyThere}
 use Rattle.schedule.specs.declared.refusal.Refusal.TheVariants.{TooDeep, TooLarge, SortTwice, SortNotServed}
@@ -26,6 +29,13 @@ of_schema schema.NullKey = NullKey
 of_schema schema.BadSchema = BadSchema
 of_schema schema.TooMany = TooMany
 
+-- the refusal of a step whose call on an open store is refused so before it reads, if it is
+abbrev pub own_refusal : StoreError → Option Refusal
+own_refusal (store.Refused refusal) = Some (of_schema refusal)
+own_refusal store.NotAggregate = Some NotAggregate
+own_refusal store.NotReadable = Some NotReadable
+own_refusal error = None
+
 -- the refusal of a step whose query is refused so
 abbrev pub of_query : QueryError → Refusal
 of_query query.UnknownType = UnknownType
@@ -41,6 +51,7 @@ name_of NoSuchClient = codes "NoSuchClient"
 name_of NoSuchRole = codes "NoSuchRole"
 name_of Busy = codes "Busy"
 name_of NoTransaction = codes "NoTransaction"
+name_of NoPlan = codes "NoPlan"
 name_of BadName = codes "BadName"
 name_of NameTaken = codes "NameTaken"
 name_of UnknownType = codes "UnknownType"
@@ -57,6 +68,9 @@ name_of SortNotServed = codes "SortNotServed"
 name_of AlreadyThere = codes "AlreadyThere"
 name_of NoStore = codes "NoStore"
 name_of OtherSchema = codes "OtherSchema"
+name_of IndexNotReadable = codes "IndexNotReadable"
+name_of NotAggregate = codes "NotAggregate"
+name_of NotReadable = codes "NotReadable"
 name_of FutureVersion = codes "FutureVersion"
 name_of TooOld = codes "TooOld"
 name_of VersionsExhausted = codes "VersionsExhausted"

@@ -16,17 +16,20 @@ use Rattle.schedule.specs.declared.step.Step.{Step}
 use Rattle.schedule.specs.declared.step.Step.TheVariants.{Commit}
 use Rattle.schedule.specs.declared.step.TheConstants.{CLIENTS}
 use Rattle.schedule.specs.declared.reply.Reply.{Reply}
-use Rattle.schedule.specs.declared.reply.Reply.TheVariants.{Done, Nothing, Submitted}
+use Rattle.schedule.specs.declared.reply.Reply.TheVariants.{Done, Nothing, Refused, Submitted}
+use Rattle.schedule.specs.declared.refusal.Refusal.TheVariants.{NoPlan}
 use Rattle.schedule.specs.declared.reply.Report.{Report}
 use Rattle.schedule.specs.declared.transcript.CommitEntry.{CommitEntry}
 use Rattle.schedule.specs.declared.database.Database.{Database}
 use Rattle.schedule.specs.declared.database.OpenTransaction.{OpenTransaction}
 use Rattle.schedule.specs.declared.database.Told.{Told}
 use Rattle.schedule.specs.declared.database.Unreported.{Unreported}
-use Rattle.schedule.specs.Past.{Past, Open, Submission, accepted, is_accepted, open_of, submitted_in}
+use Rattle.schedule.specs.Past.{Past, Open, Submission, accepted, is_accepted, kept_plan, open_of, submitted_in}
+use Rattle.planner.specs.Asked.{AskedPlan}
 use Rattle.schedule.specs.Performed.{IsPerformed}
 use Rattle.schedule.specs.Standing.{cluster_after, commits_of, stepped}
-use Rattle.schedule.specs.Contract.{HasRightReplies, IsReplyTo, client_of, commit_reply, past_of, report_to}
+use Rattle.schedule.specs.Contract.{HasRightReplies, InTransaction, IsReplyTo, OfClient, client_of, commit_reply}
+use Rattle.schedule.specs.Contract.{past_of, report_to}
 use Rattle.schedule.specs.Turns.{AreSubmitted, IsOpenAs}
 
 -- what is kept of a submission until it is reported
@@ -96,6 +99,15 @@ pub record Steps (past : Past) (step : Step) (reply : Reply) (old new : Database
 abbrev pub IsStepped : Step → Reply → Database → Database → Type 0
 IsStepped step reply old new = (past : Past) → Stands past old → Steps past step reply old new
 
+-- the clients' places have the plans that they keep
+abbrev pub AreKept : Past → List (Option AskedPlan) → Type 0
+AreKept past plans = (client : ℕ) → client < CLIENTS → get_or plans client None ≡ kept_plan client past
+
+-- so a step was done, where the clients kept these plans
+abbrev pub IsSteppedWith : List (Option AskedPlan) → Step → Reply → Database → Database → Type 0
+IsSteppedWith plans step reply old new =
+    (past : Past) → Stands past old → AreKept past plans → Steps past step reply old new
+
 -- a command was performed in an open transaction, which keeps it where it is accepted
 pub record IsPerformedBy (c : ClusterState) (command : Command) (reply : Reply) (old new : OpenTransaction) :
     Type 0 where
@@ -103,6 +115,13 @@ pub record IsPerformedBy (c : ClusterState) (command : Command) (reply : Reply) 
       IsPerformed (database_at c) (λ range. MayRefuse (tier_of c) range old.transaction.read_version) command reply
       old.transaction new.transaction
   pub commands : new.commands.items ≡ old.commands.items ++ (if is_accepted reply then command ∷ [] else [])
+
+-- the reply to executing where no plan is kept, whatever stood before: there is no such client, or it has no open
+-- transaction, or no plan
+abbrev pub IsUnplanned : ℕ → Reply → Database → Type 0
+IsUnplanned client reply database =
+    (past : Past) → Stands past database →
+    OfClient client reply (InTransaction (open_of client past) (λ open_now. reply ≡ Refused NoPlan) reply)
 
 -- what was submitted, after a commit with this reply
 abbrev pub submitted_by : ℕ → Open → Reply → List Submission → List Submission

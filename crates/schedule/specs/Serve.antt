@@ -1,31 +1,32 @@
 -- What the serial store replies to a command, and the store after it. No key of a database and no packed byte occurs.
 use Rattle.std.specs.Prelude.{◌≡◌, ℕ, List, [], ◌∷◌, Option, Some, None, Result, Ok, Err}
-use Rattle.std.specs.Option.{option_map}
+use Rattle.std.specs.Option.{option_map, option_and_then}
 use Rattle.tuple_codec.specs.Item.{Item}
 use Rattle.metadata.specs.declared.cells.Cell.{Cell}
-use Rattle.metadata.specs.declared.definition.TypeDefinition.{TypeDefinition}
 use Rattle.metadata.specs.declared.index.IndexDefinition.{IndexDefinition}
 use Rattle.metadata.specs.declared.refusal.Refusal.{Refusal as SchemaRefusal}
 use Rattle.schedule.specs.declared.refusal.Refusal.{Refusal}
-use Rattle.schedule.specs.Refusals.{of_schema}
-use Rattle.schedule.specs.declared.refusal.Refusal.TheVariants.{AlreadyThere, NoStore, UnknownType}
-use Rattle.metadata.specs.Schema.{Schema, find_index, find_type}
+use Rattle.schedule.specs.Refusals.{of_schema, own_refusal}
+use Rattle.schedule.specs.declared.refusal.Refusal.TheVariants.{AlreadyThere, NoStore, UnknownIndex}
+use Rattle.metadata.specs.Schema.{Schema, find_index}
 use Rattle.metadata.specs.Asked.{schema_asked}
 use Rattle.metadata.specs.Change.{add_type}
+use Rattle.metadata.specs.Group.{fits_group}
 use Rattle.metadata.specs.IndexChange.{new_index}
 use Rattle.metadata.specs.Record.{Record, primary_key, record_of, key_of}
 use Rattle.schedule.specs.declared.step.Command.{Command}
 use Rattle.schedule.specs.declared.step.Command.TheVariants.{Create, «Type», Save, Load, Remove}
-use Rattle.schedule.specs.declared.step.Command.TheVariants.{Query, Plan, Index, Drop, Disable, State}
+use Rattle.schedule.specs.declared.step.Command.TheVariants.{Query, Plan, Execute, Index, Drop, Disable, State}
+use Rattle.schedule.specs.declared.step.Command.TheVariants.{Aggregate}
 use Rattle.schedule.specs.declared.reply.Reply.{Reply}
 use Rattle.schedule.specs.declared.reply.Reply.TheVariants as reply
 use Rattle.schedule.specs.declared.reply.Reply.TheVariants.{Refused}
 use Rattle.metadata.specs.Records.{of_type, record_at}
 use Rattle.record_store.specs.Store.{Store, Serial, created, disabled, dropped, extended}
 use Rattle.record_store.specs.Store.{indexed, new_state, removed, saved, state_of}
-use Rattle.record_store.specs.Calls.{index_number}
-use Rattle.schedule.specs.Query.{AreRows}
-use Rattle.schedule.specs.Planning.{IsPlanReply, states_of}
+use Rattle.record_store.specs.Calls.{index_number, total_of, total_refusal}
+use Rattle.schedule.specs.Query.{IsExecuteReply, IsQueryReply, states_of}
+use Rattle.schedule.specs.Planning.{IsPlanReply}
 
 -- a reply, and what is there after it
 abbrev pub Served : Type 0
@@ -85,7 +86,20 @@ served_disable store number = (reply.Done, Some (disabled store number))
 abbrev pub served_state : Store → ℕ → Served
 served_state store number = (reply.State (state_of store number), Some store)
 
--- a command on a store. A query and its plan aren't served here, since more than one value may be the reply
+-- the total of a group of cells is asked for
+abbrev pub served_total : Store → IndexDefinition → List Cell → Option Refusal → Served
+served_total store index group None = (reply.Total (total_of index.kind index group store.records), Some store)
+served_total store index group (Some refusal) = refused (Some store) refusal
+
+abbrev pub served_aggregate : Store → List Cell → Option IndexDefinition → Served
+served_aggregate store group None = refused (Some store) UnknownIndex
+served_aggregate store group (Some index) =
+    served_total store index group
+    (option_and_then own_refusal
+    (total_refusal index.kind (fits_group store.schema index group) (state_of store index.number)))
+
+-- a command on a store. A query, its plan and its execution aren't served here, since more than one value may be the
+-- reply
 abbrev pub served_in : Store → Command → Served
 served_in store (Create request) = refused (Some store) AlreadyThere
 served_in store («Type» request) = served_by store (served_type store) (add_type store.schema request)
@@ -96,8 +110,10 @@ served_in store (Index request) = served_by store (served_index store) (new_inde
 served_in store (Drop name) = served_by store (served_drop store) (index_number (find_index store.schema name))
 served_in store (Disable name) = served_by store (served_disable store) (index_number (find_index store.schema name))
 served_in store (State name) = served_by store (served_state store) (index_number (find_index store.schema name))
+served_in store (Aggregate name group) = served_aggregate store group (find_index store.schema name)
 served_in store (Query query) = (reply.Nothing, Some store)
 served_in store (Plan query) = (reply.Nothing, Some store)
+served_in store (Execute plan) = (reply.Nothing, Some store)
 
 -- a store is made where there is none, once its schema is accepted
 abbrev pub served_create : Serial → Result Schema SchemaRefusal → Served
@@ -123,14 +139,9 @@ abbrev pub effects : Serial → List Command → Serial
 effects serial [] = serial
 effects serial (command ∷ commands) = effects (effect serial command) commands
 
--- the reply is an answer to a query of the type of this name: rows, or there is no such type
-abbrev pub IsQueryReply : Store → Option TypeDefinition → Reply → Type 0
-IsQueryReply store None answer = answer ≡ Refused UnknownType
-IsQueryReply store (Some type) (reply.Rows rows) = AreRows store type rows
-IsQueryReply store (Some type) answer = ⊥
-
 -- the reply is one that the serial store gives to the command
 abbrev pub IsReply : Serial → Command → Reply → Type 0
-IsReply (Some store) (Query query) answer = IsQueryReply store (find_type store.schema query.record_type) answer
+IsReply (Some store) (Query query) answer = IsQueryReply store query answer
 IsReply (Some store) (Plan query) answer = IsPlanReply store.schema (states_of store) query answer
+IsReply (Some store) (Execute plan) answer = IsExecuteReply store plan answer
 IsReply serial command answer = answer ≡ (served serial command).0

@@ -1,9 +1,9 @@
 ghost use Rattle.std.specs.Prelude.{◌≡◌, ◌≤◌, IfOk};
 ghost use Rattle.schedule.specs.Past.{Past, is_accepted};
-ghost use Rattle.schedule.specs.Running.{IsPerformedBy, IsStepped, IsSubmit, Stands};
-ghost use Rattle.schedule.specs.Values.{AsksValues};
+ghost use Rattle.schedule.specs.Running.{IsPerformedBy, IsStepped, IsSteppedWith, IsSubmit, IsUnplanned, Stands};
 
 use crate::database::{Database, OpenTransaction, Unreported};
+use crate::kept_plans::KeptPlans;
 use crate::performing::perform;
 use crate::refusal::Refusal;
 use crate::reply::Reply;
@@ -29,7 +29,6 @@ impl OpenTransaction {
         command: &Command,
         cluster: &Cluster,
     ) -> Result<Reply, AllocError>
-        requires { AsksValues command.now }
         ensures { IfOk result (λ reply. IsPerformedBy cluster.now command.now reply self.old self.new) }
     {
         let reply = perform(alloc, command, &mut self.transaction, cluster)?;
@@ -67,7 +66,6 @@ impl Database {
         client: u64,
         command: &Command,
     ) -> Result<Reply, AllocError>
-        requires { AsksValues command.now }
         ensures { IfOk result (λ reply. IsStepped (Step.Perform client command.now) reply self.old self.new) }
     {
         if client >= CLIENTS as u64 {
@@ -80,6 +78,39 @@ impl Database {
                 Ok(reply)
             }
             None => Ok(Reply::Refused(Refusal::NoTransaction)),
+        }
+    }
+
+    // Why a client that keeps no plan can execute none.
+    fn without_plan(&self, client: u64) -> Reply
+        ensures { IsUnplanned client result self.now }
+    {
+        if client >= CLIENTS as u64 {
+            return Reply::Refused(Refusal::NoSuchClient);
+        }
+        match &self.transactions[client as usize] {
+            Some(_) => Reply::Refused(Refusal::NoPlan),
+            None => Reply::Refused(Refusal::NoTransaction),
+        }
+    }
+
+    // A client executes the plan that it keeps.
+    pub(crate) fn execute(
+        &mut self,
+        alloc: Global,
+        kept: &KeptPlans,
+        client: u64,
+    ) -> Result<Reply, AllocError>
+        ensures { IfOk result (λ reply.
+            IsSteppedWith kept.now.plans.items (Step.Execute client) reply self.old self.new) }
+    {
+        match kept.plan_of(client) {
+            Some(plan) => {
+                let command = Command::Execute(plan.copy()?);
+                let reply = self.perform(alloc, client, &command)?;
+                Ok(reply)
+            }
+            None => Ok(self.without_plan(client)),
         }
     }
 

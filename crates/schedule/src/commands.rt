@@ -1,6 +1,4 @@
-ghost use Rattle.std.specs.Prelude.{◌≡◌, Ok, IfOk, IfErr, map};
-ghost use Rattle.record_store.specs.Holds.{HasPlainIndexes};
-ghost use Rattle.schedule.specs.Values.{AsksValues};
+ghost use Rattle.std.specs.Prelude.{◌≡◌, Ok, IfOk, IfErr};
 ghost use Rattle.metadata.specs.Answers.{IsRefusedAs};
 ghost use Rattle.metadata.specs.Record.{record_of};
 ghost use Rattle.record_store.specs.Opening.{IsOpened, IsUnopened};
@@ -10,11 +8,10 @@ ghost use Rattle.schedule.specs.Serve.{cells_in, reply_to_load, reply_to_save};
 ghost use Rattle.schedule.specs.Performed.{IsPerformed};
 ghost use Rattle.schedule.specs.Calls.{IsRefused, removal_reply};
 
-use crate::reply::{Reply, Rows};
-use crate::step::Query;
+use crate::reply::Reply;
 use metadata::{Cells, MetadataError, Record, Schema, SchemaRequest, TypeRequest};
-use record_store::{Records, Store, StoreError};
-use std::alloc::{AllocError, Global};
+use record_store::{Store, StoreError};
+use std::alloc::Global;
 use tuple_codec::Text;
 use txn::{Snapshot, Transaction};
 
@@ -29,7 +26,6 @@ pub(crate) fn open<S: Snapshot>(
 ) -> Result<Store, StoreError>
     ensures opened { IfOk result (λ store. IsOpened (S.map_at db.now) store tx.old tx.new) }
     ensures prefix { IfOk result (λ store. store.prefix ≡ store_prefix) }
-    ensures plain { IfOk result (λ store. HasPlainIndexes store.schema store.states) }
     ensures refused { IfErr result (λ error.
         IsUnopened (S.map_at db.now) (S.may_refuse db.now) store_prefix error tx.old tx.new) }
 {
@@ -43,7 +39,6 @@ pub(crate) fn create<S: Snapshot>(
     db: &S,
     request: &SchemaRequest,
 ) -> Result<Reply, StoreError>
-    requires { AsksValues (Command.Create request.now) }
     ensures performed { IfOk result (λ answer.
         IsPerformed (S.map_at db.now) (λ range. S.may_refuse db.now range tx.old.read_version)
         (Command.Create request.now) answer tx.old tx.new) }
@@ -175,32 +170,4 @@ pub(crate) fn remove<S: Snapshot>(
     let store = open(alloc, tx, db)?;
     let was_there = store.remove(tx, db, type_name, cells)?;
     Ok(removed_reply(was_there))
-}
-
-/// The rows that records are.
-fn rows_of(alloc: Global, records: Records) -> Result<Rows, AllocError>
-    ensures { IfOk result (λ rows. rows ≡ map (λ r. r.cells) records) }
-{
-    let found = records.into_vec();
-    let rows = found.into_iter().map(Record::into_cells).collect(alloc)?;
-    Ok(Rows::new(rows))
-}
-
-/// Asks for the answer to a query.
-pub(crate) fn query<S: Snapshot>(
-    alloc: Global,
-    tx: &mut Transaction,
-    db: &S,
-    query: &Query,
-) -> Result<Reply, StoreError>
-    ensures performed { IfOk result (λ answer.
-        IsPerformed (S.map_at db.now) (λ range. S.may_refuse db.now range tx.old.read_version)
-        (Command.Query query.now) answer tx.old tx.new) }
-    ensures refused { IfErr result (λ error.
-        IsRefused (S.map_at db.now) (S.may_refuse db.now) (Command.Query query.now) error tx.old tx.new) }
-{
-    let store = open(alloc, tx, db)?;
-    let records = store.records(tx, db, &query.record_type)?;
-    let rows = rows_of(alloc, records)?;
-    Ok(Reply::Rows(rows))
 }

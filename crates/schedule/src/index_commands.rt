@@ -3,11 +3,10 @@ ghost use Rattle.std.specs.Prelude.{IfOk, IfErr};
 ghost use Rattle.schedule.specs.declared.step.Command.{Command};
 ghost use Rattle.schedule.specs.Calls.{IsRefused};
 ghost use Rattle.schedule.specs.Performed.{IsPerformed};
-ghost use Rattle.schedule.specs.Values.{AsksValues};
 
 use crate::commands::open;
 use crate::reply::Reply;
-use metadata::IndexRequest;
+use metadata::{Cells, IndexRequest};
 use record_store::StoreError;
 use std::alloc::Global;
 use tuple_codec::Text;
@@ -20,7 +19,6 @@ pub(crate) fn add_index<S: Snapshot>(
     db: &S,
     request: &IndexRequest,
 ) -> Result<Reply, StoreError>
-    requires { AsksValues (Command.Index request.now) }
     ensures performed { IfOk result (λ answer.
         IsPerformed (S.map_at db.now) (λ range. S.may_refuse db.now range tx.old.read_version)
         (Command.Index request.now) answer tx.old tx.new) }
@@ -86,4 +84,23 @@ pub(crate) fn index_state<S: Snapshot>(
         Ok(state) => Ok(Reply::State(state)),
         Err(refusal) => Err(StoreError::Refused(refusal)),
     }
+}
+
+/// Asks for the total of the group of these cells.
+pub(crate) fn aggregate<S: Snapshot>(
+    alloc: Global,
+    tx: &mut Transaction,
+    db: &S,
+    name: &Text,
+    group: &Cells,
+) -> Result<Reply, StoreError>
+    ensures performed { IfOk result (λ answer.
+        IsPerformed (S.map_at db.now) (λ range. S.may_refuse db.now range tx.old.read_version)
+        (Command.Aggregate name.now group.now) answer tx.old tx.new) }
+    ensures refused { IfErr result (λ error.
+        IsRefused (S.map_at db.now) (S.may_refuse db.now) (Command.Aggregate name.now group.now) error tx.old tx.new) }
+{
+    let store = open(alloc, tx, db)?;
+    let total = store.aggregate(tx, db, name, group)?;
+    Ok(Reply::Total(total))
 }

@@ -5,14 +5,14 @@ ghost use Rattle.std.specs.Prelude.{◌≡◌, ◌⊎◌, Some, IfOk, IfErr, OnO
 ghost use Rattle.cluster_core.specs.Configuration.{config_refusal};
 ghost use Rattle.cluster_core.specs.declared.answers.ConfigError.{ConfigError as ConfigRefusal};
 ghost use Rattle.schedule.specs.Contract.{IsRightRun};
-ghost use Rattle.schedule.specs.Values.{StepAsksValues};
-ghost use Rattle.std.specs.List.{AllByRecursion};
 
 mod asked_query;
 mod clients;
 mod commands;
 mod database;
+mod executing;
 mod index_commands;
+mod kept_plans;
 mod performing;
 mod planning;
 mod refusal;
@@ -25,7 +25,6 @@ mod shared_plan;
 mod starting;
 mod step;
 mod transcript;
-mod values;
 
 pub use asked_query::AskedQuery;
 use cluster_core::Config;
@@ -36,22 +35,19 @@ use running::start;
 pub use shared_plan::SharedPlan;
 use starting::laws_of;
 use std::alloc::{AllocError, Global};
-pub use step::{CLIENTS, Command, Query, Step};
+pub use step::{CLIENTS, Command, Step};
 pub use transcript::{Commands, CommitEntry, Commits, Replies, ScheduleError, Transcript};
-pub use values::ask_values;
 
 /// Runs a schedule over an empty database, one step at a time.
 ///
 /// It answers what each step replied, the transactions that are committed, and the cluster after
 /// the last step. A refused step is a reply. The schedule is refused with `Config` where the
-/// configuration is, and else with `Memory` where memory runs out. The indexes that the steps ask
-/// for are all VALUE indexes.
+/// configuration is, and else with `Memory` where memory runs out.
 pub fn run_schedule(
     alloc: Global,
     config: &Config,
     steps: &[Step],
 ) -> Result<Transcript, ScheduleError>
-    requires { AllByRecursion StepAsksValues steps.now }
     ensures right { IfOk result (IsRightRun config.now steps.now) }
     ensures allowed { OnOk result (IsNone (config_refusal config.now)) }
     ensures refused { IfErr result (λ error. (error ≡ ScheduleError.Memory)

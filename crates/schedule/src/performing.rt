@@ -1,10 +1,10 @@
 ghost use Rattle.std.specs.Prelude.{◌≡◌, None, Some, IfOk, IfErr, OnErr};
 ghost use Rattle.schedule.specs.Performed.{IsPerformed, IsStopped};
-ghost use Rattle.schedule.specs.Values.{AsksValues};
 ghost use Rattle.schedule.specs.Calls.{IsRefused, read_reply, reply_of, write_reply};
 
-use crate::commands::{add_type, create, load, query, remove, save};
-use crate::index_commands::{add_index, disable_index, drop_index, index_state};
+use crate::commands::{add_type, create, load, remove, save};
+use crate::executing::{execute, query};
+use crate::index_commands::{add_index, aggregate, disable_index, drop_index, index_state};
 use crate::planning::plan;
 use crate::refusal::Refusal;
 use crate::reply::Reply;
@@ -55,6 +55,8 @@ fn reply_of(error: StoreError) -> Result<Reply, AllocError>
         StoreError::NoStore => Ok(Reply::Refused(Refusal::NoStore)),
         StoreError::AlreadyThere => Ok(Reply::Refused(Refusal::AlreadyThere)),
         StoreError::OtherSchema => Ok(Reply::Refused(Refusal::OtherSchema)),
+        StoreError::NotAggregate => Ok(Reply::Refused(Refusal::NotAggregate)),
+        StoreError::NotReadable => Ok(Reply::Refused(Refusal::NotReadable)),
     }
 }
 
@@ -65,7 +67,6 @@ fn answer<S: Snapshot>(
     tx: &mut Transaction,
     db: &S,
 ) -> Result<Reply, StoreError>
-    requires { AsksValues command.now }
     ensures performed { IfOk result (λ answer.
         IsPerformed (S.map_at db.now) (λ range. S.may_refuse db.now range tx.old.read_version) command.now answer
         tx.old tx.new) }
@@ -80,10 +81,12 @@ fn answer<S: Snapshot>(
         Command::Remove(type_name, cells) => remove(alloc, tx, db, type_name, cells),
         Command::Query(asked) => query(alloc, tx, db, asked),
         Command::Plan(asked) => plan(alloc, tx, db, asked),
+        Command::Execute(plan) => execute(alloc, tx, db, plan),
         Command::Index(request) => add_index(alloc, tx, db, request),
         Command::Drop(name) => drop_index(alloc, tx, db, name),
         Command::Disable(name) => disable_index(alloc, tx, db, name),
         Command::State(name) => index_state(alloc, tx, db, name),
+        Command::Aggregate(name, group) => aggregate(alloc, tx, db, name, group),
     }
 }
 
@@ -92,15 +95,13 @@ fn answer<S: Snapshot>(
 /// It adds to the ranges read just those that the command reads, in order. A refusal is a reply: it
 /// keeps the ranges that were read, and writes nothing. `Corrupt` has the key of the first pair
 /// read that isn't of the written form. The only error is want of memory, which writes nothing
-/// either and keeps what was read before it, so that the transaction can go on. The indexes that
-/// the command asks for are all VALUE indexes.
+/// either and keeps what was read before it, so that the transaction can go on.
 pub fn perform<S: Snapshot>(
     alloc: Global,
     command: &Command,
     tx: &mut Transaction,
     db: &S,
 ) -> Result<Reply, AllocError>
-    requires { AsksValues command.now }
     ensures performed { IfOk result (λ answer.
         IsPerformed (S.map_at db.now) (λ range. S.may_refuse db.now range tx.old.read_version) command.now answer
         tx.old tx.new) }

@@ -16,6 +16,8 @@ pub enum Refusal {
     Busy,
     /// The client has no open transaction.
     NoTransaction,
+    /// The client keeps no plan.
+    NoPlan,
     /// A name isn't 1 to 32 of `a-z A-Z 0-9 _`.
     BadName,
     /// A name is given twice, or stands already.
@@ -49,8 +51,14 @@ pub enum Refusal {
     AlreadyThere,
     /// There is no store.
     NoStore,
-    /// The record's type isn't that of the store's schema.
+    /// The record's or the plan's type isn't that of the store's schema.
     OtherSchema,
+    /// An index of the plan isn't there with its definition, or isn't readable.
+    IndexNotReadable,
+    /// The index is a VALUE index, which has no totals.
+    NotAggregate,
+    /// The index isn't readable.
+    NotReadable,
     /// A server doesn't have the version yet.
     FutureVersion,
     /// The version lies longer ago than the window allows.
@@ -110,6 +118,7 @@ impl Refusal {
             Refusal::NoSuchRole => "NoSuchRole",
             Refusal::Busy => "Busy",
             Refusal::NoTransaction => "NoTransaction",
+            Refusal::NoPlan => "NoPlan",
             Refusal::BadName => "BadName",
             Refusal::NameTaken => "NameTaken",
             Refusal::UnknownType => "UnknownType",
@@ -126,6 +135,9 @@ impl Refusal {
             Refusal::AlreadyThere => "AlreadyThere",
             Refusal::NoStore => "NoStore",
             Refusal::OtherSchema => "OtherSchema",
+            Refusal::IndexNotReadable => "IndexNotReadable",
+            Refusal::NotAggregate => "NotAggregate",
+            Refusal::NotReadable => "NotReadable",
             Refusal::FutureVersion => "FutureVersion",
             Refusal::TooOld => "TooOld",
             Refusal::VersionsExhausted => "VersionsExhausted",

@@ -112,6 +112,8 @@ pub enum Reply {
     Planned(SharedPlan),
     /// The state of the index.
     State(State),
+    /// The total of the group.
+    Total(i64),
     /// The transaction is submitted at this version.
     Submitted(u64),
     /// The transaction changed nothing and has ended.

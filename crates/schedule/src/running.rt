@@ -3,11 +3,10 @@ ghost use Rattle.cluster_core.specs.Configuration.{config_refusal};
 ghost use Rattle.cluster_core.specs.declared.answers.Config.{Config as Configuration};
 ghost use Rattle.cluster_core.specs.declared.answers.ConfigError.{ConfigError as ConfigRefusal};
 ghost use Rattle.schedule.specs.Past.{Past};
-ghost use Rattle.schedule.specs.Running.{HasRun, IsFirst, IsStepped, Stands};
-ghost use Rattle.schedule.specs.Values.{StepAsksValues};
-ghost use Rattle.std.specs.List.{AllByRecursion};
+ghost use Rattle.schedule.specs.Running.{HasRun, IsFirst, IsSteppedWith, Stands};
 
 use crate::database::Database;
+use crate::kept_plans::KeptPlans;
 use crate::reply::Reply;
 use crate::step::Step;
 use crate::transcript::ScheduleError;
@@ -16,14 +15,14 @@ use std::alloc::{AllocError, Global};
 
 impl Database {
     // Does one step.
-    fn step(&mut self, alloc: Global, step: &Step) -> Result<Reply, AllocError>
-        requires standing { (past : Past) × Stands past self.old }
-        requires values { StepAsksValues step.now }
-        ensures { IfOk result (λ reply. IsStepped step.now reply self.old self.new) }
+    fn step(&mut self, alloc: Global, kept: &KeptPlans, step: &Step) -> Result<Reply, AllocError>
+        requires { (past : Past) × Stands past self.old }
+        ensures { IfOk result (λ reply. IsSteppedWith kept.now.plans.items step.now reply self.old self.new) }
     {
         match step {
             Step::Begin(client) => Ok(self.begin(alloc, *client)),
             Step::Perform(client, command) => self.perform(alloc, *client, command),
+            Step::Execute(client) => self.execute(alloc, kept, *client),
             Step::Commit(client) => self.commit(*client),
             Step::Abandon(client) => Ok(self.abandon(*client)),
             Step::Resolve(resolver) => self.resolve(*resolver),
@@ -37,14 +36,15 @@ impl Database {
 
     // Does steps one after another, and answers their replies.
     pub(crate) fn steps(&mut self, alloc: Global, steps: &[Step]) -> Result<Vec<Reply>, AllocError>
-        requires first { (config : Configuration) × IsFirst config self.old }
-        requires values { AllByRecursion StepAsksValues steps.now }
+        requires { (config : Configuration) × IsFirst config self.old }
         ensures { IfOk result (λ replies.
             (config : Configuration) → IsFirst config self.old → HasRun config steps.now replies.items self.new) }
     {
+        let mut kept = KeptPlans::new(alloc)?;
         let mut replies = Vec::new(alloc);
         for step in steps {
-            let reply = self.step(alloc, step)?;
+            let reply = self.step(alloc, &kept, step)?;
+            kept.keep(step, &reply)?;
             replies.push(reply)?;
         }
         Ok(replies)

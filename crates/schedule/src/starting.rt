@@ -4,21 +4,21 @@ ghost use Rattle.cluster_core.specs.History.{IsLegal};
 ghost use Rattle.cluster_core.specs.Roles.{AreInOrder, history};
 ghost use Rattle.schedule.specs.Running.{IsFirst};
 
-use crate::database::{Database, OpenTransaction};
+use crate::database::Database;
 use crate::step::CLIENTS;
 use cluster_core::{Cluster, Config, ConfigError};
 use std::alloc::{AllocError, Global};
 use std::collections::VecDeque;
 
-// No open transaction, for each client.
-fn no_transactions(alloc: Global) -> Result<Vec<Option<OpenTransaction>>, AllocError>
+// Nothing for each client.
+pub(crate) fn none_each<T: Drop>(alloc: Global) -> Result<Vec<Option<T>>, AllocError>
     ensures { IfOk result (λ places. places.items ≡ replicate CLIENTS None) }
 {
-    let mut transactions = Vec::new(alloc);
+    let mut places = Vec::new(alloc);
     for _ in 0..CLIENTS {
-        transactions.push(None)?;
+        places.push(None)?;
     }
-    Ok(transactions)
+    Ok(places)
 }
 
 // What holds of every cluster: the clocks of its roles stand in order, and its history is legal.
@@ -39,7 +39,7 @@ impl Database {
             (error ≡ ConfigError.Memory) ⊎ (config_refusal config.now ≡ Some error)) }
     {
         let cluster = Cluster::new(alloc, config)?;
-        let transactions = no_transactions(alloc)?;
+        let transactions = none_each(alloc)?;
         Ok(Database {
             cluster,
             transactions,

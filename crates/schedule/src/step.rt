@@ -1,29 +1,13 @@
 ghost use Rattle.std.specs.Prelude.{◌≡◌, IfOk};
 
 use crate::asked_query::AskedQuery;
+use crate::shared_plan::SharedPlan;
 use metadata::{Cells, IndexRequest, SchemaRequest, TypeRequest};
 use std::alloc::AllocError;
 use tuple_codec::Text;
 
 /// The number of clients of a schedule.
 pub const CLIENTS: usize = 16;
-
-/// A query: all records of a type.
-#[derive(Drop)]
-pub struct Query {
-    /// The name of the type.
-    pub record_type: Text,
-}
-
-impl Query {
-    /// An equal query.
-    pub fn copy(&self) -> Result<Query, AllocError>
-        ensures { IfOk result (λ copy. copy ≡ self.now) }
-    {
-        let record_type = self.record_type.copy()?;
-        Ok(Query { record_type })
-    }
-}
 
 /// A command on the store, in a transaction.
 #[derive(Drop)]
@@ -39,9 +23,11 @@ pub enum Command {
     /// Takes out the record of this type with these key cells.
     Remove(Text, Cells),
     /// Asks for the answer to a query.
-    Query(Query),
+    Query(AskedQuery),
     /// Asks for the plan of a query.
     Plan(AskedQuery),
+    /// Asks for the rows of a plan, whenever that plan was made.
+    Execute(SharedPlan),
     /// Adds this index to the store.
     Index(IndexRequest),
     /// Drops the index of this name.
@@ -50,6 +36,8 @@ pub enum Command {
     Disable(Text),
     /// Asks for the state of the index of this name.
     State(Text),
+    /// Asks for the total of the group of these cells, of the COUNT or SUM index of this name.
+    Aggregate(Text, Cells),
 }
 
 impl Command {
@@ -65,10 +53,12 @@ impl Command {
             Command::Remove(name, cells) => Ok(Command::Remove(name.copy()?, cells.copy()?)),
             Command::Query(query) => Ok(Command::Query(query.copy()?)),
             Command::Plan(query) => Ok(Command::Plan(query.copy()?)),
+            Command::Execute(plan) => Ok(Command::Execute(plan.copy()?)),
             Command::Index(request) => Ok(Command::Index(request.copy()?)),
             Command::Drop(name) => Ok(Command::Drop(name.copy()?)),
             Command::Disable(name) => Ok(Command::Disable(name.copy()?)),
             Command::State(name) => Ok(Command::State(name.copy()?)),
+            Command::Aggregate(name, group) => Ok(Command::Aggregate(name.copy()?, group.copy()?)),
         }
     }
 }
@@ -80,6 +70,9 @@ pub enum Step {
     Begin(u64),
     /// A client performs a command in its open transaction.
     Perform(u64, Command),
+    /// A client executes the plan that it keeps, that of its last accepted `Command::Plan`, in its
+    /// open transaction.
+    Execute(u64),
     /// A client submits its open transaction, which ends.
     Commit(u64),
     /// A client ends its open transaction, whose changes are dropped.

@@ -16,10 +16,10 @@ differs word name other = by (bytes_eq word name) refl
     by false is = is
 
 -- a name that no step of a number has
-pub no_step_of_number : (name : List ℕ) (number : ℕ) → (name ≡ codes "begin" → ⊥) → (name ≡ codes "commit" → ⊥) → (name ≡ codes "abandon" → ⊥)
+pub no_step_of_number : (name : List ℕ) (number : ℕ) → (name ≡ codes "begin" → ⊥) → (name ≡ codes "execute" → ⊥) → (name ≡ codes "commit" → ⊥) → (name ≡ codes "abandon" → ⊥)
     → (name ≡ codes "resolve" → ⊥) → (name ≡ codes "log" → ⊥) → (name ≡ codes "pull" → ⊥) → step_of_number name number ≡ None
-no_step_of_number name number n1 n2 n3 n4 n5 n6 =
-    rw (differs _ name n1, differs _ name n2, differs _ name n3, differs _ name n4, differs _ name n5, differs _ name n6)
+no_step_of_number name number n1 n2 n3 n4 n5 n6 n7 =
+    rw (differs _ name n1, differs _ name n2, differs _ name n3, differs _ name n4, differs _ name n5, differs _ name n6, differs _ name n7)
 
 -- a name that no command with one part has
 pub no_command_with : (name : List ℕ) (part : Data) → (name ≡ codes "create" → ⊥) → (name ≡ codes "type" → ⊥) → (name ≡ codes "query" → ⊥) → (name ≡ codes "plan" → ⊥) → (name ≡ codes "index" → ⊥)

@@ -2,20 +2,15 @@
 use Rattle.std.specs.Prelude.{ℕ, List, [], ◌∷◌, codes, Option, None, option_map, option_and_then}
 use Rattle.schedule.specs.declared.step.Command.{Command}
 use Rattle.schedule.specs.declared.step.Command.TheVariants as commands
-use Rattle.schedule.specs.declared.step.Query.{Query}
 use Rattle.schedule.specs.declared.step.Step.{Step}
-use Rattle.schedule.specs.declared.step.Step.TheVariants.{Begin, Perform, Commit, Abandon, Resolve}
+use Rattle.schedule.specs.declared.step.Step.TheVariants.{Begin, Perform, Execute, Commit, Abandon, Resolve}
 use Rattle.schedule.specs.declared.step.Step.TheVariants.{Log, Pull, Report, Lost, Settle}
 use Rattle.serde_json.specs.Data.{Data}
 use Rattle.serde_json.specs.Find.{as_str}
 use Rattle.json_forms.specs.CellJson.{cells_in}
-use Rattle.json_forms.specs.Json.{list_in, named, number_in, only_member}
-use Rattle.json_forms.specs.QueryJson.{query_in as asked_in}
+use Rattle.json_forms.specs.Json.{list_in, named, number_in}
+use Rattle.json_forms.specs.QueryJson.{query_in}
 use Rattle.json_forms.specs.SchemaJson.{index_in, schema_in, type_in}
-
--- the query that an object asks: all records of the type of this name
-abbrev pub query_in : Data → Option Query
-query_in d = option_map (λ name. record { record_type = name }) (option_and_then as_str (only_member (codes "type") d))
 
 -- the command of this name with one part
 abbrev pub command_with : List ℕ → Data → Option Command
@@ -24,25 +19,26 @@ command_with name part =
     (named ((codes "create", λ d. option_map commands.Create (schema_in d))
     ∷ (codes "type", λ d. option_map commands.«Type» (type_in d))
     ∷ (codes "query", λ d. option_map commands.Query (query_in d))
-    ∷ (codes "plan", λ d. option_map commands.Plan (asked_in d))
+    ∷ (codes "plan", λ d. option_map commands.Plan (query_in d))
     ∷ (codes "index", λ d. option_map commands.Index (index_in d))
     ∷ (codes "drop", λ d. option_map commands.Drop (as_str d))
     ∷ (codes "disable", λ d. option_map commands.Disable (as_str d))
     ∷ (codes "state", λ d. option_map commands.State (as_str d)) ∷ []) name)
 
--- the command of this name with a type's name and cells
+-- the command of this name with the name of a type, or of an index, and cells
 abbrev pub command_on : List ℕ → Data → Data → Option Command
-command_on name type_name cells =
+command_on name owner cells =
     option_and_then (λ t. option_and_then (λ cs.
     named ((codes "save", commands.Save t cs) ∷ (codes "load", commands.Load t cs)
-    ∷ (codes "remove", commands.Remove t cs) ∷ []) name)
-    (cells_in cells)) (as_str type_name)
+    ∷ (codes "remove", commands.Remove t cs) ∷ (codes "aggregate", commands.Aggregate t cs) ∷ []) name)
+    (cells_in cells)) (as_str owner)
 
 -- the step of this name with just the number of a client or of a role
 abbrev pub step_of_number : List ℕ → ℕ → Option Step
 step_of_number name number =
-    named ((codes "begin", Begin number) ∷ (codes "commit", Commit number) ∷ (codes "abandon", Abandon number)
-    ∷ (codes "resolve", Resolve number) ∷ (codes "log", Log number) ∷ (codes "pull", Pull number) ∷ []) name
+    named ((codes "begin", Begin number) ∷ (codes "execute", Execute number) ∷ (codes "commit", Commit number)
+    ∷ (codes "abandon", Abandon number) ∷ (codes "resolve", Resolve number) ∷ (codes "log", Log number)
+    ∷ (codes "pull", Pull number) ∷ []) name
 
 -- the step of this name with a number, and what stands behind it
 abbrev pub numbered_step : List ℕ → ℕ → List Data → Option Step

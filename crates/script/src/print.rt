@@ -91,6 +91,7 @@ fn push_reply(alloc: Global, line: &mut String, reply: &Reply) -> Result<(), All
         Reply::Rows(rows) => push_rows(alloc, line, rows),
         Reply::Planned(plan) => push_plan(alloc, line, plan),
         Reply::State(state) => line.push_str(state_name(*state)),
+        Reply::Total(total) => write!(line, "total {total}"),
         Reply::Submitted(version) => write!(line, "submitted {version}"),
         Reply::ReadOnly => line.push_str("read only"),
         Reply::Nothing => line.push_str("nothing"),

@@ -2,8 +2,6 @@ ghost use Rattle.std.specs.Prelude.{◌≡◌, ◌<◌, ◌≤◌, Some, None, E
 ghost use Rattle.serde_json.specs.View.{view};
 ghost use Rattle.json_forms.specs.Json.{each_in};
 ghost use Rattle.script.specs.Steps.{step_in};
-ghost use Rattle.schedule.specs.Values.{StepAsksValues};
-ghost use Rattle.std.specs.List.{AllByRecursion};
 ghost use Rattle.script.specs.Script.{IsScript, explains_script, explains_step};
 ghost use Rattle.script.specs.Script.{explains_steps, frame_in, script_config};
 
@@ -52,7 +50,6 @@ fn script_config(alloc: Global, script: &Value) -> Result<Config, PartError>
 // The step of this number, counted from 1.
 fn step_at(alloc: Global, item: &Value, number: usize) -> Result<Step, ScriptError>
     ensures ok { IfOk result (λ step. step_in (view item.now) ≡ Some step) }
-    ensures values { IfOk result StepAsksValues }
     ensures err { IfErr result (explains_step (view item.now) number) }
 {
     step_of(alloc, item).map_err(|error| ScriptError::at(number, error))
@@ -61,7 +58,6 @@ fn step_at(alloc: Global, item: &Value, number: usize) -> Result<Step, ScriptErr
 // What the steps of a script stand for.
 fn steps_of(alloc: Global, items: &[Value]) -> Result<Vec<Step>, ScriptError>
     ensures ok { IfOk result (λ steps. each_in step_in (map view items.now) ≡ Some steps.items) }
-    ensures values { IfOk result (λ steps. AllByRecursion StepAsksValues steps.items) }
     ensures err { IfErr result (explains_steps (map view items.now)) }
 {
     let mut steps = Vec::new(alloc);
@@ -77,7 +73,6 @@ fn steps_of(alloc: Global, items: &[Value]) -> Result<Vec<Step>, ScriptError>
 /// where memory is wanting.
 pub fn script_of(alloc: Global, bytes: &[u8]) -> Result<Script, ScriptError>
     ensures ok { IfOk result (λ script. IsScript bytes.now script.config script.steps.items) }
-    ensures values { IfOk result (λ script. AllByRecursion StepAsksValues script.steps.items) }
     ensures err { IfErr result (explains_script bytes.now) }
 {
     let value = value_of(alloc, bytes).map_err(|error| ScriptError::at(0, error))?;

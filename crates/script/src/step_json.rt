@@ -1,31 +1,20 @@
 ghost use Rattle.std.specs.Prelude.{◌≡◌, Some, None, IfOk, IfErr, map};
 ghost use Rattle.serde_json.specs.View.{view};
-ghost use Rattle.json_forms.specs.QueryJson.{query_in as asked_in};
+ghost use Rattle.json_forms.specs.QueryJson.{query_in};
 ghost use Rattle.script.specs.Steps.{command_on, command_with, common_step};
-ghost use Rattle.script.specs.Steps.{numbered_step, query_in, step_in, step_of_number};
-ghost use Rattle.schedule.specs.Values.{AsksValues, StepAsksValues};
+ghost use Rattle.script.specs.Steps.{numbered_step, step_in, step_of_number};
 
 use json_forms::{
-    PartError, cells_of, index_of, list_of, number_of, only_member, schema_of, str_of, text_of,
-    type_of,
+    PartError, cells_of, index_of, list_of, number_of, schema_of, str_of, text_of, type_of,
 };
-use schedule::{AskedQuery, Command, Query, Step};
+use schedule::{AskedQuery, Command, Step};
 use serde_json::Value;
 use std::alloc::Global;
 
-// A query: all records of a type.
-fn query_of(alloc: Global, value: &Value) -> Result<Query, PartError>
+// The query of a command.
+fn query_of(alloc: Global, value: &Value) -> Result<AskedQuery, PartError>
     ensures ok { IfOk result (λ query. query_in (view value.now) ≡ Some query) }
     ensures err { IfErr result (λ error. error ≡ PartError.BadForm → query_in (view value.now) ≡ None) }
-{
-    let record_type = text_of(alloc, only_member(value, "type")?)?;
-    Ok(Query { record_type })
-}
-
-// A query that is to be planned.
-fn asked_of(alloc: Global, value: &Value) -> Result<AskedQuery, PartError>
-    ensures ok { IfOk result (λ query. asked_in (view value.now) ≡ Some query) }
-    ensures err { IfErr result (λ error. error ≡ PartError.BadForm → asked_in (view value.now) ≡ None) }
 {
     let query = json_forms::query_of(alloc, value)?;
     Ok(AskedQuery::new(alloc, query)?)
@@ -34,14 +23,13 @@ fn asked_of(alloc: Global, value: &Value) -> Result<AskedQuery, PartError>
 // A command with one part behind the client.
 fn command_of_one(alloc: Global, name: &str, part: &Value) -> Result<Command, PartError>
     ensures ok { IfOk result (λ command. command_with name.now (view part.now) ≡ Some command) }
-    ensures values { IfOk result AsksValues }
     ensures err { IfErr result (λ error. error ≡ PartError.BadForm → command_with name.now (view part.now) ≡ None) }
 {
     match name {
         "create" => Ok(Command::Create(schema_of(alloc, part)?)),
         "type" => Ok(Command::Type(type_of(alloc, part)?)),
         "query" => Ok(Command::Query(query_of(alloc, part)?)),
-        "plan" => Ok(Command::Plan(asked_of(alloc, part)?)),
+        "plan" => Ok(Command::Plan(query_of(alloc, part)?)),
         "index" => Ok(Command::Index(index_of(alloc, part)?)),
         "drop" => Ok(Command::Drop(text_of(alloc, part)?)),
         "disable" => Ok(Command::Disable(text_of(alloc, part)?)),
@@ -50,24 +38,19 @@ fn command_of_one(alloc: Global, name: &str, part: &Value) -> Result<Command, Pa
     }
 }
 
-// A command with the name of a type and cells behind the client.
-fn command_on_type(
-    alloc: Global,
-    name: &str,
-    type_name: &Value,
-    cells: &Value,
-) -> Result<Command, PartError>
-    ensures ok { IfOk result (λ command. command_on name.now (view type_name.now) (view cells.now) ≡ Some command) }
-    ensures values { IfOk result AsksValues }
+// A command with the name of a type, or of an index, and cells behind the client.
+fn command_on(alloc: Global, name: &str, owner: &Value, cells: &Value) -> Result<Command, PartError>
+    ensures ok { IfOk result (λ command. command_on name.now (view owner.now) (view cells.now) ≡ Some command) }
     ensures err { IfErr result (λ error. error ≡ PartError.BadForm
-        → command_on name.now (view type_name.now) (view cells.now) ≡ None) }
+        → command_on name.now (view owner.now) (view cells.now) ≡ None) }
 {
-    let type_name = text_of(alloc, type_name)?;
+    let owner = text_of(alloc, owner)?;
     let cells = cells_of(alloc, cells)?;
     match name {
-        "save" => Ok(Command::Save(type_name, cells)),
-        "load" => Ok(Command::Load(type_name, cells)),
-        "remove" => Ok(Command::Remove(type_name, cells)),
+        "save" => Ok(Command::Save(owner, cells)),
+        "load" => Ok(Command::Load(owner, cells)),
+        "remove" => Ok(Command::Remove(owner, cells)),
+        "aggregate" => Ok(Command::Aggregate(owner, cells)),
         _ => Err(PartError::BadForm),
     }
 }
@@ -75,11 +58,11 @@ fn command_on_type(
 // A step with just the number of a client or of a role.
 fn step_of_number(name: &str, number: u64) -> Result<Step, PartError>
     ensures ok { IfOk result (λ step. step_of_number name.now number ≡ Some step) }
-    ensures values { IfOk result StepAsksValues }
     ensures err { IfErr result (λ error. error ≡ PartError.BadForm → step_of_number name.now number ≡ None) }
 {
     match name {
         "begin" => Ok(Step::Begin(number)),
+        "execute" => Ok(Step::Execute(number)),
         "commit" => Ok(Step::Commit(number)),
         "abandon" => Ok(Step::Abandon(number)),
         "resolve" => Ok(Step::Resolve(number)),
@@ -92,15 +75,14 @@ fn step_of_number(name: &str, number: u64) -> Result<Step, PartError>
 // A step with a number, and what stands behind it.
 fn numbered_step(alloc: Global, name: &str, number: u64, parts: &[Value]) -> Result<Step, PartError>
     ensures ok { IfOk result (λ step. numbered_step name.now number (map view parts.now) ≡ Some step) }
-    ensures values { IfOk result StepAsksValues }
     ensures err { IfErr result (λ error. error ≡ PartError.BadForm
         → numbered_step name.now number (map view parts.now) ≡ None) }
 {
     match parts {
         [] => step_of_number(name, number),
         [part] => Ok(Step::Perform(number, command_of_one(alloc, name, part)?)),
-        [type_name, cells] => {
-            let command = command_on_type(alloc, name, type_name, cells)?;
+        [owner, cells] => {
+            let command = command_on(alloc, name, owner, cells)?;
             Ok(Step::Perform(number, command))
         }
         _ => Err(PartError::BadForm),
@@ -110,7 +92,6 @@ fn numbered_step(alloc: Global, name: &str, number: u64, parts: &[Value]) -> Res
 // A step that is a name alone.
 fn common_step(name: &str) -> Result<Step, PartError>
     ensures ok { IfOk result (λ step. common_step name.now ≡ Some step) }
-    ensures values { IfOk result StepAsksValues }
     ensures err { IfErr result (λ error. error ≡ PartError.BadForm → common_step name.now ≡ None) }
 {
     match name {
@@ -124,7 +105,6 @@ fn common_step(name: &str) -> Result<Step, PartError>
 // A step: a list of its name and its parts.
 pub(crate) fn step_of(alloc: Global, value: &Value) -> Result<Step, PartError>
     ensures ok { IfOk result (λ step. step_in (view value.now) ≡ Some step) }
-    ensures values { IfOk result StepAsksValues }
     ensures err { IfErr result (λ error. error ≡ PartError.BadForm → step_in (view value.now) ≡ None) }
 {
     match list_of(value)? {

@@ -1,7 +1,4 @@
 // A map and a transaction over it, in which commands are performed and a store is used.
-ghost use Rattle.std.specs.Prelude.{IfOk};
-ghost use Rattle.record_store.specs.Holds.{HasPlainIndexes};
-
 use crate::asking::{cells_asked, schema_asked};
 use crate::parts::{alike, mutations_of, pair_of, same, shown, tells};
 use crate::transactions::Counted;
@@ -56,11 +53,8 @@ pub(crate) struct Scene {
     prefix: Bytes,
 }
 
-/// Performs a command, unless it asks for an index that is no VALUE index, and makes the line of its reply.
+/// Performs a command, and makes the line of its reply.
 fn performed(scene: &mut Scene, command: &Command) -> Result<String, Fail> {
-    if !command.asks_values() {
-        return Err(Fail::from("an index isn't a VALUE index"));
-    }
     let mut line = String::new(scene.alloc);
     let reply = perform(scene.alloc, command, &mut scene.tx, &scene.db)?;
     make_line(scene.alloc, &mut line, 1, &reply)?;
@@ -86,9 +80,7 @@ fn print(scene: &mut Scene, step: &str, told: &str) -> Result<(), Fail> {
 }
 
 impl Scene {
-    fn opened(&mut self) -> Result<Store, StoreError>
-        ensures { IfOk result (λ store. HasPlainIndexes store.schema store.states) }
-    {
+    fn opened(&mut self) -> Result<Store, StoreError> {
         if !self.prefix.is_key() {
             return Err(StoreError::Write(WriteError::KeyOutside));
         }
@@ -112,9 +104,9 @@ impl Scene {
     /// Makes a store of the type t, which has no index.
     fn create(&mut self) -> Result<String, Fail> {
         let schema = schema_asked(self.alloc, REQUEST)?;
-        let ([], true) = (schema.indexes(), self.prefix.is_key()) else {
-            return Err(Fail::from("no schema without indexes, or no prefix"));
-        };
+        if !self.prefix.is_key() {
+            return Err(Fail::from("no prefix"));
+        }
         let prefix = self.prefix.as_slice();
         match Store::create(self.alloc, prefix, &mut self.tx, &self.db, &schema) {
             Ok(_) => Ok(String::from_str(self.alloc, "done")?),

@@ -1,7 +1,7 @@
 // Schedules run: what stands in the cluster afterwards, and what is committed.
 use crate::parts::{alike, pairs_of, range_of, same};
 use cluster_core::Cluster;
-use schedule::{Transcript, ask_values, run_schedule};
+use schedule::{Transcript, run_schedule};
 use script::script_of;
 use std::alloc::Global;
 use std::fmt::Write;
@@ -106,9 +106,6 @@ static ENTRIES: [Row; 9] = [
 
 fn run(alloc: Global, text: &str) -> Result<Transcript, Fail> {
     let script = script_of(alloc, text.as_bytes())?;
-    if !ask_values(script.steps.as_slice()) {
-        return Err(Fail::from("an index isn't a VALUE index"));
-    }
     Ok(run_schedule(alloc, &script.config, script.steps.as_slice())?)
 }
 

@@ -11,7 +11,7 @@ const CREATE: &str = r#"["create",0,{"types":[
 const SCHEMA: &str =
     "150114=1501150114050515010274000505026b0015010005026100150100050262001501000005140000000500";
 
-static STEPS: [Row; 120] = [
+static STEPS: [Row; 124] = [
     // What was asked is written, byte by byte.
     (New, "", "", ""),
     (Perform, CREATE, "", "ok"),
@@ -123,12 +123,23 @@ static STEPS: [Row; 120] = [
     (Pair, "1501150515011400=", "", ""),
     (Perform, r#"["state",0,"no"]"#, "", "refused Corrupt 150114"),
     (Perform, CREATE, "", "refused AlreadyThere"),
-    // A schema with a COUNT index.
+    // A schema with a COUNT index, and one whose COUNT index sums a field.
     (New, "", "", ""),
     (
         Pair,
         "150114=150115011501\
          050515010274000505026b00150100050261001501000502620015010000051400000005051501027600150215010515010000ff0000",
+        "",
+        "",
+    ),
+    (Perform, r#"["state",0,"no"]"#, "", "refused UnknownIndex"),
+    (Perform, r#"["state",0,"v"]"#, "", "readable"),
+    (New, "", "", ""),
+    (
+        Pair,
+        "150114=150115011501\
+         050515010274000505026b0015010005026100150100050262001501000005140000000505150102760015021501051501\
+         0015020000",
         "",
         "",
     ),

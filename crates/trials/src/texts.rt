@@ -4,6 +4,7 @@ use cluster_core::{ConfigError, ReadError, Reported, SubmitError};
 use explain::ExplainError;
 use kv_core::{Bytes, WriteError};
 use metadata::{MetadataError, Refusal};
+use plan_exec::ExecError;
 use planner::PlanError;
 use query::QueryError;
 use record_store::StoreError;
@@ -33,6 +34,13 @@ enum AnyError {
     NoStore,
     AlreadyThere,
     OtherSchema,
+    NotAggregate,
+    NotReadable,
+    ExecSchema,
+    ExecIndex,
+    ExecRead(ReadError),
+    ExecCorrupt,
+    ExecMemory,
     Unpack(UnpackError),
     Failure(UnpackFailure),
     Strip(StripError),
@@ -47,7 +55,7 @@ const TRUNCATED: UnpackError = UnpackError {
 };
 
 /// Every error, and its text.
-static TEXTS: [(AnyError, &str); 56] = [
+static TEXTS: [(AnyError, &str); 63] = [
     (
         AnyError::Write(WriteError::KeyOutside),
         "the key lies outside the keys, which end before the byte FF",
@@ -159,6 +167,25 @@ static TEXTS: [(AnyError, &str); 56] = [
         AnyError::OtherSchema,
         "the record's type isn't that of the store's schema",
     ),
+    (
+        AnyError::NotAggregate,
+        "the index is neither a COUNT nor a SUM index",
+    ),
+    (AnyError::NotReadable, "the index isn't readable"),
+    (
+        AnyError::ExecSchema,
+        "the plan's type isn't that of the store's schema",
+    ),
+    (AnyError::ExecIndex, "an index of the plan isn't readable"),
+    (
+        AnyError::ExecRead(ReadError::TooOld),
+        "the version lies too long ago",
+    ),
+    (
+        AnyError::ExecCorrupt,
+        "the pair of the key 1501ff isn't one that a store has there",
+    ),
+    (AnyError::ExecMemory, "out of memory"),
     (AnyError::Unpack(TRUNCATED), "Truncated at 7"),
     (AnyError::Failure(UnpackFailure::Memory), "out of memory"),
     (
@@ -248,6 +275,13 @@ fn printed(alloc: Global, error: AnyError) -> Result<String, AllocError> {
         AnyError::NoStore => StoreError::NoStore.to_string(alloc),
         AnyError::AlreadyThere => StoreError::AlreadyThere.to_string(alloc),
         AnyError::OtherSchema => StoreError::OtherSchema.to_string(alloc),
+        AnyError::NotAggregate => StoreError::NotAggregate.to_string(alloc),
+        AnyError::NotReadable => StoreError::NotReadable.to_string(alloc),
+        AnyError::ExecSchema => ExecError::OtherSchema.to_string(alloc),
+        AnyError::ExecIndex => ExecError::IndexNotReadable.to_string(alloc),
+        AnyError::ExecRead(error) => ExecError::Read(error).to_string(alloc),
+        AnyError::ExecCorrupt => ExecError::Corrupt(damaged_key(alloc)?).to_string(alloc),
+        AnyError::ExecMemory => ExecError::Memory.to_string(alloc),
         AnyError::Unpack(error) => error.to_string(alloc),
         AnyError::Failure(error) => error.to_string(alloc),
         AnyError::Strip(error) => error.to_string(alloc),

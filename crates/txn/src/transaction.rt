@@ -216,6 +216,19 @@ impl Transaction {
         self.write(Mutation::ClearRange(range))
     }
 
+    /// Adds an operand to the value at a key, as `kv_core::add_le` does: the key isn't read.
+    ///
+    /// It is refused as `set` is, the operand as a value.
+    pub fn add(&mut self, key: Bytes, operand: Bytes) -> Result<(), WriteError>
+        ensures ok { OnOk result (self.new ≡ with_mutation (Mutation.Add key operand) self.old) }
+        ensures allowed { OnOk result (IsNone (write_refusal self.old.mutations (Mutation.Add key operand))) }
+        ensures kept { OnErr result (self.new ≡ self.old) }
+        ensures refused { IfErr result (λ error.
+            (error ≡ WriteError.Memory) ⊎ (write_refusal self.old.mutations (Mutation.Add key operand) ≡ Some error)) }
+    {
+        self.write(Mutation::Add { key, operand })
+    }
+
     /// Adds mutations in their order, all of them or none.
     ///
     /// The first one that is refused gives the refusal, as `set` is refused. A refusal leaves the

@@ -1,12 +1,8 @@
-use Rattle.std.proofs.Common.{◌≡◌, None, rules, sym, subst}
-use Rattle.std.specs.List.{AllByRecursion}
-use Rattle.metadata.specs.declared.index.IndexKind.TheVariants.{Value}
-use Rattle.metadata.specs.declared.index.IndexRequest.{IndexRequest}
-use Rattle.std.specs.Prelude.{List}
+use Rattle.std.proofs.Common.{◌≡◌, None, rules}
 use Rattle.serde_json.specs.View.{view}
 use Rattle.json_forms.specs.SchemaJson.{index_in, indexes_in}
 use Rattle.json_forms.specs.declared.error.PartError.TheVariants.{BadForm}
-use Rattle.json_forms.proofs.Each.{all_append, each_more, each_none}
+use Rattle.json_forms.proofs.Each.{each_more, each_none}
 use Rattle.json_forms.proofs.schema_json.indexes_in.Goals as goal
 
 pub returns-in_err-index_of-clause-err : goal.returns-in_err-index_of-clause-err
@@ -16,7 +12,4 @@ returns-in_err-index_of-clause-err c =
     search (rules, none)
 
 pub loop-item-preserved : goal.loop-item-preserved
-loop-item-preserved c = (
-  rw c.in_ok-push.ensures.items (each_more index_in c.in_ok-item-items.item-items.now c.loop-item.item-index c.item-item.result _ _ c.loop-item-test.true c.item-item.is c.in_ok-index_of.ensures.ok c.loop-item.invariant.0),
-  subst (λ (read : List IndexRequest). AllByRecursion (λ (index : IndexRequest). index.kind ≡ Value) read) (sym c.in_ok-push.ensures.items) (all_append (λ (index : IndexRequest). index.kind ≡ Value) _ _ c.loop-item.invariant.1 c.in_ok-index_of.ensures.value),
-)
+loop-item-preserved c = rw c.in_ok-push.ensures.items (each_more index_in c.in_ok-item-items.item-items.now c.loop-item.item-index c.item-item.result _ _ c.loop-item-test.true c.item-item.is c.in_ok-index_of.ensures.ok c.loop-item.invariant)

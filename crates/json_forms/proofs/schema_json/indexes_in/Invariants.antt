@@ -1,10 +1,8 @@
 use Rattle.std.proofs.Common.{◌≡◌, Some, take, map}
-use Rattle.std.specs.List.{AllByRecursion}
-use Rattle.metadata.specs.declared.index.IndexKind.TheVariants.{Value}
 use Rattle.json_forms.specs.SchemaJson.{index_in}
 use Rattle.serde_json.specs.View.{view}
 use Rattle.json_forms.specs.Json.{each_in}
 use Rattle.json_forms.proofs.schema_json.indexes_in.Given as goal
 
 abbrev pub invariant-loop-item : goal.invariant-loop-item
-invariant-loop-item l = (each_in index_in (map view (take l.item-index l.item-items)) ≡ Some l.indexes.items) × AllByRecursion (λ index. index.kind ≡ Value) l.indexes.items
+invariant-loop-item l = each_in index_in (map view (take l.item-index l.item-items)) ≡ Some l.indexes.items

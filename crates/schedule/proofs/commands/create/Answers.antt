@@ -1,16 +1,12 @@
 use Rattle.std.proofs.Common.{refl}
 use Rattle.record_store.specs.Steps.{of_metadata}
 use Rattle.schedule.proofs.Stops.{exit_with}
-use Rattle.metadata.proofs.AskedKinds.{asked_kinds}
 use Rattle.schedule.proofs.Creating.{created_now, refused_request, uncreated}
 use Rattle.schedule.proofs.commands.create.Goals as goal
 
 pub returns-in_err-schema-clause-refused : goal.returns-in_err-schema-clause-refused
 returns-in_err-schema-clause-refused g c =
     exit_with c.from_residual.result (of_metadata c.in_err-schema.field-0.0) _ c.from_residual.ensures (refused_request c.args.request.now c.in_err-schema.field-0.0 c.in_err-schema.ensures.refused)
-
-pub create-requires-clause-kinds : goal.create-requires-clause-kinds
-create-requires-clause-kinds g c = asked_kinds c.args.request.now c.in_ok-schema.schema c.requires c.in_ok-schema.ensures.made
 
 pub returns-in_err-_store-clause-refused : goal.returns-in_err-_store-clause-refused
 returns-in_err-_store-clause-refused g c =
@@ -20,4 +16,4 @@ returns-in_err-_store-clause-refused g c =
 pub returns-clause-performed : goal.returns-clause-performed
 returns-clause-performed g c =
     created_now c.args.request.now c.in_ok-_store._store c.in_ok-schema.schema c.in_ok-_store.ensures.made.prefix_is c.in_ok-_store.ensures.made.schema_is c.in_ok-_store.ensures.made.readable c.in_ok-schema.ensures.made
-    (asked_kinds c.args.request.now c.in_ok-schema.schema c.requires c.in_ok-schema.ensures.made) c.in_ok-_store.ensures.made.created
+    c.in_ok-_store.ensures.made.created

@@ -15,9 +15,9 @@ pub returns-in_err-state-clause-refused : goal.returns-in_err-state-clause-refus
 returns-in_err-state-clause-refused g c =
     exit_with c.from_residual-in_err-state.result c.in_err-state.field-0.0 _ c.from_residual-in_err-state.ensures
     (refused c.in_ok-store.store (Index c.args.request.now) (λ opened. index_call opened c.args.request.now) told_index c.in_err-state.field-0.0 refl c.in_ok-store.ensures.prefix
-    (index_meets c.in_ok-store.store c.args.request.now c.requires) c.in_ok-store.ensures.opened c.in_err-state.ensures.refused)
+    (index_meets c.in_ok-store.store c.args.request.now) c.in_ok-store.ensures.opened c.in_err-state.ensures.refused)
 
 pub returns-clause-performed : goal.returns-clause-performed
 returns-clause-performed g c =
     performed c.in_ok-store.store (Index c.args.request.now) (λ opened. index_call opened c.args.request.now) told_index c.in_ok-state.state c.in_ok-store.ensures.prefix
-    (index_meets c.in_ok-store.store c.args.request.now c.requires) c.in_ok-store.ensures.opened c.in_ok-state.ensures.added
+    (index_meets c.in_ok-store.store c.args.request.now) c.in_ok-store.ensures.opened c.in_ok-state.ensures.added

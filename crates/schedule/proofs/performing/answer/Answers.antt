@@ -56,3 +56,13 @@ pub returns-in-Plan-clause-performed : goal.returns-in-Plan-clause-performed
 returns-in-Plan-clause-performed g c =
     subst (λ command. IfOk c.plan.result (λ answer. IsPerformed (g.S.Snapshot.map_at c.args.db.now) (λ range. g.S.Snapshot.may_refuse c.args.db.now range c.args.tx.now.read_version) command answer c.args.tx.now c.plan.new.tx))
     (sym c.in-Plan.is) c.plan.ensures.performed
+
+pub returns-in-Execute-clause-performed : goal.returns-in-Execute-clause-performed
+returns-in-Execute-clause-performed g c =
+    subst (λ command. IfOk c.execute.result (λ answer. IsPerformed (g.S.Snapshot.map_at c.args.db.now) (λ range. g.S.Snapshot.may_refuse c.args.db.now range c.args.tx.now.read_version) command answer c.args.tx.now c.execute.new.tx))
+    (sym c.in-Execute.is) c.execute.ensures.performed
+
+pub returns-in-Aggregate-clause-performed : goal.returns-in-Aggregate-clause-performed
+returns-in-Aggregate-clause-performed g c =
+    subst (λ command. IfOk c.aggregate.result (λ answer. IsPerformed (g.S.Snapshot.map_at c.args.db.now) (λ range. g.S.Snapshot.may_refuse c.args.db.now range c.args.tx.now.read_version) command answer c.args.tx.now c.aggregate.new.tx))
+    (sym c.in-Aggregate.is) c.aggregate.ensures.performed

@@ -1,14 +1,9 @@
-use Rattle.std.proofs.Common.{◌≡◌, ◌∙◌, ℕ, List, Ok, ap, subst₂, sym}
+use Rattle.std.proofs.Common.{◌∙◌, ap, sym}
 use Rattle.metadata.specs.IndexChange.{new_index}
 use Rattle.record_store.specs.Call.{Opened}
 use Rattle.record_store.specs.Store.{listed_as}
 use Rattle.record_store.specs.Steps.{no_memory, of_write}
-use Rattle.record_store.proofs.AddedCalls.{added_is, index_answered, index_limited, index_memory, index_unread, indexed_as, type_there}
-use Rattle.metadata.proofs.AskedKinds.{added_kinds}
-use Rattle.metadata.specs.Schema.{Schema}
-use Rattle.metadata.specs.declared.index.State.{State}
-use Rattle.record_store.specs.Holds.{HasPlainIndexes}
-use Rattle.record_store.proofs.Plain.{added_plain}
+use Rattle.record_store.proofs.AddedCalls.{index_answered, index_limited, index_memory, index_unread, indexed_as, type_there}
 use Rattle.record_store.proofs.Openings.{exit_with}
 use Rattle.record_store.proofs.store.Store.add_index.Goals as goal
 
@@ -54,12 +49,3 @@ returns-clause-opened g c =
     indexed_as c.args.self.now c.args.request.now c.in_ok-index.index c.in_ok-state.state _ _ c.in_ok-states.states.items
     (ap (λ s. new_index s c.args.request.now) (sym c.schema.ensures) ∙ c.in_ok-index.ensures.made) c.in_ok-next.ensures.added (ap (λ (o : Opened). o.prefix) c.self.view_is)
     (c.in_ok-states.ensures ∙ ap (listed_as c.in_ok-index.index.number c.in_ok-state.state) (c.as_slice.ensures.value ∙ ap (λ (o : Opened). o.states) c.self.view_is))
-
-pub returns-clause-plain : goal.returns-clause-plain
-returns-clause-plain g c =
-    subst₂ (λ (s : Schema) (ss : List (ℕ × State)). HasPlainIndexes s ss) (sym (added_is c.args.self.now.schema c.in_ok-next.next c.args.request.now c.in_ok-index.index c.in_ok-next.ensures.added made))
-    (sym (c.in_ok-states.ensures ∙ ap (listed_as c.in_ok-index.index.number c.in_ok-state.state) (c.as_slice.ensures.value ∙ ap (λ (o : Opened). o.states) c.self.view_is)))
-    (added_plain c.args.self.now.schema c.args.self.now.states c.in_ok-index.index c.in_ok-state.state (added_kinds c.args.self.now.schema c.args.request.now c.in_ok-index.index c.requires.kind made) c.in_ok-state.ensures.plain c.requires.plain)
-  where
-    made : new_index c.args.self.now.schema c.args.request.now ≡ Ok c.in_ok-index.index
-    made = ap (λ s. new_index s c.args.request.now) (sym c.schema.ensures) ∙ c.in_ok-index.ensures.made

@@ -1,9 +1,6 @@
-use Rattle.std.proofs.Common.{◌∙◌, ◌==◌, ap, length, subst, sym}
+use Rattle.std.proofs.Common.{◌∙◌, ◌==◌, ap, length}
 use Rattle.txn.specs.Refusing.{NeverRefuses}
 use Rattle.record_store.specs.Calls.{done_with, schema_service, schema_writes, type_call}
-use Rattle.record_store.specs.Call.{Opened}
-use Rattle.record_store.specs.Holds.{HasPlainIndexes}
-use Rattle.record_store.proofs.Plain.{typed_plain}
 use Rattle.record_store.specs.Steps.{of_write}
 use Rattle.record_store.proofs.Answered.{answered, refused_limit}
 use Rattle.record_store.proofs.Openings.{exit_with}
@@ -19,7 +16,7 @@ returns-in_err-write_all-clause-refused c =
     exit_with c.from_residual-in_err-write_all.result (of_write c.in_err-write_all.field-0.0) _ c.from_residual-in_err-write_all.ensures (λ maps.
     refused_limit maps NeverRefuses c.args.self.now (type_call c.args.self.now c.args.request.now) (schema_service c.args.self.now c.in_ok-next.next) c.in_ok-mutations.mutations.items c.in_err-write_all.field-0.0
     (ap (done_with (schema_service c.args.self.now)) c.in_ok-next.ensures.added) (nothing_read maps c.args.self.now)
-    (λ m store holds same empty. c.in_ok-mutations.ensures ∙ ap (λ p. schema_writes p c.in_ok-next.next) c.prefix.ensures.prefix) c.in_err-write_all.ensures.kept c.in_err-write_all.ensures.refused)
+    (λ m store holds same empty. (refl, c.in_ok-mutations.ensures ∙ ap (λ p. schema_writes p c.in_ok-next.next) c.prefix.ensures.prefix)) c.in_err-write_all.ensures.kept c.in_err-write_all.ensures.refused)
 
 pub returns-clause-added : goal.returns-clause-added
 returns-clause-added c = λ maps.
@@ -28,11 +25,6 @@ returns-clause-added c = λ maps.
     c.in_ok-write_all.ensures.ok c.in_ok-write_all.ensures.allowed
     (λ m store holds same empty. type_served c.args.self.now c.in_ok-next.next c.args.request.now c.in_ok-mutations.mutations.items (c.in_ok-mutations.ensures ∙ ap (λ p. schema_writes p c.in_ok-next.next) c.prefix.ensures.prefix)
     c.in_ok-next.ensures.lawful c.in_ok-next.ensures.added m store holds same)
-
-pub returns-clause-plain : goal.returns-clause-plain
-returns-clause-plain c = λ plain.
-    typed_plain c.args.self.now.schema c.in_ok-next.next c.self.inside.states.items c.args.request.now c.in_ok-next.ensures.added
-    (subst (HasPlainIndexes c.args.self.now.schema) (sym (ap (λ (o : Opened). o.states) c.self.view_is)) plain)
 
 pub returns-in_err-next-clause-refused : goal.returns-in_err-next-clause-refused
 returns-in_err-next-clause-refused c =

@@ -5,8 +5,6 @@ use Rattle.record_store.proofs.Creating.{created_now, uncreated, uncreated_limit
 use Rattle.record_store.proofs.Openings.{exit_with, first_failed, then_failed}
 use Rattle.record_store.specs.Steps.{no_memory}
 use Rattle.record_store.proofs.Creating.{uncreated_memory}
-use Rattle.record_store.specs.Holds.{HasPlainIndexes}
-use Rattle.record_store.proofs.Plain.{created_plain}
 use Rattle.record_store.proofs.store.Store.create.Goals as goal
 
 pub returns-in_err-written-clause-refused : goal.returns-in_err-written-clause-refused
@@ -36,7 +34,6 @@ returns-clause-made g c =
       prefix_is = c.in_ok-own_prefix.ensures.items;
       schema_is = c.in_ok-own_schema.ensures;
       readable = c.new.ensures.items;
-      plain = subst₂ (λ s ss. HasPlainIndexes s ss) (sym c.in_ok-own_schema.ensures) (sym c.new.ensures.items) (created_plain c.args.schema.now c.requires.kinds);
     }
   where
     made : IsCreated (g.S.Snapshot.map_at c.args.db.now) (record { prefix = c.in_ok-own_prefix.own_prefix.items; schema = c.in_ok-own_schema.own_schema; states = c.new.result.items }) c.args.tx.now c.write_all.new.self

@@ -1,13 +1,10 @@
-use Rattle.std.proofs.Common.{rules, ◌∙◌, ◌==◌, ap, length, not, refl, subst, sym}
+use Rattle.std.proofs.Common.{rules, ◌∙◌, ◌==◌, ap, length, not, refl}
 use Rattle.std.proofs.lemmas.Fn.{filter_same}
 use Rattle.metadata.specs.Schema.{find_index}
 use Rattle.record_store.specs.Call.{Opened}
 use Rattle.record_store.specs.Store.{without_state}
 use Rattle.txn.specs.Refusing.{NeverRefuses}
 use Rattle.record_store.specs.Calls.{done_with, drop_call, drop_service, index_number}
-use Rattle.record_store.specs.Holds.{HasPlainIndexes}
-use Rattle.record_store.specs.IndexWrites.{store_of}
-use Rattle.record_store.proofs.Plain.{dropped_plain}
 use Rattle.record_store.specs.Steps.{no_memory, of_metadata, of_write}
 use Rattle.record_store.proofs.Answered.{answered, memory_still, refused_limit, refused_own}
 use Rattle.record_store.proofs.Openings.{exit_with}
@@ -20,7 +17,7 @@ returns-in_err-write_all-clause-refused c =
     exit_with c.from_residual-in_err-write_all.result (of_write c.in_err-write_all.field-0.0) _ c.from_residual-in_err-write_all.ensures (λ maps.
     refused_limit maps NeverRefuses c.args.self.now (drop_call c.args.self.now c.args.name.now) (drop_service c.args.self.now c.in_ok-number.number) c.in_ok-mutations.mutations.items c.in_err-write_all.field-0.0
     (ap (done_with (drop_service c.args.self.now)) c.in_ok-number.ensures.found) (nothing_read maps c.args.self.now)
-    (λ m store holds same empty. drop_wrote c.args.self.now c.in_ok-number.number c.in_ok-next.next c.in_ok-mutations.mutations.items c.in_ok-mutations.ensures c.in_ok-next.ensures.next store same)
+    (λ m store holds same empty. (refl, drop_wrote c.args.self.now c.in_ok-number.number c.in_ok-next.next c.in_ok-mutations.mutations.items c.in_ok-mutations.ensures c.in_ok-next.ensures.next store same))
     c.in_err-write_all.ensures.kept c.in_err-write_all.ensures.refused)
 
 pub returns-clause-dropped : goal.returns-clause-dropped
@@ -37,10 +34,6 @@ returns-clause-opened c = λ number is.
     (ap (λ (o : Opened). o.prefix) c.self.view_is) c.in_ok-next.ensures.next
     (filter_same _ (λ listed. not (listed.0 == c.in_ok-number.number)) _ (λ x b f' k. search rules) _ _ c.retain.ensures.filtered ∙ ap (without_state c.in_ok-number.number) (ap (λ (o : Opened). o.states) c.self.view_is))
     c.in_ok-number.ensures.found is
-
-pub returns-clause-plain : goal.returns-clause-plain
-returns-clause-plain c = λ plain.
-    subst (λ (o : Opened). HasPlainIndexes o.schema o.states) (sym (returns-clause-opened c c.in_ok-number.number c.in_ok-number.ensures.found)) (dropped_plain (store_of c.args.self.now) c.in_ok-number.number plain)
 
 pub returns-in_err-next-clause-refused : goal.returns-in_err-next-clause-refused
 returns-in_err-next-clause-refused c =

@@ -1,13 +1,10 @@
-use Rattle.std.proofs.Common.{◌∙◌, ◌==◌, ap, length, subst₂, sym, refl}
+use Rattle.std.proofs.Common.{◌∙◌, ◌==◌, ap, length, refl}
 use Rattle.txn.specs.Refusing.{NeverRefuses}
 use Rattle.record_store.specs.Calls.{disable_call, disable_service, done_with, index_number}
 use Rattle.metadata.specs.declared.index.State.TheVariants.{Disabled}
 use Rattle.record_store.specs.Call.{Opened}
 use Rattle.record_store.specs.Store.{with_state}
 use Rattle.metadata.specs.Schema.{find_index}
-use Rattle.record_store.specs.Holds.{HasPlainIndexes}
-use Rattle.record_store.specs.IndexWrites.{store_of}
-use Rattle.record_store.proofs.Plain.{disabled_plain}
 use Rattle.record_store.specs.Steps.{no_memory, of_metadata, of_write}
 use Rattle.record_store.proofs.Answered.{answered, memory_still, refused_limit, refused_own}
 use Rattle.record_store.proofs.Openings.{exit_with}
@@ -20,7 +17,7 @@ returns-in_err-write_all-clause-refused c =
     exit_with c.from_residual-in_err-write_all.result (of_write c.in_err-write_all.field-0.0) _ c.from_residual-in_err-write_all.ensures (λ maps.
     refused_limit maps NeverRefuses c.args.self.now (disable_call c.args.self.now c.args.name.now) (disable_service c.args.self.now c.in_ok-number.number) c.in_ok-mutations.mutations.items c.in_err-write_all.field-0.0
     (ap (done_with (disable_service c.args.self.now)) c.in_ok-number.ensures.found) (nothing_read maps c.args.self.now)
-    (λ m store holds same empty. c.in_ok-mutations.ensures)
+    (λ m store holds same empty. (refl, c.in_ok-mutations.ensures))
     c.in_err-write_all.ensures.kept c.in_err-write_all.ensures.refused)
 
 pub returns-clause-disabled : goal.returns-clause-disabled
@@ -31,12 +28,6 @@ returns-clause-disabled c = λ maps.
     (λ m store holds same empty. disable_served c.args.self.now c.in_ok-number.number c.in_ok-next.next.items c.in_ok-mutations.mutations.items c.in_ok-mutations.ensures
     (c.in_ok-next.ensures ∙ ap (with_state c.in_ok-number.number Disabled) (c.as_slice.ensures.value ∙ ap (λ (o : Opened). o.states) c.self.view_is))
     (named_there c.args.self.now.schema c.args.name.now c.in_ok-number.number c.in_ok-number.ensures.found) m store holds same)
-
-pub returns-clause-plain : goal.returns-clause-plain
-returns-clause-plain c = λ plain.
-    subst₂ (λ s ss. HasPlainIndexes s ss) (sym (ap (λ (o : Opened). o.schema) c.self.view_is))
-    (sym (c.in_ok-next.ensures ∙ ap (with_state c.in_ok-number.number Disabled) (c.as_slice.ensures.value ∙ ap (λ (o : Opened). o.states) c.self.view_is)))
-    (disabled_plain (store_of c.args.self.now) c.in_ok-number.number plain)
 
 pub returns-in_err-next-clause-refused : goal.returns-in_err-next-clause-refused
 returns-in_err-next-clause-refused c =

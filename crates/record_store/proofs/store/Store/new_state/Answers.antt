@@ -7,7 +7,6 @@ use Rattle.record_store.specs.Call.{first_of}
 use Rattle.record_store.specs.Steps.{no_memory, of_read}
 use Rattle.record_store.proofs.Stopping.{unread_failed}
 use Rattle.record_store.proofs.Openings.{exit_with}
-use Rattle.record_store.proofs.Plain.{new_known}
 use Rattle.record_store.proofs.Scanning.{state_read, state_unread}
 use Rattle.record_store.proofs.store.Store.new_state.Goals as goal
 
@@ -39,9 +38,6 @@ returns-clause-found g c =
     (c.as_slice.ensures.value ∙ c.in_ok-place.ensures ∙ ap (λ p. place p 1) c.prefix-2.ensures.prefix)
     c.in_ok-pairs.ensures.reads c.in_ok-pairs.ensures.answer
     (subst (λ (pairs : List (List ℕ × List ℕ)). ArePairsOf c.as_slice.result.now c.args.definition.now pairs c.in_ok-records.records.items) c.as_slice-2.ensures.value c.in_ok-records.ensures.found))
-
-pub returns-clause-plain : goal.returns-clause-plain
-returns-clause-plain g c = λ is. new_known c.as_slice-3.result.now (sym c.state_over.ensures ∙ is)
 
 pub returns-in_err-pairs-clause-refused : goal.returns-in_err-pairs-clause-refused
 returns-in_err-pairs-clause-refused g c =

@@ -1,6 +1,6 @@
 use Rattle.std.proofs.Common.{subst, sym}
 use Rattle.record_store.specs.Opening.{IsOpened}
-use Rattle.record_store.proofs.Openings.{exit_with, first_failed, opened_now, opened_plain, states_by, then_failed, unopened, unopened_schema, unopened_states, unstated_by}
+use Rattle.record_store.proofs.Openings.{exit_with, first_failed, opened_now, states_by, then_failed, unopened, unopened_schema, unopened_states, unstated_by}
 use Rattle.record_store.specs.Steps.{no_memory}
 use Rattle.record_store.proofs.Openings.{opened_memory}
 use Rattle.record_store.proofs.store.Store.open.Goals as goal
@@ -30,11 +30,6 @@ returns-clause-opened g c =
     subst (λ p. IsOpened (g.S.Snapshot.map_at c.args.db.now) (record { prefix = p; schema = c.in_ok-schema.schema; states = c.in_ok-states.states.items }) c.args.tx.now c.read_states.new.tx) (sym c.in_ok-prefix.ensures.items)
     (opened_now c.args.prefix.now c.in_ok-written.written c.in_ok-pairs.pairs.items c.in_ok-schema.schema c.in_ok-states.states.items c.in_ok-written.ensures.read c.in_ok-pairs.ensures.read c.in_ok-schema.ensures.found
     (states_by c.args.prefix.now c.indexes.result.now c.in_ok-schema.schema.indexes c.as_slice.result.now c.in_ok-pairs.pairs.items c.in_ok-states.states.items c.indexes.ensures c.as_slice.ensures.value c.in_ok-states.ensures.found))
-
-pub returns-clause-plain : goal.returns-clause-plain
-returns-clause-plain g c =
-    opened_plain c.args.prefix.now c.in_ok-written.written c.in_ok-pairs.pairs.items c.in_ok-schema.schema c.in_ok-states.states.items c.in_ok-schema.ensures.found
-    (states_by c.args.prefix.now c.indexes.result.now c.in_ok-schema.schema.indexes c.as_slice.result.now c.in_ok-pairs.pairs.items c.in_ok-states.states.items c.indexes.ensures c.as_slice.ensures.value c.in_ok-states.ensures.found)
 
 pub returns-in_err-prefix-clause-refused : goal.returns-in_err-prefix-clause-refused
 returns-in_err-prefix-clause-refused g c =
