@@ -13,9 +13,29 @@ use txn::{Snapshot, Transaction};
 
 /// One map that stands at each version. So many reads are answered, and the next one is refused.
 #[derive(Drop)]
-struct Failing {
+pub(crate) struct Failing {
     map: KvMap,
     answered: Cell<u64>,
+}
+
+impl Failing {
+    /// A snapshot of the map that answers as good as all reads.
+    pub(crate) fn new(map: KvMap) -> Failing {
+        Failing {
+            map,
+            answered: Cell::new(u64::MAX),
+        }
+    }
+
+    /// So many reads more are answered, and the next one is refused.
+    pub(crate) fn refuse_after(&self, answered: u64) {
+        self.answered.set(answered);
+    }
+
+    /// How many reads are answered before one is refused.
+    pub(crate) fn left(&self) -> u64 {
+        self.answered.get()
+    }
 }
 
 impl Snapshot for Failing {
@@ -73,10 +93,8 @@ fn is_told(
 fn reads_told(alloc: Global, row: &(u64, &str, &str)) -> Result<(), Fail> {
     let (answered, first, second) = row;
     let stored = mutations_of(alloc, "61=01 62=02 68=08 69=09")?;
-    let db = Failing {
-        map: KvMap::new(alloc).with_all(stored.as_slice())?,
-        answered: Cell::new(*answered),
-    };
+    let db = Failing::new(KvMap::new(alloc).with_all(stored.as_slice())?);
+    db.refuse_after(*answered);
     let mut transaction = Transaction::begin(alloc, 0);
     transaction.write_all(mutations_of(alloc, "61-68 6b=00")?)?;
     is_told(alloc, &db, &mut transaction, first)?;

@@ -22,6 +22,8 @@ mod maps;
 #[cfg(test)]
 mod parts;
 #[cfg(test)]
+mod queries;
+#[cfg(test)]
 mod ranges;
 #[cfg(test)]
 mod records;

@@ -62,7 +62,7 @@ fn performed(scene: &mut Scene, command: &Command) -> Result<String, Fail> {
 }
 
 /// The command of a script's step.
-fn command_of(alloc: Global, step: &str) -> Result<Command, Fail> {
+pub(crate) fn command_of(alloc: Global, step: &str) -> Result<Command, Fail> {
     let mut text = String::from_str(alloc, r#"{"steps":["#)?;
     text.push_str(step)?;
     text.push_str("]}")?;
