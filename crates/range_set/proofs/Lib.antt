@@ -1,0 +1,12 @@
+mod Examples
+pub mod Gaps
+pub mod PlacePairs
+pub mod RangeRows
+pub mod LastRange
+pub mod Inserts
+pub mod Walks
+pub mod WholeRead
+pub mod KeyBounds
+pub mod Pairs
+pub mod Answered
+pub mod Telling
