@@ -6,6 +6,7 @@ pub mod LastRange
 pub mod Inserts
 pub mod Walks
 pub mod WholeRead
+pub mod OneSet
 pub mod KeyBounds
 pub mod Pairs
 pub mod Answered

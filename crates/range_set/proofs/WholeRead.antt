@@ -37,7 +37,7 @@ module _ (place : List ℕ) where
   pub all_written : (set : List KeyRange) (m : Map) → HasSet place set m → AreWritten place (pairs_in m (whole_range place))
   all_written set m has = (has.ranges, record { stored = has.stored; are = whole_read set m has })
 
-  same_ranges : (ranges others : List KeyRange) → AreStored ranges → AreStored others → map (range_pair place) ranges ≡ map (range_pair place) others → ranges ≡ others
+  pub same_ranges : (ranges others : List KeyRange) → AreStored ranges → AreStored others → map (range_pair place) ranges ≡ map (range_pair place) others → ranges ≡ others
   same_ranges [] [] h k same = refl
   same_ranges [] (other ∷ others) h k same = cc
   same_ranges (range ∷ ranges) [] h k same = cc

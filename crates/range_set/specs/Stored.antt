@@ -1,5 +1,5 @@
 -- How a map has a set of positions under a place: as the pairs of disjoint ranges.
-use Rattle.std.specs.Prelude.{◌≡◌, ℕ, IsTrue, false, List, [], ◌∷◌, ◌++◌, map}
+use Rattle.std.specs.Prelude.{◌≡◌, ℕ, IsTrue, false, List, [], ◌∷◌, ◌++◌, map, None}
 use Rattle.std.specs.FinMap.{from_entries, get}
 use Rattle.std.specs.List.{AllByRecursion}
 use Rattle.tuple_codec.specs.Item.{AreBytes, bytes}
@@ -58,6 +58,24 @@ insertion place range = Set (range_key place range.begin) range.end
 -- a range in a gap joins each set that a map has, where the map becomes another one
 abbrev pub Joins : List ℕ → KeyRange → Map → Map → Type 0
 Joins place range m n = (set : List KeyRange) → IsInGap range set → HasSet place set m → HasSet place (range ∷ set) n
+
+-- a map has one set at most under a place, by its positions
+abbrev pub OneSet : Type 0
+OneSet =
+    (place : List ℕ) (set other : List KeyRange) (m : Map) → HasSet place set m → HasSet place other m →
+    SamePositions set other
+
+-- so has each map that has the same under the place, whatever it has elsewhere
+abbrev pub SetsWithin : Type 0
+SetsWithin =
+    (place : List ℕ) (set other : List KeyRange) (m n : Map) →
+    ((rest : List ℕ) → get m (place ++ rest) ≡ get n (place ++ rest)) → SamePositions set other →
+    HasSet place set m → HasSet place other n
+
+-- where a map has nothing under a place, it has the set without positions
+abbrev pub EmptySet : Type 0
+EmptySet =
+    (place : List ℕ) (m : Map) → ((rest : List ℕ) → get m (place ++ rest) ≡ None) → HasSet place [] m
 
 -- pairs stand for these ranges, which may be stored together
 pub record ArePairsOf (place : List ℕ) (pairs : List (List ℕ × List ℕ)) (ranges : List KeyRange) : Type 0 where

@@ -15,5 +15,5 @@ mod walking;
 
 pub use error::RangeSetError;
 pub use inserting::{insert, insert_mutation};
-pub use laws::first_gaps_are_of_positions;
+pub use laws::{first_gaps_are_of_positions, sets_are_of_places};
 pub use reading::{contains, first_gap, is_whole};
