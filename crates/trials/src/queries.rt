@@ -76,7 +76,7 @@ fn answers(
     same(line.as_str(), wanted.as_str())
 }
 
-/// Performs the commands of steps, none of which is refused.
+/// Performs the commands of steps, whatever they reply: what they wrote is compared later.
 fn accepted(
     alloc: Global,
     db: &Failing,
