@@ -112,8 +112,8 @@ module _ (opened : Opened) (index : IndexDefinition) (group : List Cell) (known 
   had : (m : Map) (store : Store) → Holds opened.prefix m (Some store) → IsOpenAs opened store → HasDefined index.kind opened.prefix index store.records m
   had m store holds same =
       let there = subst (λ (s : Schema). Contains s.indexes index) (sym same.schema) known.there in
-      subst (λ s. HasKept s opened.prefix index store.records m) (ap (λ ss. state_in ss index.number) same.states ∙ known.readable)
-      (of_contained (λ (i : IndexDefinition). HasKept (state_of store i.number) opened.prefix i store.records m) store.schema.indexes index there.0 there.1 there.2 holds.entries)
+      subst (λ s. HasKept s opened.prefix index [] store.records m) (ap (λ ss. state_in ss index.number) same.states ∙ known.readable)
+      (of_contained (λ (i : IndexDefinition). HasKept (state_of store i.number) opened.prefix i [] store.records m) store.schema.indexes index there.0 there.1 there.2 holds.entries)
 
   -- so that of the group stands at its key
   abbrev StandsThere : Map → Store → Type 0

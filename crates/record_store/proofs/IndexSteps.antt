@@ -53,4 +53,4 @@ module _ (opened : Opened) (number : ℕ) (old new : Option Record) where
   -- all of them
   pub writes_all : flat_map (one_index_writes opened number old new) opened.schema.indexes ≡ index_writes opened.prefix (store_of opened) number old new
   writes_all =
-      sym (flat_map-filter (λ index. kept_writes (state_in opened.states index.number) opened.prefix index old new) (λ index. index.type_number == number) opened.schema.indexes)
+      sym (flat_map-filter (λ index. kept_writes (state_in opened.states index.number) opened.prefix index false old new) (λ index. index.type_number == number) opened.schema.indexes)

@@ -25,13 +25,13 @@ use Rattle.record_store.proofs.States.{schema_apart}
 module _ (prefix : List ℕ) (store : Store) (number : ℕ) where
   -- LEAVE: a key of no entry is as before
   pub writes_leave : (old new : Option Record) (m : Map) (at : List ℕ) → IsNoEntry prefix store.schema.indexes at → get (after_all (index_writes prefix store number old new) m) at ≡ get m at
-  writes_leave old new m at none = all_kept_leave prefix (state_of store) number old new store.schema.indexes m at none
+  writes_leave old new m at none = all_kept_leave prefix (state_of store) (λ n. []) number [] old new store.schema.indexes m at none
 
   -- FOLLOW: all indexes are had of the records with the new one
   pub writes_follow : (key : List Item) (old new : Option Record) → IsReplacement key old new store.records → IsTyped number old → IsTyped number new → (m : Map) → AreApart store.schema.indexes →
       AllByRecursion (λ index. HasIndex prefix store.records m index (state_of store index.number)) store.schema.indexes →
       AllByRecursion (λ index. HasIndex prefix (replaced key new store.records) (after_all (index_writes prefix store number old new) m) index (state_of store index.number)) store.schema.indexes
-  writes_follow key old new given before later m apart all = all_kept prefix (state_of store) number old new store.schema.indexes key store.records m apart given before later all
+  writes_follow key old new given before later m apart all = all_kept prefix (state_of store) (λ n. []) number key old new store.schema.indexes store.records m apart given before later all
 
 module _ (prefix : List ℕ) where
   -- SAVE: with a record put and what its indexes want written, the map holds the store with the record

@@ -29,7 +29,7 @@ use Rattle.record_store.proofs.Keys.{record_key_is}
 
 -- what a map has of an index, by its state
 abbrev pub HasIndex : List ℕ → List Record → Map → IndexDefinition → State → Type 0
-HasIndex prefix records m index state = HasKept state prefix index records m
+HasIndex prefix records m index state = HasKept state prefix index [] records m
 
 -- ---- one key
 
@@ -99,7 +99,7 @@ module _ (prefix : List ℕ) where
   -- what a map has of an index it has where it is the same at the index's keys
   pub kept_index : (records : List Record) (m n : Map) (index : IndexDefinition) (state : State) →
       ((bytes : List ℕ) → get n (entries_prefix prefix index.number ++ bytes) ≡ get m (entries_prefix prefix index.number ++ bytes)) → HasIndex prefix records m index state → HasIndex prefix records n index state
-  kept_index records m n index state same has = kept_within state prefix index records m n (λ bytes. sym (same bytes)) has
+  kept_index records m n index state same has = kept_within state prefix index [] records m n (λ bytes. sym (same bytes)) has
 
   pub kept_indexes : (records : List Record) (states : ℕ → State) (m n : Map) (indexes : List IndexDefinition) →
       ((number : ℕ) (bytes : List ℕ) → get n (entries_prefix prefix number ++ bytes) ≡ get m (entries_prefix prefix number ++ bytes)) →

@@ -71,7 +71,8 @@ pub record HoldsStore (prefix : List ℕ) (m : Map) (store : Store) : Type 0 whe
   pub schema : get m (schema_key prefix) ≡ Some (schema_bytes store.schema)
   pub records : HasPairs (place prefix 1) (map (record_pair prefix) store.records) m
   pub entries :
-      AllByRecursion (λ index. HasKept (state_of store index.number) prefix index store.records m) store.schema.indexes
+      AllByRecursion (λ index. HasKept (state_of store index.number) prefix index [] store.records m)
+      store.schema.indexes
   pub states : HasPairs (place prefix 5) (map (state_pair prefix) store.states) m
   pub nothing_else :
       (key : List ℕ) → BeginsWith prefix key → IsElsewhere prefix store.schema.indexes key → get m key ≡ None

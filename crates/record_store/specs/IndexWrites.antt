@@ -1,5 +1,5 @@
 -- What calls on a store with indexes write.
-use Rattle.std.specs.Prelude.{ℕ, ◌==◌, if◌then◌else◌, List, [], ◌∷◌, Option, Some, None, filter}
+use Rattle.std.specs.Prelude.{ℕ, ◌==◌, false, if◌then◌else◌, List, [], ◌∷◌, Option, Some, None, filter}
 use Rattle.std.specs.List.{flat_map}
 use Rattle.tuple_codec.specs.Item.{Item}
 use Rattle.kv_core.specs.Range.{point}
@@ -26,12 +26,12 @@ store_of opened = record { schema = opened.schema; records = []; states = opened
 abbrev pub one_index_writes : Opened → ℕ → Option Record → Option Record → IndexDefinition → List Mutation
 one_index_writes opened number old new index =
     if index.type_number == number
-    then kept_writes (state_in opened.states index.number) opened.prefix index old new else []
+    then kept_writes (state_in opened.states index.number) opened.prefix index false old new else []
 
 -- what is written for the indexes where a record of the type with this number gives way to another, by their numbers
 abbrev pub index_writes : List ℕ → Store → ℕ → Option Record → Option Record → List Mutation
 index_writes prefix store number old new =
-    flat_map (λ index. kept_writes (state_of store index.number) prefix index old new)
+    flat_map (λ index. kept_writes (state_of store index.number) prefix index false old new)
     (filter (λ index. index.type_number == number) store.schema.indexes)
 
 -- SAVE: the record is put, then its indexes follow

@@ -1,38 +1,14 @@
 // How the indexes of a store follow its records.
-ghost use Rattle.std.specs.Prelude.{◌≡◌, ◌==◌, ◌++◌, IsTrue, OnOk, find};
+ghost use Rattle.std.specs.Prelude.{◌≡◌, ◌==◌, ◌++◌, OnOk, find};
 ghost use Rattle.std.specs.Option.{option_copied};
-ghost use Rattle.kv_core.specs.Bytes.{end_of_keys, key_lt};
-ghost use Rattle.index_maint.specs.Kept.{changes_by};
 ghost use Rattle.record_store.specs.IndexWrites.{index_writes, one_index_writes, store_of};
 ghost use Rattle.record_store.specs.Store.{state_in};
 
 use crate::store::Store;
-use index_maint::{CountIndex, Maintainer, SumIndex, ValueIndex};
+use index_maint::push_kept_changes;
 use kv_core::Mutation;
-use metadata::{IndexDefinition, IndexKind, Record, State};
+use metadata::{IndexDefinition, Record, State};
 use std::alloc::{AllocError, Global};
-
-// Puts what an index whose entries or totals are kept wants written, by its kind.
-fn push_defined(
-    alloc: Global,
-    prefix: &[u8],
-    index: &IndexDefinition,
-    old: Option<&Record>,
-    new: Option<&Record>,
-    mutations: &mut Vec<Mutation>,
-) -> Result<(), AllocError>
-    requires { IsTrue (key_lt prefix.now end_of_keys) }
-    ensures { OnOk result (mutations.new.items
-        ≡ mutations.old.items ++ changes_by index.now.kind prefix.now index.now (option_copied old.entry)
-        (option_copied new.entry)) }
-{
-    match index.kind {
-        IndexKind::Value => ValueIndex::push_changes(alloc, prefix, index, old, new, mutations)?,
-        IndexKind::Count => CountIndex::push_changes(alloc, prefix, index, old, new, mutations)?,
-        IndexKind::Sum => SumIndex::push_changes(alloc, prefix, index, old, new, mutations)?,
-    }
-    Ok(())
-}
 
 impl Store {
     // What is listed for the index with this number.
@@ -68,13 +44,9 @@ impl Store {
         if index.type_number != number {
             return Ok(());
         }
-        match self.state_of(index.number) {
-            State::Readable => {
-                push_defined(self.alloc(), self.prefix(), index, old, new, mutations)?
-            }
-            State::WriteOnly => {}
-            State::Disabled => {}
-        }
+        let (alloc, prefix) = (self.alloc(), self.prefix());
+        let state = self.state_of(index.number);
+        push_kept_changes(alloc, prefix, index, state, false, old, new, mutations)?;
         Ok(())
     }
 
