@@ -1,10 +1,8 @@
 // Cells, their order and their copies, and copies of states.
-use crate::asking::cells_asked;
-use crate::parts::{holds, same, tells};
-use crate::words::digits_of;
 use metadata::{Cell, Cells, Kind, Places, State, States};
 use std::alloc::Global;
 use std::test::Fail;
+use trial_parts::{cells_asked, digits_of, holds, same, tells};
 use tuple_codec::pack;
 
 /// Cells in their order.

@@ -1,9 +1,9 @@
 // Steps of the whole cluster and of its roles.
 use crate::configs::{config_of, logs_and_window};
-use crate::parts::{alike, pairs_of, range_of, report_text, request_of, same, shown};
 use cluster_core::{Cluster, Work};
 use std::alloc::Global;
 use std::test::Fail;
+use trial_parts::{alike, pairs_of, range_of, report_text, request_of, same, shown};
 use txn::Snapshot;
 
 /// What is done with a cluster: a step takes a number and two texts.

@@ -2,11 +2,11 @@
 ghost use Rattle.cluster_core.specs.Roles.{is_caught_up};
 
 use crate::configs::{config_of, logs_and_window};
-use crate::parts::{holds, report_text, request_of, same, shown};
 use cluster_core::Pipeline;
 use kv_core::CommitRequest;
 use std::alloc::Global;
 use std::test::Fail;
+use trial_parts::{holds, report_text, request_of, same, shown};
 use txn::{Commit, Ended, HoldError, Next, Retry};
 
 /// A pipeline whose roles have handled all that was submitted.

@@ -1,9 +1,8 @@
 // Configurations: which are refused, and why; and the last version of servers.
-use crate::parts::{alike, holds, mutations_of, pairs_of, range_of, tells};
-use crate::words::bytes_of;
 use cluster_core::{Cluster, Config, ConfigError, Pipeline, Splits, Tier};
 use std::alloc::Global;
 use std::test::Fail;
+use trial_parts::{alike, bytes_of, holds, mutations_of, pairs_of, range_of, tells};
 use txn::Snapshot;
 
 /// The splits of a text, in which `empty` stands for the empty key.

@@ -1,68 +1,9 @@
 // Reads of a snapshot that refuses one of them, whatever was read before.
-ghost use Rattle.std.specs.Prelude.{◌≡◌};
-ghost use Rattle.std.proofs.Common.{inl};
-ghost use Rattle.cluster_core.specs.declared.answers.ReadError.TheVariants.{TooOld};
-
-use crate::parts::{alike, mutations_of, pairs_of, range_of, ranges_of, tells};
-use cluster_core::ReadError;
-use kv_core::{KeyRange, KvMap, Pair};
+use kv_core::KvMap;
 use std::alloc::Global;
-use std::cell::Cell;
 use std::test::Fail;
-use txn::{Snapshot, Transaction};
-
-/// One map that stands at each version. So many reads are answered, and the next one is refused.
-#[derive(Drop)]
-pub(crate) struct Failing {
-    map: KvMap,
-    answered: Cell<u64>,
-}
-
-impl Failing {
-    /// A snapshot of the map that answers as good as all reads.
-    pub(crate) fn new(map: KvMap) -> Failing {
-        Failing {
-            map,
-            answered: Cell::new(u64::MAX),
-        }
-    }
-
-    /// So many reads more are answered, and the next one is refused.
-    pub(crate) fn refuse_after(&self, answered: u64) {
-        self.answered.set(answered);
-    }
-
-    /// How many reads are answered before one is refused.
-    pub(crate) fn left(&self) -> u64 {
-        self.answered.get()
-    }
-}
-
-impl Snapshot for Failing {
-    ghost map_at = { λ failing version. failing.map };
-
-    ghost may_refuse = { λ failing range version error. error ≡ TooOld };
-
-    ghost must_refuse = { λ failing range version. ⊥ };
-
-    ghost narrows = { λ failing whole part version error inside refused. inl refused };
-
-    fn read(
-        &self,
-        range: &KeyRange,
-        _version: u64,
-        limit: usize,
-        reverse: bool,
-    ) -> Result<Vec<Pair>, ReadError> {
-        let answered = self.answered.get();
-        self.answered.set(answered.wrapping_sub(1));
-        if answered == 0 {
-            return Err(ReadError::TooOld);
-        }
-        let pairs = self.map.range(range, limit, reverse)?;
-        Ok(pairs)
-    }
-}
+use trial_parts::{Failing, alike, mutations_of, pairs_of, range_of, ranges_of, tells};
+use txn::Transaction;
 
 /// How many reads are answered, and what two reads of the first pair tell, each by two reads of the
 /// snapshot.

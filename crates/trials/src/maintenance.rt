@@ -1,12 +1,10 @@
 // What keeping an index writes.
-use crate::asking::{cells_asked, schema_asked};
-use crate::parts::{alike, mutations_of};
-use crate::words::text_of;
 use index_maint::{Maintainer, ValueIndex};
 use kv_core::Mutation;
 use metadata::{IndexDefinition, Record, Schema};
 use std::alloc::Global;
 use std::test::Fail;
+use trial_parts::{alike, cells_asked, mutations_of, schema_asked, text_of};
 
 /// What the store's keys begin with.
 const PREFIX: [u8; 2] = [0x15, 0x01];

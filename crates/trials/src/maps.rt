@@ -1,14 +1,14 @@
 // Maps, mutations, their sums and their sizes.
-use crate::parts::{
-    alike, holds, mutation_of, mutations_of, pair_of, pairs_of, range_of, request_of, same, tells,
-};
-use crate::words::{bytes_of, digits_of};
 use kv_core::{
     Bytes, KeyRange, KvMap, MAX_TRANSACTION_BYTES, Mutation, Mutations, add_le, total_size,
 };
 use std::alloc::Global;
 use std::mem;
 use std::test::Fail;
+use trial_parts::{
+    alike, bytes_of, digits_of, holds, mutation_of, mutations_of, pair_of, pairs_of, range_of,
+    request_of, same, tells,
+};
 
 /// What is done with a map, or asked: a row has a number, a text and what is told.
 #[derive(Clone, Copy)]

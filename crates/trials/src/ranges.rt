@@ -1,9 +1,8 @@
 // Byte strings, ranges of keys, lists of ranges and what ranges cover.
-use crate::parts::{alike, holds, range_of, ranges_of, same, tells};
-use crate::words::{bytes_of, digits_of};
 use kv_core::{Coverage, KeyRange, RangeList};
 use std::alloc::Global;
 use std::test::Fail;
+use trial_parts::{alike, bytes_of, digits_of, holds, range_of, ranges_of, same, tells};
 
 /// What is asked: a row has two texts and what is told of them.
 #[derive(Clone, Copy)]

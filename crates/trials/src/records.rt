@@ -1,10 +1,8 @@
 // Records read from bytes.
-use crate::asking::schema_asked;
-use crate::parts::tells;
-use crate::words::bytes_of;
 use metadata::{Record, Schema, TypeDefinition};
 use std::alloc::{AllocError, Global};
 use std::test::Fail;
+use trial_parts::{bytes_of, schema_asked, tells};
 
 /// The schema of the type t of whole numbers k, a and b, whose key is k.
 const SCHEMA: &str =

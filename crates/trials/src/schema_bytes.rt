@@ -1,9 +1,8 @@
 // Bytes that are nearly those of a schema.
-use crate::parts::holds;
-use crate::words::bytes_of;
 use metadata::{MetadataError, Refusal, Schema};
 use std::alloc::{AllocError, Global};
 use std::test::Fail;
+use trial_parts::{bytes_of, holds};
 
 /// The bytes of two types, with indexes of each kind.
 const INDEXED: &str = "150115021504\

@@ -1,12 +1,10 @@
 // Schemas as a caller makes, changes, asks, writes and reads them.
-use crate::asking::request_asked;
-use crate::parts::{same, tells};
-use crate::words::{bytes_of, digits_of, text_of};
 use json_forms::{index_of, type_of};
 use metadata::{IndexKind, IndexRequest, MetadataError, Schema};
 use serde_json::Value as Json;
 use std::alloc::Global;
 use std::test::Fail;
+use trial_parts::{bytes_of, digits_of, request_asked, same, tells, text_of};
 use tuple_codec::Text;
 
 /// What is done with a schema, or asked: a row has two texts and what is told.

@@ -1,57 +1,14 @@
 // Steps of transactions over one map.
-ghost use Rattle.txn.specs.Refusing.{NeverRefuses};
-
 use crate::maps::has_value;
-use crate::parts::{
-    alike, mutation_of, mutations_of, pairs_of, range_of, ranges_of, same, shown, tells,
-};
-use crate::words::bytes_of;
-use cluster_core::ReadError;
 use kv_core::{Bytes, KeyRange, KvMap, Mutation, Pair};
 use std::alloc::Global;
-use std::cell::Cell;
 use std::mem;
 use std::test::Fail;
-use txn::{Snapshot, Transaction};
-
-/// One map that stands at each version, and how often it was read.
-#[derive(Drop)]
-pub(crate) struct Counted {
-    pub(crate) map: KvMap,
-    reads: Cell<u64>,
-}
-
-impl Counted {
-    /// The empty map.
-    pub(crate) fn new(alloc: Global) -> Counted {
-        Counted {
-            map: KvMap::new(alloc),
-            reads: Cell::new(0),
-        }
-    }
-}
-
-impl Snapshot for Counted {
-    ghost map_at = { λ counted version. counted.map };
-
-    ghost may_refuse = { λ counted. NeverRefuses };
-
-    ghost must_refuse = { λ counted range version. ⊥ };
-
-    ghost narrows = { λ counted whole part version error inside refused. absurd refused };
-
-    fn read(
-        &self,
-        range: &KeyRange,
-        _version: u64,
-        limit: usize,
-        reverse: bool,
-    ) -> Result<Vec<Pair>, ReadError> {
-        self.reads.set(self.reads.get().wrapping_add(1));
-        let pairs = self.map.range(range, limit, reverse)?;
-        Ok(pairs)
-    }
-}
+use trial_parts::{
+    Counted, alike, bytes_of, mutation_of, mutations_of, pairs_of, range_of, ranges_of, same,
+    shown, tells,
+};
+use txn::Transaction;
 
 /// What is done with a transaction: a step takes a number and a text.
 #[derive(Clone, Copy)]
@@ -323,7 +280,7 @@ fn take(alloc: Global, trial: &mut Trial, row: &Row) -> Result<(), Fail> {
         }
         Get => return trial.get(alloc, text, told),
         Range | Back | All => return trial.read(alloc, row),
-        Count => return tells(alloc, &trial.db.reads.get(), told),
+        Count => return tells(alloc, &trial.db.reads(), told),
         Reads | Mutations | Length => return trial.end(alloc, *step, told),
         Fill | ClearEach | SetLarge => return repeat(alloc, trial, *step, *number),
     }

@@ -1,8 +1,7 @@
 // The order of tuples, keys under a prefix, and copies of texts and byte strings.
-use crate::parts::{same, tells};
-use crate::words::{bytes_of, digits_of, text_of};
 use std::alloc::Global;
 use std::test::Fail;
+use trial_parts::{bytes_of, digits_of, same, tells, text_of};
 use tuple_codec::{ByteString, Subspace, Tuple, compare, pack_into, strinc, unpack};
 
 /// What is asked: a row has two texts and what is told of them.

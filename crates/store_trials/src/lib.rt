@@ -1,0 +1,15 @@
+//! Tests of the public calls of the store and what stands above it: tables of calls, and what each must answer.
+#![tactic(auto)]
+
+#[cfg(test)]
+mod lines;
+#[cfg(test)]
+mod queries;
+#[cfg(test)]
+mod scene;
+#[cfg(test)]
+mod schedules;
+#[cfg(test)]
+mod stores;
+#[cfg(test)]
+mod texts;

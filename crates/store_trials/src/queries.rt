@@ -1,0 +1,142 @@
+// Queries each of whose reads is refused in turn, in a transaction that has written.
+use crate::scene::command_of;
+use kv_core::KvMap;
+use schedule::perform;
+use script::make_line;
+use std::alloc::Global;
+use std::test::Fail;
+use trial_parts::{Failing, alike, mutations_of, same, tells};
+use txn::Transaction;
+
+/// The steps that make the store that stands, and those of the transaction before it queries.
+static MADE: [&str; 4] = [
+    r#"["create",0,{"types":[{"name":"t","fields":[["k","int"],["a","int"],["b","int"]],"key":["k"]}],"indexes":[{"name":"by_a","kind":"value","type":"t","columns":["a"]},{"name":"by_b","kind":"value","type":"t","columns":["b"]}]}]"#,
+    r#"["save",0,"t",[1,1,2]]"#,
+    r#"["save",0,"t",[2,1,3]]"#,
+    r#"["save",0,"t",[3,9,2]]"#,
+];
+
+static OWN: [&str; 2] = [r#"["save",0,"t",[4,1,2]]"#, r#"["remove",0,"t",[2]]"#];
+
+/// What the transaction writes: the record 4 with its entries, and that 2 goes with its own.
+const WRITTEN: &str = "1501150115011504=150415011502 150115021501150115011504= \
+    150115021502150215011504= 1501150115011502-150115011501150200 \
+    150115021501150115011502-15011502150115011501150200 \
+    150115021502150315011502-15011502150215031501150200";
+
+/// A query, how many reads of the snapshot it takes, and its rows. Opening takes two, of the schema and of the states
+/// of indexes, then each scan is one, and each record fetched.
+static ROWS: [(&str, u64, &str); 6] = [
+    (
+        r#"["query",0,{"type":"t"}]"#,
+        3,
+        "rows [[1,1,2],[3,9,2],[4,1,2]]",
+    ),
+    (
+        r#"["query",0,{"type":"t","filter":["=","a",1]}]"#,
+        5,
+        "rows [[1,1,2],[4,1,2]]",
+    ),
+    (
+        r#"["query",0,{"type":"t","filter":["<","a",5],"sort":["a"],"reverse":true}]"#,
+        5,
+        "rows [[4,1,2],[1,1,2]]",
+    ),
+    (
+        r#"["query",0,{"type":"t","filter":["or",["=","a",9],["=","b",2]]}]"#,
+        8,
+        "rows [[1,1,2],[3,9,2],[4,1,2]]",
+    ),
+    (
+        r#"["query",0,{"type":"t","filter":["and",["=","a",1],["=","b",2]]}]"#,
+        6,
+        "rows [[1,1,2],[4,1,2]]",
+    ),
+    (
+        r#"["query",0,{"type":"t","filter":["and",["=","a",1],["!=","k",1]]}]"#,
+        5,
+        "rows [[4,1,2]]",
+    ),
+];
+
+/// Performs the command of a step, which must make this line.
+fn answers(
+    alloc: Global,
+    db: &Failing,
+    tx: &mut Transaction,
+    step: &str,
+    told: &str,
+) -> Result<(), Fail> {
+    let command = command_of(alloc, step)?;
+    let reply = perform(alloc, &command, tx, db)?;
+    let mut line = String::new(alloc);
+    make_line(alloc, &mut line, 1, &reply)?;
+    let wanted = format!(in alloc; "1 {told}\n")?;
+    same(line.as_str(), wanted.as_str())
+}
+
+/// Performs the commands of steps, whatever they reply: what they wrote is compared later.
+fn accepted(
+    alloc: Global,
+    db: &Failing,
+    tx: &mut Transaction,
+    steps: &[&'static str],
+) -> Result<(), Fail> {
+    for step in steps {
+        let command = command_of(alloc, step)?;
+        let _reply = perform(alloc, &command, tx, db)?;
+    }
+    Ok(())
+}
+
+/// The store that stands.
+fn stored(alloc: Global) -> Result<KvMap, Fail> {
+    let db = Failing::new(KvMap::new(alloc));
+    let mut tx = Transaction::begin(alloc, 0);
+    accepted(alloc, &db, &mut tx, &MADE)?;
+    let request = tx.into_request();
+    Ok(KvMap::new(alloc).with_all(request.mutations.as_slice())?)
+}
+
+/// So many reads of the query are answered and the next one is refused: so is the query, and it is answered when it is
+/// performed again. The transaction's writes stay.
+fn refused_at(alloc: Global, answered: u64, row: &(&str, u64, &str)) -> Result<(), Fail> {
+    let (query, _, rows) = row;
+    let db = Failing::new(stored(alloc)?);
+    let mut tx = Transaction::begin(alloc, 0);
+    accepted(alloc, &db, &mut tx, &OWN)?;
+    db.refuse_after(answered);
+    answers(alloc, &db, &mut tx, query, "refused TooOld")?;
+    answers(alloc, &db, &mut tx, query, rows)?;
+    let request = tx.into_request();
+    let wanted = mutations_of(alloc, WRITTEN)?;
+    alike(alloc, &request.mutations.as_slice(), &wanted.as_slice())
+}
+
+/// Each read of a query is refused in turn.
+fn each_refused(alloc: Global, row: &(&str, u64, &str)) -> Result<(), Fail> {
+    for answered in 0..row.1 {
+        refused_at(alloc, answered, row)?;
+    }
+    Ok(())
+}
+
+/// A query takes so many reads.
+fn reads_taken(alloc: Global, row: &(&str, u64, &str)) -> Result<(), Fail> {
+    let (query, reads, rows) = row;
+    let db = Failing::new(stored(alloc)?);
+    let mut tx = Transaction::begin(alloc, 0);
+    accepted(alloc, &db, &mut tx, &OWN)?;
+    db.refuse_after(*reads);
+    answers(alloc, &db, &mut tx, query, rows)?;
+    tells(alloc, &db.left(), "0")
+}
+
+#[test]
+fn refused_queries_leave_transactions(rt: HostRuntime) -> Result<(), Fail> {
+    for row in &ROWS {
+        reads_taken(rt.alloc(), row)?;
+        each_refused(rt.alloc(), row)?;
+    }
+    Ok(())
+}
