@@ -1,0 +1,9 @@
+mod Walks
+pub mod Adding
+pub mod Beginnings
+pub mod Entries
+pub mod Lawful
+pub mod Moves
+pub mod Places
+pub mod Reporting
+pub mod Serving
