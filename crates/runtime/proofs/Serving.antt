@@ -267,3 +267,11 @@ stops_right config log ys old new done command begins over from near is =
 -- a transaction without mutations has changed nothing
 pub unchanged : (config : Config) (log : List Entry) (request : CommitRequest) (done : List Performed) → IsOpenOver config log request done → request.mutations ≡ [] → is_changed (attempts_of done) ≡ false
 unchanged config log request done over none = open_changed (map_of config log) (version_of config log) (opened request done) request over ∙ ap (λ (ms : List Mutation). not (length ms == 0)) none
+
+none_of_none : (ms : List Mutation) → not (length ms == 0) ≡ false → ms ≡ []
+none_of_none [] h = refl
+none_of_none (m ∷ ms) h = let some : (suc (length ms) == 0) ≡ false = grind (arith, nat_tests) in absurd (true≢false (ap not (sym some) ∙ h))
+
+-- one that has changed nothing has none
+pub nothing_written : (config : Config) (log : List Entry) (request : CommitRequest) (done : List Performed) → IsOpenOver config log request done → is_changed (attempts_of done) ≡ false → request.mutations ≡ []
+nothing_written config log request done over none = none_of_none request.mutations (sym (open_changed (map_of config log) (version_of config log) (opened request done) request over) ∙ none)

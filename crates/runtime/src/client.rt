@@ -1,10 +1,13 @@
-ghost use Rattle.std.specs.Prelude.{◌≡◌, ℕ, ◌++◌, ◌∷◌, [], Some, None, IfOk, IfErr, IfSome, OnOk, OnErr};
+ghost use Rattle.std.specs.Prelude.{◌≡◌, ℕ, ◌++◌, ◌∷◌, [], Some, None, IfOk, IfErr, IfSome, OnOk, OnErr, Ok};
+ghost use Rattle.std.specs.Prelude.{false};
 ghost use Rattle.std.specs.Arc.{arc_value};
 ghost use Rattle.left_right.specs.Sides.{view as knowledge};
 ghost use mathlib.Core.List.{IsPrefix};
+ghost use Rattle.schedule.specs.Past.{is_changed};
 ghost use Rattle.runtime.specs.Clients.{knows_that};
 ghost use Rattle.runtime.specs.Commits.{Answers};
 ghost use Rattle.runtime.specs.History.{Name as TheName};
+ghost use Rattle.runtime.specs.Lists.{attempts_of};
 ghost use Rattle.runtime.specs.Serves.{IsAnswer, IsUnanswered};
 ghost use Rattle.runtime.specs.State.{knows};
 ghost use Rattle.runtime.specs.Tells.{IsConcluded, IsOf, Tells};
@@ -172,6 +175,8 @@ impl<E: End> Client<E> {
     pub(crate) fn commit_here<R: Wait>(&mut self, rt: &R) -> Result<Done, CommitError>
         ensures answer { (work : _) → self.old.begun ≡ Some work →
             Answers self.old self.new work.transaction work.trace result }
+        ensures read_only { (work : _) → self.old.begun ≡ Some work →
+            is_changed (attempts_of work.trace.attempts) ≡ false → result ≡ Ok Done.ReadOnly }
         ensures list { IsPrefix self.old.list self.new.list }
         ensures same { self.new ≡ knows_that self.old.name self.new.list self.old.number self.new.last None }
     {

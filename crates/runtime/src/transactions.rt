@@ -1,9 +1,11 @@
-ghost use Rattle.std.specs.Prelude.{◌≡◌, ◌++◌, ◌∷◌, [], Some, IfOk, IfErr};
+ghost use Rattle.std.specs.Prelude.{◌≡◌, ◌++◌, ◌∷◌, [], Some, false, Ok, IfOk, IfErr};
 ghost use Rattle.std.specs.Borrow.{sem, RestsIfErr};
 ghost use mathlib.Core.List.{IsPrefix};
 ghost use Rattle.runtime.specs.contracts.client.Client.{the_row};
+ghost use Rattle.schedule.specs.Past.{is_changed};
 ghost use Rattle.runtime.specs.Clients.{knows_that};
 ghost use Rattle.runtime.specs.Commits.{Answers};
+ghost use Rattle.runtime.specs.Lists.{attempts_of};
 ghost use Rattle.runtime.specs.Serves.{IsAnswer, IsUnanswered};
 
 use crate::answers::{CommitError, Done};
@@ -69,6 +71,8 @@ impl<E: End> Txn<'_, E> {
     pub fn commit<R: Wait>(self, rt: &R) -> Result<Done, CommitError>
         ensures answer { (work : _) → self.entry.client.now.begun ≡ Some work →
             Answers self.entry.client.now self.exit.0.now work.transaction work.trace result }
+        ensures read_only { (work : _) → self.entry.client.now.begun ≡ Some work →
+            is_changed (attempts_of work.trace.attempts) ≡ false → result ≡ Ok Done.ReadOnly }
         ensures list { IsPrefix self.entry.client.now.list self.exit.0.now.list }
     {
         let Txn { client } = self;
