@@ -1,0 +1,99 @@
+-- One hold: what the pipeline makes of a request that comes next.
+use Rattle.std.proofs.Common.{◌≡◌, ℕ, ◌+◌, ◌-◌, ◌<◌, ◌≤◌, ◌^◌, Bool, true, false, cond, is_none, nat_lt, Option, None, Some, List, [], ◌∷◌, ◌++◌, length, refl, sym, ap, ◌∙◌, subst, arith, length-append, true≢false}
+use Rattle.std.proofs.lemmas.Bool.Decides.{nat_tests}
+use Rattle.kv_core.specs.declared.change.CommitRequest.{CommitRequest}
+use Rattle.kv_core.specs.declared.change.Mutation.{Mutation}
+use Rattle.cluster_core.specs.declared.answers.Config.{Config}
+use Rattle.cluster_core.specs.declared.answers.Reported.{Reported}
+use Rattle.cluster_core.specs.declared.answers.SubmitError.{SubmitError}
+use Rattle.cluster_core.specs.declared.answers.SubmitError.TheVariants.{TooOld, VersionsExhausted}
+use Rattle.cluster_core.specs.Decision.{Cause, cause, numbered}
+use Rattle.cluster_core.specs.Roles.{PipelineState, all_handled, submit, submit_refusal, submitted, told}
+use Rattle.cluster_core.proofs.Growth.{later_changes_nothing}
+use Rattle.txn.specs.Holds.{verdict}
+use Rattle.schedule.specs.Standing.{is_told}
+use Rattle.runtime.specs.declared.entry.Entry.{Entry}
+use Rattle.runtime.specs.History.{Name}
+use Rattle.runtime.specs.Lists.{requests_of, version_of, pipeline_of, cause_next, logged_next, IsLawful, IsOpenOver, is_numbered}
+use Rattle.runtime.proofs.Entries.{requests_append}
+use Rattle.std.specs.Prelude.{slice_index, slice_set, is_some}
+use mathlib.Core.List.{IsPrefix}
+use Rattle.runtime.specs.declared.trace.Trace.{Trace}
+use Rattle.runtime.specs.Holds.{entry}
+use Rattle.runtime.proofs.Lawful.{pipeline_next, lawful_next, open_begins, numbered_more}
+
+told_committed : (why : Option Cause) (version : ℕ) → is_told (told why version) ≡ is_none why
+told_committed None version = refl
+told_committed (Some why) version = refl
+
+-- what is told of a request once the roles have handled it
+pub told_next : (config : Config) (log : List Entry) (e : Entry) → verdict e.request (pipeline_of config (log ++ e ∷ [])) ≡ told (cause_next config log e.request) (version_of config log + 1)
+told_next config log e =
+    let at : config.start + length (requests_of (log ++ e ∷ [])) ≡ version_of config log + 1 = omega (arith, ap length (requests_append log (e ∷ [])), length-append (requests_of log) (e.request ∷ [])) in
+    (λ i. told (cause config.resolver_splits (numbered config.start (requests_append log (e ∷ []) i)) (record { version = at i; request = e.request })) (at i))
+    ∙ ap (λ why. told why (version_of config log + 1)) (later_changes_nothing config.resolver_splits config.start (requests_of log) e.request (record { version = version_of config log + 1; request = e.request }) (omega arith))
+
+pub commit_next : (config : Config) (log : List Entry) (e : Entry) (p q : PipelineState) (r : Reported) → p ≡ pipeline_of config log → q ≡ all_handled (submit e.request p) → r ≡ verdict e.request q →
+    (q ≡ pipeline_of config (log ++ e ∷ [])) × (r ≡ told (cause_next config log e.request) (version_of config log + 1))
+commit_next config log e p q r old new is =
+    let next : q ≡ pipeline_of config (log ++ e ∷ []) = new ∙ ap (λ (s : PipelineState). all_handled (submit e.request s)) old ∙ pipeline_next config log e in
+    (next, is ∙ ap (verdict e.request) next ∙ told_next config log e)
+
+-- what the logs have of it
+pub logged_is : (config : Config) (log : List Entry) (request : CommitRequest) (r : Reported) (ms : List Mutation) (version : ℕ) → r ≡ told (cause_next config log request) version →
+    ms ≡ cond (is_told r) request.mutations [] → ms ≡ logged_next config log request
+logged_is config log request r ms version is made = made ∙ ap (λ b. cond b request.mutations []) (ap is_told is ∙ told_committed (cause_next config log request) version)
+
+-- there was a version for it
+room_by : (a b : Bool) → cond a (cond b (Some TooOld) None) (Some VersionsExhausted) ≡ None → a ≡ true
+room_by true b h = refl
+room_by false b h = cc
+
+pub room_next : (config : Config) (log : List Entry) (p : PipelineState) (read_version : ℕ) → p ≡ pipeline_of config log → submit_refusal p read_version ≡ None → version_of config log + 1 < 2 ^ 64
+room_next config log p read_version is allowed =
+    let room : nat_lt (submitted p + 1) (2 ^ 64) ≡ true = room_by (nat_lt (submitted p + 1) (2 ^ 64)) (nat_lt p.window (submitted p - read_version)) allowed in
+    let at : submitted p ≡ version_of config log = ap submitted is in
+    let lt : submitted p + 1 < 2 ^ 64 = grind (arith, nat_tests) in
+    omega (arith, lt, at)
+
+none_by : (o : Option SubmitError) → is_some o ≡ false → o ≡ None
+none_by None h = refl
+none_by (Some e) h = absurd (true≢false h)
+
+-- why it was refused
+refused_by : (window room : ℕ) (a b : Bool) (e : SubmitError) → cond a (cond b (Some TooOld) None) (Some VersionsExhausted) ≡ Some e → (e ≡ TooOld → b ≡ true) × (e ≡ VersionsExhausted → a ≡ false)
+refused_by window room true true e h = ((λ is. refl), (λ is. absurd (cc (h, is))))
+refused_by window room true false e h = absurd (cc)
+refused_by window room false b e h = ((λ is. absurd (cc (h, is))), (λ is. refl))
+
+pub refused_old : (config : Config) (log : List Entry) (p : PipelineState) (read_version : ℕ) → p ≡ pipeline_of config log → submit_refusal p read_version ≡ Some TooOld → config.window < version_of config log - read_version
+refused_old config log p read_version is why =
+    let late : nat_lt p.window (submitted p - read_version) ≡ true = (refused_by 0 0 (nat_lt (submitted p + 1) (2 ^ 64)) (nat_lt p.window (submitted p - read_version)) TooOld why).0 refl in
+    let lt : p.window < submitted p - read_version = grind (arith, nat_tests) in
+    subst (λ (s : PipelineState). s.window < submitted s - read_version) is lt
+
+pub refused_last : (config : Config) (log : List Entry) (p : PipelineState) (read_version : ℕ) → p ≡ pipeline_of config log → version_of config log < 2 ^ 64 → submit_refusal p read_version ≡ Some VersionsExhausted → version_of config log ≡ 2 ^ 64 - 1
+refused_last config log p read_version is below why =
+    let none : nat_lt (submitted p + 1) (2 ^ 64) ≡ false = (refused_by 0 0 (nat_lt (submitted p + 1) (2 ^ 64)) (nat_lt p.window (submitted p - read_version)) VersionsExhausted why).1 refl in
+    let ge : 2 ^ 64 ≤ submitted p + 1 = grind (arith, nat_tests) in
+    let at : submitted p ≡ version_of config log = ap submitted is in
+    omega (arith, ge, at, below)
+
+-- ---- the locked state after a request was reported
+
+abbrev pub Taken : Name → List ℕ → List Entry → ℕ → ℕ → Trace → PipelineState → List Mutation → CommitRequest → Type 0
+Taken n last log client number trace q ms request =
+    ((q ≡ pipeline_of n.config (log ++ entry client number request trace ∷ [])) × (ms ≡ logged_next n.config log request) × IsLawful n.config (log ++ entry client number request trace ∷ []))
+    × (is_numbered (slice_set last client number) (log ++ entry client number request trace ∷ []) ≡ true)
+
+pub taken_next : (n : Name) (last : List ℕ) (log front : List Entry) (client number : ℕ) (request value : CommitRequest) (trace : Trace) (p q : PipelineState) (r : Reported) (ms : List Mutation) →
+    IsLawful n.config log → IsPrefix front log → IsOpenOver n.config front request trace.attempts → value ≡ request → is_numbered last log ≡ true → client < length last → slice_index last client < number →
+    p ≡ pipeline_of n.config log → q ≡ all_handled (submit request p) → r ≡ verdict request q → is_some (submit_refusal p request.read_version) ≡ false → ms ≡ cond (is_told r) request.mutations [] →
+    Taken n last log client number trace q ms value
+taken_next n last log front client number request value trace p q r ms law begins over same num inside above old new told_so allowed made =
+    let e : Entry = entry client number request trace in
+    let next = commit_next n.config log e p q r old new told_so in
+    subst (Taken n last log client number trace q ms) (sym same) (
+      (next.0, logged_is n.config log request r ms (version_of n.config log + 1) next.1 made, lawful_next n.config last log e law (open_begins n.config front log e begins over) num above (room_next n.config log p request.read_version old (none_by (submit_refusal p request.read_version) allowed))),
+      numbered_more last client number log e inside above refl refl num,
+    )

@@ -1,0 +1,277 @@
+-- What stands in the type of a list: its history is legal, and its map at each version holds the serial store.
+use Rattle.std.proofs.Common.{All, ◌≡◌, ℕ, suc, ◌+◌, ◌-◌, ◌<◌, ◌≤◌, Bool, true, false, cond, not, ◌==◌, nat_lt, List, [], ◌∷◌, ◌++◌, length, map, Option, None, Some, inl, inr, refl, sym, ap, ◌∙◌, subst, arith, append-nil, true≢false}
+use Rattle.std.proofs.lemmas.Bool.Decides.{nat_tests}
+use Rattle.std.proofs.lemmas.List.{length-map}
+use Rattle.std.proofs.lemmas.List.Elements.{All-from_recursion}
+use Rattle.std.specs.List.{AllByRecursion}
+use Rattle.std.specs.Option.{option_or}
+use mathlib.Core.List.{IsPrefix}
+use Rattle.kv_core.specs.Map.{Map, Agree}
+use Rattle.kv_core.specs.Range.{KeyRange, has_keys}
+use Rattle.kv_core.specs.declared.change.CommitRequest.{CommitRequest}
+use Rattle.kv_core.specs.declared.change.Mutation.{Mutation}
+use Rattle.cluster_core.specs.declared.answers.Config.{Config}
+use Rattle.cluster_core.specs.declared.answers.ReadError.{ReadError}
+use Rattle.cluster_core.specs.declared.answers.ReadError.TheVariants as reads
+use Rattle.cluster_core.specs.Configuration.{first_tier}
+use Rattle.cluster_core.specs.Decision.{Owned, owners, numbered, cut, is_committed, logged}
+use Rattle.cluster_core.specs.History as histories
+use Rattle.cluster_core.specs.History.{IsLegal}
+use Rattle.cluster_core.specs.Tier.{ServerState, TierState, absorb_each, absorb_all, after_log, first_refusal, refusal, refusal_of, whole_map}
+use Rattle.cluster_core.proofs.Legality.{committed_is_legal}
+use Rattle.cluster_core.proofs.LogMaps.{tier_has_database}
+use Rattle.cluster_core.proofs.Versions.{rising-numbered}
+use Rattle.schedule.specs.declared.step.Command.{Command}
+use Rattle.schedule.specs.declared.reply.Reply.{Reply}
+use Rattle.schedule.specs.declared.reply.Reply.TheVariants.{Begun, Done, SavedNew, SavedOver, Found, Absent, Removed, Rows, Planned, State, Total, Submitted, ReadOnly, Nothing, Reported, Corrupt, Refused}
+use Rattle.schedule.specs.declared.refusal.Refusal.TheVariants.{NoSuchClient, NoSuchRole, Busy, NoTransaction, NoPlan, BadName, NameTaken, UnknownType, UnknownIndex, UnknownField, WrongKind, NullKey, BadSchema, TooMany, TooDeep, TooLarge, SortTwice, SortNotServed, AlreadyThere, NoStore, OtherSchema, IndexNotReadable, NotAggregate, NotReadable, FutureVersion, TooOld, VersionsExhausted, KeyOutside, KeyTooLarge, ValueTooLarge, TransactionTooLarge}
+use Rattle.schedule.specs.Contract.{IsSerialAt}
+use Rattle.schedule.specs.Holds.{Stands}
+use Rattle.schedule.specs.Past.{Attempt, Open, Submission, is_changed}
+use Rattle.schedule.specs.Performed.{IsPerformed, IsReadRefusal, IsStopped}
+use Rattle.schedule.specs.Standing.{listed}
+use Rattle.schedule.specs.Turns.{AreDone, AreSubmitted, Did, IsOpenAs, fresh}
+use Rattle.schedule.proofs.Composed.{holds_committed, serial_all, performed_right}
+use Rattle.schedule.proofs.Submitting.{numbered_length}
+use Rattle.schedule.proofs.Turning.{done_append, open_changed, open_grown}
+use Rattle.runtime.specs.declared.entry.Entry.{Entry}
+use Rattle.runtime.specs.declared.trace.Performed.{Performed}
+use Rattle.runtime.specs.Lists.{requests_of, version_of, numbered_of, history_of, map_of, pipeline_of, log_of, tier_of, attempts_of, opened, submissions_of, committed_at, IsOpenOver, IsLawful}
+use Rattle.runtime.specs.Serves.{IsAnswer, stopped}
+use Rattle.txn.specs.Refusing.{MayRefuse}
+use Rattle.txn.specs.Runs.{Ran}
+use Rattle.txn.proofs.Running.{ran_because}
+use Rattle.runtime.proofs.Entries.{map_begins, version_begins}
+
+-- ---- legal, held, serial
+
+reads_below : (maps : ℕ → Map) (reported last : ℕ) (subs : List Submission) (requests : List CommitRequest) → AreSubmitted maps reported last subs requests →
+    AllByRecursion (λ (e : histories.Entry). e.request.read_version < e.version) (numbered last requests)
+reads_below maps reported last [] [] are = tt
+reads_below maps reported last [] (request ∷ requests) are = absurd are
+reads_below maps reported last (one ∷ subs) [] are = absurd are
+reads_below maps reported last (one ∷ subs) (request ∷ requests) are = (are.0.below, reads_below maps reported (last + 1) subs requests are.1)
+
+pub legal_of : (config : Config) (log : List Entry) → IsLawful config log → IsLegal (history_of config log)
+legal_of config log law =
+    committed_is_legal config.resolver_splits (numbered_of config log) (rising-numbered config.start (requests_of log))
+    (All-from_recursion (λ (e : histories.Entry). e.request.read_version < e.version) (numbered_of config log) (reads_below (map_of config log) (version_of config log) config.start (submissions_of config log) (requests_of log) law.submitted))
+
+-- the map at each version holds what the accepted commands of the committed entries up to there give
+pub holds_of : (config : Config) (log : List Entry) → IsLawful config log → (v : ℕ) → v ≤ version_of config log → Stands (map_of config log v) (committed_at config log v)
+holds_of config log law v below = holds_committed (pipeline_of config log) (submissions_of config log) (legal_of config log law) law.submitted v below
+
+-- version order is a serial order
+pub serial_of : (config : Config) (log : List Entry) → IsLawful config log →
+    All (λ (one : Submission). IsSerialAt (committed_at config log (one.version - 1)) one.transaction.attempts) (listed (pipeline_of config log) (submissions_of config log))
+serial_of config log law = serial_all (pipeline_of config log) (submissions_of config log) (legal_of config log law) law.submitted
+
+-- ---- what the servers that have pulled a list answer
+
+log_length : (config : Config) (log : List Entry) → length (log_of config log) ≡ length (requests_of log)
+log_length config log = length-map (numbered_of config log) (logged (is_committed config.resolver_splits (numbered_of config log))) ∙ numbered_length config.start (requests_of log)
+
+pub tier_map : (config : Config) (log : List Entry) (v : ℕ) → config.start ≤ v → v ≤ version_of config log → version_of config log - v ≤ config.window → whole_map (tier_of config log) v ≡ map_of config log v
+tier_map config log v from upto near = tier_has_database config (requests_of log) v from upto near
+
+-- the servers of these owners stand at this version
+abbrev AreAtVersion : ℕ → List Owned → List ServerState → Type 0
+AreAtVersion n [] servers = Unit {0}
+AreAtVersion n (owner ∷ others) [] = Unit {0}
+AreAtVersion n (owner ∷ others) (server ∷ servers) = (server.version ≡ n) × AreAtVersion n others servers
+
+pulled_each : (window n : ℕ) (ms : List Mutation) (os : List Owned) (ss : List ServerState) → AreAtVersion n os ss → AreAtVersion (n + 1) os (absorb_each window ms os ss)
+pulled_each window n ms [] ss at = tt
+pulled_each window n ms (owner ∷ others) [] at = tt
+pulled_each window n ms (owner ∷ others) (server ∷ servers) at = (ap (λ k. k + 1) at.0, pulled_each window n ms others servers at.1)
+
+pulled_log : (log : List (List Mutation)) (tier : TierState) (n : ℕ) → AreAtVersion n (owners tier.splits) tier.servers → AreAtVersion (n + length log) (owners tier.splits) (after_log log tier).servers
+pulled_log [] tier n at = let e : n ≡ n + 0 = omega arith in subst (λ k. AreAtVersion k (owners tier.splits) tier.servers) e at
+pulled_log (ms ∷ log) tier n at =
+    let e : (n + 1) + length log ≡ n + suc (length log) = omega arith in
+    subst (λ k. AreAtVersion k (owners tier.splits) (after_log log (absorb_all ms tier)).servers) e (pulled_log log (absorb_all ms tier) (n + 1) (pulled_each tier.window n ms (owners tier.splits) tier.servers at))
+
+same_frame : (log : List (List Mutation)) (tier : TierState) → ((after_log log tier).splits ≡ tier.splits) × ((after_log log tier).window ≡ tier.window)
+same_frame [] tier = (refl, refl)
+same_frame (ms ∷ log) tier = same_frame log (absorb_all ms tier)
+
+first_at : (start : ℕ) (os : List Owned) → AreAtVersion start os (map (λ (_ : Owned). record { version = start; maps = Rattle.std.specs.FinMap.empty ∷ [] }) os)
+first_at start [] = tt
+first_at start (owner ∷ others) = (refl, first_at start others)
+
+none_of : (window version v : ℕ) → v ≤ version → version - v ≤ window → cond (nat_lt version v) (Some reads.FutureVersion) (cond (nat_lt window (version - v)) (Some reads.TooOld) None) ≡ None
+none_of window version v upto near =
+    let one : nat_lt version v ≡ false = grind (arith, nat_tests) in
+    let two : nat_lt window (version - v) ≡ false = grind (arith, nat_tests) in
+    rw (one, two) refl
+
+none_among : (window n v : ℕ) (range : KeyRange) (os : List Owned) (ss : List ServerState) → AreAtVersion n os ss → v ≤ n → n - v ≤ window → first_refusal window range v os ss ≡ None
+none_among window n v range [] ss at upto near = refl
+none_among window n v range (owner ∷ others) [] at upto near = refl
+none_among window n v range (owner ∷ others) (server ∷ servers) at upto near =
+    by_test (has_keys (cut owner range)) (refusal_of window server v) (none_of window server.version v (omega (arith, at.0, upto)) (omega (arith, at.0, near))) (none_among window n v range others servers at.1 upto near)
+  where
+    by_test : (b : Bool) (r : Option ReadError) → r ≡ None → first_refusal window range v others servers ≡ None →
+        cond b (option_or r (first_refusal window range v others servers)) (first_refusal window range v others servers) ≡ None
+    by_test true r here rest = ap (λ o. option_or o (first_refusal window range v others servers)) here ∙ rest
+    by_test false r here rest = rest
+
+-- servers that have pulled a list refuse no read at its versions within the window
+pub tier_answers : (config : Config) (log : List Entry) (range : KeyRange) (v : ℕ) → v ≤ version_of config log → version_of config log - v ≤ config.window → refusal (tier_of config log) range v ≡ None
+tier_answers config log range v upto near =
+    let frame = same_frame (log_of config log) (first_tier config) in
+    let n = log_length config log in
+    (λ i. first_refusal (frame.1 i) range v (owners (frame.0 i)) (tier_of config log).servers)
+    ∙ none_among config.window (config.start + length (log_of config log)) v range (owners config.storage_splits) (tier_of config log).servers
+    (pulled_log (log_of config log) (first_tier config) config.start (first_at config.start (owners config.storage_splits))) (omega (arith, n, upto)) (omega (arith, n, near))
+
+-- ---- a command that was performed over servers that have pulled more than the transaction's list
+
+-- where no read is refused, no reply is that of a refused read
+unrefused : (refuses : KeyRange → ReadError → Type 0) (within : List KeyRange) (answer : Reply) → ((range : KeyRange) (error : ReadError) → refuses range error → ⊥) → IsReadRefusal refuses within answer → ⊥
+unrefused refuses within (Refused NoSuchClient) none is = absurd is
+unrefused refuses within (Refused NoSuchRole) none is = absurd is
+unrefused refuses within (Refused Busy) none is = absurd is
+unrefused refuses within (Refused NoTransaction) none is = absurd is
+unrefused refuses within (Refused NoPlan) none is = absurd is
+unrefused refuses within (Refused BadName) none is = absurd is
+unrefused refuses within (Refused NameTaken) none is = absurd is
+unrefused refuses within (Refused UnknownType) none is = absurd is
+unrefused refuses within (Refused UnknownIndex) none is = absurd is
+unrefused refuses within (Refused UnknownField) none is = absurd is
+unrefused refuses within (Refused WrongKind) none is = absurd is
+unrefused refuses within (Refused NullKey) none is = absurd is
+unrefused refuses within (Refused BadSchema) none is = absurd is
+unrefused refuses within (Refused TooMany) none is = absurd is
+unrefused refuses within (Refused TooDeep) none is = absurd is
+unrefused refuses within (Refused TooLarge) none is = absurd is
+unrefused refuses within (Refused SortTwice) none is = absurd is
+unrefused refuses within (Refused SortNotServed) none is = absurd is
+unrefused refuses within (Refused AlreadyThere) none is = absurd is
+unrefused refuses within (Refused NoStore) none is = absurd is
+unrefused refuses within (Refused OtherSchema) none is = absurd is
+unrefused refuses within (Refused IndexNotReadable) none is = absurd is
+unrefused refuses within (Refused NotAggregate) none is = absurd is
+unrefused refuses within (Refused NotReadable) none is = absurd is
+unrefused refuses within (Refused FutureVersion) none is = none is.range reads.FutureVersion is.refused
+unrefused refuses within (Refused TooOld) none is = none is.range reads.TooOld is.refused
+unrefused refuses within (Refused VersionsExhausted) none is = absurd is
+unrefused refuses within (Refused KeyOutside) none is = absurd is
+unrefused refuses within (Refused KeyTooLarge) none is = absurd is
+unrefused refuses within (Refused ValueTooLarge) none is = absurd is
+unrefused refuses within (Refused TransactionTooLarge) none is = absurd is
+unrefused refuses within (Begun version) none is = absurd is
+unrefused refuses within Done none is = absurd is
+unrefused refuses within SavedNew none is = absurd is
+unrefused refuses within (SavedOver cells) none is = absurd is
+unrefused refuses within (Found cells) none is = absurd is
+unrefused refuses within Absent none is = absurd is
+unrefused refuses within Removed none is = absurd is
+unrefused refuses within (Rows rows) none is = absurd is
+unrefused refuses within (Planned plan) none is = absurd is
+unrefused refuses within (State state) none is = absurd is
+unrefused refuses within (Total total) none is = absurd is
+unrefused refuses within (Submitted version) none is = absurd is
+unrefused refuses within ReadOnly none is = absurd is
+unrefused refuses within Nothing none is = absurd is
+unrefused refuses within (Reported reports) none is = absurd is
+unrefused refuses within (Corrupt key) none is = absurd is
+
+-- the map at the read version alone matters
+ran_elsewhere : (maps maps2 : ℕ → Map) {added : List KeyRange} {old new : CommitRequest} {wrote : List Mutation} {Fact : Map → Type 0} → maps old.read_version ≡ maps2 old.read_version →
+    Ran maps added old new wrote Fact → Ran maps2 added old new wrote Fact
+ran_elsewhere maps maps2 {new = new} same ran = record {
+  version = ran.version;
+  wrote = ran.wrote;
+  reads = ran.reads;
+  over = λ m agree. ran.over m (subst (λ (base : Map). Agree new.reads base m) (sym same) agree);
+}
+
+performed_elsewhere : (maps maps2 : ℕ → Map) (refuses : KeyRange → ReadError → Type 0) (command : Command) (answer : Reply) (old new : CommitRequest) → maps old.read_version ≡ maps2 old.read_version →
+    IsPerformed maps refuses command answer old new → IsPerformed maps2 refuses command answer old new
+performed_elsewhere maps maps2 refuses command answer old new same performed = record {
+  opened = performed.opened;
+  added = performed.added;
+  written = performed.written;
+  changes = performed.changes;
+  ran = ran_elsewhere maps maps2 same performed.ran;
+}
+
+-- a command that stopped did what one does whose read was refused
+stopped_did : (maps : ℕ → Map) (command : Command) (old new : CommitRequest) → IsStopped maps command old new → Did maps (record { command = command; reply = Refused TooOld }) old new
+stopped_did maps command old new is = record {
+  added = is.added;
+  written = [];
+  changes = refl;
+  ran = ran_because is.ran (λ m part serial holds. record { replied = λ accepted_so. absurd (true≢false (sym accepted_so)); wrote = refl; holds = holds; reads = part.held serial holds });
+}
+
+attempts_more : (done : List Performed) (one : Performed) → attempts_of (done ++ one ∷ []) ≡ attempts_of done ++ (record { command = one.command; reply = one.reply }) ∷ []
+attempts_more [] one = refl
+attempts_more (x ∷ xs) one = ap (λ (l : List Attempt). (record { command = x.command; reply = x.reply }) ∷ l) (attempts_more xs one)
+
+abbrev attempt_of : Performed → Attempt
+attempt_of one = record { command = one.command; reply = one.reply }
+
+did_elsewhere : (maps maps2 : ℕ → Map) (attempt : Attempt) (old new : CommitRequest) → maps old.read_version ≡ maps2 old.read_version → Did maps attempt old new → Did maps2 attempt old new
+did_elsewhere maps maps2 attempt old new same did = record { added = did.added; written = did.written; changes = did.changes; ran = ran_elsewhere maps maps2 same did.ran }
+
+none_some : (o : Option ReadError) {e : ReadError} → o ≡ None → o ≡ Some e → ⊥
+none_some None none some = cc
+none_some (Some x) none some = cc
+
+-- the map of servers that have pulled a longer list is the list's own at a version that they tell
+same_map : (config : Config) (log ys : List Entry) (version : ℕ) → IsPrefix log ys → version ≤ version_of config log → config.start ≤ version → version_of config ys - version ≤ config.window →
+    whole_map (tier_of config ys) version ≡ map_of config log version
+same_map config log ys version begins seen from near =
+    tier_map config ys version from (let l = version_begins config log ys begins in omega (arith, seen, l)) near ∙ map_begins config log ys version begins seen
+
+-- the transaction's facts stand over its own list, and the reply is the serial store's for what it sees there
+pub answers_right : (config : Config) (log ys : List Entry) (old new : CommitRequest) (done : List Performed) (command : Command) (answer : Reply) → IsLawful config log → IsPrefix log ys → IsOpenOver config log old done → config.start ≤ old.read_version →
+    version_of config ys - old.read_version ≤ config.window → IsPerformed (whole_map (tier_of config ys)) (λ range. MayRefuse (tier_of config ys) range old.read_version) command answer old new →
+    IsOpenOver config log new (done ++ (record { command = command; reply = answer }) ∷ []) × IsAnswer config log old done command answer × (new.read_version ≡ old.read_version)
+answers_right config log ys old new done command answer law begins over from near performed =
+    let seen : old.read_version ≤ version_of config log = over.seen in
+    let reached : old.read_version ≤ version_of config ys = let l = version_begins config log ys begins in omega (arith, seen, l) in
+    let same : whole_map (tier_of config ys) old.read_version ≡ map_of config log old.read_version = same_map config log ys old.read_version begins seen from near in
+    let here : IsPerformed (map_of config log) (λ range. MayRefuse (tier_of config ys) range old.read_version) command answer old new = performed_elsewhere (whole_map (tier_of config ys)) (map_of config log) _ command answer old new same performed in
+    let grown = open_grown (map_of config log) (version_of config log) (opened old done) old new (λ range. MayRefuse (tier_of config ys) range old.read_version) command answer over here in
+    let right = performed_right (pipeline_of config log) (submissions_of config log) (legal_of config log law) law.submitted (opened old done) old new (λ v range. MayRefuse (tier_of config ys) range v) command answer over here in
+    let version : new.read_version ≡ old.read_version = performed.ran.version in (
+      subst (λ (o : Open). IsOpenAs (map_of config log) (version_of config log) o new) (λ i. record { read_version = sym version i; attempts = sym (attempts_more done (record { command = command; reply = answer })) i }) grown,
+      elim right [
+        | inl served ↦ served
+        | inr refused ↦ absurd (unrefused (λ range. MayRefuse (tier_of config ys) range old.read_version) _ answer (λ range error is. none_some (refusal (tier_of config ys) range old.read_version) (tier_answers config ys range old.read_version reached near) is) refused.2)
+      ],
+      version,
+    )
+
+-- the transaction goes on where a command stopped
+pub stops_right : (config : Config) (log ys : List Entry) (old new : CommitRequest) (done : List Performed) (command : Command) → IsPrefix log ys → IsOpenOver config log old done → config.start ≤ old.read_version →
+    version_of config ys - old.read_version ≤ config.window → IsStopped (whole_map (tier_of config ys)) command old new →
+    IsOpenOver config log new (done ++ stopped command ∷ []) × (new.mutations ≡ old.mutations) × (new.read_version ≡ old.read_version)
+stops_right config log ys old new done command begins over from near is =
+    let same : whole_map (tier_of config ys) old.read_version ≡ map_of config log old.read_version = same_map config log ys old.read_version begins over.seen from near in
+    let did = did_elsewhere (whole_map (tier_of config ys)) (map_of config log) (attempt_of (stopped command)) old new same (stopped_did (whole_map (tier_of config ys)) command old new is) in
+    let version : new.read_version ≡ old.read_version = is.ran.version in (
+      record {
+        at = refl;
+        seen = subst (λ (v : ℕ). v ≤ version_of config log) (sym version) over.seen;
+        done = subst (λ (attempts : List Attempt). AreDone (map_of config log) attempts (fresh new.read_version) new) (sym (attempts_more done (stopped command)))
+            (done_append (map_of config log) (attempts_of done) (attempt_of (stopped command)) (fresh new.read_version) old new (subst (λ (v : ℕ). AreDone (map_of config log) (attempts_of done) (fresh v) old) (sym version) over.done) did);
+      },
+      is.ran.wrote ∙ append-nil old.mutations,
+      version,
+    )
+
+-- a transaction without mutations has changed nothing
+pub unchanged : (config : Config) (log : List Entry) (request : CommitRequest) (done : List Performed) → IsOpenOver config log request done → request.mutations ≡ [] → is_changed (attempts_of done) ≡ false
+unchanged config log request done over none = open_changed (map_of config log) (version_of config log) (opened request done) request over ∙ ap (λ (ms : List Mutation). not (length ms == 0)) none
+
+none_of_none : (ms : List Mutation) → not (length ms == 0) ≡ false → ms ≡ []
+none_of_none [] h = refl
+none_of_none (m ∷ ms) h = let some : (suc (length ms) == 0) ≡ false = grind (arith, nat_tests) in absurd (true≢false (ap not (sym some) ∙ h))
+
+-- one that has changed nothing has none
+pub nothing_written : (config : Config) (log : List Entry) (request : CommitRequest) (done : List Performed) → IsOpenOver config log request done → is_changed (attempts_of done) ≡ false → request.mutations ≡ []
+nothing_written config log request done over none = none_of_none request.mutations (sym (open_changed (map_of config log) (version_of config log) (opened request done) request over) ∙ none)

@@ -1,0 +1,134 @@
+-- Lists of entries: the database that one makes, and what makes one lawful.
+use Rattle.std.specs.Prelude.{◌≡◌, All, ℕ, ◌+◌, ◌-◌, ◌<◌, ◌≤◌, ◌^◌, Bool, true, not, ◌&&◌, ◌==◌, nat_le}
+use Rattle.std.specs.Prelude.{slice_index, List, [], ◌∷◌, map, length, Option, is_none, if◌then◌else◌}
+use Rattle.std.specs.List.{list_any, list_all}
+use Rattle.kv_core.specs.Map.{Map}
+use Rattle.kv_core.specs.declared.change.CommitRequest.{CommitRequest}
+use Rattle.kv_core.specs.declared.change.Mutation.{Mutation}
+use Rattle.cluster_core.specs.declared.answers.Config.{Config}
+use Rattle.cluster_core.specs.History as histories
+use Rattle.cluster_core.specs.History.{map_at}
+use Rattle.cluster_core.specs.Decision.{Cause, numbered, committed as committed_of, cause}
+use Rattle.cluster_core.specs.Decision as decision
+use Rattle.cluster_core.specs.Configuration.{first_pipeline, first_tier}
+use Rattle.cluster_core.specs.Roles.{PipelineState, all_handled}
+use Rattle.cluster_core.specs.Tier.{TierState, after_log}
+use Rattle.record_store.specs.Store.{Serial}
+use Rattle.schedule.specs.Past.{Attempt, Open, Submission}
+use Rattle.schedule.specs.Contract.{IsSerialAt}
+use Rattle.schedule.specs.Holds.{Stands}
+use Rattle.schedule.specs.Standing.{commits_of, listed}
+use Rattle.schedule.specs.Commits.{committed}
+use Rattle.schedule.specs.Turns.{AreSubmitted, IsOpenAs}
+use Rattle.runtime.specs.declared.trace.Performed.{Performed}
+use Rattle.runtime.specs.declared.entry.Entry.{Entry}
+
+-- ---- the database of a list
+
+-- the requests of the entries, in version order
+abbrev pub requests_of : List Entry → List CommitRequest
+requests_of log = map (λ entry. entry.request) log
+
+-- the version of the last entry
+abbrev pub version_of : Config → List Entry → ℕ
+version_of config log = config.start + length (requests_of log)
+
+-- the requests with their versions
+abbrev pub numbered_of : Config → List Entry → List histories.Entry
+numbered_of config log = numbered config.start (requests_of log)
+
+-- the history: what the resolvers commit of the list
+abbrev pub history_of : Config → List Entry → List histories.Entry
+history_of config log = committed_of config.resolver_splits (numbered_of config log)
+
+-- the map at a version
+abbrev pub map_of : Config → List Entry → ℕ → Map
+map_of config log version = map_at (history_of config log) version
+
+-- the pipeline where every role has handled just the list
+abbrev pub pipeline_of : Config → List Entry → PipelineState
+pipeline_of config log = all_handled (record (first_pipeline config) { requests = requests_of log })
+
+-- what the logs have of a list
+abbrev pub log_of : Config → List Entry → List (List Mutation)
+log_of config log = decision.log config.resolver_splits (numbered_of config log)
+
+-- the servers that have pulled all of it
+abbrev pub tier_of : Config → List Entry → TierState
+tier_of config log = after_log (log_of config log) (first_tier config)
+
+-- why a request that comes next is refused, or None where it is committed
+abbrev pub cause_next : Config → List Entry → CommitRequest → Option Cause
+cause_next config log request =
+    cause config.resolver_splits (numbered_of config log)
+    (record { version = version_of config log + 1; request = request })
+
+-- what the logs have of a request that comes next
+abbrev pub logged_next : Config → List Entry → CommitRequest → List Mutation
+logged_next config log request = if is_none (cause_next config log request) then request.mutations else []
+
+-- ---- its transactions
+
+-- the commands that a transaction performed, as a schedule has them
+abbrev pub attempts_of : List Performed → List Attempt
+attempts_of done = map (λ one. record { command = one.command; reply = one.reply }) done
+
+-- the transaction of a request
+abbrev pub opened : CommitRequest → List Performed → Open
+opened request done = record { read_version = request.read_version; attempts = attempts_of done }
+
+-- the entries as submissions, from the version after this one on
+abbrev pub submissions_from : ℕ → List Entry → List Submission
+submissions_from last [] = []
+submissions_from last (e ∷ es) =
+    record { version = last + 1; client = e.client; transaction = opened e.request e.trace.attempts }
+    ∷ submissions_from (last + 1) es
+
+abbrev pub submissions_of : Config → List Entry → List Submission
+submissions_of config log = submissions_from config.start log
+
+-- what the accepted commands of the committed entries up to a version give
+abbrev pub committed_at : Config → List Entry → ℕ → Serial
+committed_at config log version = committed (commits_of (pipeline_of config log) (submissions_of config log)) version
+
+-- a transaction over a list performed these commands, which came to this request
+abbrev pub IsOpenOver : Config → List Entry → CommitRequest → List Performed → Type 0
+IsOpenOver config log request done =
+    IsOpenAs (map_of config log) (version_of config log) (opened request done) request
+
+-- ---- lawful lists
+
+-- the two entries are of one submission
+abbrev pub is_same_submission : Entry → Entry → Bool
+is_same_submission e f = (e.client == f.client) && (e.number == f.number)
+
+-- no submission stands twice in the list
+abbrev pub is_once : List Entry → Bool
+is_once [] = true
+is_once (e ∷ es) = not (list_any (is_same_submission e) es) && is_once es
+
+-- each request came of commands that its transaction performed over the maps of the list, below its version; no
+-- submission stands twice
+pub record IsLawful (config : Config) (log : List Entry) : Type 0 where
+  pub submitted :
+      AreSubmitted (map_of config log) (version_of config log) config.start (submissions_of config log)
+      (requests_of log)
+  pub once : is_once log ≡ true
+  pub versions : version_of config log < 2 ^ 64
+
+-- no submission in the list has a number above its client's last
+abbrev pub is_numbered : List ℕ → List Entry → Bool
+is_numbered last log = list_all (λ e. nat_le e.number (slice_index last e.client)) log
+
+-- the map at each version of the list holds what the accepted commands of the committed entries up to there give
+abbrev pub HoldsEach : Config → List Entry → Type 0
+HoldsEach config log =
+    (version : ℕ) → version ≤ version_of config log →
+    Stands (map_of config log version) (committed_at config log version)
+
+-- each accepted command of a committed entry has its reply just before the entry's version, after the entry's earlier
+-- ones
+abbrev pub IsSerial : Config → List Entry → Type 0
+IsSerial config log =
+    All (λ (one : Submission). IsSerialAt (committed_at config log (one.version - 1)) one.transaction.attempts)
+    (listed (pipeline_of config log) (submissions_of config log))

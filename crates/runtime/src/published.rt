@@ -1,0 +1,41 @@
+ghost use Rattle.std.specs.Prelude.{◌≡◌, [], IfOk};
+ghost use Rattle.runtime.specs.State.{IsFold};
+
+use crate::entry::Note;
+use crate::front::Front;
+use cluster_core::{Config, ConfigError, Tier};
+use kv_core::Mutations;
+use std::alloc::Global;
+
+/// What readers enter: the servers, with the list that they have pulled.
+#[derive(Drop)]
+pub struct Published {
+    pub tier: Tier,
+    pub front: Front,
+}
+
+/// One operation: a submission's entry, what the logs have of it, and the list that ends with it.
+#[derive(Drop)]
+pub struct Step {
+    pub note: Note,
+    pub mutations: Mutations,
+    pub front: Front,
+}
+
+/// What a thread knows of the published state. No value of it is made.
+pub struct View {
+    pub named: bool,
+    pub front: Front,
+}
+
+impl Published {
+    /// The state of a new history. It is refused as `Tier::new` refuses the configuration.
+    pub fn new(alloc: Global, config: &Config, front: &Front) -> Result<Published, ConfigError>
+        requires { (front.now.list ≡ []) × (front.now.name.config ≡ config.now) }
+        ensures { IfOk result (λ p. (p.front ≡ front.now) × IsFold p) }
+    {
+        let tier = Tier::new(alloc, config)?;
+        let front = front.again();
+        Ok(Published { tier, front })
+    }
+}

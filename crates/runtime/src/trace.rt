@@ -1,0 +1,42 @@
+ghost use Rattle.std.specs.Prelude.{◌≡◌, List, [], ◌∷◌, ◌++◌};
+ghost use base.Fml.{ftrue};
+ghost use Rattle.std.specs.Coded.{codes};
+ghost use Rattle.runtime.specs.declared.trace.Performed.{Performed};
+ghost use Rattle.runtime.specs.contracts.trace.Performed as performed;
+
+use schedule::{Command, Reply};
+use std::marker::Model;
+
+/// A command that was performed, and its reply. No value of it is made.
+pub struct Performed {
+    pub command: Command,
+    pub reply: Reply,
+}
+
+/// The commands that a transaction performed, in order, as clauses see them: no bytes of them are
+/// kept.
+#[derive(Drop)]
+pub struct Trace {
+    pub ghost attempts: { List Performed } by { Prim.hlevel (codes, performed.the_row.coded) },
+}
+
+impl Model for Trace {
+    ghost also_owns = { λ _. ftrue };
+}
+
+impl Trace {
+    /// No command.
+    pub fn new() -> Trace
+        ensures { result.attempts ≡ [] }
+    {
+        Trace {}
+    }
+
+    /// The commands with one more, and its reply.
+    #[inline(always)]
+    pub fn then(&self, _command: &Command, _reply: &Reply) -> Trace
+        ensures { result.attempts ≡ self.now.attempts ++ record { command = _command.now; reply = _reply.now } ∷ [] }
+    {
+        Trace {}
+    }
+}

@@ -1,0 +1,81 @@
+ghost use Rattle.std.specs.Prelude.{◌≡◌, ◌++◌, ◌∷◌, [], Some, false, Ok, IfOk, IfErr};
+ghost use Rattle.std.specs.Borrow.{sem, RestsIfErr};
+ghost use mathlib.Core.List.{IsPrefix};
+ghost use Rattle.runtime.specs.contracts.client.Client.{the_row};
+ghost use Rattle.schedule.specs.Past.{is_changed};
+ghost use Rattle.runtime.specs.Clients.{knows_that};
+ghost use Rattle.runtime.specs.Commits.{Answers};
+ghost use Rattle.runtime.specs.Lists.{attempts_of};
+ghost use Rattle.runtime.specs.Serves.{IsAnswer, IsUnanswered};
+
+use crate::answers::{CommitError, Done};
+use crate::client::Client;
+use crate::entering::EnterError;
+use crate::turn::End;
+use schedule::{Command, Reply};
+use std::sync::Wait;
+
+/// An open transaction of a client, which is lent to it.
+#[derive(Drop)]
+pub struct Txn<'a, E: End> {
+    pub client: &'a mut Client<E>,
+}
+
+/// Begins a transaction at a published list that begins with the client's, which is the client's
+/// from now on. It waits for nobody.
+pub fn begin<E: End>(client: &mut Client<E>) -> Result<Txn<'_, E>, EnterError>
+    ensures* refused { sem 𝓛
+        (RestsIfErr (the_row E.row E.End) client.entry (λ t. t.client.ghost_name) result (λ n. n ≡ client.old)) }
+    ensures same_reference { IfOk result (λ t. t.client.ghost_name ≡ client.entry.ghost_name) }
+    ensures begun { IfOk result (λ t. (work : _) × (t.client.now.begun ≡ Some work)
+        × (work.front.list ≡ t.client.now.list) × (work.trace.attempts ≡ [])) }
+    ensures list { IfOk result (λ t. IsPrefix client.old.list t.client.now.list) }
+    ensures numbers { IfOk result (λ t.
+        (t.client.now.last ≡ client.old.last) × (t.client.now.number ≡ client.old.number)) }
+{
+    client.begin_here()?;
+    Ok(Txn { client })
+}
+
+impl<E: End> Txn<'_, E> {
+    /// Performs a command. It waits for nobody.
+    ///
+    /// The reply is the serial store's for what is committed in the transaction's list at its read
+    /// version, as its own accepted commands change it, or a write limit. It is never that of a
+    /// refused read: where the published list is more than the window above the transaction's, the
+    /// command has no reply but `TooOld`. Where there is no reply the transaction can go on; after
+    /// `Memory` it has read the first of the command's ranges.
+    pub fn perform(&mut self, command: &Command) -> Result<Reply, EnterError>
+        ensures same_reference { self.new.client.ghost_name ≡ self.old.client.ghost_name }
+        ensures same { self.new.client.now
+            ≡ knows_that self.old.client.now.name self.old.client.now.list self.old.client.now.number
+            self.old.client.now.last self.new.client.now.begun }
+        ensures answer { (work : _) → self.old.client.now.begun ≡ Some work → IfOk result (λ reply.
+            IsAnswer work.front.name.config work.front.list work.transaction work.trace.attempts command.now reply) }
+        ensures grown { (work : _) → self.old.client.now.begun ≡ Some work → IfOk result (λ reply.
+            (after : _) × (self.new.client.now.begun ≡ Some after) × (after.front ≡ work.front)
+            × (after.trace.attempts ≡ work.trace.attempts ++ record { command = command.now; reply = reply } ∷ [])) }
+        ensures refused { (work : _) → self.old.client.now.begun ≡ Some work → IfErr result (λ error.
+            (after : _) × (self.new.client.now.begun ≡ Some after) × (after.front ≡ work.front)
+            × IsUnanswered work.front error command.now work.transaction work.trace after.transaction after.trace) }
+    {
+        self.client.perform_here(command)
+    }
+
+    /// Commits, and ends the transaction. It waits for the lock, and for readers.
+    ///
+    /// After `Committed` the client has learnt a published list that ends with this transaction's
+    /// entry, committed, and after `Conflict` one that ends with its entry, refused with that cause.
+    /// `ReadOnly` submits nothing. A number is given to the submission then and after `Unknown`, and
+    /// in no other case.
+    pub fn commit<R: Wait>(self, rt: &R) -> Result<Done, CommitError>
+        ensures answer { (work : _) → self.entry.client.now.begun ≡ Some work →
+            Answers self.entry.client.now self.exit.0.now work.transaction work.trace result }
+        ensures read_only { (work : _) → self.entry.client.now.begun ≡ Some work →
+            is_changed (attempts_of work.trace.attempts) ≡ false → result ≡ Ok Done.ReadOnly }
+        ensures list { IsPrefix self.entry.client.now.list self.exit.0.now.list }
+    {
+        let Txn { client } = self;
+        client.commit_here(rt)
+    }
+}
