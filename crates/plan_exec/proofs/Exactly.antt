@@ -28,8 +28,8 @@ use Rattle.metadata.proofs.StoredApart.{number_small}
 use Rattle.index_maint.specs.Changes.{HasEntries}
 use Rattle.index_maint.proofs.Places.{begins_before, parts_apart}
 use Rattle.index_maint.specs.Kept.{HasDefined, HasKept}
-use Rattle.record_store.specs.Holds.{Holds, HoldsStore, IsOfSchema}
-use Rattle.record_store.specs.Store.{Store, state_of}
+use Rattle.record_store.specs.Holds.{HasIndex, Holds, HoldsStore, IsOfSchema}
+use Rattle.record_store.specs.Store.{Store, built_of, state_of}
 use Rattle.record_store.proofs.Held.{rising}
 use Rattle.record_store.proofs.Keys.{record_key_is}
 use Rattle.record_store.proofs.RecordPairs.{one_type, own_type}
@@ -112,15 +112,15 @@ module _ (prefix : List ℕ) (m : Map) (store : Store) (holds : HoldsStore prefi
           let in_map = all_these m (place prefix 1) record_pairs holds.records p (behind_place t.number p.0 b) there_is (one_each p there_is) in
           (contains_member p (entries m) in_map, begins_so (records_prefix prefix t.number) p.0 b)
 
-  readable_has : (s : State) (i : IndexDefinition) → i.kind ≡ Value → s ≡ Readable → HasKept s prefix i [] store.records m → HasEntries prefix i store.records m
-  readable_has s i value same h = subst (λ kind. HasDefined kind prefix i store.records m) value (subst (λ state. HasKept state prefix i [] store.records m) same h)
+  readable_has : (s : State) (i : IndexDefinition) → i.kind ≡ Value → s ≡ Readable → HasKept s prefix i (built_of store i.number) store.records m → HasEntries prefix i store.records m
+  readable_has s i value same h = subst (λ kind. HasDefined kind prefix i store.records m) value (subst (λ state. HasKept state prefix i (built_of store i.number) store.records m) same h)
 
   entries_are : (i : IndexDefinition) → IsScannable store t i → AreThose (entries_prefix prefix i.number) (λ r. entry_pair prefix i.number (entry_of i r)) its_records (entries m)
   entries_are i scan p = (forth, back)
     where
       has : HasEntries prefix i store.records m
       has = readable_has (state_of store i.number) i scan.value scan.readable
-          (each_member (λ j. HasKept (state_of store j.number) prefix j [] store.records m) holds.entries (member_contained i store.schema.indexes scan.there))
+          (each_member (λ j. HasIndex prefix (built_of store j.number) store.records m j (state_of store j.number)) holds.entries (member_contained i store.schema.indexes scan.there)).0
 
       its_pairs : List Pair
       its_pairs = entry_pairs prefix i store.records

@@ -33,9 +33,9 @@ use Rattle.index_maint.specs.Totals.{IsGroup, IsTotal, as_signed, count_share, g
 use Rattle.index_maint.proofs.TotalLaw.{number_of-total}
 use Rattle.record_store.specs.declared.error.StoreError.{StoreError}
 use Rattle.record_store.specs.declared.error.StoreError.TheVariants.{Memory, Read, Write, Corrupt, Refused, NoStore, AlreadyThere, OtherSchema, NotAggregate, NotReadable}
-use Rattle.record_store.specs.Store.{Store, state_in, state_of}
+use Rattle.record_store.specs.Store.{Store, built_of, state_in, state_of}
 use Rattle.record_store.specs.Layout.{record_key}
-use Rattle.record_store.specs.Holds.{Holds}
+use Rattle.record_store.specs.Holds.{HasIndex, Holds}
 use Rattle.record_store.specs.Form.{IsFirstBad, IsWritten, read_in}
 use Rattle.record_store.specs.Call.{IsOpenAs, IsUnread, Opened, whole}
 use Rattle.record_store.specs.Calls.{aggregate_call, aggregate_service, total_of, total_refusal, unless}
@@ -112,8 +112,8 @@ module _ (opened : Opened) (index : IndexDefinition) (group : List Cell) (known 
   had : (m : Map) (store : Store) → Holds opened.prefix m (Some store) → IsOpenAs opened store → HasDefined index.kind opened.prefix index store.records m
   had m store holds same =
       let there = subst (λ (s : Schema). Contains s.indexes index) (sym same.schema) known.there in
-      subst (λ s. HasKept s opened.prefix index [] store.records m) (ap (λ ss. state_in ss index.number) same.states ∙ known.readable)
-      (of_contained (λ (i : IndexDefinition). HasKept (state_of store i.number) opened.prefix i [] store.records m) store.schema.indexes index there.0 there.1 there.2 holds.entries)
+      subst (λ s. HasKept s opened.prefix index (built_of store index.number) store.records m) (ap (λ ss. state_in ss index.number) same.states ∙ known.readable)
+      (of_contained (λ (i : IndexDefinition). HasIndex opened.prefix (built_of store i.number) store.records m i (state_of store i.number)) store.schema.indexes index there.0 there.1 there.2 holds.entries).0
 
   -- so that of the group stands at its key
   abbrev StandsThere : Map → Store → Type 0

@@ -19,17 +19,29 @@ use Rattle.kv_core.proofs.Pairs.{contains-point-is}
 use Rattle.metadata.specs.declared.index.IndexDefinition.{IndexDefinition}
 use Rattle.metadata.specs.declared.index.State.{State}
 use Rattle.metadata.specs.Record.{Record}
-use Rattle.index_maint.specs.Kept.{HasKept}
-use Rattle.index_maint.specs.Layout.{entries_prefix}
+use Rattle.metadata.specs.declared.index.State.TheVariants.{Readable, WriteOnly, Disabled}
+use Rattle.kv_core.specs.Range.{KeyRange}
+use Rattle.range_set.proofs.OneSet.{set_within}
+use Rattle.index_maint.specs.Layout.{built_place, entries_prefix}
 use Rattle.index_maint.proofs.KeptLaw.{kept_within}
-use Rattle.index_maint.proofs.Places.{begins_before, entries_elsewhere, places_differ}
+use Rattle.index_maint.proofs.Places.{begins_before, entries_elsewhere, places_apart, places_differ}
 use Rattle.record_store.specs.Layout.{place, record_key, schema_key, state_key}
-use Rattle.record_store.specs.Holds.{Holds, IsNoEntry}
+use Rattle.record_store.specs.Holds.{HasIndex, HasPositions, Holds, IsNoEntry}
 use Rattle.record_store.proofs.Keys.{record_key_is}
 
--- what a map has of an index, by its state
-abbrev pub HasIndex : List ℕ → List Record → Map → IndexDefinition → State → Type 0
-HasIndex prefix records m index state = HasKept state prefix index [] records m
+-- ---- lists of pairs
+
+pub firsts : {X : Type 0} (P Q : X → Type 0) (xs : List X) → AllByRecursion (λ x. P x × Q x) xs → AllByRecursion P xs
+firsts P Q [] all = tt
+firsts P Q (x ∷ xs) all = (all.0.0, firsts P Q xs all.1)
+
+pub seconds : {X : Type 0} (P Q : X → Type 0) (xs : List X) → AllByRecursion (λ x. P x × Q x) xs → AllByRecursion Q xs
+seconds P Q [] all = tt
+seconds P Q (x ∷ xs) all = (all.0.1, seconds P Q xs all.1)
+
+pub paired : {X : Type 0} (P Q : X → Type 0) (xs : List X) → AllByRecursion P xs → AllByRecursion Q xs → AllByRecursion (λ x. P x × Q x) xs
+paired P Q [] all other = tt
+paired P Q (x ∷ xs) all other = ((all.0, other.0), paired P Q xs all.1 other.1)
 
 -- ---- one key
 
@@ -52,31 +64,50 @@ itself key = ([], sym (append-nil key))
 
 module _ (prefix : List ℕ) where
   -- a key under one number isn't one under another
-  pub other_place : (p : ℕ) (ps : List Item) (n : ℕ) (ns : List Item) (at : List ℕ) → (nat_lt p 6 && (nat_lt n 6 && not (n == p))) ≡ true → BeginsWith (key_of prefix (int (pos n) ∷ ns)) at →
+  pub other_place : (p : ℕ) (ps : List Item) (n : ℕ) (ns : List Item) (at : List ℕ) → (nat_lt p 7 && (nat_lt n 7 && not (n == p))) ≡ true → BeginsWith (key_of prefix (int (pos n) ∷ ns)) at →
       at ≡ key_of prefix (int (pos p) ∷ ps) → ⊥
   other_place p ps n ns at differ there same =
-      let one = and_parts (nat_lt p 6) (nat_lt n 6 && not (n == p)) differ in
-      let two = and_parts (nat_lt n 6) (not (n == p)) one.1 in
-      let low = ltb-true p 6 one.0 in
-      let high = ltb-true n 6 two.0 in
+      let one = and_parts (nat_lt p 7) (nat_lt n 7 && not (n == p)) differ in
+      let two = and_parts (nat_lt n 7) (not (n == p)) one.1 in
+      let low = ltb-true p 7 one.0 in
+      let high = ltb-true n 7 two.0 in
       places_differ prefix at (key_of prefix (int (pos p) ∷ ps)) n p ns ps (omega (arith, high)) (omega (arith, low)) (eqb-false n p (not-true (n == p) two.1)) there (itself (key_of prefix (int (pos p) ∷ ps))) same
 
   -- a key under another number than 2 is that of no entry
-  pub not_entry : (i n : ℕ) (ns : List Item) (key : List ℕ) → (nat_lt n 6 && not (n == 2)) ≡ true → BeginsWith (key_of prefix (int (pos n) ∷ ns)) key → BeginsWith (entries_prefix prefix i) key → ⊥
+  pub not_entry : (i n : ℕ) (ns : List Item) (key : List ℕ) → (nat_lt n 7 && not (n == 2)) ≡ true → BeginsWith (key_of prefix (int (pos n) ∷ ns)) key → BeginsWith (entries_prefix prefix i) key → ⊥
   not_entry i n ns key other there entry =
-      let parts = and_parts (nat_lt n 6) (not (n == 2)) other in
-      let low = ltb-true n 6 parts.0 in
+      let parts = and_parts (nat_lt n 7) (not (n == 2)) other in
+      let low = ltb-true n 7 parts.0 in
       entries_elsewhere prefix key i n ns (omega (arith, low)) (eqb-false n 2 (not-true (n == 2) parts.1)) entry there
 
-  pub no_entry_at : (n : ℕ) (ns : List Item) (indexes : List IndexDefinition) (key : List ℕ) → (nat_lt n 6 && not (n == 2)) ≡ true → BeginsWith (key_of prefix (int (pos n) ∷ ns)) key → IsNoEntry prefix indexes key
-  no_entry_at n ns [] key other there = tt
-  no_entry_at n ns (index ∷ indexes) key other there = (not_entry index.number n ns key other there, no_entry_at n ns indexes key other there)
+  -- one under another number than 6 is that of no built range
+  pub not_range : (i n : ℕ) (ns : List Item) (key : List ℕ) → (nat_lt n 7 && not (n == 6)) ≡ true → BeginsWith (key_of prefix (int (pos n) ∷ ns)) key → BeginsWith (built_place prefix i) key → ⊥
+  not_range i n ns key other there range =
+      let parts = and_parts (nat_lt n 7) (not (n == 6)) other in
+      let low = ltb-true n 7 parts.0 in
+      eqb-false n 6 (not-true (n == 6) parts.1) (places_apart prefix key n 6 ns (int (pos i) ∷ []) (omega (arith, low)) (omega arith) there range)
+
+  pub no_entry_at : (n : ℕ) (ns : List Item) (indexes : List IndexDefinition) (key : List ℕ) → (nat_lt n 7 && not (n == 2)) ≡ true → (nat_lt n 7 && not (n == 6)) ≡ true →
+      BeginsWith (key_of prefix (int (pos n) ∷ ns)) key → IsNoEntry prefix indexes key
+  no_entry_at n ns [] key other differs there = tt
+  no_entry_at n ns (index ∷ indexes) key other differs there =
+      ((not_entry index.number n ns key other there, not_range index.number n ns key differs there), no_entry_at n ns indexes key other differs there)
+
+  -- no entry has the key of a built range
+  pub no_entry_six : (number : ℕ) (indexes : List IndexDefinition) (rest : List ℕ) → AllByRecursion (λ i. BeginsWith (entries_prefix prefix i.number) (built_place prefix number ++ rest) → ⊥) indexes
+  no_entry_six number [] rest = tt
+  no_entry_six number (index ∷ indexes) rest =
+      (not_entry index.number 6 (int (pos number) ∷ []) (built_place prefix number ++ rest) refl (rest, refl), no_entry_six number indexes rest)
+
+  -- what is no entry, total or built range is no entry
+  pub no_entries : (indexes : List IndexDefinition) (at : List ℕ) → IsNoEntry prefix indexes at → AllByRecursion (λ i. BeginsWith (entries_prefix prefix i.number) at → ⊥) indexes
+  no_entries indexes at none = firsts (λ i. BeginsWith (entries_prefix prefix i.number) at → ⊥) (λ i. BeginsWith (built_place prefix i.number) at → ⊥) indexes none
 
   pub no_entry_schema : (indexes : List IndexDefinition) → IsNoEntry prefix indexes (schema_key prefix)
-  no_entry_schema indexes = no_entry_at 0 [] indexes (schema_key prefix) refl (itself (schema_key prefix))
+  no_entry_schema indexes = no_entry_at 0 [] indexes (schema_key prefix) refl refl (itself (schema_key prefix))
 
-  pub no_entry_in : (n : ℕ) (indexes : List IndexDefinition) (bytes : List ℕ) → (nat_lt n 6 && not (n == 2)) ≡ true → IsNoEntry prefix indexes (place prefix n ++ bytes)
-  no_entry_in n indexes bytes other = no_entry_at n [] indexes (place prefix n ++ bytes) other (bytes, refl)
+  pub no_entry_in : (n : ℕ) (indexes : List IndexDefinition) (bytes : List ℕ) → (nat_lt n 7 && not (n == 2)) ≡ true → (nat_lt n 7 && not (n == 6)) ≡ true → IsNoEntry prefix indexes (place prefix n ++ bytes)
+  no_entry_in n indexes bytes other differs = no_entry_at n [] indexes (place prefix n ++ bytes) other differs (bytes, refl)
 
   -- a state's key is in the place of states
   pub state_key_is : (number : ℕ) → place prefix 5 ++ spelling (int (pos number) ∷ []) ≡ state_key prefix number
@@ -96,13 +127,33 @@ module _ (prefix : List ℕ) where
 
   -- ---- indexes
 
-  -- what a map has of an index it has where it is the same at the index's keys
-  pub kept_index : (records : List Record) (m n : Map) (index : IndexDefinition) (state : State) →
-      ((bytes : List ℕ) → get n (entries_prefix prefix index.number ++ bytes) ≡ get m (entries_prefix prefix index.number ++ bytes)) → HasIndex prefix records m index state → HasIndex prefix records n index state
-  kept_index records m n index state same has = kept_within state prefix index [] records m n (λ bytes. sym (same bytes)) has
+  -- built positions stay where a map is the same there
+  pub positions_within : (state : State) (number : ℕ) (ranges : List KeyRange) (m n : Map) → ((rest : List ℕ) → get n (built_place prefix number ++ rest) ≡ get m (built_place prefix number ++ rest)) →
+      HasPositions state prefix number ranges m → HasPositions state prefix number ranges n
+  positions_within Readable number ranges m n same has = λ rest. same rest ∙ has rest
+  positions_within WriteOnly number ranges m n same has = set_within (built_place prefix number) ranges ranges m n (λ rest. sym (same rest)) (λ position. refl) has
+  positions_within Disabled number ranges m n same has = λ rest. same rest ∙ has rest
 
-  pub kept_indexes : (records : List Record) (states : ℕ → State) (m n : Map) (indexes : List IndexDefinition) →
+  -- of an index that isn't write-only there are none, whatever is listed
+  pub no_positions : (state : State) (number : ℕ) (ranges : List KeyRange) (m : Map) → (state ≡ WriteOnly → ⊥) → HasPositions state prefix number ranges m → (rest : List ℕ) → get m (built_place prefix number ++ rest) ≡ None
+  no_positions Readable number ranges m other has = has
+  no_positions WriteOnly number ranges m other has = absurd (other refl)
+  no_positions Disabled number ranges m other has = has
+
+  -- what a map has of an index it has where it is the same at the index's keys
+  pub kept_index : (ranges : List KeyRange) (records : List Record) (m n : Map) (index : IndexDefinition) (state : State) →
+      ((bytes : List ℕ) → get n (entries_prefix prefix index.number ++ bytes) ≡ get m (entries_prefix prefix index.number ++ bytes)) →
+      ((rest : List ℕ) → get n (built_place prefix index.number ++ rest) ≡ get m (built_place prefix index.number ++ rest)) →
+      HasIndex prefix ranges records m index state → HasIndex prefix ranges records n index state
+  kept_index ranges records m n index state same alike has =
+      (kept_within state prefix index ranges records m n (λ bytes. sym (same bytes)) has.0, positions_within state index.number ranges m n alike has.1)
+
+  pub kept_indexes : (built : ℕ → List KeyRange) (records : List Record) (states : ℕ → State) (m n : Map) (indexes : List IndexDefinition) →
       ((number : ℕ) (bytes : List ℕ) → get n (entries_prefix prefix number ++ bytes) ≡ get m (entries_prefix prefix number ++ bytes)) →
-      AllByRecursion (λ index. HasIndex prefix records m index (states index.number)) indexes → AllByRecursion (λ index. HasIndex prefix records n index (states index.number)) indexes
-  kept_indexes records states m n [] same all = tt
-  kept_indexes records states m n (index ∷ indexes) same all = (kept_index records m n index (states index.number) (same index.number) all.0, kept_indexes records states m n indexes same all.1)
+      ((number : ℕ) (rest : List ℕ) → get n (built_place prefix number ++ rest) ≡ get m (built_place prefix number ++ rest)) →
+      AllByRecursion (λ index. HasIndex prefix (built index.number) records m index (states index.number)) indexes → AllByRecursion (λ index. HasIndex prefix (built index.number) records n index (states index.number)) indexes
+  kept_indexes built records states m n [] same alike all = tt
+  kept_indexes built records states m n (index ∷ indexes) same alike all = (
+    kept_index (built index.number) records m n index (states index.number) (same index.number) (alike index.number) all.0,
+    kept_indexes built records states m n indexes same alike all.1,
+  )

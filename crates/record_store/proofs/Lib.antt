@@ -13,7 +13,9 @@ pub mod Scanning
 pub mod States
 pub mod IndexedRecords
 pub mod EntryRanges
+pub mod BuiltRanges
 pub mod IndexChanges
+pub mod Marks
 pub mod NewIndexes
 pub mod StatePairs
 pub mod IndexSteps

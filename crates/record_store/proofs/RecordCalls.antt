@@ -17,7 +17,7 @@ use Rattle.metadata.specs.Record.{Record, primary_key, record_in}
 use Rattle.metadata.specs.Records.{IsStorable, of_type, record_at}
 use Rattle.metadata.specs.Schema.{Schema, find_type}
 use Rattle.record_store.specs.Store.{Store, saved, removed, extended}
-use Rattle.record_store.specs.Holds.{Holds, IsOfSchema}
+use Rattle.record_store.specs.Holds.{Holds, IsListed, IsOfSchema}
 use Rattle.record_store.specs.Call.{AtStore, IsOpenAs, Opened, whole}
 use Rattle.record_store.specs.declared.error.StoreError.TheVariants.{OtherSchema}
 use Rattle.record_store.specs.Calls.{load_service, records_service, remove_service, save_service, schema_service, schema_writes, is_own, save_call}
@@ -25,7 +25,8 @@ use Rattle.record_store.specs.Reading.{IsRead}
 use Rattle.record_store.proofs.Answered.{IsServed, as_added, own_typed}
 use Rattle.record_store.proofs.Changed.{extended_holds}
 use Rattle.record_store.proofs.IndexedRecords.{removed_holds_all, saved_holds_all}
-use Rattle.record_store.specs.IndexWrites.{index_writes, remove_writes, save_writes, store_of}
+use Rattle.record_store.specs.IndexWrites.{index_writes, opened_removal, opened_writes, remove_writes, save_writes}
+use Rattle.record_store.proofs.IndexSteps.{writes_all}
 use Rattle.std.proofs.lemmas.Bool.{eqb-true, false_from_ne_true}
 use Rattle.kv_core.specs.declared.change.Mutation.TheVariants.{Set, ClearRange}
 use Rattle.std.specs.Str.{bytes_eq}
@@ -47,51 +48,49 @@ load_served opened key found m store holds is = record { accepted = refl; answer
 pub filled : {X : Type 0} (x : X) (xs : List X) → (length (x ∷ xs) == 0) ≡ false
 filled x xs = false_from_ne_true (length (x ∷ xs) == 0) (λ is. let none : suc (length xs) ≡ 0 = eqb-true (length (x ∷ xs)) 0 is in omega (arith, none))
 
--- what the indexes want written is told by what was opened
-same_index_writes : (opened : Opened) (store : Store) (number : ℕ) (old new : Option Record) → IsOpenAs opened store → index_writes opened.prefix (store_of opened) number old new ≡ index_writes opened.prefix store number old new
-same_index_writes opened store number old new same i = index_writes opened.prefix (record { schema = sym same.schema i; records = []; states = sym same.states i }) number old new
-
-same_remove_writes : (opened : Opened) (store : Store) (key : List Item) (old : Option Record) → IsOpenAs opened store → remove_writes opened.prefix (store_of opened) key old ≡ remove_writes opened.prefix store key old
-same_remove_writes opened store key None same = refl
-same_remove_writes opened store key (Some old) same = ap (λ ms. ClearRange (point (record_key opened.prefix key)) ∷ ms) (same_index_writes opened store old.definition.number (Some old) None same)
+-- what a removal writes is told by what was opened
+same_removal : (opened : Opened) (store : Store) (key : List Item) (old : Option Record) → IsOpenAs opened store → AllByRecursion (IsListed store.schema.indexes) store.states →
+    opened_removal opened key old ≡ remove_writes opened.prefix store key old
+same_removal opened store key None same listed = refl
+same_removal opened store key (Some old) same listed = ap (λ ms. ClearRange (point (record_key opened.prefix key)) ∷ ms) (writes_all opened store old.definition.number key (Some old) None same listed)
 
 -- what a save writes, by what it read
 abbrev pub replacement : Opened → Record → Option Record → List Mutation
-replacement opened new old = Set (record_key opened.prefix (primary_key new)) (record_value new.cells) ∷ index_writes opened.prefix (store_of opened) new.definition.number old (Some new)
+replacement opened new old = Set (record_key opened.prefix (primary_key new)) (record_value new.cells) ∷ opened_writes opened new.definition.number old (Some new)
 
-pub save_wrote : (opened : Opened) (new : Record) (old : Option Record) (list : List Mutation) → list ≡ replacement opened new old → (store : Store) → IsOpenAs opened store → old ≡ record_at (primary_key new) store.records →
-    list ≡ save_writes opened.prefix store new
-save_wrote opened new old list wrote store same is =
+pub save_wrote : (opened : Opened) (new : Record) (old : Option Record) (list : List Mutation) → list ≡ replacement opened new old → (store : Store) → AllByRecursion (IsListed store.schema.indexes) store.states → IsOpenAs opened store →
+    old ≡ record_at (primary_key new) store.records → list ≡ save_writes opened.prefix store new
+save_wrote opened new old list wrote store listed same is =
     wrote
     ∙ ap (λ ms. Set (record_key opened.prefix (primary_key new)) (record_value new.cells) ∷ ms)
-    (same_index_writes opened store new.definition.number old (Some new) same ∙ ap (λ o. index_writes opened.prefix store new.definition.number o (Some new)) is)
+    (writes_all opened store new.definition.number (primary_key new) old (Some new) same listed ∙ ap (λ o. index_writes opened.prefix store new.definition.number (primary_key new) o (Some new)) is)
 
 pub save_changes : (opened : Opened) (new : Record) (old : Option Record) (list : List Mutation) → list ≡ replacement opened new old → (length list == 0) ≡ false
 save_changes opened new old list wrote =
-    ap (λ ms. length ms == 0) wrote ∙ filled (Set (record_key opened.prefix (primary_key new)) (record_value new.cells)) (index_writes opened.prefix (store_of opened) new.definition.number old (Some new))
+    ap (λ ms. length ms == 0) wrote ∙ filled (Set (record_key opened.prefix (primary_key new)) (record_value new.cells)) (opened_writes opened new.definition.number old (Some new))
 
 -- SAVE: the record stands in its place
 pub save_served : (opened : Opened) (new : Record) (old : Option Record) (list : List Mutation) → list ≡ replacement opened new old → IsOfSchema opened.schema new → IsStorable new →
     (m : Map) (store : Store) → Holds opened.prefix m (Some store) → IsOpenAs opened store → old ≡ record_at (primary_key new) store.records →
     IsServed opened (save_service opened new) old list m store
 save_served opened new old list wrote typed can m store holds same is =
-    let writes = save_wrote opened new old list wrote store same is in record {
+    let writes = save_wrote opened new old list wrote store holds.lawful.listed same is in record {
       accepted = refl;
       answers = is;
       wrote = writes;
       holds = subst (λ ms. Holds opened.prefix (after_all ms m) (Some (saved store new))) (sym writes) (saved_holds_all opened.prefix m store new (subst (λ s. IsOfSchema s new) (sym same.schema) typed) can holds);
     }
 
-pub remove_wrote : (opened : Opened) (key : List Item) (old : Option Record) (list : List Mutation) → list ≡ remove_writes opened.prefix (store_of opened) key old → (store : Store) → IsOpenAs opened store → old ≡ record_at key store.records →
-    list ≡ remove_writes opened.prefix store key (record_at key store.records)
-remove_wrote opened key old list wrote store same is = wrote ∙ same_remove_writes opened store key old same ∙ ap (remove_writes opened.prefix store key) is
+pub remove_wrote : (opened : Opened) (key : List Item) (old : Option Record) (list : List Mutation) → list ≡ opened_removal opened key old → (store : Store) → AllByRecursion (IsListed store.schema.indexes) store.states → IsOpenAs opened store →
+    old ≡ record_at key store.records → list ≡ remove_writes opened.prefix store key (record_at key store.records)
+remove_wrote opened key old list wrote store listed same is = wrote ∙ same_removal opened store key old same listed ∙ ap (remove_writes opened.prefix store key) is
 
 -- REMOVE: the record is gone
-pub remove_served : (opened : Opened) (key : List Item) (old : Option Record) (was_there : Bool) (list : List Mutation) → list ≡ remove_writes opened.prefix (store_of opened) key old → was_there ≡ is_some old → IsTuple key →
+pub remove_served : (opened : Opened) (key : List Item) (old : Option Record) (was_there : Bool) (list : List Mutation) → list ≡ opened_removal opened key old → was_there ≡ is_some old → IsTuple key →
     (m : Map) (store : Store) → Holds opened.prefix m (Some store) → IsOpenAs opened store → old ≡ record_at key store.records →
     IsServed opened (remove_service opened key) was_there list m store
 remove_served opened key old was_there list wrote there tuple m store holds same is =
-    let writes = remove_wrote opened key old list wrote store same is in record {
+    let writes = remove_wrote opened key old list wrote store holds.lawful.listed same is in record {
       accepted = refl;
       answers = there ∙ ap is_some is;
       wrote = writes;
@@ -99,10 +98,10 @@ remove_served opened key old was_there list wrote there tuple m store holds same
     }
 
 -- an answer of a removal tells whether something was written
-pub removal_changes : (opened : Opened) (key : List Item) (old : Option Record) (was_there : Bool) (list : List Mutation) → list ≡ remove_writes opened.prefix (store_of opened) key old → was_there ≡ is_some old → (length list == 0) ≡ not was_there
+pub removal_changes : (opened : Opened) (key : List Item) (old : Option Record) (was_there : Bool) (list : List Mutation) → list ≡ opened_removal opened key old → was_there ≡ is_some old → (length list == 0) ≡ not was_there
 removal_changes opened key None was_there list wrote there = ap (λ ms. length ms == 0) wrote ∙ sym (ap not there)
 removal_changes opened key (Some r) was_there list wrote there =
-    ap (λ ms. length ms == 0) wrote ∙ filled (ClearRange (point (record_key opened.prefix key))) (index_writes opened.prefix (store_of opened) r.definition.number (Some r) None) ∙ sym (ap not there)
+    ap (λ ms. length ms == 0) wrote ∙ filled (ClearRange (point (record_key opened.prefix key))) (opened_writes opened r.definition.number (Some r) None) ∙ sym (ap not there)
 
 -- a record of the schema's own type is accepted
 pub save_accepted : (opened : Opened) (r : Record) → is_own (find_type opened.schema r.definition.name) r ≡ true → save_call opened r ≡ Ok (save_service opened r)

@@ -1,5 +1,5 @@
 -- How the code finds the states that pairs stand for, step by step.
-use Rattle.std.proofs.Common.{◌≡◌, inr, ℕ, Bool, true, false, ◌&&◌, ◌||◌, ◌==◌, ◌<◌, ◌≤◌, List, [], ◌∷◌, ◌++◌, refl, sym, ap, subst, ◌∙◌, arith, length, take, drop}
+use Rattle.std.proofs.Common.{Some, None, cond, ◌≡◌, inr, ℕ, Bool, true, false, ◌&&◌, ◌||◌, ◌==◌, ◌<◌, ◌≤◌, List, [], ◌∷◌, ◌++◌, refl, sym, ap, subst, ◌∙◌, arith, length, take, drop}
 use Rattle.std.specs.Prelude.{get_or, zero, suc}
 use Rattle.std.specs.Ordering.{is_eq}
 use Rattle.std.specs.List.{AllByRecursion}
@@ -11,12 +11,12 @@ use Rattle.kv_core.specs.Bytes.{key_cmp}
 use Rattle.kv_core.proofs.Order.{tied_keys}
 use Rattle.metadata.specs.declared.index.IndexDefinition.{IndexDefinition}
 use Rattle.metadata.specs.declared.index.State.{State}
-use Rattle.metadata.specs.declared.index.State.TheVariants.{Disabled}
+use Rattle.metadata.specs.declared.index.State.TheVariants.{Readable, WriteOnly, Disabled}
 use Rattle.record_store.specs.declared.error.StoreError.{StoreError}
 use Rattle.record_store.specs.Layout.{state_key, state_pair, state_value}
 use Rattle.record_store.specs.Holds.{IsListed, has_number}
 use Rattle.record_store.specs.Form.{IsStatePair}
-use Rattle.record_store.specs.Reading.{AreStates, HaveNoStates, IsNoState, IsPairOfState, same_pair}
+use Rattle.record_store.specs.Reading.{AreStates, HaveNoStates, IsNoState, IsPairOfState, same_pair, state_in_pair}
 use Rattle.record_store.proofs.NewIndexes.{all_append}
 use Rattle.record_store.proofs.Scanning.{split_at}
 
@@ -50,29 +50,50 @@ number_there (suc i) [] index within is = absurd (omega (arith, within))
 number_there (suc i) (first ∷ indexes) index within is = or_right (first.number == index.number) (has_number indexes index.number) (number_there i indexes index (omega (arith, within)) is)
 
 module _ (prefix : List ℕ) where
-  pub found_state : (i : ℕ) (indexes : List IndexDefinition) (index : IndexDefinition) (pair : Pair) → i < length indexes → index ≡ get_or indexes i index → same_pair pair (state_pair prefix (index.number, Disabled)) ≡ true →
-      IsPairOfState prefix indexes pair (index.number, Disabled)
-  found_state i indexes index pair within is same = record {
-    disabled = record { there = number_there i indexes index within is; state = refl };
-    is = pair_is pair (state_pair prefix (index.number, Disabled)) same;
-  }
+  pub found_state : (i : ℕ) (indexes : List IndexDefinition) (index : IndexDefinition) (pair : Pair) (state : State) → i < length indexes → index ≡ get_or indexes i index → Some state ≡ state_in_pair prefix index.number pair →
+      IsPairOfState prefix indexes pair (index.number, state)
+  found_state i indexes index pair state within is same = by_write_only (same_pair pair (state_pair prefix (index.number, WriteOnly))) refl (sym same)
+    where
+      made : (s : State) → (s ≡ Readable → ⊥) → same_pair pair (state_pair prefix (index.number, s)) ≡ true → s ≡ state → IsPairOfState prefix indexes pair (index.number, state)
+      made s other has is_state =
+          subst (λ t. IsPairOfState prefix indexes pair (index.number, t)) is_state
+          (record { listed_so = record { there = number_there i indexes index within is; state = other }; is = pair_is pair (state_pair prefix (index.number, s)) has })
+
+      by_disabled : (b : Bool) → same_pair pair (state_pair prefix (index.number, Disabled)) ≡ b → cond b (Some Disabled) None ≡ Some state → IsPairOfState prefix indexes pair (index.number, state)
+      by_disabled true has e = let one : Disabled ≡ state = cc in made Disabled (λ x. cc) has one
+      by_disabled false has e = cc
+
+      by_write_only : (b : Bool) → same_pair pair (state_pair prefix (index.number, WriteOnly)) ≡ b →
+          cond b (Some WriteOnly) (cond (same_pair pair (state_pair prefix (index.number, Disabled))) (Some Disabled) None) ≡ Some state → IsPairOfState prefix indexes pair (index.number, state)
+      by_write_only true has e = let one : WriteOnly ≡ state = cc in made WriteOnly (λ x. cc) has one
+      by_write_only false has e = by_disabled (same_pair pair (state_pair prefix (index.number, Disabled))) refl e
+
+  -- a pair of a state of an index is told by its number
+  told_state : (number : ℕ) (state : State) (pair : Pair) → (state ≡ Readable → ⊥) → pair ≡ state_pair prefix (number, state) → state_in_pair prefix number pair ≡ None → ⊥
+  told_state number Readable pair other is none = other refl
+  told_state number WriteOnly pair other is none =
+      let has : same_pair pair (state_pair prefix (number, WriteOnly)) ≡ true = ap (λ p. same_pair p (state_pair prefix (number, WriteOnly))) is ∙ same_itself (state_pair prefix (number, WriteOnly)) in
+      let some : Some WriteOnly ≡ None = sym (ap (λ b. cond b (Some WriteOnly) (cond (same_pair pair (state_pair prefix (number, Disabled))) (Some Disabled) None)) has) ∙ none in cc
+  told_state number Disabled pair other is none =
+      let has : same_pair pair (state_pair prefix (number, Disabled)) ≡ true = ap (λ p. same_pair p (state_pair prefix (number, Disabled))) is ∙ same_itself (state_pair prefix (number, Disabled)) in
+      by_test (same_pair pair (state_pair prefix (number, WriteOnly)))
+      (sym (ap (λ b. cond (same_pair pair (state_pair prefix (number, WriteOnly))) (Some WriteOnly) (cond b (Some Disabled) None)) has) ∙ none)
+    where
+      by_test : (b : Bool) → cond b (Some WriteOnly) (Some Disabled) ≡ None → ⊥
+      by_test true e = cc
+      by_test false e = cc
 
   -- a pair of none of the indexes is of no state
-  pub no_state_pair : (indexes : List IndexDefinition) (pair : Pair) → AllByRecursion (λ (index : IndexDefinition). same_pair pair (state_pair prefix (index.number, Disabled)) ≡ false) indexes → IsStatePair prefix indexes pair → ⊥
-  no_state_pair indexes pair none is = go indexes is.disabled.there none
+  pub no_state_pair : (indexes : List IndexDefinition) (pair : Pair) → AllByRecursion (λ (index : IndexDefinition). state_in_pair prefix index.number pair ≡ None) indexes → IsStatePair prefix indexes pair → ⊥
+  no_state_pair indexes pair none is = go indexes is.listed_so.there none
     where
-      pair_of : (number : ℕ) → is.listed.0 ≡ number → pair ≡ state_pair prefix (number, Disabled)
-      pair_of number same = is.is ∙ (λ i. (state_key prefix (same i), state_value (is.disabled.state i)))
-
-      itself : (number : ℕ) → is.listed.0 ≡ number → same_pair pair (state_pair prefix (number, Disabled)) ≡ true
-      itself number same = ap (λ p. same_pair p (state_pair prefix (number, Disabled))) (pair_of number same) ∙ same_itself (state_pair prefix (number, Disabled))
-
-      by_test : (left : List IndexDefinition) (index : IndexDefinition) (b : Bool) → (index.number == is.listed.0) ≡ b → (b || has_number left is.listed.0) ≡ true → same_pair pair (state_pair prefix (index.number, Disabled)) ≡ false →
+      by_test : (left : List IndexDefinition) (index : IndexDefinition) (b : Bool) → (index.number == is.listed.0) ≡ b → (b || has_number left is.listed.0) ≡ true → state_in_pair prefix index.number pair ≡ None →
           (has_number left is.listed.0 ≡ true → ⊥) → ⊥
-      by_test left index true same there other rest = let yes = itself index.number (sym (eqb-true index.number is.listed.0 same)) in cc
+      by_test left index true same there other rest =
+          told_state index.number is.listed.1 pair is.listed_so.state (is.is ∙ (λ i. (state_key prefix (sym (eqb-true index.number is.listed.0 same) i), state_value is.listed.1))) other
       by_test left index false same there other rest = rest there
 
-      go : (left : List IndexDefinition) → has_number left is.listed.0 ≡ true → AllByRecursion (λ (index : IndexDefinition). same_pair pair (state_pair prefix (index.number, Disabled)) ≡ false) left → ⊥
+      go : (left : List IndexDefinition) → has_number left is.listed.0 ≡ true → AllByRecursion (λ (index : IndexDefinition). state_in_pair prefix index.number pair ≡ None) left → ⊥
       go [] there all = cc
       go (index ∷ left) there all = by_test left index (index.number == is.listed.0) refl there all.0 (λ more. go left more all.1)
 
@@ -80,7 +101,7 @@ module _ (prefix : List ℕ) where
   pub states_more : (i : ℕ) (indexes : List IndexDefinition) (pairs : List Pair) (pair : Pair) (states : List (ℕ × State)) (one : ℕ × State) → i < length pairs → pair ≡ get_or pairs i pair →
       AreStates prefix indexes (take i pairs) states → IsPairOfState prefix indexes pair one → AreStates prefix indexes (take (suc i) pairs) (states ++ one ∷ [])
   states_more i indexes pairs pair states one within is good more = record {
-    disabled = all_append (IsListed indexes) states one good.disabled more.disabled;
+    listed_so = all_append (IsListed indexes) states one good.listed_so more.listed_so;
     are =
         take-suc pairs i pair within ∙ ap (λ p. take i pairs ++ p ∷ []) (sym is ∙ more.is) ∙ ap (λ ps. ps ++ state_pair prefix one ∷ []) good.are ∙ sym (map-append (state_pair prefix) states (one ∷ []));
   }

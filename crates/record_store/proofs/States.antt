@@ -16,7 +16,7 @@ use Rattle.tuple_codec.proofs.IntOrder.{cmp_int, int_cmp_pos}
 use Rattle.tuple_codec.proofs.Prefixes.{cmp_behind}
 use Rattle.kv_core.specs.Bytes.{key_cmp}
 use Rattle.kv_core.specs.Map.{Map, after}
-use Rattle.kv_core.specs.Range.{point, entries_outside}
+use Rattle.kv_core.specs.Range.{KeyRange, point, entries_outside}
 use Rattle.kv_core.specs.declared.change.Mutation.TheVariants.{Set, ClearRange}
 use Rattle.kv_core.proofs.Order.{tied_swap}
 use Rattle.kv_core.proofs.Pairs.{contains-point-is}
@@ -28,7 +28,7 @@ use Rattle.metadata.specs.Schema.{Schema}
 use Rattle.metadata.specs.Lawful.{IsLawfulSchema}
 use Rattle.metadata.proofs.TestedIndexes.{tested}
 use Rattle.index_maint.proofs.Several.{AreApart, rising_apart}
-use Rattle.record_store.specs.Store.{with_state, without_state}
+use Rattle.record_store.specs.Store.{with_state, without_built, without_state}
 use Rattle.record_store.specs.Layout.{place, state_key, state_pair, state_value}
 use Rattle.record_store.specs.Holds.{AreRising, HasPairs, IsListed, has_number}
 use Rattle.record_store.proofs.Changed.{pairs_after}
@@ -169,6 +169,21 @@ pub state_without : (number at : ℕ) (states : List (ℕ × State)) → (at ≡
 state_without number at states differ =
     lookup-filter-keys (λ own. own == at) (λ own. not (own == number)) true
     (λ own same. ap not (false_from_ne_true (own == number) (λ is. differ (sym (eqb-true own at same) ∙ eqb-true own number is)))) states
+
+-- what was listed for a number is gone
+pub state_gone : (number : ℕ) (states : List (ℕ × State)) → state_at number (without_state number states) ≡ None
+state_gone number [] = refl
+state_gone number (one ∷ states) = by_test (one.0 == number) refl (state_gone number states)
+  where
+    by_test : (b : Bool) → (one.0 == number) ≡ b → state_at number (without_state number states) ≡ None → state_at number (cond (not b) (one ∷ without_state number states) (without_state number states)) ≡ None
+    by_test true is rest = rest
+    by_test false is rest = ap (λ b. cond b (Some one.1) (state_at number (without_state number states))) is ∙ rest
+
+-- so it is with built positions
+pub built_without : (number at : ℕ) (built : List (ℕ × List KeyRange)) → (at ≡ number → ⊥) → lookup (λ own. own == at) (without_built number built) ≡ lookup (λ own. own == at) built
+built_without number at built differ =
+    lookup-filter-keys (λ own. own == at) (λ own. not (own == number)) true
+    (λ own same. ap not (false_from_ne_true (own == number) (λ is. differ (sym (eqb-true own at same) ∙ eqb-true own number is)))) built
 
 -- where no index has a number no state is listed for it
 pub state_of_none : (indexes : List IndexDefinition) (number : ℕ) (states : List (ℕ × State)) → (has_number indexes number ≡ true → ⊥) → AllByRecursion (IsListed indexes) states → state_at number states ≡ None

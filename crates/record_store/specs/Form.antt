@@ -42,10 +42,10 @@ pub record IsSchemaPair (prefix : List ℕ) (pair : List ℕ × List ℕ) : Type
   pub made : IsLawfulSchema schema
   pub is : pair ≡ schema_pair prefix schema
 
--- a pair stands for the state of one of these indexes, which is disabled
+-- a pair stands for the state of one of these indexes, which isn't readable
 pub record IsStatePair (prefix : List ℕ) (indexes : List IndexDefinition) (pair : List ℕ × List ℕ) : Type 0 where
   pub listed : ℕ × State
-  pub disabled : IsListed indexes listed
+  pub listed_so : IsListed indexes listed
   pub is : pair ≡ state_pair prefix listed
 
 -- a pair stands for the state of an index of the schema that the map has

@@ -1,5 +1,6 @@
 -- What the reads of a store and the decoding of what they find establish, beneath whole calls.
-use Rattle.std.specs.Prelude.{◌≡◌, ◌⊎◌, ℕ, ℤ, Bool, false, ◌&&◌, List, [], ◌∷◌, ◌++◌, Option, Some, None, length, map}
+use Rattle.std.specs.Prelude.{◌≡◌, ◌⊎◌, ℕ, ℤ, Bool, false, ◌&&◌, if◌then◌else◌, List, [], ◌∷◌, ◌++◌, Option, Some}
+use Rattle.std.specs.Prelude.{None, length, map}
 use Rattle.std.specs.List.{AllByRecursion, Contains}
 use Rattle.std.specs.Ordering.{is_eq}
 use Rattle.tuple_codec.specs.Item.{Item, IsTuple}
@@ -15,7 +16,7 @@ use Rattle.metadata.specs.declared.definition.TypeDefinition.{TypeDefinition}
 use Rattle.metadata.specs.declared.index.IndexDefinition.{IndexDefinition}
 use Rattle.metadata.specs.declared.index.IndexKind.TheVariants.{Value}
 use Rattle.metadata.specs.declared.index.State.{State}
-use Rattle.metadata.specs.declared.index.State.TheVariants.{Readable}
+use Rattle.metadata.specs.declared.index.State.TheVariants.{Readable, WriteOnly, Disabled}
 use Rattle.metadata.specs.Lawful.{IsLawfulSchema}
 use Rattle.metadata.specs.Record.{Record, key_items}
 use Rattle.metadata.specs.Records.{of_type, record_at}
@@ -49,6 +50,12 @@ pub record HasNotRead (maps : ℕ → Map) (refuses : KeyRange → ℕ → ReadE
 abbrev pub same_pair : List ℕ × List ℕ → List ℕ × List ℕ → Bool
 same_pair pair other = is_eq (key_cmp pair.0 other.0) && is_eq (key_cmp pair.1 other.1)
 
+-- the state for which a pair is that of the index with this number, if it isn't readable
+abbrev pub state_in_pair : List ℕ → ℕ → List ℕ × List ℕ → Option State
+state_in_pair prefix number pair =
+    if same_pair pair (state_pair prefix (number, WriteOnly)) then Some WriteOnly
+    else (if same_pair pair (state_pair prefix (number, Disabled)) then Some Disabled else None)
+
 -- what was found where a schema may stand is the bytes of this schema
 pub record IsSchema (written : Option (List ℕ)) (schema : Schema) : Type 0 where
   pub made : IsLawfulSchema schema
@@ -73,7 +80,7 @@ IsNoSchema prefix (Some bytes) error = IsBadSchema prefix bytes error
 -- a pair is that of the state of one of the indexes
 pub record IsPairOfState (prefix : List ℕ) (indexes : List IndexDefinition) (pair : List ℕ × List ℕ)
     (listed : ℕ × State) : Type 0 where
-  pub disabled : IsListed indexes listed
+  pub listed_so : IsListed indexes listed
   pub is : pair ≡ state_pair prefix listed
 
 -- why a pair is that of no state: memory is wanting, or it isn't
@@ -85,7 +92,7 @@ IsNoState prefix indexes pair error = ⊥
 -- the pairs are those of these states, each of one of the indexes
 pub record AreStates (prefix : List ℕ) (indexes : List IndexDefinition) (pairs : List (List ℕ × List ℕ))
     (states : List (ℕ × State)) : Type 0 where
-  pub disabled : AllByRecursion (IsListed indexes) states
+  pub listed_so : AllByRecursion (IsListed indexes) states
   pub are : pairs ≡ map (state_pair prefix) states
 
 -- behind pairs of states one isn't

@@ -1,12 +1,15 @@
--- The serial store: a schema, records by primary key, and the states of indexes, as values.
+-- The serial store: a schema, records by primary key, the states of indexes, and the built positions of those that are
+-- write-only, as values.
 use Rattle.std.specs.Prelude.{ℕ, Bool, true, false, ◌==◌, not, List, [], ◌∷◌, Option, unwrap_or, filter}
 use Rattle.std.specs.BTreeMap.{insert_entry}
 use Rattle.std.specs.Option.{option_map}
 use Rattle.std.specs.Ordering.{nat_cmp}
+use Rattle.std.specs.Map.{lookup}
 use Rattle.tuple_codec.specs.Item.{Item}
+use Rattle.kv_core.specs.Range.{KeyRange}
 use Rattle.metadata.specs.declared.index.IndexDefinition.{IndexDefinition}
 use Rattle.metadata.specs.declared.index.State.{State}
-use Rattle.metadata.specs.declared.index.State.TheVariants.{Readable, Disabled}
+use Rattle.metadata.specs.declared.index.State.TheVariants.{Readable, WriteOnly, Disabled}
 use Rattle.metadata.specs.Index.{listed_state}
 use Rattle.metadata.specs.IndexChange.{with_index, without_index}
 use Rattle.metadata.specs.Schema.{Schema}
@@ -14,11 +17,12 @@ use Rattle.metadata.specs.Record.{Record}
 use Rattle.metadata.specs.Records.{of_type, with_record, without_record}
 
 -- a store: its records stand in the order of their primary keys, each key once, and so do the states of the indexes
--- that aren't readable, by the indexes' numbers
+-- that aren't readable, by the indexes' numbers. Of built ranges only the positions count
 pub record Store : Type 0 where
   pub schema : Schema
   pub records : List Record
   pub states : List (ℕ × State)
+  pub built : List (ℕ × List KeyRange)
 
 -- the state of the index with this number, by the states that are listed: it is readable where none is
 abbrev pub state_in : List (ℕ × State) → ℕ → State
@@ -26,6 +30,10 @@ state_in states number = unwrap_or (listed_state states number) Readable
 
 abbrev pub state_of : Store → ℕ → State
 state_of store number = state_in store.states number
+
+-- the built positions of the index with this number: there are none where none are listed
+abbrev pub built_of : Store → ℕ → List KeyRange
+built_of store number = unwrap_or (lookup (λ own. own == number) store.built) []
 
 -- no store, or a store
 abbrev pub Serial : Type 0
@@ -37,7 +45,7 @@ schema_in serial = option_map (λ store. store.schema) serial
 
 -- a new store of this schema, without records, whose indexes are readable
 abbrev pub created : Schema → Store
-created schema = record { schema = schema; records = []; states = [] }
+created schema = record { schema = schema; records = []; states = []; built = [] }
 
 -- the store after a save, after a removal, and with another schema
 abbrev pub saved : Store → Record → Store
@@ -56,6 +64,10 @@ with_state number state states = insert_entry nat_cmp states number state
 
 abbrev pub without_state : ℕ → List (ℕ × State) → List (ℕ × State)
 without_state number states = filter (λ listed. not (listed.0 == number)) states
+
+-- built positions without those of the index with a number
+abbrev pub without_built : ℕ → List (ℕ × List KeyRange) → List (ℕ × List KeyRange)
+without_built number built = filter (λ listed. not (listed.0 == number)) built
 
 -- the states that are still to be listed, where that of the index with this number has its place already or not
 abbrev pub still_listed : Bool → ℕ → State → List (ℕ × State) → List (ℕ × State)
@@ -81,7 +93,21 @@ indexed store index = record store {
 
 abbrev pub dropped : Store → ℕ → Store
 dropped store number =
-    record store { schema = without_index store.schema number; states = without_state number store.states }
+    record store {
+      schema = without_index store.schema number;
+      states = without_state number store.states;
+      built = without_built number store.built;
+    }
 
 abbrev pub disabled : Store → ℕ → Store
-disabled store number = record store { states = with_state number Disabled store.states }
+disabled store number =
+    record store { states = with_state number Disabled store.states; built = without_built number store.built }
+
+-- the store with that index write-only, without a built position, and with it readable
+abbrev pub write_only : Store → ℕ → Store
+write_only store number =
+    record store { states = with_state number WriteOnly store.states; built = without_built number store.built }
+
+abbrev pub readable : Store → ℕ → Store
+readable store number =
+    record store { states = without_state number store.states; built = without_built number store.built }

@@ -1,7 +1,7 @@
 // How the indexes of a store follow its records.
 ghost use Rattle.std.specs.Prelude.{◌≡◌, ◌==◌, ◌++◌, OnOk, find};
 ghost use Rattle.std.specs.Option.{option_copied};
-ghost use Rattle.record_store.specs.IndexWrites.{index_writes, one_index_writes, store_of};
+ghost use Rattle.record_store.specs.IndexWrites.{one_index_writes, opened_writes};
 ghost use Rattle.record_store.specs.Store.{state_in};
 
 use crate::store::Store;
@@ -60,7 +60,7 @@ impl Store {
         mutations: &mut Vec<Mutation>,
     ) -> Result<(), AllocError>
         ensures { OnOk result (mutations.new.items
-            ≡ mutations.old.items ++ index_writes self.now.prefix (store_of self.now) number (option_copied old.entry)
+            ≡ mutations.old.items ++ opened_writes self.now number (option_copied old.entry)
             (option_copied new.entry)) }
     {
         for index in self.schema().indexes() {

@@ -10,7 +10,7 @@ ghost use Rattle.metadata.specs.Lawful.{IsLawfulSchema};
 ghost use Rattle.metadata.specs.Written.{schema_bytes};
 ghost use Rattle.metadata.specs.declared.index.State.{State};
 ghost use Rattle.record_store.specs.IndexWrites.{disable_writes};
-ghost use Rattle.record_store.specs.Layout.{entries_range, schema_key, state_key};
+ghost use Rattle.record_store.specs.Layout.{built_range, entries_range, schema_key, state_key};
 ghost use Rattle.record_store.specs.Store.{still_listed, with_state};
 ghost use Rattle.txn.specs.Refusing.{NeverRefuses};
 ghost use Rattle.record_store.specs.Call.{IsAnswered, IsRefused};
@@ -19,7 +19,7 @@ ghost use Rattle.record_store.specs.Calls.{index_states, opened_disabled, opened
 
 use crate::create::schema_mutations;
 use crate::error::StoreError;
-use crate::layout::{entries_range, state_key, state_value};
+use crate::layout::{built_range, entries_range, state_key, state_value};
 use crate::store::Store;
 use kv_core::{KeyRange, Mutation};
 use metadata::{MetadataError, Refusal, Schema, State};
@@ -108,12 +108,15 @@ impl Store {
         ensures { IfOk result (λ mutations.
             mutations.items ≡ Set (schema_key self.now.prefix) (schema_bytes next.now)
             ∷ ClearRange (entries_range self.now.prefix number)
+            ∷ ClearRange (built_range self.now.prefix number)
             ∷ ClearRange (point (state_key self.now.prefix number)) ∷ []) }
     {
         let alloc = self.alloc();
         let mut mutations = schema_mutations(alloc, self.prefix(), next)?;
         let entries = entries_range(alloc, self.prefix(), number)?;
         mutations.push(Mutation::ClearRange(entries))?;
+        let built = built_range(alloc, self.prefix(), number)?;
+        mutations.push(Mutation::ClearRange(built))?;
         let key = state_key(alloc, self.prefix(), number)?;
         mutations.push(Mutation::ClearRange(KeyRange::point(alloc, &key)?))?;
         Ok(mutations)
@@ -130,6 +133,8 @@ impl Store {
         let mut mutations = Vec::new(alloc);
         mutations.push(Mutation::Set { key, value })?;
         mutations.push(Mutation::ClearRange(entries))?;
+        let built = built_range(alloc, self.prefix(), number)?;
+        mutations.push(Mutation::ClearRange(built))?;
         Ok(mutations)
     }
 

@@ -3,10 +3,10 @@ ghost use Rattle.std.specs.Prelude.{◌≡◌, ◌∷◌, [], All, IfOk, IsTrue,
 ghost use Rattle.tuple_codec.specs.Item.{int};
 ghost use Rattle.kv_core.specs.Bytes.{end_of_keys, key_lt};
 ghost use Rattle.metadata.specs.Cell.{IsCell};
-ghost use Rattle.record_store.specs.Layout.{entries_range, place, record_key, record_value, schema_key};
+ghost use Rattle.record_store.specs.Layout.{built_range, entries_range, place, record_key, record_value, schema_key};
 ghost use Rattle.record_store.specs.Layout.{state_key, state_number, state_value, states_range, type_range};
 
-use index_maint::entries_prefix;
+use index_maint::{built_place, entries_prefix};
 use kv_core::{Bytes, KeyRange};
 use metadata::{Cells, State};
 use std::alloc::{AllocError, Global};
@@ -139,6 +139,23 @@ pub(crate) fn entries_range(
     let mut end = Vec::from_slice(alloc, begin.as_slice())?;
     end.push(0xff)?;
     match KeyRange::new(Bytes::new(begin), Bytes::new(end)) {
+        Some(range) => Ok(range),
+        None => unreachable!(),
+    }
+}
+
+/// The range of the built ranges of the index with this number.
+pub(crate) fn built_range(
+    alloc: Global,
+    prefix: &[u8],
+    number: u64,
+) -> Result<KeyRange, AllocError>
+    requires { IsTrue (key_lt prefix.now end_of_keys) }
+    ensures { IfOk result (λ range. range ≡ built_range prefix.now number) }
+{
+    let place = built_place(alloc, prefix, number)?;
+    let ends = Subspace::new(place).range(alloc)?;
+    match KeyRange::new(Bytes::new(ends.begin), Bytes::new(ends.end)) {
         Some(range) => Ok(range),
         None => unreachable!(),
     }

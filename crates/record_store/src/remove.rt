@@ -1,5 +1,5 @@
 ghost use Rattle.std.specs.Prelude.{◌≡◌, IfOk, IfErr};
-ghost use Rattle.record_store.specs.IndexWrites.{remove_writes, store_of};
+ghost use Rattle.record_store.specs.IndexWrites.{opened_removal};
 ghost use Rattle.record_store.specs.Call.{IsAnswered, IsRefused};
 ghost use Rattle.record_store.specs.Calls.{remove_call};
 
@@ -20,7 +20,7 @@ impl Store {
         found: &Option<Record>,
     ) -> Result<Vec<Mutation>, AllocError>
         ensures { IfOk result (λ mutations.
-            mutations.items ≡ remove_writes self.now.prefix (store_of self.now) primary_key.now found.now) }
+            mutations.items ≡ opened_removal self.now primary_key.now found.now) }
     {
         let alloc = self.alloc();
         let mut mutations = Vec::new(alloc);

@@ -6,7 +6,7 @@ ghost use Rattle.metadata.specs.Schema.{find_type};
 ghost use Rattle.record_store.specs.Call.{IsAnswered, IsRefused};
 ghost use Rattle.kv_core.specs.declared.change.Mutation.TheVariants.{Set};
 ghost use Rattle.record_store.specs.Calls.{is_own, save_call};
-ghost use Rattle.record_store.specs.IndexWrites.{index_writes, store_of};
+ghost use Rattle.record_store.specs.IndexWrites.{opened_writes};
 ghost use Rattle.record_store.specs.Layout.{record_key, record_value};
 
 use crate::error::StoreError;
@@ -40,7 +40,7 @@ impl Store {
         requires { primary_key.now ≡ primary_key_of new.now }
         ensures mutations { IfOk result (λ mutations.
             mutations.items ≡ Set (record_key self.now.prefix (primary_key_of new.now)) (record_value new.now.cells)
-            ∷ index_writes self.now.prefix (store_of self.now) new.now.definition.number (option_copied old.entry)
+            ∷ opened_writes self.now new.now.definition.number (option_copied old.entry)
             (Some new.now)) }
         ensures cells { OnOk result (All IsCell new.now.cells) }
     {

@@ -5,7 +5,6 @@ use Rattle.metadata.specs.declared.index.IndexDefinition.{IndexDefinition}
 use Rattle.metadata.specs.Schema.{Schema}
 use Rattle.std.specs.Prelude.{List}
 use Rattle.record_store.specs.IndexWrites.{one_index_writes}
-use Rattle.record_store.proofs.IndexSteps.{writes_all}
 use Rattle.record_store.proofs.StateSteps.{all_taken}
 use Rattle.record_store.proofs.store.Store.push_index_changes.Goals as goal
 
@@ -14,5 +13,4 @@ returns c =
     c.loop-index.invariant
     ∙ ap (λ ms. c.args.mutations.now.items ++ ms)
     (ap (λ (indexes : List IndexDefinition). flat_map (one_index_writes c.args.self.now c.args.number (option_copied c.args.old) (option_copied c.args.new)) indexes)
-    (all_taken c.loop-index.index-index c.indexes-index-items.result.now c.loop-index-test.false ∙ c.indexes-index-items.ensures ∙ ap (λ (s : Schema). s.indexes) c.schema.ensures)
-    ∙ writes_all c.args.self.now c.args.number (option_copied c.args.old) (option_copied c.args.new))
+    (all_taken c.loop-index.index-index c.indexes-index-items.result.now c.loop-index-test.false ∙ c.indexes-index-items.ensures ∙ ap (λ (s : Schema). s.indexes) c.schema.ensures))

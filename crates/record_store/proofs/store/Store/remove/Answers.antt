@@ -25,7 +25,7 @@ returns-in_err-write_all-clause-refused g c =
     c.in_ok-mutations.mutations.items c.in_err-write_all.field-0.0
     (ap (done_with (remove_service c.args.self.now)) (ap (λ s. key_of s c.args.type_name.now c.args.key.now) (sym c.schema.ensures) ∙ c.in_ok-primary_key.ensures.key))
     (as_added c.in_ok-old.ensures.found)
-    (λ m store holds same is. (refl, remove_wrote c.args.self.now c.in_ok-primary_key.primary_key c.in_ok-old.old c.in_ok-mutations.mutations.items c.in_ok-mutations.ensures store same is))
+    (λ m store holds same is. (refl, remove_wrote c.args.self.now c.in_ok-primary_key.primary_key c.in_ok-old.old c.in_ok-mutations.mutations.items c.in_ok-mutations.ensures store holds.lawful.listed same is))
     c.in_err-write_all.ensures.kept c.in_err-write_all.ensures.refused)
 
 pub returns-in_err-mutations-clause-refused : goal.returns-in_err-mutations-clause-refused

@@ -32,7 +32,7 @@ returns-in_err-write_all-clause-refused g c =
     (refused_limit (g.S.Snapshot.map_at c.args.db.now) (g.S.Snapshot.may_refuse c.args.db.now) c.args.self.now (save_call c.args.self.now c.args.new.now) (save_service c.args.self.now c.args.new.now) c.in_ok-mutations.mutations.items c.in_err-write_all.field-0.0
     (save_accepted c.args.self.now c.args.new.now (sym c.is_own.ensures ∙ c.if-not-is_own.false))
     (save_read c.args.self.now c.args.new.now c.in_ok-primary_key.primary_key c.in_ok-old.old c.in_ok-primary_key.ensures.key c.in_ok-old.ensures.found)
-    (λ m store holds same is. (refl, save_wrote c.args.self.now c.args.new.now c.in_ok-old.old c.in_ok-mutations.mutations.items wrote store same is))
+    (λ m store holds same is. (refl, save_wrote c.args.self.now c.args.new.now c.in_ok-old.old c.in_ok-mutations.mutations.items wrote store holds.lawful.listed same is))
     c.in_err-write_all.ensures.kept c.in_err-write_all.ensures.refused)
   where
     wrote : c.in_ok-mutations.mutations.items ≡ replacement c.args.self.now c.args.new.now c.in_ok-old.old
