@@ -8,7 +8,7 @@ use Rattle.serde_json.specs.declared.value.Value.{Value}
 use Rattle.json_forms.specs.CellJson.{cell_in}
 use Rattle.json_forms.specs.Json.{labelled}
 
-hex_stands : (text content : List ℕ) → ((i : ℕ) → slice_index content i < 256) → text ≡ encode_lower content → cell_in (labelled (codes "hex") text) ≡ Some (Bytes content)
+pub hex_stands : (text content : List ℕ) → ((i : ℕ) → slice_index content i < 256) → text ≡ encode_lower content → cell_in (labelled (codes "hex") text) ≡ Some (Bytes content)
 hex_stands text content small e = rw (e, decode_of-encode_lower content small)
 
 -- what is made stands for the bytes

@@ -7,3 +7,4 @@ pub mod Labels
 pub mod Keys
 pub mod Filters
 pub mod Values
+pub mod RowTexts

@@ -4,3 +4,4 @@ pub mod TupleJson
 pub mod Config
 pub mod SchemaJson
 pub mod QueryJson
+pub mod RowText

@@ -1,8 +1,7 @@
-ghost use Rattle.std.specs.Prelude.{◌≡◌, ◌≤◌, Some, None, IfOk, IfErr, string_bytes};
+ghost use Rattle.std.specs.Prelude.{◌≡◌, ◌≤◌, Some, None, IfOk, IfErr};
 ghost use Rattle.serde_json.specs.Data.{depth};
 ghost use Rattle.serde_json.specs.View.{view};
-ghost use Rattle.json_forms.specs.CellJson.{IsTextOfCells, IsTextOfRows, bytes_in, cell_data, cell_in, cells_in};
-ghost use Rattle.json_forms.specs.CellJson.{rows_in};
+ghost use Rattle.json_forms.specs.CellJson.{bytes_in, cell_data, cell_in, cells_in};
 
 use crate::error::PartError;
 use crate::form::{hex_of, labelled, list_of, only_member, text_of};
@@ -71,42 +70,4 @@ pub(crate) fn cell_value(alloc: Global, cell: &Cell) -> Result<Value, AllocError
         Cell::Text(text) => Value::try_from_str(alloc, text.as_str()),
         Cell::Bytes(bytes) => hex_value(alloc, bytes.as_slice()),
     }
-}
-
-// The list that stands for cells.
-fn cells_value(alloc: Global, cells: &Cells) -> Result<Value, AllocError>
-    ensures read { IfOk result (λ value. cells_in (view value) ≡ Some cells.now) }
-    ensures depth { IfOk result (λ value. depth (view value) ≤ 2) }
-{
-    let mut items = Vec::new(alloc);
-    for cell in cells.as_slice() {
-        items.push(cell_value(alloc, cell)?)?;
-    }
-    Ok(Value::Array(items))
-}
-
-// The list that stands for rows.
-fn rows_value(alloc: Global, rows: &[Cells]) -> Result<Value, AllocError>
-    ensures read { IfOk result (λ value. rows_in (view value) ≡ Some rows.now) }
-    ensures depth { IfOk result (λ value. depth (view value) ≤ 3) }
-{
-    let mut items = Vec::new(alloc);
-    for cells in rows {
-        items.push(cells_value(alloc, cells)?)?;
-    }
-    Ok(Value::Array(items))
-}
-
-/// The text of cells, a list of JSON, which stands for these cells and no other.
-pub fn cells_text(alloc: Global, cells: &Cells) -> Result<String, AllocError>
-    ensures { IfOk result (λ text. IsTextOfCells (string_bytes text) cells.now) }
-{
-    cells_value(alloc, cells)?.to_string(alloc)
-}
-
-/// The text of rows, a list of lists of cells, which stands for these rows and no other.
-pub fn rows_text(alloc: Global, rows: &[Cells]) -> Result<String, AllocError>
-    ensures { IfOk result (λ text. IsTextOfRows (string_bytes text) rows.now) }
-{
-    rows_value(alloc, rows)?.to_string(alloc)
 }

@@ -13,15 +13,17 @@ mod filter_json;
 mod form;
 mod query_json;
 mod reading;
+mod row_text;
 mod schema_json;
 mod tuple_json;
 
-pub use cell_json::{cells_of, cells_text, rows_text};
+pub use cell_json::cells_of;
 pub use config_json::config_of;
 pub use error::PartError;
 pub use filter_json::{cell_text, filter_text};
 pub use form::{has_only, list_of, member, number_of, only_member, str_of, text_of};
 pub use query_json::{filter_of, query_of};
 pub use reading::{MAX_TEXT_BYTES, value_of};
+pub use row_text::{cells_text, rows_text};
 pub use schema_json::{index_of, schema_of, type_of};
 pub use tuple_json::{tuple_of, tuple_text};
