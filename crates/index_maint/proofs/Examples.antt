@@ -24,17 +24,17 @@ field name = record { name = name ∷ []; kind = kind.Int }
 abbrev type : ℕ → TypeDefinition
 type number = record { number = number; name = 116 ∷ []; fields = field 107 ∷ field 97 ∷ field 98 ∷ []; key = 0 ∷ [] }
 
-abbrev row : ℕ → Cell → Cell → Cell → Record
+abbrev pub row : ℕ → Cell → Cell → Cell → Record
 row number k a b = record { definition = type number; cells = k ∷ a ∷ b ∷ [] }
 
-abbrev number : ℕ → Cell
+abbrev pub number : ℕ → Cell
 number n = Int (pos n)
 
 -- the VALUE index with number 1 over type 1, on the field a
-abbrev index : IndexDefinition
+abbrev pub index : IndexDefinition
 index = record { number = 1; name = 105 ∷ []; kind = Value; type_number = 1; columns = 1 ∷ []; summed = None }
 
-abbrev prefix : List ℕ
+abbrev pub prefix : List ℕ
 prefix = 0x15 ∷ 0x01 ∷ []
 
 abbrev first : Record

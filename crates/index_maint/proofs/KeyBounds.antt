@@ -1,11 +1,11 @@
--- The keys of entries come before the end of the keys, where the store's prefix does.
+-- The keys of entries, and those of built ranges, come before the end of the keys, where the store's prefix does.
 use Rattle.std.proofs.Common.{◌≡◌, ℕ, true, List, [], ◌∷◌, ◌++◌, append_assoc, refl, ap, ◌∙◌, pos}
 use Rattle.std.specs.Ordering.{is_lt, nat_cmp, ordering_then}
 use Rattle.std.specs.declared.cmp.Ordering.{Ordering}
 use Rattle.std.specs.declared.cmp.Ordering.TheVariants.{Less, Equal, Greater}
 use Rattle.tuple_codec.specs.Spelling.{byte_count, int_spelling}
 use Rattle.kv_core.specs.Bytes.{end_of_keys, key_cmp, key_lt}
-use Rattle.index_maint.specs.Layout.{entries_prefix}
+use Rattle.index_maint.specs.Layout.{built_place, entries_prefix}
 
 -- a key is one with anything behind it that is one
 below_behind : (p q : List ℕ) → key_lt p end_of_keys ≡ true → key_lt q end_of_keys ≡ true → key_lt (p ++ q) end_of_keys ≡ true
@@ -34,3 +34,13 @@ made_below prefix number a b first second third made low is then last same =
     (same ∙ last ∙ ap (λ k. k ++ b) (then ∙ ap (λ k. k ++ a) is) ∙ append_assoc (entries_prefix prefix number) a b
     ∙ append_assoc prefix (int_spelling (pos 2) ++ more) (a ++ b) ∙ ap (λ k. prefix ++ k) (append_assoc (int_spelling (pos 2)) more (a ++ b)))
     ∙ below_behind prefix (int_spelling (pos 2) ++ (more ++ (a ++ b))) low (number_below (more ++ (a ++ b)))
+
+-- so does what stands behind the number 6
+built_below : (bytes : List ℕ) → key_lt (int_spelling (pos 6) ++ bytes) end_of_keys ≡ true
+unfolding byte_count int_spelling
+built_below bytes = refl
+
+pub place_below : (prefix : List ℕ) (number : ℕ) (made : List ℕ) → key_lt prefix end_of_keys ≡ true → made ≡ built_place prefix number → key_lt made end_of_keys ≡ true
+place_below prefix number made low is =
+    ap (λ k. key_lt k end_of_keys) is
+    ∙ below_behind prefix (int_spelling (pos 6) ++ (int_spelling (pos number) ++ [])) low (built_below (int_spelling (pos number) ++ []))

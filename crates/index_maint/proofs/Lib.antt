@@ -1,4 +1,5 @@
-mod Examples
+pub mod Examples
+mod BuiltExamples
 mod TotalExamples
 pub mod RecordLists
 pub mod Replaced
@@ -12,4 +13,10 @@ pub mod TotalLaw
 pub mod TotalChanges
 pub mod Several
 pub mod RecordIndexes
+pub mod WriteOnly
+pub mod SomeEntries
+pub mod BuildLaw
+pub mod WholeLaw
+pub mod FirstParts
 pub mod KeptLaw
+mod SomeChanges

@@ -27,19 +27,19 @@ use Rattle.index_maint.proofs.Replaced.{HaveNot, found_storable, none_without}
 use Rattle.index_maint.proofs.ValueLaw.{alone_there, any_before, changed, entry_alone, has_entry, held_entries, holds_of, is_entry_key, there}
 
 -- the key is that of the entry, if there is one
-abbrev is_key_of : List ℕ → ℕ → List ℕ → Option Entry → Bool
+abbrev pub is_key_of : List ℕ → ℕ → List ℕ → Option Entry → Bool
 is_key_of prefix number at None = false
 is_key_of prefix number at (Some entry) = is_entry_key prefix number at entry
 
 point_covers : (prefix : List ℕ) (number : ℕ) (at : List ℕ) (entry : Entry) → contains (point (entry_key prefix number entry)) at ≡ is_entry_key prefix number at entry
 point_covers prefix number at entry = contains-point-is (entry_key prefix number entry) at ∙ tied_swap (entry_key prefix number entry) at
 
-or_false : (b : Bool) → (b || false) ≡ b
+pub or_false : (b : Bool) → (b || false) ≡ b
 or_false true = refl
 or_false false = refl
 
 -- COVERED: the changes cover the keys of the old entry and of the new one, where these aren't the same, and nothing else
-covered : (prefix : List ℕ) (number : ℕ) (at : List ℕ) (old new : Option Entry) → covers (write_ranges (entry_changes prefix number old new)) at ≡ true →
+pub covered : (prefix : List ℕ) (number : ℕ) (at : List ℕ) (old new : Option Entry) → covers (write_ranges (entry_changes prefix number old new)) at ≡ true →
     (is_key_of prefix number at old || is_key_of prefix number at new) ≡ true
 covered prefix number at None None h = h
 covered prefix number at None (Some new) h = sym (ap (λ b. b || false) (point_covers prefix number at new) ∙ or_false (is_entry_key prefix number at new)) ∙ h
@@ -53,7 +53,7 @@ covered prefix number at (Some old) (Some new) h = by_same (same_entry old new) 
         sym ((λ i. point_covers prefix number at old i || (point_covers prefix number at new i || false)) ∙ ap (λ b. is_entry_key prefix number at old || b) (or_false (is_entry_key prefix number at new))) ∙ h
 
 -- the changes cover nothing where the entries are the same
-covered_other : (prefix : List ℕ) (number : ℕ) (at : List ℕ) (old new : Entry) → covers (write_ranges (entry_changes prefix number (Some old) (Some new))) at ≡ true → same_entry old new ≡ false
+pub covered_other : (prefix : List ℕ) (number : ℕ) (at : List ℕ) (old new : Entry) → covers (write_ranges (entry_changes prefix number (Some old) (Some new))) at ≡ true → same_entry old new ≡ false
 covered_other prefix number at old new h = by_same (same_entry old new) h
   where
     by_same : (t : Bool) → covers (write_ranges (cond t [] (clear_entry prefix number old ∷ set_entry prefix number new ∷ []))) at ≡ true → t ≡ false
@@ -100,18 +100,18 @@ module _ (prefix : List ℕ) (index : IndexDefinition) (key : List Item) (old ne
       ∙ (ap (λ b. holds_of p old || b) alone ∙ or_false (holds_of p old))
 
 -- no other record has the new one's entry
-new_alone : (prefix : List ℕ) (index : IndexDefinition) (at : List ℕ) (key : List Item) (old : Option Record) (new : Record) (records : List Record) → IsReplacement key old (Some new) records →
+pub new_alone : (prefix : List ℕ) (index : IndexDefinition) (at : List ℕ) (key : List Item) (old : Option Record) (new : Record) (records : List Record) → IsReplacement key old (Some new) records →
     is_entry_key prefix index.number at (entry_of index new) ≡ true → list_any (has_entry prefix index at) (without_record key records) ≡ false
 new_alone prefix index at key old new records given is =
     entry_alone prefix index at new (without_record key records) given.newer.0 (all_filter IsStorable (λ r. not (has_primary_key key r)) records given.storable)
     (subst (λ k. HaveNot k (without_record key records)) (sym given.newer.1) (none_without key records)) is
 
 -- the bytes behind the prefix of the key of a record's entry
-abbrev bytes_of : IndexDefinition → Record → List ℕ
+abbrev pub bytes_of : IndexDefinition → Record → List ℕ
 bytes_of index r = spelling (entry_items (entry_of index r))
 
 -- the key is at such bytes
-at_entry : (prefix : List ℕ) (index : IndexDefinition) (at : List ℕ) (r : Record) → is_entry_key prefix index.number at (entry_of index r) ≡ true → at ≡ entries_prefix prefix index.number ++ bytes_of index r
+pub at_entry : (prefix : List ℕ) (index : IndexDefinition) (at : List ℕ) (r : Record) → is_entry_key prefix index.number at (entry_of index r) ≡ true → at ≡ entries_prefix prefix index.number ++ bytes_of index r
 at_entry prefix index at r is = tied_keys at (entry_key prefix index.number (entry_of index r)) is
 
 -- a key that the writes cover doesn't keep what it has

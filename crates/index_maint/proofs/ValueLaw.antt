@@ -97,7 +97,7 @@ any_after p key old (Some new) records given =
 
 -- ---- what the writes make of a key
 
-cleared : (prefix : List ℕ) (number : ℕ) (key : List ℕ) (entry : Entry) (before : Option (List ℕ)) →
+pub cleared : (prefix : List ℕ) (number : ℕ) (key : List ℕ) (entry : Entry) (before : Option (List ℕ)) →
     value_after (clear_entry prefix number entry) key before ≡ cond (is_entry_key prefix number key entry) None before
 cleared prefix number key entry before =
     ap (λ b. cond b None before) (contains-point-is (entry_key prefix number entry) key ∙ tied_swap (entry_key prefix number entry) key)

@@ -2,5 +2,8 @@ pub mod Entries
 pub mod Layout
 pub mod Changes
 pub mod Totals
+pub mod Built
 pub mod Kept
+pub mod Parts
 pub mod Laws
+pub mod KeptLaws

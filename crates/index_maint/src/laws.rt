@@ -5,7 +5,11 @@ ghost use Rattle.metadata.specs.declared.index.IndexDefinition.{IndexDefinition}
 ghost use Rattle.metadata.specs.Record.{Record, primary_key};
 ghost use Rattle.metadata.specs.Records.{IsStorable};
 ghost use Rattle.index_maint.specs.Entries.{entry_of};
+ghost use Rattle.index_maint.specs.KeptLaws.{BuildEnds, BuildStarts, BuildSteps, BuildWithin};
+ghost use Rattle.index_maint.specs.KeptLaws.{KeptFollows, KeptIgnoresOthers, KeptOfPositions};
+ghost use Rattle.index_maint.specs.KeptLaws.{KeptOnlyChanges, KeptWithin, KeptWritesWithin};
 ghost use Rattle.index_maint.specs.Layout.{entries_prefix, entry_key};
+ghost use Rattle.index_maint.specs.Parts.{FirstParts};
 
 /// Records whose entries in an index have one key have one primary key.
 pub fn entries_tell_records()
@@ -21,4 +25,31 @@ pub fn places_are_apart()
         → BeginsWith (key_of prefix (int (pos n) ∷ ns)) key → m ≡ n }
     ensures indexes { (prefix key : List ℕ) (i j : ℕ) → i < 2 ^ 64 → j < 2 ^ 64
         → BeginsWith (entries_prefix prefix i) key → BeginsWith (entries_prefix prefix j) key → i ≡ j }
+{}
+
+/// An index of whatever kind and in whatever state follows its records: where a map has it over the
+/// records, it has it over those with the new one in the old one's place once `push_kept_changes`
+/// is written, and only what changes is written. A record of another type needs no writes. The
+/// writes leave each key that doesn't begin with the index's prefix as it was, and what a map has
+/// at such keys doesn't matter, nor does it how the built positions are divided into ranges.
+pub fn kept_indexes_follow()
+    ensures follows { KeptFollows }
+    ensures only_changes { KeptOnlyChanges }
+    ensures ignores_others { KeptIgnoresOthers }
+    ensures writes_within { KeptWritesWithin }
+    ensures has_within { KeptWithin }
+    ensures of_positions { KeptOfPositions }
+{}
+
+/// An index is built range by range: it starts as a write-only one of which nothing is built; where
+/// none of a range's positions is built, all of them are once `push_build` is written for the
+/// records there; and where every position is built, it has what a readable one has. The writes
+/// leave each key that doesn't begin with the index's prefix as it was. The part of a gap up to
+/// behind so many records of the type has just these records of it.
+pub fn indexes_are_built()
+    ensures starts { BuildStarts }
+    ensures steps { BuildSteps }
+    ensures ends { BuildEnds }
+    ensures within { BuildWithin }
+    ensures parts { FirstParts }
 {}

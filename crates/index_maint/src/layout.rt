@@ -1,13 +1,16 @@
 ghost use Rattle.std.specs.Prelude.{◌≡◌, ◌∷◌, [], IfOk, IsTrue, pos};
 ghost use Rattle.tuple_codec.specs.Item.{int};
 ghost use Rattle.kv_core.specs.Bytes.{end_of_keys, key_lt};
-ghost use Rattle.index_maint.specs.Layout.{entries_prefix};
+ghost use Rattle.index_maint.specs.Layout.{built_place, entries_prefix};
 
 use std::alloc::{AllocError, Global};
 use tuple_codec::{Element, Tuple, TupleInt, pack_into};
 
 /// Under this number stand the entries of all indexes.
 const ENTRIES: u64 = 2;
+
+/// Under this number stand the built ranges of all indexes.
+const BUILT: u64 = 6;
 
 // The tuple of two numbers.
 fn pair_tuple(alloc: Global, first: u64, second: u64) -> Result<Tuple, AllocError>
@@ -28,6 +31,19 @@ pub fn entries_prefix(alloc: Global, prefix: &[u8], number: u64) -> Result<Vec<u
     ensures { IfOk result (λ bytes. bytes.items ≡ entries_prefix prefix.now number) }
 {
     let tuple = pair_tuple(alloc, ENTRIES, number)?;
+    let mut bytes = Vec::from_slice(alloc, prefix)?;
+    pack_into(&tuple, &mut bytes)?;
+    Ok(bytes)
+}
+
+/// What the key of each built range of the index with this number begins with, under a store's
+/// prefix: the prefix and the pack of (6, number). It is a key where the prefix is one.
+pub fn built_place(alloc: Global, prefix: &[u8], number: u64) -> Result<Vec<u8>, AllocError>
+    ensures place { IfOk result (λ bytes. bytes.items ≡ built_place prefix.now number) }
+    ensures below { IfOk result (λ bytes.
+        IsTrue (key_lt prefix.now end_of_keys) → IsTrue (key_lt bytes.items end_of_keys)) }
+{
+    let tuple = pair_tuple(alloc, BUILT, number)?;
     let mut bytes = Vec::from_slice(alloc, prefix)?;
     pack_into(&tuple, &mut bytes)?;
     Ok(bytes)

@@ -1,5 +1,5 @@
 -- The range of an index's entries: what clearing it leaves, and that it has all entries.
-use Rattle.std.proofs.Common.{◌≡◌, ◌⊎◌, inl, inr, ℕ, Bool, true, false, not, cond, ◌&&◌, ◌||◌, ◌==◌, List, [], ◌∷◌, ◌++◌, append-nil, refl, sym, ap, subst, ◌∙◌, None, map}
+use Rattle.std.proofs.Common.{◌≡◌, ◌⊎◌, inl, inr, ℕ, Bool, true, false, not, cond, ◌&&◌, ◌||◌, ◌==◌, List, [], ◌∷◌, ◌++◌, append-nil, refl, sym, ap, subst, ◌∙◌, Option, Some, None, map}
 use Rattle.std.specs.Prelude.{All, MatchBool}
 use Rattle.std.specs.FinMap.{get}
 use Rattle.std.specs.List.{AllByRecursion, starts_with}
@@ -15,7 +15,7 @@ use Rattle.tuple_codec.proofs.Prefixes.{begins_or_not, cmp_behind}
 use Rattle.tuple_codec.proofs.TupleOrder.{outer_tail}
 use Rattle.kv_core.specs.Bytes.{key_lt}
 use Rattle.kv_core.specs.Map.{Map, after}
-use Rattle.kv_core.specs.Range.{contains}
+use Rattle.kv_core.specs.Range.{KeyRange, contains}
 use Rattle.kv_core.specs.declared.change.Mutation.TheVariants.{ClearRange}
 use Rattle.kv_core.proofs.Changes.{get-after, get-kept}
 use Rattle.kv_core.proofs.Stored.{get-stored}
@@ -29,9 +29,10 @@ use Rattle.metadata.specs.Cell.{IsCell, cells_at, items_of}
 use Rattle.metadata.specs.Record.{Record, primary_key}
 use Rattle.metadata.specs.Records.{IsStorable, of_type}
 use Rattle.metadata.proofs.CellItems.{all-cells_at, are_items-items_of}
-use Rattle.index_maint.specs.Changes.{HasEntries}
+use Rattle.index_maint.specs.Built.{built_records}
+use Rattle.index_maint.specs.Changes.{entries_map}
 use Rattle.index_maint.specs.Entries.{entry_items, entry_of}
-use Rattle.index_maint.specs.Kept.{HasDefined}
+use Rattle.index_maint.specs.Kept.{HasDefined, HasPart}
 use Rattle.index_maint.specs.Layout.{entries_prefix, entry_pair, entry_pairs}
 use Rattle.index_maint.specs.Totals.{HasTotals, Share, count_share, sum_share}
 use Rattle.index_maint.proofs.Lookups.{lookup-none}
@@ -101,42 +102,53 @@ module _ (prefix : List ℕ) (records : List Record) (storable : AllByRecursion 
     others_keys index key left out can.1,
   )
 
-  pub nothing_out : (index : IndexDefinition) (state : State) (bytes : List ℕ) → HasIndex prefix records m index state →
+  entries_out : (index : IndexDefinition) (bytes : List ℕ) → contains (entries_range prefix index.number) (entries_prefix prefix index.number ++ bytes) ≡ false →
+      get (entries_map prefix index records) (entries_prefix prefix index.number ++ bytes) ≡ None
+  entries_out index bytes out =
+      get-stored (entry_pairs prefix index records) (entries_prefix prefix index.number ++ bytes)
+      ∙ lookup-none (entries_prefix prefix index.number ++ bytes) (entry_pairs prefix index records)
+      (others_keys index (entries_prefix prefix index.number ++ bytes) (of_type index.type_number records) out (all_filter IsStorable (λ r. r.definition.number == index.type_number) records storable))
+
+  totals_out : (index : IndexDefinition) (counted : List Record) (bytes : List ℕ) (share : Share) → contains (entries_range prefix index.number) (entries_prefix prefix index.number ++ bytes) ≡ false →
+      HasTotals share prefix index counted m → get m (entries_prefix prefix index.number ++ bytes) ≡ None
+  totals_out index counted bytes share out has =
+      has.groups bytes
+      (λ group is same.
+      true≢false
+      (sym (low_inside prefix index.number (spelling (items_of group)) (group_low group is.cells))
+      ∙ ap (λ bs. contains (entries_range prefix index.number) (entries_prefix prefix index.number ++ bs)) (sym same) ∙ out))
+
+  pub nothing_out : (index : IndexDefinition) (ranges : List KeyRange) (state : State) (bytes : List ℕ) → HasIndex prefix ranges records m index state →
       contains (entries_range prefix index.number) (entries_prefix prefix index.number ++ bytes) ≡ false → get m (entries_prefix prefix index.number ++ bytes) ≡ None
-  nothing_out index Readable bytes has out = by_kind index.kind has
+  nothing_out index ranges Readable bytes has out = by_kind index.kind has
     where
-      entries_out : HasEntries prefix index records m → get m (entries_prefix prefix index.number ++ bytes) ≡ None
-      entries_out has =
-          has bytes ∙ get-stored (entry_pairs prefix index records) (entries_prefix prefix index.number ++ bytes)
-          ∙ lookup-none (entries_prefix prefix index.number ++ bytes) (entry_pairs prefix index records)
-          (others_keys index (entries_prefix prefix index.number ++ bytes) (of_type index.type_number records) out (all_filter IsStorable (λ r. r.definition.number == index.type_number) records storable))
-
-      totals_out : (share : Share) → HasTotals share prefix index records m → get m (entries_prefix prefix index.number ++ bytes) ≡ None
-      totals_out share has =
-          has.groups bytes
-          (λ group is same.
-          true≢false
-          (sym (low_inside prefix index.number (spelling (items_of group)) (group_low group is.cells))
-          ∙ ap (λ bs. contains (entries_range prefix index.number) (entries_prefix prefix index.number ++ bs)) (sym same) ∙ out))
-
       by_kind : (kind : IndexKind) → HasDefined kind prefix index records m → get m (entries_prefix prefix index.number ++ bytes) ≡ None
-      by_kind Value has = entries_out has
-      by_kind Count has = totals_out count_share has
-      by_kind Sum has = totals_out sum_share has
-  nothing_out index WriteOnly bytes has out = absurd has
-  nothing_out index Disabled bytes has out = has bytes
+      by_kind Value has = has bytes ∙ entries_out index bytes out
+      by_kind Count has = totals_out index records bytes count_share out has
+      by_kind Sum has = totals_out index records bytes sum_share out has
+  nothing_out index ranges WriteOnly bytes has out = by_kind index.kind has
+    where
+      by_kind : (kind : IndexKind) → HasPart kind prefix index ranges records m → get m (entries_prefix prefix index.number ++ bytes) ≡ None
+      by_kind Value has = by_value (get m (entries_prefix prefix index.number ++ bytes)) refl
+        where
+          by_value : (value : Option (List ℕ)) → get m (entries_prefix prefix index.number ++ bytes) ≡ value → value ≡ None
+          by_value None is = refl
+          by_value (Some value) is = sym (has.only bytes value is) ∙ entries_out index bytes out
+      by_kind Count has = totals_out index (built_records ranges records) bytes count_share out has
+      by_kind Sum has = totals_out index (built_records ranges records) bytes sum_share out has
+  nothing_out index ranges Disabled bytes has out = has bytes
 
   -- so has the index with a number
-  pub nothing_out_of : (states : ℕ → State) (number : ℕ) (indexes : List IndexDefinition) (bytes : List ℕ) → has_number indexes number ≡ true →
-      AllByRecursion (λ index. HasIndex prefix records m index (states index.number)) indexes →
+  pub nothing_out_of : (states : ℕ → State) (built : ℕ → List KeyRange) (number : ℕ) (indexes : List IndexDefinition) (bytes : List ℕ) → has_number indexes number ≡ true →
+      AllByRecursion (λ index. HasIndex prefix (built index.number) records m index (states index.number)) indexes →
       contains (entries_range prefix number) (entries_prefix prefix number ++ bytes) ≡ false → get m (entries_prefix prefix number ++ bytes) ≡ None
-  nothing_out_of states number [] bytes there all out = absurd (cc)
-  nothing_out_of states number (index ∷ indexes) bytes there all out = by_test (index.number == number) refl there (λ more. nothing_out_of states number indexes bytes more all.1 out)
+  nothing_out_of states built number [] bytes there all out = absurd (cc)
+  nothing_out_of states built number (index ∷ indexes) bytes there all out = by_test (index.number == number) refl there (λ more. nothing_out_of states built number indexes bytes more all.1 out)
     where
       by_test : (b : Bool) → (index.number == number) ≡ b → (b || has_number indexes number) ≡ true → (has_number indexes number ≡ true → get m (entries_prefix prefix number ++ bytes) ≡ None) →
           get m (entries_prefix prefix number ++ bytes) ≡ None
       by_test true is some go =
           let same = eqb-true index.number number is in
           subst (λ n. contains (entries_range prefix n) (entries_prefix prefix n ++ bytes) ≡ false → get m (entries_prefix prefix n ++ bytes) ≡ None) same
-          (nothing_out index (states index.number) bytes all.0) out
+          (nothing_out index (built index.number) (states index.number) bytes all.0) out
       by_test false is some go = go some

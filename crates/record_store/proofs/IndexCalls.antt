@@ -18,7 +18,7 @@ use Rattle.metadata.specs.Lawful.{IsLawfulSchema}
 use Rattle.metadata.specs.Schema.{Schema, find_index}
 use Rattle.metadata.specs.Written.{schema_bytes}
 use Rattle.record_store.specs.Store.{Store, disabled, dropped, still_listed, with_state, without_state}
-use Rattle.record_store.specs.Layout.{entries_range, schema_key, state_key}
+use Rattle.record_store.specs.Layout.{built_range, entries_range, schema_key, state_key}
 use Rattle.record_store.specs.Holds.{Holds, has_number}
 use Rattle.record_store.specs.Call.{IsOpenAs, Opened}
 use Rattle.record_store.specs.Calls.{disable_service, drop_service, index_number, opened_without}
@@ -112,13 +112,13 @@ left_is opened prefix schema states number other found prefixes schemas listed i
     (λ i. record { prefix = prefixes i; schema = schemas i; states = listed i }) ∙ ap (opened_without opened) same
 
 -- DROP: the index is gone
-pub drop_served : (opened : Opened) (number : ℕ) (next : Schema) (list : List Mutation) → list ≡ Set (schema_key opened.prefix) (schema_bytes next) ∷ ClearRange (entries_range opened.prefix number) ∷ ClearRange (point (state_key opened.prefix number)) ∷ [] →
+pub drop_served : (opened : Opened) (number : ℕ) (next : Schema) (list : List Mutation) → list ≡ Set (schema_key opened.prefix) (schema_bytes next) ∷ ClearRange (entries_range opened.prefix number) ∷ ClearRange (built_range opened.prefix number) ∷ ClearRange (point (state_key opened.prefix number)) ∷ [] →
     next ≡ without_index opened.schema number → has_number opened.schema.indexes number ≡ true → IsLawfulSchema next →
     (m : Map) (store : Store) → Holds opened.prefix m (Some store) → IsOpenAs opened store → IsServed opened (drop_service opened number) next list m store
 drop_served opened number next list wrote is there lawful m store holds same =
     let left : next ≡ without_index store.schema number = is ∙ ap (λ s. without_index s number) (sym same.schema) in
     let writes : list ≡ drop_writes opened.prefix store number =
-    wrote ∙ ap (λ s. Set (schema_key opened.prefix) (schema_bytes s) ∷ ClearRange (entries_range opened.prefix number) ∷ ClearRange (point (state_key opened.prefix number)) ∷ []) left in record {
+    wrote ∙ ap (λ s. Set (schema_key opened.prefix) (schema_bytes s) ∷ ClearRange (entries_range opened.prefix number) ∷ ClearRange (built_range opened.prefix number) ∷ ClearRange (point (state_key opened.prefix number)) ∷ []) left in record {
       accepted = refl;
       answers = left;
       wrote = writes;
@@ -127,11 +127,11 @@ drop_served opened number next list wrote is there lawful m store holds same =
           (dropped_holds opened.prefix m store number (ap (λ (s : Schema). has_number s.indexes number) same.schema ∙ there) holds (subst IsLawfulSchema left lawful));
     }
 
-pub drop_wrote : (opened : Opened) (number : ℕ) (next : Schema) (list : List Mutation) → list ≡ Set (schema_key opened.prefix) (schema_bytes next) ∷ ClearRange (entries_range opened.prefix number) ∷ ClearRange (point (state_key opened.prefix number)) ∷ [] →
+pub drop_wrote : (opened : Opened) (number : ℕ) (next : Schema) (list : List Mutation) → list ≡ Set (schema_key opened.prefix) (schema_bytes next) ∷ ClearRange (entries_range opened.prefix number) ∷ ClearRange (built_range opened.prefix number) ∷ ClearRange (point (state_key opened.prefix number)) ∷ [] →
     next ≡ without_index opened.schema number → (store : Store) → IsOpenAs opened store → list ≡ drop_writes opened.prefix store number
 drop_wrote opened number next list wrote is store same =
     wrote
-    ∙ ap (λ s. Set (schema_key opened.prefix) (schema_bytes s) ∷ ClearRange (entries_range opened.prefix number) ∷ ClearRange (point (state_key opened.prefix number)) ∷ [])
+    ∙ ap (λ s. Set (schema_key opened.prefix) (schema_bytes s) ∷ ClearRange (entries_range opened.prefix number) ∷ ClearRange (built_range opened.prefix number) ∷ ClearRange (point (state_key opened.prefix number)) ∷ [])
     (is ∙ ap (λ s. without_index s number) (sym same.schema))
 
 -- DISABLE: the index is disabled

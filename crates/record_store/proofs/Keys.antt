@@ -19,7 +19,7 @@ use Rattle.kv_core.specs.Bytes.{key_cmp, key_le, key_lt, end_of_keys}
 use Rattle.kv_core.specs.Range.{KeyRange, contains, is_key_range}
 use Rattle.kv_core.proofs.Order.{le_from_lt}
 use Rattle.index_maint.specs.Layout.{entries_prefix}
-use Rattle.record_store.specs.Layout.{entries_range, state_key, place, record_key, schema_key, states_range, type_range}
+use Rattle.record_store.specs.Layout.{built_place, built_range, entries_range, state_key, place, record_key, schema_key, states_range, type_range}
 
 -- ---- below the end
 
@@ -140,6 +140,14 @@ module _ (prefix : List ℕ) where
       let rest : List ℕ = int_spelling (pos 2) ++ (int_spelling (pos n) ++ []) in
       (λ i. above_itself (entries_prefix prefix n) (255 ∷ []) i && key_le (entries_prefix prefix n ++ 255 ∷ []) end_of_keys)
       ∙ le_from_lt (entries_prefix prefix n ++ 255 ∷ []) end_of_keys
+      (ap (λ k. key_lt k end_of_keys) (append_assoc prefix rest (255 ∷ [])) ∙ below_with prefix (rest ++ 255 ∷ []) p refl)
+
+  pub is_built_range : (n : ℕ) → key_lt prefix end_of_keys ≡ true → is_key_range (built_range prefix n) ≡ true
+  unfolding int_spelling written.byte_count
+  is_built_range n p =
+      let rest : List ℕ = int_spelling (pos 6) ++ (int_spelling (pos n) ++ []) in
+      (λ i. not (is_lt (cmp_behind (built_place prefix n) (255 ∷ []) (0 ∷ []) i)) && key_le (built_place prefix n ++ 255 ∷ []) end_of_keys)
+      ∙ le_from_lt (built_place prefix n ++ 255 ∷ []) end_of_keys
       (ap (λ k. key_lt k end_of_keys) (append_assoc prefix rest (255 ∷ [])) ∙ below_with prefix (rest ++ 255 ∷ []) p refl)
 
   -- the ends of the states' range, behind the prefix

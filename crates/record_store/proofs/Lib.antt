@@ -1,6 +1,10 @@
 pub mod Keys
 pub mod Held
 pub mod Kept
+pub mod BuiltRanges
+pub mod BuiltReads
+pub mod Followed
+pub mod Writing
 pub mod Changed
 pub mod RecordPairs
 pub mod Stopping

@@ -26,7 +26,7 @@ use Rattle.record_store.proofs.Stopping.{all_begin}
 use Rattle.record_store.specs.Reading.{HasNotFound, IsFound, IsKeyOf, IsNotFound, IsRead}
 use Rattle.record_store.specs.Steps.{DidRead}
 use Rattle.record_store.proofs.Kept.{itself}
-use Rattle.record_store.proofs.RecordPairs.{all_written, at_key, key_form, no_record_pair, no_total_pair, none_bad, none_there, of_stored, pairs_at, record_there}
+use Rattle.record_store.proofs.RecordPairs.{all_written, at_key, key_form, no_record_pair, no_other_pair, none_bad, none_there, of_stored, pairs_at, record_there}
 
 -- the pairs read at one key
 pub read_at : (m : Map) (key : List ℕ) (value : Option (List ℕ)) → get m key ≡ value → read_in m (point key ∷ []) ≡ at_key key value
@@ -47,7 +47,7 @@ module _ (opened : Opened) (type : TypeDefinition) (key : List Item) (lawful : I
       }
 
   -- READ: the record, or none, that was found
-  read_there : (m : Map) (value : Option (List ℕ)) (found : Option Record) → get m (record_key opened.prefix key) ≡ value → IsFound type (spelling key) value found → IsRead opened key found m
+  pub read_there : (m : Map) (value : Option (List ℕ)) (found : Option Record) → get m (record_key opened.prefix key) ≡ value → IsFound type (spelling key) value found → IsRead opened key found m
   read_there m None found is says = (
     subst (AllByRecursion (IsWritten opened.prefix opened.schema)) (sym (read_at m (record_key opened.prefix key) None is)) tt,
     λ store holds same. says ∙ none_there opened.prefix m store holds key key_of.tuple is,
@@ -62,7 +62,7 @@ module _ (opened : Opened) (type : TypeDefinition) (key : List Item) (lawful : I
   )
 
   -- UNREAD: what was found is none of the type's
-  unread_there : (refuses : KeyRange → ReadError → Type 0) (m : Map) (value : Option (List ℕ)) (error : StoreError) → get m (record_key opened.prefix key) ≡ value →
+  pub unread_there : (refuses : KeyRange → ReadError → Type 0) (m : Map) (value : Option (List ℕ)) (error : StoreError) → get m (record_key opened.prefix key) ≡ value →
       IsNotFound type (spelling key) (record_key opened.prefix key) value error → IsUnread refuses opened (whole (point (record_key opened.prefix key) ∷ [])) error (point (record_key opened.prefix key) ∷ []) m
   unread_there refuses m value Memory is says = all_begin (point (record_key opened.prefix key) ∷ [])
   unread_there refuses m None (Read error) is says = absurd says
@@ -99,7 +99,7 @@ module _ (opened : Opened) (type : TypeDefinition) (key : List Item) (lawful : I
 
       neither : IsWritten opened.prefix opened.schema (record_key opened.prefix key, value) → ⊥
       neither (inl pair) = none pair
-      neither (inr total) = no_total_pair opened.prefix key opened.schema.indexes (record_key opened.prefix key, value) (itself (record_key opened.prefix key)) total
+      neither (inr total) = no_other_pair opened.prefix key opened.schema.indexes (record_key opened.prefix key, value) (itself (record_key opened.prefix key)) total
 
       bad : IsFirstBad (IsWritten opened.prefix opened.schema) (read_in m (point (record_key opened.prefix key) ∷ [])) at
       bad = record {

@@ -86,7 +86,7 @@ module _ (prefix : List ℕ) where
   -- OPENED: the map has the schema and the states that were read, and all that it holds is a store with them
   has_schema : (m : Map) (schema : Schema) (states : List (ℕ × State)) (written : Option (List ℕ)) (pairs : List Pair) → IsSchema written schema → AreStates prefix schema.indexes pairs states →
       written ≡ get m (schema_key prefix) → pairs ≡ pairs_in m (states_range prefix) → HasSchema (record { prefix = prefix; schema = schema; states = states }) m
-  has_schema m schema states written pairs is are found listed = record { made = is.made; listed = are.disabled; bytes = sym found ∙ is.bytes; states = sym listed ∙ are.are }
+  has_schema m schema states written pairs is are found listed = record { made = is.made; listed = are.are_listed; bytes = sym found ∙ is.bytes; states = sym listed ∙ are.are }
 
   opened_there : (m : Map) (schema : Schema) (states : List (ℕ × State)) (serial : Serial) → HasSchema (record { prefix = prefix; schema = schema; states = states }) m → Holds prefix m serial →
       IsThereAs (record { prefix = prefix; schema = schema; states = states }) serial
@@ -138,7 +138,7 @@ module _ (prefix : List ℕ) where
       AllByRecursion (IsOpeningPair prefix m) (map (state_pair prefix) states)
   states_form m schema [] made written all = tt
   states_form m schema (one ∷ states) made written all =
-      (inr (record { schema = schema; made = made; written = written; is = record { listed = one; disabled = all.0; is = refl } }), states_form m schema states made written all.1)
+      (inr (record { schema = schema; made = made; written = written; is = record { listed = one; is_listed = all.0; is = refl } }), states_form m schema states made written all.1)
 
   -- all pairs read of what holds a store are of the form
   opening_form : (m : Map) (serial : Serial) → Holds prefix m serial → AllByRecursion (IsOpeningPair prefix m) (read_in m (opening_reach prefix))
@@ -195,7 +195,7 @@ module _ (prefix : List ℕ) where
       split = opening_pairs m (Some bytes) pairs found listed ∙ ap (λ ps. (schema_key prefix, bytes) ∷ ps) among.split;
       good = (
         inl (record { schema = schema; made = is.made; is = λ i. (schema_key prefix, written i) }),
-        subst (AllByRecursion (IsOpeningPair prefix m)) (sym among.good.are) (states_form m schema among.states is.made (sym found ∙ is.bytes) among.good.disabled),
+        subst (AllByRecursion (IsOpeningPair prefix m)) (sym among.good.are) (states_form m schema among.states is.made (sym found ∙ is.bytes) among.good.are_listed),
       );
       malformed = malformed;
       at = says.0;

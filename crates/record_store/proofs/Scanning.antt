@@ -36,7 +36,7 @@ use Rattle.record_store.proofs.Stopping.{all_begin}
 use Rattle.record_store.proofs.Held.{type_held, under}
 use Rattle.record_store.proofs.Keys.{in_type_range, record_key_is}
 use Rattle.record_store.proofs.Openings.{pairs_lie}
-use Rattle.record_store.proofs.RecordPairs.{all_written, key_bytes, no_total_pair, none_bad, of_stored, stored_as, type_form}
+use Rattle.record_store.proofs.RecordPairs.{all_written, key_bytes, no_other_pair, none_bad, of_stored, stored_as, type_form}
 use Rattle.std.proofs.lemmas.Bool.{eqb-true}
 use Rattle.std.specs.Option.{IfNone}
 use Rattle.std.proofs.lemmas.List.{append_cancel_left, length-map, take-map}
@@ -104,7 +104,7 @@ module _ (opened : Opened) (type : TypeDefinition) (lawful : IsLawfulSchema open
   bad_written pair inside small none (inl is) = bad_form pair inside small none is
   bad_written pair inside small none (inr is) =
       let q = records_prefix opened.prefix type.number in
-      no_total_pair opened.prefix (item.int (pos type.number) ∷ []) opened.schema.indexes pair
+      no_other_pair opened.prefix (item.int (pos type.number) ∷ []) opened.schema.indexes pair
       (under q [] (255 ∷ []) pair.0 (ap (λ b. contains (record { begin = b; end = q ++ 255 ∷ [] }) pair.0) (append-nil q) ∙ inside)) is
 
   -- records that stand for the same pairs are the same

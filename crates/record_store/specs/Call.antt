@@ -1,6 +1,7 @@
 -- What a call on an open store establishes, whatever map the snapshot turns out to have.
-use Rattle.std.specs.Prelude.{◌≡◌, ◌⊎◌, ℕ, Bool, true, false, not, List, [], ◌∷◌, Some, None}
-use Rattle.std.specs.Prelude.{Result, Ok, Err, length, ◌==◌}
+use Rattle.std.specs.Prelude.{◌≡◌, ◌⊎◌, ℕ, Bool, true, false, not, List, [], ◌∷◌, ◌++◌, Some, None}
+use Rattle.std.specs.Prelude.{Result, Ok, Err, length, ◌==◌, is_some, if◌then◌else◌}
+use Rattle.std.specs.FinMap.{get}
 use Rattle.std.specs.List.{AllByRecursion}
 use Rattle.kv_core.specs.Range.{KeyRange}
 use Rattle.kv_core.specs.Map.{Map, after_all}
@@ -48,6 +49,24 @@ first_of range =
       asked = λ m. range ∷ [];
       added = λ m. range_read range 1 false (read_of m range 1 false) ∷ [];
       pairs = λ m. read_of m range 1 false;
+    }
+
+-- one reading, and then another
+abbrev pub then_reads : Reading → Reading → Reading
+then_reads one other =
+    record {
+      asked = λ m. one.asked m ++ other.asked m;
+      added = λ m. one.added m ++ other.added m;
+      pairs = λ m. one.pairs m ++ other.pairs m;
+    }
+
+-- a reading where a pair stands at a key
+abbrev pub where_there : List ℕ → Reading → Reading
+where_there key reading =
+    record {
+      asked = λ m. if is_some (get m key) then reading.asked m else [];
+      added = λ m. if is_some (get m key) then reading.added m else [];
+      pairs = λ m. if is_some (get m key) then reading.pairs m else [];
     }
 
 -- what a call may be refused for once it has read: nothing, or by the store that is there so

@@ -31,7 +31,9 @@ use Rattle.record_store.specs.Store.{disabled, dropped, extended, indexed, liste
 use Rattle.record_store.specs.Store.{removed, saved, state_in, with_state, without_state}
 use Rattle.record_store.specs.Layout.{record_key, schema_key, type_range}
 use Rattle.record_store.specs.IndexWrites.{disable_writes, drop_writes, index_added_writes, remove_writes, save_writes}
-use Rattle.record_store.specs.Call.{Call, Never, Opened, Service, first_of, whole}
+use Rattle.index_maint.specs.Built.{position_of}
+use Rattle.record_store.specs.BuiltReading.{built_reading, number_in}
+use Rattle.record_store.specs.Call.{Call, Never, Opened, Service, first_of, then_reads, where_there, whole}
 
 -- what is done with a value, or the refusal that the schema or the record meets
 abbrev pub done_with : {K A : Type 0} → (K → Service A) → Result K Refusal → Call A
@@ -52,10 +54,13 @@ load_service opened key = record {
 abbrev pub load_call : Opened → List ℕ → List Cell → Call (Option Record)
 load_call opened name cells = done_with (load_service opened) (key_of opened.schema name cells)
 
--- SAVE: a record is put in the place of that with its primary key, which is answered, and its indexes follow
+-- SAVE: a record is put in the place of that with its primary key, which is answered, and its indexes follow; for that
+-- is read whether its position is built
 abbrev pub save_service : Opened → Record → Service (Option Record)
 save_service opened r = record {
-  reading = whole (point (record_key opened.prefix (primary_key r)) ∷ []);
+  reading =
+      then_reads (whole (point (record_key opened.prefix (primary_key r)) ∷ []))
+      (built_reading opened r.definition.number (position_of (primary_key r)) opened.schema.indexes);
   objection = Never;
   answer = λ store. record_at (primary_key r) store.records;
   after = λ store. saved store r;
@@ -72,10 +77,14 @@ abbrev pub save_call : Opened → Record → Call (Option Record)
 save_call opened r =
     if is_own (find_type opened.schema r.definition.name) r then Ok (save_service opened r) else Err OtherSchema
 
--- REMOVE: the record of a primary key is taken out, where it is there, and its indexes follow
+-- REMOVE: the record of a primary key is taken out, where it is there, and its indexes follow; where it is there is read
+-- whether its position is built
 abbrev pub remove_service : Opened → List Item → Service Bool
 remove_service opened key = record {
-  reading = whole (point (record_key opened.prefix key) ∷ []);
+  reading =
+      then_reads (whole (point (record_key opened.prefix key) ∷ []))
+      (where_there (record_key opened.prefix key)
+      (built_reading opened (number_in key) (position_of key) opened.schema.indexes));
   objection = Never;
   answer = λ store. is_some (record_at key store.records);
   after = λ store. removed store key;

@@ -3,6 +3,7 @@ pub mod Layout
 pub mod Holds
 pub mod Form
 pub mod Call
+pub mod BuiltReading
 pub mod Calls
 pub mod Opening
 pub mod Steps

@@ -9,8 +9,8 @@ ghost use Rattle.metadata.specs.IndexChange.{without_index};
 ghost use Rattle.metadata.specs.Lawful.{IsLawfulSchema};
 ghost use Rattle.metadata.specs.Written.{schema_bytes};
 ghost use Rattle.metadata.specs.declared.index.State.{State};
-ghost use Rattle.record_store.specs.IndexWrites.{disable_writes};
-ghost use Rattle.record_store.specs.Layout.{entries_range, schema_key, state_key};
+ghost use Rattle.record_store.specs.IndexWrites.{clear_kept, disable_writes};
+ghost use Rattle.record_store.specs.Layout.{built_range, entries_range, schema_key, state_key};
 ghost use Rattle.record_store.specs.Store.{still_listed, with_state};
 ghost use Rattle.txn.specs.Refusing.{NeverRefuses};
 ghost use Rattle.record_store.specs.Call.{IsAnswered, IsRefused};
@@ -19,7 +19,7 @@ ghost use Rattle.record_store.specs.Calls.{index_states, opened_disabled, opened
 
 use crate::create::schema_mutations;
 use crate::error::StoreError;
-use crate::layout::{entries_range, state_key, state_value};
+use crate::layout::{built_range, entries_range, state_key, state_value};
 use crate::store::Store;
 use kv_core::{KeyRange, Mutation};
 use metadata::{MetadataError, Refusal, Schema, State};
@@ -103,17 +103,34 @@ impl Store {
         }
     }
 
+    // Puts what takes out all that is kept of the index with this number.
+    fn push_clear_kept(
+        &self,
+        number: u64,
+        mutations: &mut Vec<Mutation>,
+    ) -> Result<(), AllocError>
+        ensures { OnOk result (mutations.new.items
+            ≡ mutations.old.items ++ clear_kept self.now.prefix number) }
+    {
+        let alloc = self.alloc();
+        let entries = entries_range(alloc, self.prefix(), number)?;
+        mutations.push(Mutation::ClearRange(entries))?;
+        let built = built_range(alloc, self.prefix(), number)?;
+        mutations.push(Mutation::ClearRange(built))?;
+        Ok(())
+    }
+
     // What dropping the index with this number writes, where this schema is left.
     fn drop_mutations(&self, next: &Schema, number: u64) -> Result<Vec<Mutation>, AllocError>
         ensures { IfOk result (λ mutations.
             mutations.items ≡ Set (schema_key self.now.prefix) (schema_bytes next.now)
             ∷ ClearRange (entries_range self.now.prefix number)
+            ∷ ClearRange (built_range self.now.prefix number)
             ∷ ClearRange (point (state_key self.now.prefix number)) ∷ []) }
     {
         let alloc = self.alloc();
         let mut mutations = schema_mutations(alloc, self.prefix(), next)?;
-        let entries = entries_range(alloc, self.prefix(), number)?;
-        mutations.push(Mutation::ClearRange(entries))?;
+        self.push_clear_kept(number, &mut mutations)?;
         let key = state_key(alloc, self.prefix(), number)?;
         mutations.push(Mutation::ClearRange(KeyRange::point(alloc, &key)?))?;
         Ok(mutations)
@@ -126,10 +143,9 @@ impl Store {
         let alloc = self.alloc();
         let key = state_key(alloc, self.prefix(), number)?;
         let value = state_value(alloc, State::Disabled)?;
-        let entries = entries_range(alloc, self.prefix(), number)?;
         let mut mutations = Vec::new(alloc);
         mutations.push(Mutation::Set { key, value })?;
-        mutations.push(Mutation::ClearRange(entries))?;
+        self.push_clear_kept(number, &mut mutations)?;
         Ok(mutations)
     }
 

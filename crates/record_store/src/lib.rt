@@ -6,6 +6,7 @@
 
 mod adding;
 mod aggregate;
+mod built;
 mod create;
 mod error;
 mod following;

@@ -1,0 +1,14 @@
+mod Examples
+pub mod Gaps
+pub mod PlacePairs
+pub mod RangeRows
+pub mod LastRange
+pub mod Inserts
+pub mod Walks
+pub mod WholeRead
+pub mod OneSet
+pub mod Decided
+pub mod KeyBounds
+pub mod Pairs
+pub mod Answered
+pub mod Telling

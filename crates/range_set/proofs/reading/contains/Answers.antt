@@ -1,0 +1,15 @@
+use Rattle.range_set.proofs.Pairs.{exit_with}
+use Rattle.range_set.proofs.Telling.{contains_damaged, contains_told}
+use Rattle.range_set.proofs.reading.contains.Goals as goal
+
+pub returns-in_err-ranges-clause-refused : goal.returns-in_err-ranges-clause-refused
+returns-in_err-ranges-clause-refused g c =
+    exit_with c.from_residual-in_err-ranges.result c.in_err-ranges.field-0.0 _ c.from_residual-in_err-ranges.ensures
+    (contains_damaged (g.S.Snapshot.map_at c.args.db.now) (g.S.Snapshot.may_refuse c.args.db.now) c.args.place.now c.args.tx.now c.get_range.new.self c.args.position.now c.bytes_known.ensures
+    c.in_ok-range.range c.in_ok-pairs.pairs.items c.as_slice.result.now c.in_ok-range.ensures c.in_ok-pairs.ensures.reads c.in_ok-pairs.ensures.answer c.as_slice.ensures.value c.in_err-ranges.field-0.0 c.in_err-ranges.ensures.refused)
+
+pub returns-clause-told : goal.returns-clause-told
+returns-clause-told g c =
+    contains_told (g.S.Snapshot.map_at c.args.db.now) (g.S.Snapshot.may_refuse c.args.db.now) c.args.place.now c.args.tx.now c.get_range.new.self c.args.position.now c.bytes_known.ensures
+    c.in_ok-range.range c.in_ok-pairs.pairs.items c.as_slice.result.now c.in_ok-range.ensures c.in_ok-pairs.ensures.reads c.in_ok-pairs.ensures.answer c.as_slice.ensures.value
+    c.in_ok-ranges.ranges.items c.as_slice-2.result.now c.ends_behind.result c.in_ok-ranges.ensures.found c.as_slice-2.ensures.value c.ends_behind.ensures

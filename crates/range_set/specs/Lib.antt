@@ -1,0 +1,4 @@
+pub mod Gaps
+pub mod Stored
+pub mod Calls
+pub mod Steps
