@@ -11,6 +11,7 @@ use Rattle.tuple_codec.specs.Item.{int}
 use Rattle.tuple_codec.specs.Spelling.{item_spelling, outer, spelling}
 use Rattle.tuple_codec.specs.Subspace.{BeginsWith}
 use Rattle.kv_core.specs.Bytes.{key_cmp}
+use Rattle.kv_core.specs.Range.{KeyRange}
 use Rattle.kv_core.specs.Map.{Map}
 use Rattle.kv_core.proofs.Stored.{sorted_entries}
 use Rattle.metadata.specs.declared.definition.TypeDefinition.{TypeDefinition}
@@ -29,7 +30,7 @@ use Rattle.index_maint.specs.Changes.{HasEntries}
 use Rattle.index_maint.proofs.Places.{begins_before, parts_apart}
 use Rattle.index_maint.specs.Kept.{HasDefined, HasKept}
 use Rattle.record_store.specs.Holds.{Holds, HoldsStore, IsOfSchema}
-use Rattle.record_store.specs.Store.{Store, state_of}
+use Rattle.record_store.specs.Store.{Store, built_of, state_of}
 use Rattle.record_store.proofs.Held.{rising}
 use Rattle.record_store.proofs.Keys.{record_key_is}
 use Rattle.record_store.proofs.RecordPairs.{one_type, own_type}
@@ -112,15 +113,15 @@ module _ (prefix : List ℕ) (m : Map) (store : Store) (holds : HoldsStore prefi
           let in_map = all_these m (place prefix 1) record_pairs holds.records p (behind_place t.number p.0 b) there_is (one_each p there_is) in
           (contains_member p (entries m) in_map, begins_so (records_prefix prefix t.number) p.0 b)
 
-  readable_has : (s : State) (i : IndexDefinition) → i.kind ≡ Value → s ≡ Readable → HasKept s prefix i [] store.records m → HasEntries prefix i store.records m
-  readable_has s i value same h = subst (λ kind. HasDefined kind prefix i store.records m) value (subst (λ state. HasKept state prefix i [] store.records m) same h)
+  readable_has : (s : State) (i : IndexDefinition) (built : List KeyRange) → i.kind ≡ Value → s ≡ Readable → HasKept s prefix i built store.records m → HasEntries prefix i store.records m
+  readable_has s i built value same h = subst (λ kind. HasDefined kind prefix i store.records m) value (subst (λ state. HasKept state prefix i built store.records m) same h)
 
   entries_are : (i : IndexDefinition) → IsScannable store t i → AreThose (entries_prefix prefix i.number) (λ r. entry_pair prefix i.number (entry_of i r)) its_records (entries m)
   entries_are i scan p = (forth, back)
     where
       has : HasEntries prefix i store.records m
-      has = readable_has (state_of store i.number) i scan.value scan.readable
-          (each_member (λ j. HasKept (state_of store j.number) prefix j [] store.records m) holds.entries (member_contained i store.schema.indexes scan.there))
+      has = readable_has (state_of store i.number) i (built_of store i.number) scan.value scan.readable
+          (each_member (λ j. HasKept (state_of store j.number) prefix j (built_of store j.number) store.records m) holds.entries (member_contained i store.schema.indexes scan.there))
 
       its_pairs : List Pair
       its_pairs = entry_pairs prefix i store.records

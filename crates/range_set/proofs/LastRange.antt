@@ -16,7 +16,7 @@ use Rattle.range_set.specs.Gaps.{has_position}
 use Rattle.range_set.specs.Stored.{ArePairsOf, AreStored, AreWritten, HasSet, IsStoredRange, range_key, range_pair}
 use Rattle.range_set.specs.Calls.{upto_range}
 use Rattle.range_set.specs.Steps.{ends_behind}
-use Rattle.range_set.proofs.PlacePairs.{key_order, keys_rise, ranges_in}
+use Rattle.range_set.proofs.PlacePairs.{key_order, keys_rise, place_pairs}
 
 abbrev Pair : Type 0
 Pair = List ℕ × List ℕ
@@ -147,7 +147,7 @@ module _ (place position : List ℕ) where
       in_place : pairs_in m (upto_range place position) ≡ pairs_in (stored (map (range_pair place) has.ranges)) (upto_range place position)
       in_place =
           subst (λ e. pairs_in m (record { begin = place ++ 0 ∷ []; end = e }) ≡ pairs_in (stored (map (range_pair place) has.ranges)) (record { begin = place ++ 0 ∷ []; end = e }))
-          ends (ranges_in place has.ranges m (0 ∷ []) (spelling (bytes position ∷ []) ++ 0 ∷ []) has.has)
+          ends (place_pairs place has.ranges m (0 ∷ []) (spelling (bytes position ∷ []) ++ 0 ∷ []) has.has)
 
   -- READ: so the read backwards tells it, whatever else the map has
   pub found_tells : (set : List KeyRange) (m : Map) → AreBytes position → HasSet place set m → is_told position (read_of m (upto_range place position) 1 true) ≡ has_position set position

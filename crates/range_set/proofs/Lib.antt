@@ -7,6 +7,7 @@ pub mod Inserts
 pub mod Walks
 pub mod WholeRead
 pub mod OneSet
+pub mod RangesTold
 pub mod Decided
 pub mod KeyBounds
 pub mod Pairs

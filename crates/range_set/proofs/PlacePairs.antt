@@ -41,10 +41,10 @@ under p a b k h =
     between p a b k (not-true (key_lt k (p ++ a)) parts.0) parts.1
 
 -- PAIRS: in a range of keys that begin so a map has the pairs of its ranges there
-pub ranges_in : (place : List ℕ) (ranges : List KeyRange) (m : Map) (a b : List ℕ) → HasRanges place ranges m →
+pub place_pairs : (place : List ℕ) (ranges : List KeyRange) (m : Map) (a b : List ℕ) → HasRanges place ranges m →
     pairs_in m (record { begin = place ++ a; end = place ++ b })
     ≡ pairs_in (stored (map (range_pair place) ranges)) (record { begin = place ++ a; end = place ++ b })
-ranges_in place ranges m a b has =
+place_pairs place ranges m a b has =
     let range : KeyRange = record { begin = place ++ a; end = place ++ b } in
     pairs_in-same m (stored (map (range_pair place) ranges)) range
     (λ q h. let at = under place a b q h in subst (λ k. get m k ≡ get (ranges_map place ranges) k) (sym at.1) (has at.0))

@@ -1,5 +1,6 @@
 -- What each call's read tells, and why a call is refused behind it.
-use Rattle.std.proofs.Common.{◌≡◌, ℕ, Bool, true, List, [], Option, ap, ◌∙◌}
+use Rattle.std.proofs.Common.{◌≡◌, ℕ, Bool, true, false, not, List, [], Option, Some, None, refl, ap, subst, sym, ◌∙◌}
+use Rattle.std.specs.Option.{is_none, is_some}
 use Rattle.tuple_codec.specs.Item.{AreBytes}
 use Rattle.kv_core.specs.Map.{Agree, Map, pairs_in}
 use Rattle.kv_core.specs.Range.{KeyRange}
@@ -7,13 +8,18 @@ use Rattle.kv_core.specs.Read.{range_read, read_of}
 use Rattle.kv_core.specs.declared.change.CommitRequest.{CommitRequest}
 use Rattle.cluster_core.specs.declared.answers.ReadError.{ReadError}
 use Rattle.txn.specs.Reads.{has_read, seen}
+use Rattle.txn.proofs.Running.{ran_read}
 use Rattle.range_set.specs.declared.error.RangeSetError.{RangeSetError}
-use Rattle.range_set.specs.Calls.{IsAnswered, IsRefused, all_ranges, last_upto, upto_range, whole_range}
+use Rattle.range_set.specs.declared.error.RangeSetError.TheVariants.{Memory, Read, Corrupt}
+use Rattle.range_set.specs.Calls.{IsAnswered, IsRefused, IsTold, IsUntold, all_ranges, last_upto, upto_range, whole_range}
 use Rattle.range_set.specs.Gaps.{first_gap, has_position}
 use Rattle.range_set.specs.Steps.{HaveNoRanges, ends_behind, gap_from}
-use Rattle.range_set.specs.Stored.{ArePairsOf}
+use Rattle.range_set.specs.Stored.{ArePairsOf, AreWritten}
+use Rattle.range_set.specs.Told.{IsGapIn}
 use Rattle.range_set.proofs.Answered.{IsReading, answered, damaged}
 use Rattle.range_set.proofs.LastRange.{found_written, range_found_tells}
+use Rattle.range_set.proofs.RangeRows.{not_damaged}
+use Rattle.range_set.proofs.RangesTold.{gap_walked}
 use Rattle.range_set.proofs.WholeRead.{all_written, gap_told}
 
 abbrev Pair : Type 0
@@ -53,5 +59,33 @@ module _ (maps : ℕ → Map) (refuses : KeyRange → ℕ → ReadError → Type
         answered maps refuses place (all_ranges place) old new range slice ranges (λ set. gap ≡ first_gap set) made whole_reading are
         (λ m set there has. finds ∙ ap (gap_from []) rows ∙ gap_told place set ranges m there has)
 
+    -- IN: and it is the one that the map's pairs tell
+    pub gap_found_in : (ranges row : List KeyRange) (gap : Option KeyRange) → ArePairsOf place slice ranges → row ≡ ranges → gap ≡ gap_from [] row → IsGapIn maps place old new gap
+    gap_found_in ranges row gap are rows finds =
+        ran_read (whole_range place) (made ∙ ap (λ r. has_read r old) is)
+        (λ m agree. finds ∙ ap (gap_from []) rows ∙ gap_walked place (seen old m) ranges (subst (λ ps. ArePairsOf place ps ranges) (whole_reading m agree).1 are))
+
     pub gap_damaged : (error : RangeSetError) → HaveNoRanges place slice error → IsRefused maps refuses place (all_ranges place) error old new
     gap_damaged error none = damaged maps refuses place (all_ranges place) old new range slice error made whole_reading none (λ m set has. all_written place set m has)
+
+-- NONE: what has no value, by the test of the call
+pub none_told : {T : Type 0} (o : Option T) (none : Bool) → is_some o ≡ not none → none ≡ is_none o
+none_told None true says = refl
+none_told None false says = cc
+none_told (Some x) true says = cc
+none_told (Some x) false says = refl
+
+-- TOLD: the ranges of the pairs found tell it
+pub told_by : (place position : List ℕ) (pairs : List Pair) (ranges row : List KeyRange) (told : Bool) → AreBytes position → ArePairsOf place pairs ranges → row ≡ ranges → told ≡ ends_behind position row → IsTold place position pairs told
+told_by place position pairs ranges row told known are rows tells = record {
+  written = (ranges, are);
+  is = λ set m there has. tells ∙ ap (ends_behind position) rows ∙ range_found_tells place position set ranges m known (subst (λ ps. ArePairsOf place ps ranges) there are) has;
+}
+
+pub untold_by : (place position : List ℕ) (pairs : List Pair) (error : RangeSetError) → AreBytes position → HaveNoRanges place pairs error → IsUntold place position pairs error
+untold_by place position pairs Memory known none = tt
+untold_by place position pairs (Read error) known none = absurd none
+untold_by place position pairs (Corrupt key) known none = (
+  none,
+  λ set m there has. not_damaged place pairs key (subst (AreWritten place) (sym there) (found_written place position set m known has)) none,
+)

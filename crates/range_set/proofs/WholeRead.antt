@@ -11,12 +11,12 @@ use Rattle.range_set.specs.Calls.{whole_range}
 use Rattle.range_set.specs.Gaps.{first_gap}
 use Rattle.range_set.specs.Steps.{gap_from}
 use Rattle.range_set.specs.Stored.{ArePairsOf, AreStored, AreWritten, HasSet, range_key, range_pair}
-use Rattle.range_set.proofs.PlacePairs.{keys_rise, one_range, ranges_in}
+use Rattle.range_set.proofs.PlacePairs.{keys_rise, one_range, place_pairs}
 use Rattle.range_set.proofs.Walks.{gap_found}
 
 module _ (place : List ℕ) where
   -- the key of each range is in the range of all
-  inside : (begin : List ℕ) → contains (whole_range place) (range_key place begin) ≡ true
+  pub inside : (begin : List ℕ) → contains (whole_range place) (range_key place begin) ≡ true
   inside begin = λ i.
       not (is_lt (cmp_behind place (spelling (bytes begin ∷ [])) (0 ∷ []) i)) && is_lt (cmp_behind place (spelling (bytes begin ∷ [])) (255 ∷ []) i)
 
@@ -29,7 +29,7 @@ module _ (place : List ℕ) where
   -- WHOLE READ: a read of all gives the pairs of the stored ranges, in order
   pub whole_read : (set : List KeyRange) (m : Map) → (has : HasSet place set m) → pairs_in m (whole_range place) ≡ map (range_pair place) has.ranges
   whole_read set m has =
-      ranges_in place has.ranges m (0 ∷ []) (255 ∷ []) has.has
+      place_pairs place has.ranges m (0 ∷ []) (255 ∷ []) has.has
       ∙ pairs_in-stored (map (range_pair place) has.ranges) (whole_range place) (keys_rise place has.ranges has.stored)
       ∙ all_inside has.ranges
 

@@ -1,5 +1,5 @@
 -- What the calls on a set of positions establish, whatever map the snapshot turns out to have.
-use Rattle.std.specs.Prelude.{◌≡◌, ◌⊎◌, ℕ, IsTrue, true, List, [], ◌∷◌}
+use Rattle.std.specs.Prelude.{◌≡◌, ◌⊎◌, ℕ, Bool, IsTrue, true, List, [], ◌∷◌}
 use Rattle.tuple_codec.specs.Item.{AreBytes}
 use Rattle.tuple_codec.specs.Subspace.{range_begin, range_end}
 use Rattle.kv_core.specs.Bytes.{next_key}
@@ -59,6 +59,23 @@ InsertMeets =
     (place position : List ℕ) (range : KeyRange) (set : List KeyRange) (m : Map) → AreBytes position →
     IsStoredRange range → IsInGap range set → IsTrue (contains range position) → HasSet place set m →
     Agree ((last_upto place position).added m ∷ []) m (after (insertion place range) m) → ⊥
+
+-- why the pair found tells nothing of a position: memory is wanting, or the first damaged pair has this key, and no set
+-- is in a map of which it was read
+abbrev pub IsUntold : List ℕ → List ℕ → List (List ℕ × List ℕ) → RangeSetError → Type 0
+IsUntold place position pairs Memory = Unit {0}
+IsUntold place position pairs (Read error) = ⊥
+IsUntold place position pairs (Corrupt key) =
+    IsFirstDamaged place pairs key
+    × ((set : List KeyRange) (m : Map) → pairs ≡ (last_upto place position).pairs m → HasSet place set m → ⊥)
+
+-- the pair found tells whether a position is in the set: it is of the written form, and so it is for each set of a map
+-- of which it was read
+pub record IsTold (place position : List ℕ) (pairs : List (List ℕ × List ℕ)) (told : Bool) : Type 0 where
+  pub written : AreWritten place pairs
+  pub is :
+      (set : List KeyRange) (m : Map) → pairs ≡ (last_upto place position).pairs m → HasSet place set m →
+      told ≡ has_position set position
 
 -- the fact stands of each set that the map has under the place
 abbrev pub AtSets : List ℕ → Map → (List KeyRange → Type 0) → Type 0

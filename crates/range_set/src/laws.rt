@@ -1,6 +1,7 @@
 ghost use Rattle.range_set.specs.Calls.{InsertMeets, ReadDecides};
 ghost use Rattle.range_set.specs.Gaps.{FirstGapIs, SameGap};
 ghost use Rattle.range_set.specs.Stored.{EmptySet, OneSet, SetsWithin};
+ghost use Rattle.range_set.specs.Told.{GapTold, RangesTold};
 
 /// The first gap of a set is the first range of positions that aren't in it, and depends on its
 /// positions alone.
@@ -23,4 +24,11 @@ pub fn sets_are_of_places()
 pub fn reads_decide_positions()
     ensures decides { ReadDecides }
     ensures meets { InsertMeets }
+{}
+
+/// The ranges that pairs stand for are told by a function, just where the pairs are of the written
+/// form. So is the first gap of each set that a map has, by the pairs that it has under the place.
+pub fn pairs_tell_ranges()
+    ensures ranges { RangesTold }
+    ensures gap { GapTold }
 {}

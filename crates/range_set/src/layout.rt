@@ -43,12 +43,9 @@ pub(crate) fn whole_range(alloc: Global, place: &[u8]) -> Result<KeyRange, Alloc
     }
 }
 
-/// The keys of those ranges that begin at a position or before it.
-pub(crate) fn upto_range(
-    alloc: Global,
-    place: &[u8],
-    position: &[u8],
-) -> Result<KeyRange, AllocError>
+/// The keys of those ranges that begin at a position or before it: the last pair there, if there is
+/// one, tells whether the position is in the set.
+pub fn upto_range(alloc: Global, place: &[u8], position: &[u8]) -> Result<KeyRange, AllocError>
     requires { IsTrue (key_lt place.now end_of_keys) }
     ensures { IfOk result (λ range. range ≡ upto_range place.now position.now) }
 {

@@ -15,5 +15,8 @@ mod walking;
 
 pub use error::RangeSetError;
 pub use inserting::{insert, insert_mutation};
-pub use laws::{first_gaps_are_of_positions, reads_decide_positions, sets_are_of_places};
-pub use reading::{contains, first_gap, is_whole};
+pub use laws::{
+    first_gaps_are_of_positions, pairs_tell_ranges, reads_decide_positions, sets_are_of_places,
+};
+pub use layout::upto_range;
+pub use reading::{contains, first_gap, is_whole, position_told};

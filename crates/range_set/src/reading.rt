@@ -1,14 +1,16 @@
 ghost use Rattle.std.specs.Prelude.{◌≡◌, IfErr, IfOk, IsTrue, OnOk};
 ghost use Rattle.kv_core.specs.Bytes.{end_of_keys, key_lt};
-ghost use Rattle.range_set.specs.Calls.{IsAnswered, IsRefused, all_ranges, last_upto, upto_range, whole_range};
+ghost use Rattle.range_set.specs.Calls.{IsAnswered, IsRefused, IsTold, IsUntold, all_ranges, last_upto};
+ghost use Rattle.range_set.specs.Calls.{upto_range, whole_range};
 ghost use Rattle.range_set.specs.Gaps.{first_gap, has_position, is_whole};
 ghost use Rattle.range_set.specs.Steps.{ends_behind};
+ghost use Rattle.range_set.specs.Told.{IsGapIn};
 
 use crate::decoding::{bytes_known, ranges_found};
 use crate::error::RangeSetError;
 use crate::layout::{upto_range, whole_range};
 use crate::walking::first_gap_of;
-use kv_core::KeyRange;
+use kv_core::{KeyRange, Pair};
 use std::alloc::Global;
 use txn::{Snapshot, Transaction};
 
@@ -20,6 +22,25 @@ fn ends_behind(ranges: &[KeyRange], position: &[u8]) -> bool
         [] => false,
         [range, ..] => position.cmp(range.end().as_slice()).is_lt(),
     }
+}
+
+/// Whether a position is in the set, by the last pair that was found in the range of `upto_range`, or
+/// none where none is there.
+///
+/// Refused with `Corrupt` and its key where the pair stands for no range that may be stored.
+pub fn position_told(
+    alloc: Global,
+    place: &[u8],
+    pairs: &[Pair],
+    position: &[u8],
+) -> Result<bool, RangeSetError>
+    ensures told { IfOk result (IsTold place.now position.now pairs.now) }
+    ensures refused { IfErr result (IsUntold place.now position.now pairs.now) }
+{
+    bytes_known(position);
+    let ranges = ranges_found(alloc, place, pairs)?;
+    let told = ends_behind(ranges.as_slice(), position);
+    Ok(told)
 }
 
 /// Whether a position is in the set.
@@ -51,7 +72,8 @@ pub fn contains<S: Snapshot>(
     Ok(ends_behind(ranges.as_slice(), position))
 }
 
-/// The first range of positions that aren't in the set, or None where each is.
+/// The first range of positions that aren't in the set, or None where each is. Also where no set is
+/// there, it is the gap that the pairs of the map tell.
 ///
 /// All keys of ranges are read. Refused with the snapshot's refusal of that read, and with
 /// `Corrupt` and the key of the first pair that stands for no range that may be stored, or for one
@@ -66,6 +88,7 @@ pub fn first_gap<S: Snapshot>(
     ensures gap { IfOk result (λ gap.
         IsAnswered (S.map_at db.now) place.now (all_ranges place.now) tx.old tx.new
         (λ set. gap ≡ first_gap set)) }
+    ensures told { IfOk result (IsGapIn (S.map_at db.now) place.now tx.old tx.new) }
     ensures allowed { OnOk result
         (S.must_refuse db.now (whole_range place.now) tx.old.read_version → ⊥) }
     ensures refused { IfErr result (λ error.

@@ -1,9 +1,10 @@
 -- What reading the total of a group comes to.
-use Rattle.std.proofs.Common.{◌≡◌, inl, inr, ℕ, ◌%◌, ◌^◌, ◌<◌, zero, suc, Bool, true, false, cond, ℤ, List, [], ◌∷◌, Option, Some, None, Ok, Err, refl, sym, ap, subst, ◌∙◌, arith, length, unwrap_or}
+use Rattle.std.proofs.Common.{◌≡◌, inl, inr, ℕ, ◌%◌, ◌^◌, ◌<◌, zero, suc, Bool, true, false, cond, ℤ, List, [], ◌∷◌, Option, Some, None, Ok, Err, refl, sym, ap, subst, ◌∙◌, arith, length, unwrap_or, pos}
 use Rattle.std.specs.Prelude.{All, bytes_eq, get_or}
 use Rattle.std.specs.List.{AllByRecursion, Contains, filter, find, sum_by}
 use Rattle.std.specs.FinMap.{get}
 use Rattle.std.proofs.lemmas.Bool.{and_parts}
+use Rattle.tuple_codec.specs.Item.{bytes, int}
 use Rattle.tuple_codec.specs.Spelling.{spelling}
 use Rattle.tuple_codec.specs.Subspace.{BeginsWith}
 use Rattle.kv_core.specs.Addition.{number_of}
@@ -32,9 +33,10 @@ use Rattle.index_maint.specs.Kept.{HasDefined, HasKept}
 use Rattle.index_maint.specs.Totals.{IsGroup, IsTotal, as_signed, count_share, group_key, group_of, same_group, sum_share}
 use Rattle.index_maint.proofs.TotalLaw.{number_of-total}
 use Rattle.record_store.specs.declared.error.StoreError.{StoreError}
-use Rattle.record_store.specs.declared.error.StoreError.TheVariants.{Memory, Read, Write, Corrupt, Refused, NoStore, AlreadyThere, OtherSchema, NotAggregate, NotReadable}
-use Rattle.record_store.specs.Store.{Store, state_in, state_of}
-use Rattle.record_store.specs.Layout.{record_key}
+use Rattle.record_store.specs.declared.error.StoreError.TheVariants.{Memory, Read, Write, Corrupt, Refused, NoStore, AlreadyThere, OtherSchema, NotAggregate, NotReadable, WrongState, NotBuilt}
+use Rattle.record_store.specs.Store.{Store, built_of, state_in, state_of}
+use Rattle.record_store.specs.Layout.{built_place, record_key}
+use Rattle.index_maint.proofs.Places.{entries_elsewhere}
 use Rattle.record_store.specs.Holds.{Holds}
 use Rattle.record_store.specs.Form.{IsFirstBad, IsWritten, read_in}
 use Rattle.record_store.specs.Call.{IsOpenAs, IsUnread, Opened, whole}
@@ -49,7 +51,7 @@ use Rattle.record_store.proofs.Stopping.{all_begin}
 -- ---- indexes and groups
 
 -- what holds of each holds of one that is there
-of_contained : {X : Type 0} (P : X → Type 0) (xs : List X) (x : X) (k : ℕ) → k < length xs → get_or xs k x ≡ x → AllByRecursion P xs → P x
+pub of_contained : {X : Type 0} (P : X → Type 0) (xs : List X) (x : X) (k : ℕ) → k < length xs → get_or xs k x ≡ x → AllByRecursion P xs → P x
 of_contained P [] x k within is all = absurd (omega (arith, within))
 of_contained P (y ∷ ys) x zero within is all = subst P is all.0
 of_contained P (y ∷ ys) x (suc k) within is all = of_contained P ys x k (omega (arith, within)) is all.1
@@ -112,8 +114,8 @@ module _ (opened : Opened) (index : IndexDefinition) (group : List Cell) (known 
   had : (m : Map) (store : Store) → Holds opened.prefix m (Some store) → IsOpenAs opened store → HasDefined index.kind opened.prefix index store.records m
   had m store holds same =
       let there = subst (λ (s : Schema). Contains s.indexes index) (sym same.schema) known.there in
-      subst (λ s. HasKept s opened.prefix index [] store.records m) (ap (λ ss. state_in ss index.number) same.states ∙ known.readable)
-      (of_contained (λ (i : IndexDefinition). HasKept (state_of store i.number) opened.prefix i [] store.records m) store.schema.indexes index there.0 there.1 there.2 holds.entries)
+      subst (λ s. HasKept s opened.prefix index (built_of store index.number) store.records m) (ap (λ ss. state_in ss index.number) same.states ∙ known.readable)
+      (of_contained (λ (i : IndexDefinition). HasKept (state_of store i.number) opened.prefix i (built_of store i.number) store.records m) store.schema.indexes index there.0 there.1 there.2 holds.entries)
 
   -- so that of the group stands at its key
   abbrev StandsThere : Map → Store → Type 0
@@ -135,7 +137,7 @@ module _ (opened : Opened) (index : IndexDefinition) (group : List Cell) (known 
   form m None total is found = subst (AllByRecursion (IsWritten opened.prefix opened.schema)) (sym (read_at m key None is)) tt
   form m (Some value) total is found =
       subst (AllByRecursion (IsWritten opened.prefix opened.schema)) (sym (read_at m key (Some value) is))
-      (inr (record { index = index; there = known.there; group = group; fits = fits; key = refl; bytes = found.0 }), tt)
+      (inr (inl (record { index = index; there = known.there; group = group; fits = fits; key = refl; bytes = found.0 })), tt)
 
   total_there : (m : Map) (value : Option (List ℕ)) (total : ℤ) → get m key ≡ value → IsTotalFound value total → IsTotalRead opened index group total m
   total_there m value total is found = (
@@ -157,6 +159,8 @@ module _ (opened : Opened) (index : IndexDefinition) (group : List Cell) (known 
   unread_there refuses m None OtherSchema is says = absurd says
   unread_there refuses m None NotAggregate is says = absurd says
   unread_there refuses m None NotReadable is says = absurd says
+  unread_there refuses m None WrongState is says = absurd says
+  unread_there refuses m None NotBuilt is says = absurd says
   unread_there refuses m None (Corrupt at) is says = absurd says
   unread_there refuses m (Some value) (Read error) is says = absurd says
   unread_there refuses m (Some value) (Write error) is says = absurd says
@@ -166,6 +170,8 @@ module _ (opened : Opened) (index : IndexDefinition) (group : List Cell) (known 
   unread_there refuses m (Some value) OtherSchema is says = absurd says
   unread_there refuses m (Some value) NotAggregate is says = absurd says
   unread_there refuses m (Some value) NotReadable is says = absurd says
+  unread_there refuses m (Some value) WrongState is says = absurd says
+  unread_there refuses m (Some value) NotBuilt is says = absurd says
   unread_there refuses m (Some value) (Corrupt at) is says = (refl, bad, λ store holds same. none store (stands m store holds same))
     where
       none : (store : Store) → StandsThere m store → ⊥
@@ -179,7 +185,10 @@ module _ (opened : Opened) (index : IndexDefinition) (group : List Cell) (known 
           not_entry opened.prefix index.number 1 (primary_key pair.stored) key refl
           (subst (λ k. BeginsWith (record_key opened.prefix (primary_key pair.stored)) k) (sym same) (itself (record_key opened.prefix (primary_key pair.stored))))
           (spelling (items_of group), refl)
-      malformed (inr pair) = says.1 pair.bytes
+      malformed (inr (inl pair)) = says.1 pair.bytes
+      malformed (inr (inr one)) =
+          let begins = subst (BeginsWith (built_place opened.prefix one.index.number)) (sym (ap (λ (p : List ℕ × List ℕ). p.0) one.is)) (spelling (bytes one.range.begin ∷ []), refl) in
+          entries_elsewhere opened.prefix key index.number 6 (int (pos one.index.number) ∷ []) (omega arith) (λ is. absurd (omega (arith, is))) (spelling (items_of group), refl) begins
 
       bad : IsFirstBad (IsWritten opened.prefix opened.schema) (read_in m (point key ∷ [])) at
       bad = record { before = []; bad = (key, value); behind = []; split = read_at m key (Some value) is; good = tt; malformed = malformed; at = says.0 }

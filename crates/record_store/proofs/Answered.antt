@@ -1,7 +1,7 @@
 -- What calls on an open store come to, from what their reads and their writes establish.
 use Rattle.std.proofs.Common.{◌≡◌, ◌⊎◌, inl, inr, ℕ, Bool, true, false, not, cond, ◌==◌, List, [], ◌∷◌, refl, sym, ap, subst, ◌∙◌, Option, Some, None, Ok, Err, Result, append-nil, length}
 use Rattle.std.specs.Prelude.{IsNone}
-use Rattle.std.specs.List.{AllByRecursion, find, list_any}
+use Rattle.std.specs.List.{find, list_any}
 use Rattle.std.specs.Str.{bytes_eq}
 use Rattle.std.proofs.lemmas.Slice.Eq.{bytes_eq-Decides}
 use Rattle.tuple_codec.specs.Item.{Item, IsTuple}
@@ -28,11 +28,10 @@ use Rattle.metadata.specs.Record.{Record, key_items, key_of, record_in}
 use Rattle.metadata.specs.Schema.{Schema, find_type, key_kinds}
 use Rattle.metadata.proofs.SameTypes.{same_type-Decides}
 use Rattle.record_store.specs.declared.error.StoreError.{StoreError}
-use Rattle.record_store.specs.declared.error.StoreError.TheVariants.{Memory, Read, Write, Corrupt, Refused, NoStore, AlreadyThere, OtherSchema, NotAggregate, NotReadable}
+use Rattle.record_store.specs.declared.error.StoreError.TheVariants.{Memory, Read, Write, Corrupt, Refused, NoStore, AlreadyThere, OtherSchema, NotAggregate, NotReadable, WrongState, NotBuilt}
 use Rattle.record_store.specs.Store.{Store}
 use Rattle.record_store.specs.Holds.{Holds, IsOfSchema}
-use Rattle.record_store.specs.Form.{IsWritten}
-use Rattle.record_store.specs.Call.{AtStore, Call, IsAnswered, IsFailure, IsOpenAs, IsRefused, IsUndone, IsUnread, Opened, Service, is_objected}
+use Rattle.record_store.specs.Call.{AtStore, Call, IsAnswered, IsFailure, IsOpenAs, IsRefused, IsUndone, IsSound, IsUnread, Opened, Service, is_objected}
 use Rattle.record_store.specs.Calls.{done_with, is_own}
 use Rattle.record_store.specs.Reading.{HasNotFound, IsKeyOf}
 use Rattle.record_store.specs.Steps.{DidRead, IsBeginning, no_memory, of_metadata, of_write}
@@ -115,6 +114,8 @@ refused_anyway maps refuses opened (Ok service) error old new is = record { adde
     by_error OtherSchema ranges m says = says
     by_error NotAggregate ranges m says = says
     by_error NotReadable ranges m says = says
+    by_error WrongState ranges m says = says
+    by_error NotBuilt ranges m says = says
 
 module _ {A : Type 0} (maps : ℕ → Map) (refuses : KeyRange → ℕ → ReadError → Type 0) (opened : Opened) where
   -- OWN REFUSAL: the call's own, before it read anything
@@ -137,6 +138,8 @@ module _ {A : Type 0} (maps : ℕ → Map) (refuses : KeyRange → ℕ → ReadE
   failure_of refused service OtherSchema before added m says = absurd says
   failure_of refused service NotAggregate before added m says = absurd says
   failure_of refused service NotReadable before added m says = absurd says
+  failure_of refused service WrongState before added m says = absurd says
+  failure_of refused service NotBuilt before added m says = absurd says
 
   pub refused_unread : {old new : CommitRequest} (call : Call A) (service : Service A) (error : StoreError) → call ≡ Ok service → HasNotFound maps refuses opened service.reading error old new →
       IsRefused maps refuses opened call error old new
@@ -158,7 +161,7 @@ module _ {A : Type 0} (maps : ℕ → Map) (refuses : KeyRange → ℕ → ReadE
 
   -- LIMIT: what the call writes was refused
   pub refused_limit : {added : List KeyRange} {old mid new : CommitRequest} {F : Store → Type 0} (call : Call A) (service : Service A) (list : List Mutation) (error : WriteError) → call ≡ Ok service →
-      DidRead maps added old mid (λ m. (added ≡ service.reading.added m) × (AllByRecursion (IsWritten opened.prefix opened.schema) (service.reading.pairs m) × AtStore opened m F)) → ((m : Map) (store : Store) → Holds opened.prefix m (Some store) → IsOpenAs opened store → F store → (is_objected service.objection store ≡ false) × (list ≡ service.writes store)) → new ≡ mid →
+      DidRead maps added old mid (λ m. (added ≡ service.reading.added m) × (IsSound opened service.reading m × AtStore opened m F)) → ((m : Map) (store : Store) → Holds opened.prefix m (Some store) → IsOpenAs opened store → F store → (is_objected service.objection store ≡ false) × (list ≡ service.writes store)) → new ≡ mid →
       (error ≡ write.Memory) ⊎ (write_all_refusal mid.mutations list ≡ Some error) → IsRefused maps refuses opened call (of_write error) old new
   refused_limit {added = added} {old = old} {mid = mid} {new = new} {F = F} call service list error accepted ran wrote same says =
       subst (λ c. IsRefused maps refuses opened c (of_write error) old new) (sym accepted)
@@ -178,7 +181,7 @@ module _ {A : Type 0} (maps : ℕ → Map) (refuses : KeyRange → ℕ → ReadE
 
   -- ANSWERED: reads, and then writes that no limit refuses
   pub answered : {added : List KeyRange} {old mid new : CommitRequest} {F : Store → Type 0} (call : Call A) (service : Service A) (answer : A) (list : List Mutation) → call ≡ Ok service → (length list == 0) ≡ not (service.changes answer) →
-      DidRead maps added old mid (λ m. (added ≡ service.reading.added m) × (AllByRecursion (IsWritten opened.prefix opened.schema) (service.reading.pairs m) × AtStore opened m F)) →
+      DidRead maps added old mid (λ m. (added ≡ service.reading.added m) × (IsSound opened service.reading m × AtStore opened m F)) →
       new ≡ with_mutations list mid → IsNone (write_all_refusal mid.mutations list) →
       ((m : Map) (store : Store) → Holds opened.prefix m (Some store) → IsOpenAs opened store → F store → IsServed opened service answer list m store) → IsAnswered maps opened call answer old new
   answered {added = added} {old = old} {mid = mid} call service answer list accepted changes ran is allowed serves = record {
@@ -206,7 +209,7 @@ module _ {A : Type 0} (maps : ℕ → Map) (refuses : KeyRange → ℕ → ReadE
 
   -- ANSWERED: reads alone
   pub answered_reading : {added : List KeyRange} {old new : CommitRequest} {F : Store → Type 0} (call : Call A) (service : Service A) (answer : A) → call ≡ Ok service → true ≡ not (service.changes answer) →
-      DidRead maps added old new (λ m. (added ≡ service.reading.added m) × (AllByRecursion (IsWritten opened.prefix opened.schema) (service.reading.pairs m) × AtStore opened m F)) →
+      DidRead maps added old new (λ m. (added ≡ service.reading.added m) × (IsSound opened service.reading m × AtStore opened m F)) →
       ((m : Map) (store : Store) → Holds opened.prefix m (Some store) → IsOpenAs opened store → F store → IsServed opened service answer [] m store) → IsAnswered maps opened call answer old new
   answered_reading {added = added} {old = old} call service answer accepted changes ran serves = record {
     service = service;

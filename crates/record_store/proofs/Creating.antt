@@ -15,7 +15,7 @@ use Rattle.txn.proofs.Running.{ran_because, ran_then, ran_write}
 use Rattle.metadata.specs.Lawful.{IsLawfulSchema}
 use Rattle.metadata.specs.Schema.{Schema}
 use Rattle.record_store.specs.declared.error.StoreError.{StoreError}
-use Rattle.record_store.specs.declared.error.StoreError.TheVariants.{Memory, Read, Write, Corrupt, Refused, NoStore, AlreadyThere, OtherSchema, NotAggregate, NotReadable}
+use Rattle.record_store.specs.declared.error.StoreError.TheVariants.{Memory, Read, Write, Corrupt, Refused, NoStore, AlreadyThere, OtherSchema, NotAggregate, NotReadable, WrongState, NotBuilt}
 use Rattle.record_store.specs.Store.{Serial, created}
 use Rattle.record_store.specs.Layout.{schema_key, states_range}
 use Rattle.record_store.specs.Holds.{Holds}
@@ -61,6 +61,8 @@ module _ (prefix : List ℕ) (schema : Schema) where
   create_error refuses added OtherSchema before m says = absurd says
   create_error refuses added NotAggregate before m says = absurd says
   create_error refuses added NotReadable before m says = absurd says
+  create_error refuses added WrongState before m says = absurd says
+  create_error refuses added NotBuilt before m says = absurd says
 
   -- READS: one came to an error
   pub uncreated : {maps : ℕ → Map} {refuses : KeyRange → ℕ → ReadError → Type 0} {old new : CommitRequest} (error : StoreError) → HasNotRead maps refuses (opening_reach prefix) error old new → IsUncreated maps refuses made error old new

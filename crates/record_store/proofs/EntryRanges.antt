@@ -15,7 +15,7 @@ use Rattle.tuple_codec.proofs.Prefixes.{begins_or_not, cmp_behind}
 use Rattle.tuple_codec.proofs.TupleOrder.{outer_tail}
 use Rattle.kv_core.specs.Bytes.{key_lt}
 use Rattle.kv_core.specs.Map.{Map, after}
-use Rattle.kv_core.specs.Range.{contains}
+use Rattle.kv_core.specs.Range.{KeyRange, contains}
 use Rattle.kv_core.specs.declared.change.Mutation.TheVariants.{ClearRange}
 use Rattle.kv_core.proofs.Changes.{get-after, get-kept}
 use Rattle.kv_core.proofs.Stored.{get-stored}
@@ -118,37 +118,37 @@ module _ (prefix : List ℕ) (records : List Record) (storable : AllByRecursion 
       (sym (low_inside prefix index.number (spelling (items_of group)) (group_low group is.cells))
       ∙ ap (λ bs. contains (entries_range prefix index.number) (entries_prefix prefix index.number ++ bs)) (sym same) ∙ out))
 
-  pub nothing_out : (index : IndexDefinition) (state : State) (bytes : List ℕ) → HasIndex prefix records m index state →
+  pub nothing_out : (index : IndexDefinition) (ranges : List KeyRange) (state : State) (bytes : List ℕ) → HasIndex prefix ranges records m index state →
       contains (entries_range prefix index.number) (entries_prefix prefix index.number ++ bytes) ≡ false → get m (entries_prefix prefix index.number ++ bytes) ≡ None
-  nothing_out index Readable bytes has out = by_kind index.kind has
+  nothing_out index ranges Readable bytes has out = by_kind index.kind has
     where
       by_kind : (kind : IndexKind) → HasDefined kind prefix index records m → get m (entries_prefix prefix index.number ++ bytes) ≡ None
       by_kind Value has = has bytes ∙ entries_out index bytes out
       by_kind Count has = totals_out index records bytes count_share out has
       by_kind Sum has = totals_out index records bytes sum_share out has
-  nothing_out index WriteOnly bytes has out = by_kind index.kind has
+  nothing_out index ranges WriteOnly bytes has out = by_kind index.kind has
     where
-      by_kind : (kind : IndexKind) → HasPart kind prefix index [] records m → get m (entries_prefix prefix index.number ++ bytes) ≡ None
+      by_kind : (kind : IndexKind) → HasPart kind prefix index ranges records m → get m (entries_prefix prefix index.number ++ bytes) ≡ None
       by_kind Value has = by_value (get m (entries_prefix prefix index.number ++ bytes)) refl
         where
           by_value : (value : Option (List ℕ)) → get m (entries_prefix prefix index.number ++ bytes) ≡ value → value ≡ None
           by_value None is = refl
           by_value (Some value) is = sym (has.only bytes value is) ∙ entries_out index bytes out
-      by_kind Count has = totals_out index (built_records [] records) bytes count_share out has
-      by_kind Sum has = totals_out index (built_records [] records) bytes sum_share out has
-  nothing_out index Disabled bytes has out = has bytes
+      by_kind Count has = totals_out index (built_records ranges records) bytes count_share out has
+      by_kind Sum has = totals_out index (built_records ranges records) bytes sum_share out has
+  nothing_out index ranges Disabled bytes has out = has bytes
 
   -- so has the index with a number
-  pub nothing_out_of : (states : ℕ → State) (number : ℕ) (indexes : List IndexDefinition) (bytes : List ℕ) → has_number indexes number ≡ true →
-      AllByRecursion (λ index. HasIndex prefix records m index (states index.number)) indexes →
+  pub nothing_out_of : (states : ℕ → State) (built : ℕ → List KeyRange) (number : ℕ) (indexes : List IndexDefinition) (bytes : List ℕ) → has_number indexes number ≡ true →
+      AllByRecursion (λ index. HasIndex prefix (built index.number) records m index (states index.number)) indexes →
       contains (entries_range prefix number) (entries_prefix prefix number ++ bytes) ≡ false → get m (entries_prefix prefix number ++ bytes) ≡ None
-  nothing_out_of states number [] bytes there all out = absurd (cc)
-  nothing_out_of states number (index ∷ indexes) bytes there all out = by_test (index.number == number) refl there (λ more. nothing_out_of states number indexes bytes more all.1 out)
+  nothing_out_of states built number [] bytes there all out = absurd (cc)
+  nothing_out_of states built number (index ∷ indexes) bytes there all out = by_test (index.number == number) refl there (λ more. nothing_out_of states built number indexes bytes more all.1 out)
     where
       by_test : (b : Bool) → (index.number == number) ≡ b → (b || has_number indexes number) ≡ true → (has_number indexes number ≡ true → get m (entries_prefix prefix number ++ bytes) ≡ None) →
           get m (entries_prefix prefix number ++ bytes) ≡ None
       by_test true is some go =
           let same = eqb-true index.number number is in
           subst (λ n. contains (entries_range prefix n) (entries_prefix prefix n ++ bytes) ≡ false → get m (entries_prefix prefix n ++ bytes) ≡ None) same
-          (nothing_out index (states index.number) bytes all.0) out
+          (nothing_out index (built index.number) (states index.number) bytes all.0) out
       by_test false is some go = go some

@@ -10,21 +10,20 @@ use Rattle.kv_core.specs.declared.change.Mutation.{Mutation}
 use Rattle.kv_core.specs.declared.change.Mutation.TheVariants.{Set, ClearRange}
 use Rattle.metadata.specs.declared.index.IndexDefinition.{IndexDefinition}
 use Rattle.metadata.specs.declared.index.State.{State}
-use Rattle.metadata.specs.declared.index.State.TheVariants.{Disabled}
 use Rattle.metadata.specs.declared.refusal.Refusal.{Refusal}
 use Rattle.metadata.specs.declared.refusal.Refusal.TheVariants.{UnknownIndex}
 use Rattle.metadata.specs.IndexChange.{drop_index, without_index}
 use Rattle.metadata.specs.Lawful.{IsLawfulSchema}
 use Rattle.metadata.specs.Schema.{Schema, find_index}
 use Rattle.metadata.specs.Written.{schema_bytes}
-use Rattle.record_store.specs.Store.{Store, disabled, dropped, still_listed, with_state, without_state}
-use Rattle.record_store.specs.Layout.{entries_range, schema_key, state_key}
+use Rattle.record_store.specs.Store.{Store, dropped, still_listed, with_state, without_state}
+use Rattle.record_store.specs.Layout.{built_range, entries_range, schema_key, state_key}
 use Rattle.record_store.specs.Holds.{Holds, has_number}
 use Rattle.record_store.specs.Call.{IsOpenAs, Opened}
-use Rattle.record_store.specs.Calls.{disable_service, drop_service, index_number, opened_without}
-use Rattle.record_store.specs.IndexWrites.{disable_writes, drop_writes}
+use Rattle.record_store.specs.Calls.{drop_service, index_number, opened_without}
+use Rattle.record_store.specs.IndexWrites.{drop_writes}
 use Rattle.record_store.proofs.Answered.{IsServed}
-use Rattle.record_store.proofs.IndexChanges.{disabled_holds, dropped_holds}
+use Rattle.record_store.proofs.IndexChanges.{dropped_holds}
 
 -- ---- names
 
@@ -112,13 +111,13 @@ left_is opened prefix schema states number other found prefixes schemas listed i
     (λ i. record { prefix = prefixes i; schema = schemas i; states = listed i }) ∙ ap (opened_without opened) same
 
 -- DROP: the index is gone
-pub drop_served : (opened : Opened) (number : ℕ) (next : Schema) (list : List Mutation) → list ≡ Set (schema_key opened.prefix) (schema_bytes next) ∷ ClearRange (entries_range opened.prefix number) ∷ ClearRange (point (state_key opened.prefix number)) ∷ [] →
+pub drop_served : (opened : Opened) (number : ℕ) (next : Schema) (list : List Mutation) → list ≡ Set (schema_key opened.prefix) (schema_bytes next) ∷ ClearRange (entries_range opened.prefix number) ∷ ClearRange (built_range opened.prefix number) ∷ ClearRange (point (state_key opened.prefix number)) ∷ [] →
     next ≡ without_index opened.schema number → has_number opened.schema.indexes number ≡ true → IsLawfulSchema next →
     (m : Map) (store : Store) → Holds opened.prefix m (Some store) → IsOpenAs opened store → IsServed opened (drop_service opened number) next list m store
 drop_served opened number next list wrote is there lawful m store holds same =
     let left : next ≡ without_index store.schema number = is ∙ ap (λ s. without_index s number) (sym same.schema) in
     let writes : list ≡ drop_writes opened.prefix store number =
-    wrote ∙ ap (λ s. Set (schema_key opened.prefix) (schema_bytes s) ∷ ClearRange (entries_range opened.prefix number) ∷ ClearRange (point (state_key opened.prefix number)) ∷ []) left in record {
+    wrote ∙ ap (λ s. Set (schema_key opened.prefix) (schema_bytes s) ∷ ClearRange (entries_range opened.prefix number) ∷ ClearRange (built_range opened.prefix number) ∷ ClearRange (point (state_key opened.prefix number)) ∷ []) left in record {
       accepted = refl;
       answers = left;
       wrote = writes;
@@ -127,21 +126,9 @@ drop_served opened number next list wrote is there lawful m store holds same =
           (dropped_holds opened.prefix m store number (ap (λ (s : Schema). has_number s.indexes number) same.schema ∙ there) holds (subst IsLawfulSchema left lawful));
     }
 
-pub drop_wrote : (opened : Opened) (number : ℕ) (next : Schema) (list : List Mutation) → list ≡ Set (schema_key opened.prefix) (schema_bytes next) ∷ ClearRange (entries_range opened.prefix number) ∷ ClearRange (point (state_key opened.prefix number)) ∷ [] →
+pub drop_wrote : (opened : Opened) (number : ℕ) (next : Schema) (list : List Mutation) → list ≡ Set (schema_key opened.prefix) (schema_bytes next) ∷ ClearRange (entries_range opened.prefix number) ∷ ClearRange (built_range opened.prefix number) ∷ ClearRange (point (state_key opened.prefix number)) ∷ [] →
     next ≡ without_index opened.schema number → (store : Store) → IsOpenAs opened store → list ≡ drop_writes opened.prefix store number
 drop_wrote opened number next list wrote is store same =
     wrote
-    ∙ ap (λ s. Set (schema_key opened.prefix) (schema_bytes s) ∷ ClearRange (entries_range opened.prefix number) ∷ ClearRange (point (state_key opened.prefix number)) ∷ [])
+    ∙ ap (λ s. Set (schema_key opened.prefix) (schema_bytes s) ∷ ClearRange (entries_range opened.prefix number) ∷ ClearRange (built_range opened.prefix number) ∷ ClearRange (point (state_key opened.prefix number)) ∷ [])
     (is ∙ ap (λ s. without_index s number) (sym same.schema))
-
--- DISABLE: the index is disabled
-pub disable_served : (opened : Opened) (number : ℕ) (states : List (ℕ × State)) (list : List Mutation) → list ≡ disable_writes opened.prefix number → states ≡ with_state number Disabled opened.states → has_number opened.schema.indexes number ≡ true →
-    (m : Map) (store : Store) → Holds opened.prefix m (Some store) → IsOpenAs opened store → IsServed opened (disable_service opened number) states list m store
-disable_served opened number states list wrote is there m store holds same = record {
-  accepted = refl;
-  answers = is ∙ ap (with_state number Disabled) (sym same.states);
-  wrote = wrote;
-  holds =
-      subst (λ ms. Holds opened.prefix (after_all ms m) (Some (disabled store number))) (sym wrote)
-      (disabled_holds opened.prefix m store number (ap (λ (s : Schema). has_number s.indexes number) same.schema ∙ there) holds);
-}

@@ -11,25 +11,26 @@ use Rattle.tuple_codec.specs.Spelling.{int_spelling, spelling}
 use Rattle.tuple_codec.specs.Subspace.{BeginsWith, key_of}
 use Rattle.kv_core.specs.Bytes.{key_cmp}
 use Rattle.kv_core.specs.Map.{Map, after}
-use Rattle.kv_core.specs.Range.{point}
+use Rattle.kv_core.specs.Range.{KeyRange, point}
 use Rattle.kv_core.specs.declared.change.Mutation.TheVariants.{Set, ClearRange}
 use Rattle.kv_core.proofs.Changes.{get-after, get-set}
 use Rattle.kv_core.proofs.Order.{tied_keys}
 use Rattle.kv_core.proofs.Pairs.{contains-point-is}
 use Rattle.metadata.specs.declared.index.IndexDefinition.{IndexDefinition}
 use Rattle.metadata.specs.declared.index.State.{State}
+use Rattle.metadata.specs.declared.index.State.TheVariants.{Readable, WriteOnly, Disabled}
 use Rattle.metadata.specs.Record.{Record}
 use Rattle.index_maint.specs.Kept.{HasKept}
 use Rattle.index_maint.specs.Layout.{entries_prefix}
 use Rattle.index_maint.proofs.KeptLaw.{kept_within}
-use Rattle.index_maint.proofs.Places.{begins_before, entries_elsewhere, places_differ}
-use Rattle.record_store.specs.Layout.{place, record_key, schema_key, state_key}
-use Rattle.record_store.specs.Holds.{Holds, IsNoEntry}
+use Rattle.index_maint.proofs.Places.{begins_before, entries_elsewhere, places_apart, places_differ}
+use Rattle.record_store.specs.Layout.{built_place, place, record_key, schema_key, state_key}
+use Rattle.record_store.specs.Holds.{HasPositions, Holds, IsNoEntry, IsNoRange}
 use Rattle.record_store.proofs.Keys.{record_key_is}
 
 -- what a map has of an index, by its state
-abbrev pub HasIndex : List ℕ → List Record → Map → IndexDefinition → State → Type 0
-HasIndex prefix records m index state = HasKept state prefix index [] records m
+abbrev pub HasIndex : List ℕ → List KeyRange → List Record → Map → IndexDefinition → State → Type 0
+HasIndex prefix ranges records m index state = HasKept state prefix index ranges records m
 
 -- ---- one key
 
@@ -52,31 +53,42 @@ itself key = ([], sym (append-nil key))
 
 module _ (prefix : List ℕ) where
   -- a key under one number isn't one under another
-  pub other_place : (p : ℕ) (ps : List Item) (n : ℕ) (ns : List Item) (at : List ℕ) → (nat_lt p 6 && (nat_lt n 6 && not (n == p))) ≡ true → BeginsWith (key_of prefix (int (pos n) ∷ ns)) at →
+  pub other_place : (p : ℕ) (ps : List Item) (n : ℕ) (ns : List Item) (at : List ℕ) → (nat_lt p 7 && (nat_lt n 7 && not (n == p))) ≡ true → BeginsWith (key_of prefix (int (pos n) ∷ ns)) at →
       at ≡ key_of prefix (int (pos p) ∷ ps) → ⊥
   other_place p ps n ns at differ there same =
-      let one = and_parts (nat_lt p 6) (nat_lt n 6 && not (n == p)) differ in
-      let two = and_parts (nat_lt n 6) (not (n == p)) one.1 in
-      let low = ltb-true p 6 one.0 in
-      let high = ltb-true n 6 two.0 in
+      let one = and_parts (nat_lt p 7) (nat_lt n 7 && not (n == p)) differ in
+      let two = and_parts (nat_lt n 7) (not (n == p)) one.1 in
+      let low = ltb-true p 7 one.0 in
+      let high = ltb-true n 7 two.0 in
       places_differ prefix at (key_of prefix (int (pos p) ∷ ps)) n p ns ps (omega (arith, high)) (omega (arith, low)) (eqb-false n p (not-true (n == p) two.1)) there (itself (key_of prefix (int (pos p) ∷ ps))) same
 
   -- a key under another number than 2 is that of no entry
-  pub not_entry : (i n : ℕ) (ns : List Item) (key : List ℕ) → (nat_lt n 6 && not (n == 2)) ≡ true → BeginsWith (key_of prefix (int (pos n) ∷ ns)) key → BeginsWith (entries_prefix prefix i) key → ⊥
+  pub not_entry : (i n : ℕ) (ns : List Item) (key : List ℕ) → (nat_lt n 7 && not (n == 2)) ≡ true → BeginsWith (key_of prefix (int (pos n) ∷ ns)) key → BeginsWith (entries_prefix prefix i) key → ⊥
   not_entry i n ns key other there entry =
-      let parts = and_parts (nat_lt n 6) (not (n == 2)) other in
-      let low = ltb-true n 6 parts.0 in
+      let parts = and_parts (nat_lt n 7) (not (n == 2)) other in
+      let low = ltb-true n 7 parts.0 in
       entries_elsewhere prefix key i n ns (omega (arith, low)) (eqb-false n 2 (not-true (n == 2) parts.1)) entry there
 
-  pub no_entry_at : (n : ℕ) (ns : List Item) (indexes : List IndexDefinition) (key : List ℕ) → (nat_lt n 6 && not (n == 2)) ≡ true → BeginsWith (key_of prefix (int (pos n) ∷ ns)) key → IsNoEntry prefix indexes key
+  pub no_entry_at : (n : ℕ) (ns : List Item) (indexes : List IndexDefinition) (key : List ℕ) → (nat_lt n 7 && not (n == 2)) ≡ true → BeginsWith (key_of prefix (int (pos n) ∷ ns)) key → IsNoEntry prefix indexes key
   no_entry_at n ns [] key other there = tt
   no_entry_at n ns (index ∷ indexes) key other there = (not_entry index.number n ns key other there, no_entry_at n ns indexes key other there)
 
   pub no_entry_schema : (indexes : List IndexDefinition) → IsNoEntry prefix indexes (schema_key prefix)
   no_entry_schema indexes = no_entry_at 0 [] indexes (schema_key prefix) refl (itself (schema_key prefix))
 
-  pub no_entry_in : (n : ℕ) (indexes : List IndexDefinition) (bytes : List ℕ) → (nat_lt n 6 && not (n == 2)) ≡ true → IsNoEntry prefix indexes (place prefix n ++ bytes)
+  pub no_entry_in : (n : ℕ) (indexes : List IndexDefinition) (bytes : List ℕ) → (nat_lt n 7 && not (n == 2)) ≡ true → IsNoEntry prefix indexes (place prefix n ++ bytes)
   no_entry_in n indexes bytes other = no_entry_at n [] indexes (place prefix n ++ bytes) other (bytes, refl)
+
+  -- a key under another number than 6 is that of no built range
+  pub not_range : (i n : ℕ) (ns : List Item) (key : List ℕ) → (nat_lt n 7 && not (n == 6)) ≡ true → BeginsWith (key_of prefix (int (pos n) ∷ ns)) key → BeginsWith (built_place prefix i) key → ⊥
+  not_range i n ns key other there range =
+      let parts = and_parts (nat_lt n 7) (not (n == 6)) other in
+      let low = ltb-true n 7 parts.0 in
+      eqb-false n 6 (not-true (n == 6) parts.1) (sym (places_apart prefix key 6 n (int (pos i) ∷ []) ns (omega arith) (omega (arith, low)) range there))
+
+  pub no_range_at : (n : ℕ) (ns : List Item) (indexes : List IndexDefinition) (key : List ℕ) → (nat_lt n 7 && not (n == 6)) ≡ true → BeginsWith (key_of prefix (int (pos n) ∷ ns)) key → IsNoRange prefix indexes key
+  no_range_at n ns [] key other there = tt
+  no_range_at n ns (index ∷ indexes) key other there = (not_range index.number n ns key other there, no_range_at n ns indexes key other there)
 
   -- a state's key is in the place of states
   pub state_key_is : (number : ℕ) → place prefix 5 ++ spelling (int (pos number) ∷ []) ≡ state_key prefix number
@@ -97,12 +109,35 @@ module _ (prefix : List ℕ) where
   -- ---- indexes
 
   -- what a map has of an index it has where it is the same at the index's keys
-  pub kept_index : (records : List Record) (m n : Map) (index : IndexDefinition) (state : State) →
-      ((bytes : List ℕ) → get n (entries_prefix prefix index.number ++ bytes) ≡ get m (entries_prefix prefix index.number ++ bytes)) → HasIndex prefix records m index state → HasIndex prefix records n index state
-  kept_index records m n index state same has = kept_within state prefix index [] records m n (λ bytes. sym (same bytes)) has
+  pub kept_index : (ranges : List KeyRange) (records : List Record) (m n : Map) (index : IndexDefinition) (state : State) →
+      ((bytes : List ℕ) → get n (entries_prefix prefix index.number ++ bytes) ≡ get m (entries_prefix prefix index.number ++ bytes)) → HasIndex prefix ranges records m index state → HasIndex prefix ranges records n index state
+  kept_index ranges records m n index state same has = kept_within state prefix index ranges records m n (λ bytes. sym (same bytes)) has
 
-  pub kept_indexes : (records : List Record) (states : ℕ → State) (m n : Map) (indexes : List IndexDefinition) →
+  pub kept_indexes : (records : List Record) (states : ℕ → State) (built : ℕ → List KeyRange) (m n : Map) (indexes : List IndexDefinition) →
       ((number : ℕ) (bytes : List ℕ) → get n (entries_prefix prefix number ++ bytes) ≡ get m (entries_prefix prefix number ++ bytes)) →
-      AllByRecursion (λ index. HasIndex prefix records m index (states index.number)) indexes → AllByRecursion (λ index. HasIndex prefix records n index (states index.number)) indexes
-  kept_indexes records states m n [] same all = tt
-  kept_indexes records states m n (index ∷ indexes) same all = (kept_index records m n index (states index.number) (same index.number) all.0, kept_indexes records states m n indexes same all.1)
+      AllByRecursion (λ index. HasIndex prefix (built index.number) records m index (states index.number)) indexes →
+      AllByRecursion (λ index. HasIndex prefix (built index.number) records n index (states index.number)) indexes
+  kept_indexes records states built m n [] same all = tt
+  kept_indexes records states built m n (index ∷ indexes) same all =
+      (kept_index (built index.number) records m n index (states index.number) (same index.number) all.0, kept_indexes records states built m n indexes same all.1)
+
+  -- what a map has of an index's built positions it has where it is the same at their keys
+  pub kept_range : (state : State) (number : ℕ) (ranges : List KeyRange) (m n : Map) →
+      ((bytes : List ℕ) → get n (built_place prefix number ++ bytes) ≡ get m (built_place prefix number ++ bytes)) → HasPositions state prefix number ranges m → HasPositions state prefix number ranges n
+  kept_range Readable number ranges m n same has = λ bytes. same bytes ∙ has bytes
+  kept_range WriteOnly number ranges m n same has = record { ranges = has.ranges; stored = has.stored; has = λ rest. same rest ∙ has.has rest; same = has.same }
+  kept_range Disabled number ranges m n same has = λ bytes. same bytes ∙ has bytes
+
+  pub kept_ranges : (states : ℕ → State) (built : ℕ → List KeyRange) (m n : Map) (indexes : List IndexDefinition) →
+      ((number : ℕ) (bytes : List ℕ) → get n (built_place prefix number ++ bytes) ≡ get m (built_place prefix number ++ bytes)) →
+      AllByRecursion (λ index. HasPositions (states index.number) prefix index.number (built index.number) m) indexes →
+      AllByRecursion (λ index. HasPositions (states index.number) prefix index.number (built index.number) n) indexes
+  kept_ranges states built m n [] same all = tt
+  kept_ranges states built m n (index ∷ indexes) same all =
+      (kept_range (states index.number) index.number (built index.number) m n (same index.number) all.0, kept_ranges states built m n indexes same all.1)
+
+  -- a state that isn't write-only has none
+  pub none_built : (state : State) (number : ℕ) (ranges : List KeyRange) (m : Map) → (state ≡ WriteOnly → ⊥) → ((bytes : List ℕ) → get m (built_place prefix number ++ bytes) ≡ None) → HasPositions state prefix number ranges m
+  none_built Readable number ranges m other none = none
+  none_built WriteOnly number ranges m other none = absurd (other refl)
+  none_built Disabled number ranges m other none = none

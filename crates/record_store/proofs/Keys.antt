@@ -4,7 +4,7 @@ use Rattle.std.specs.declared.cmp.Ordering.{Ordering}
 use Rattle.std.specs.declared.cmp.Ordering.TheVariants.{Less, Equal, Greater}
 use Rattle.std.specs.Ordering.{nat_cmp, ordering_then, is_lt, is_eq}
 use Rattle.std.specs.FinMap.{nat_cmp-IsAntisymmetric}
-use Rattle.std.proofs.lemmas.Bool.{eqb-true, eqb-false}
+use Rattle.std.proofs.lemmas.Bool.{and_parts, eqb-true, eqb-false}
 use Rattle.tuple_codec.proofs.ByteOrder.{equal}
 use Rattle.tuple_codec.specs.Item.{Item, int, IsTuple}
 use Rattle.tuple_codec.specs.Order.{tuple_cmp}
@@ -19,7 +19,8 @@ use Rattle.kv_core.specs.Bytes.{key_cmp, key_le, key_lt, end_of_keys}
 use Rattle.kv_core.specs.Range.{KeyRange, contains, is_key_range}
 use Rattle.kv_core.proofs.Order.{le_from_lt}
 use Rattle.index_maint.specs.Layout.{entries_prefix}
-use Rattle.record_store.specs.Layout.{entries_range, state_key, place, record_key, schema_key, states_range, type_range}
+use Rattle.record_store.specs.Building.{positions_range}
+use Rattle.record_store.specs.Layout.{built_place, built_range, entries_range, state_key, place, record_key, schema_key, states_range, type_range}
 
 -- ---- below the end
 
@@ -72,11 +73,15 @@ module _ (prefix : List ℕ) where
       ∙ cmp_int (pos m) (pos n) (spelling ks) [] hm hn
       ∙ ap (λ o. ordering_then o (key_cmp (spelling ks) [])) (int_cmp_pos m n)
 
+  -- what stands behind the number of a type
+  pub behind_type : (n : ℕ) (rest : List ℕ) → record_key prefix (int (pos n) ∷ []) ++ rest ≡ prefix ++ (int_spelling (pos 1) ++ (int_spelling (pos n) ++ rest))
+  behind_type n rest =
+      append_assoc prefix (int_spelling (pos 1) ++ (int_spelling (pos n) ++ [])) rest
+      ∙ ap (λ s. prefix ++ s) (append_assoc (int_spelling (pos 1)) (int_spelling (pos n) ++ []) rest ∙ ap (λ s. int_spelling (pos 1) ++ s) (append_assoc (int_spelling (pos n)) [] rest))
+
   -- the end of the range of a type, behind the prefix
   pub end_is : (n : ℕ) → record_key prefix (int (pos n) ∷ []) ++ 255 ∷ [] ≡ prefix ++ (int_spelling (pos 1) ++ (int_spelling (pos n) ++ 255 ∷ []))
-  end_is n =
-      append_assoc prefix (int_spelling (pos 1) ++ (int_spelling (pos n) ++ [])) (255 ∷ [])
-      ∙ ap (λ s. prefix ++ s) (append_assoc (int_spelling (pos 1)) (int_spelling (pos n) ++ []) (255 ∷ []) ∙ ap (λ s. int_spelling (pos 1) ++ s) (append_assoc (int_spelling (pos n)) [] (255 ∷ [])))
+  end_is n = behind_type n (255 ∷ [])
 
   end_cmp : (m n : ℕ) (ks : List Item) → m < 2 ^ 64 → n < 2 ^ 64 →
       key_cmp (record_key prefix (int (pos m) ∷ ks)) (record_key prefix (int (pos n) ∷ []) ++ 255 ∷ []) ≡ ordering_then (nat_cmp m n) (key_cmp (spelling ks) (255 ∷ []))
@@ -141,6 +146,22 @@ module _ (prefix : List ℕ) where
       (λ i. above_itself (entries_prefix prefix n) (255 ∷ []) i && key_le (entries_prefix prefix n ++ 255 ∷ []) end_of_keys)
       ∙ le_from_lt (entries_prefix prefix n ++ 255 ∷ []) end_of_keys
       (ap (λ k. key_lt k end_of_keys) (append_assoc prefix rest (255 ∷ [])) ∙ below_with prefix (rest ++ 255 ∷ []) p refl)
+
+  pub is_built_range : (n : ℕ) → key_lt prefix end_of_keys ≡ true → is_key_range (built_range prefix n) ≡ true
+  unfolding int_spelling written.byte_count
+  is_built_range n p =
+      let rest : List ℕ = int_spelling (pos 6) ++ (int_spelling (pos n) ++ []) in
+      (λ i. not (is_lt (cmp_behind (built_place prefix n) (255 ∷ []) (0 ∷ []) i)) && key_le (built_place prefix n ++ 255 ∷ []) end_of_keys)
+      ∙ le_from_lt (built_place prefix n ++ 255 ∷ []) end_of_keys
+      (ap (λ k. key_lt k end_of_keys) (append_assoc prefix rest (255 ∷ [])) ∙ below_with prefix (rest ++ 255 ∷ []) p refl)
+
+  pub is_positions_range : (n : ℕ) (range : KeyRange) → key_lt prefix end_of_keys ≡ true → is_key_range range ≡ true → is_key_range (positions_range prefix n range) ≡ true
+  unfolding int_spelling written.byte_count
+  is_positions_range n range p lawful =
+      (λ i. not (is_lt (cmp_behind (record_key prefix (int (pos n) ∷ [])) range.end range.begin i)) && key_le (record_key prefix (int (pos n) ∷ []) ++ range.end) end_of_keys)
+      ∙ (λ i. (and_parts (key_le range.begin range.end) (key_le range.end end_of_keys) lawful).0 i && key_le (record_key prefix (int (pos n) ∷ []) ++ range.end) end_of_keys)
+      ∙ le_from_lt (record_key prefix (int (pos n) ∷ []) ++ range.end) end_of_keys
+      (ap (λ k. key_lt k end_of_keys) (behind_type n range.end) ∙ below_with prefix (int_spelling (pos 1) ++ (int_spelling (pos n) ++ range.end)) p refl)
 
   -- the ends of the states' range, behind the prefix
   pub states_end_is : (b : ℕ) → place prefix 5 ++ b ∷ [] ≡ prefix ++ (0x15 ∷ 0x05 ∷ b ∷ [])

@@ -1,6 +1,10 @@
 pub mod Keys
 pub mod Held
 pub mod Kept
+pub mod BuiltRanges
+pub mod BuiltReads
+pub mod Followed
+pub mod Writing
 pub mod Changed
 pub mod RecordPairs
 pub mod Stopping
@@ -9,6 +13,8 @@ pub mod Openings
 pub mod Creating
 pub mod Answered
 pub mod RecordCalls
+pub mod Saves
+pub mod Removes
 pub mod Scanning
 pub mod States
 pub mod IndexedRecords
@@ -20,5 +26,10 @@ pub mod IndexSteps
 pub mod StateSteps
 pub mod IndexCalls
 pub mod AddedCalls
+pub mod Marked
+pub mod MarkCalls
+pub mod BuildHolds
+pub mod NamedTypes
+pub mod PartReads
 pub mod Aggregates
 pub mod EightBytes

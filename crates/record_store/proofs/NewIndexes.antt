@@ -20,15 +20,15 @@ use Rattle.metadata.specs.Records.{of_type}
 use Rattle.metadata.specs.Written.{schema_bytes}
 use Rattle.index_maint.specs.Layout.{entries_prefix}
 use Rattle.index_maint.proofs.KeptLaw.{defined_none}
-use Rattle.index_maint.proofs.Places.{begins_before, indexes_apart}
+use Rattle.index_maint.proofs.Places.{begins_before, indexes_apart, parts_apart}
 use Rattle.index_maint.proofs.Several.{AreApart}
-use Rattle.record_store.specs.Store.{Store, indexed, listed_as, new_state, state_of, with_state}
-use Rattle.record_store.specs.Layout.{place, schema_key, state_key, state_pair, state_value}
-use Rattle.record_store.specs.Holds.{HasPairs, Holds, IsLawful, IsListed, IsNoEntry, has_number}
+use Rattle.record_store.specs.Store.{Store, built_of, indexed, listed_as, new_state, state_of, with_state}
+use Rattle.record_store.specs.Layout.{built_place, place, schema_key, state_key, state_pair, state_value}
+use Rattle.record_store.specs.Holds.{HasPairs, HasPositions, Holds, IsLawful, IsListed, IsNoEntry, IsNoRange, has_number}
 use Rattle.record_store.specs.IndexWrites.{index_added_writes, state_writes}
-use Rattle.record_store.proofs.IndexChanges.{nothing_stays, other_stays, records_stay}
-use Rattle.record_store.proofs.Kept.{HasIndex, itself, not_entry, other_place, set_leaves, set_there}
-use Rattle.record_store.proofs.States.{all_with_state, listed_more, rising_with, schema_apart, state_itself, state_of_none, state_other, states_low, states_put}
+use Rattle.record_store.proofs.IndexChanges.{nothing_stays, other_range, other_stays, records_stay}
+use Rattle.record_store.proofs.Kept.{HasIndex, itself, no_entry_at, no_range_at, not_entry, not_range, other_place, set_leaves, set_there}
+use Rattle.record_store.proofs.States.{all_with_state, disabled_listed, listed_more, rising_with, schema_apart, state_itself, state_of_none, state_other, states_low, states_put}
 
 -- ---- the last index
 
@@ -78,6 +78,7 @@ module _ (prefix : List ℕ) (m : Map) (store : Store) (index : IndexDefinition)
         records = λ begins. not_entry prefix index.number 1 [] at refl begins (bytes, refl);
         entries = none_of store.schema.indexes apart_old others;
         states = λ begins. not_entry prefix index.number 5 [] at refl begins (bytes, refl);
+        ranges = no_range_at prefix 2 (int (pos index.number) ∷ []) store.schema.indexes at refl (bytes, refl);
       })
     where
       at : List ℕ
@@ -87,31 +88,66 @@ module _ (prefix : List ℕ) (m : Map) (store : Store) (index : IndexDefinition)
       none_of [] apart differ = tt
       none_of (i ∷ indexes) apart differ = (λ begins. differ.0 (indexes_apart prefix at i.number index.number apart.0 low begins (bytes, refl)), none_of indexes apart.2 differ.1)
 
+  -- nor of its built ranges
+  no_range_before : (bytes : List ℕ) → get m (built_place prefix index.number ++ bytes) ≡ None
+  no_range_before bytes =
+      holds.nothing_else at (begins_before prefix (spelling (int (pos 6) ∷ int (pos index.number) ∷ [])) at (bytes, refl)) (record {
+        schema = other_place prefix 0 [] 6 (int (pos index.number) ∷ []) at refl (bytes, refl);
+        records = λ begins. not_range prefix index.number 1 [] at refl begins (bytes, refl);
+        entries = no_entry_at prefix 6 (int (pos index.number) ∷ []) store.schema.indexes at refl (bytes, refl);
+        states = λ begins. not_range prefix index.number 5 [] at refl begins (bytes, refl);
+        ranges = none_of store.schema.indexes apart_old others;
+      })
+    where
+      at : List ℕ
+      at = built_place prefix index.number ++ bytes
+
+      none_of : (indexes : List IndexDefinition) → AreApart indexes → AllByRecursion (λ i. i.number ≡ index.number → ⊥) indexes → IsNoRange prefix indexes at
+      none_of [] apart differ = tt
+      none_of (i ∷ indexes) apart differ = (λ begins. differ.0 (parts_apart prefix at (int (pos 6)) i.number index.number [] [] apart.0 low begins (bytes, refl)), none_of indexes apart.2 differ.1)
+
   -- what the map holds once the new schema stands, and its state, if it has one
   module _ (n : Map) (states : List (ℕ × State)) (lawful : IsLawful (record store { schema = with_index store.schema index; states = states }))
-      (leaves : (at : List ℕ) → (at ≡ schema_key prefix → ⊥) → (at ≡ state_key prefix index.number → ⊥) → (BeginsWith (entries_prefix prefix index.number) at → ⊥) → get n at ≡ get m at)
+      (leaves : (at : List ℕ) → (at ≡ schema_key prefix → ⊥) → (at ≡ state_key prefix index.number → ⊥) → (BeginsWith (entries_prefix prefix index.number) at → ⊥) → (BeginsWith (built_place prefix index.number) at → ⊥) → get n at ≡ get m at)
       (same : (number : ℕ) → (number ≡ index.number → ⊥) → unwrap_or (lookup (λ own. own == number) states) Readable ≡ state_of store number) where
-    each : (indexes : List IndexDefinition) → AreApart indexes → AllByRecursion (λ i. i.number ≡ index.number → ⊥) indexes → AllByRecursion (λ i. HasIndex prefix store.records m i (state_of store i.number)) indexes →
-        AllByRecursion (λ i. HasIndex prefix store.records n i (unwrap_or (lookup (λ own. own == i.number) states) Readable)) indexes
+    each : (indexes : List IndexDefinition) → AreApart indexes → AllByRecursion (λ i. i.number ≡ index.number → ⊥) indexes → AllByRecursion (λ i. HasIndex prefix (built_of store i.number) store.records m i (state_of store i.number)) indexes →
+        AllByRecursion (λ i. HasIndex prefix (built_of store i.number) store.records n i (unwrap_or (lookup (λ own. own == i.number) states) Readable)) indexes
     each [] apart differ all = tt
     each (i ∷ indexes) apart differ all = (
-      subst (HasIndex prefix store.records n i) (sym (same i.number differ.0)) (other_stays prefix m n store index.number low holds leaves i (state_of store i.number) apart.0 differ.0 all.0),
+      subst (HasIndex prefix (built_of store i.number) store.records n i) (sym (same i.number differ.0))
+          (other_stays prefix m n store index.number low holds leaves i (built_of store i.number) (state_of store i.number) apart.0 differ.0 all.0),
       each indexes apart.2 differ.1 all.1,
     )
 
+    each_range : (indexes : List IndexDefinition) → AreApart indexes → AllByRecursion (λ i. i.number ≡ index.number → ⊥) indexes →
+        AllByRecursion (λ i. HasPositions (state_of store i.number) prefix i.number (built_of store i.number) m) indexes →
+        AllByRecursion (λ i. HasPositions (unwrap_or (lookup (λ own. own == i.number) states) Readable) prefix i.number (built_of store i.number) n) indexes
+    each_range [] apart differ all = tt
+    each_range (i ∷ indexes) apart differ all = (
+      subst (λ s. HasPositions s prefix i.number (built_of store i.number) n) (sym (same i.number differ.0))
+          (other_range prefix m n store index.number low holds leaves i (built_of store i.number) (state_of store i.number) apart.0 differ.0 all.0),
+      each_range indexes apart.2 differ.1 all.1,
+    )
+
     indexed_by : get n (schema_key prefix) ≡ Some (schema_bytes (with_index store.schema index)) → HasPairs (place prefix 5) (map (state_pair prefix) states) n →
-        HasIndex prefix store.records n index (unwrap_or (lookup (λ own. own == index.number) states) Readable) →
+        HasIndex prefix (built_of store index.number) store.records n index (unwrap_or (lookup (λ own. own == index.number) states) Readable) →
+        HasPositions (unwrap_or (lookup (λ own. own == index.number) states) Readable) prefix index.number (built_of store index.number) n →
         Holds prefix n (Some (record store { schema = with_index store.schema index; states = states }))
-    indexed_by written listed new = record {
+    indexed_by written listed new none = record {
       lawful = lawful;
       schema = written;
       records = records_stay prefix m n store index.number low holds leaves;
       entries =
-          all_append (λ i. HasIndex prefix store.records n i (unwrap_or (lookup (λ own. own == i.number) states) Readable)) store.schema.indexes index (each store.schema.indexes apart_old others holds.entries) new;
+          all_append (λ i. HasIndex prefix (built_of store i.number) store.records n i (unwrap_or (lookup (λ own. own == i.number) states) Readable)) store.schema.indexes index
+          (each store.schema.indexes apart_old others holds.entries) new;
       states = listed;
+      ranges =
+          all_append (λ i. HasPositions (unwrap_or (lookup (λ own. own == i.number) states) Readable) prefix i.number (built_of store i.number) n) store.schema.indexes index
+          (each_range store.schema.indexes apart_old others holds.ranges) none;
       nothing_else = λ at under elsewhere.
           let parts = all_parts (λ i. BeginsWith (entries_prefix prefix i.number) at → ⊥) store.schema.indexes index elsewhere.entries in
-          nothing_stays prefix m n store index.number low holds leaves at under (record { schema = elsewhere.schema; records = elsewhere.records; entries = parts.0; states = elsewhere.states }) parts.1;
+          let ranges = all_parts (λ i. BeginsWith (built_place prefix i.number) at → ⊥) store.schema.indexes index elsewhere.ranges in
+          nothing_stays prefix m n store index.number low holds leaves at under (record { schema = elsewhere.schema; records = elsewhere.records; entries = parts.0; states = elsewhere.states; ranges = ranges.0 }) parts.1 ranges.1;
     }
 
   -- the map with the new schema
@@ -124,6 +160,10 @@ module _ (prefix : List ℕ) (m : Map) (store : Store) (index : IndexDefinition)
   first_nothing : (bytes : List ℕ) → get first (entries_prefix prefix index.number ++ bytes) ≡ None
   first_nothing bytes =
       first_leaves (entries_prefix prefix index.number ++ bytes) (other_place prefix 0 [] 2 (int (pos index.number) ∷ []) (entries_prefix prefix index.number ++ bytes) refl (bytes, refl)) ∙ nothing_before bytes
+
+  first_ranges : (bytes : List ℕ) → get first (built_place prefix index.number ++ bytes) ≡ None
+  first_ranges bytes =
+      first_leaves (built_place prefix index.number ++ bytes) (other_place prefix 0 [] 6 (int (pos index.number) ∷ []) (built_place prefix index.number ++ bytes) refl (bytes, refl)) ∙ no_range_before bytes
 
   first_states : HasPairs (place prefix 5) (map (state_pair prefix) store.states) first
   first_states bytes = first_leaves (place prefix 5 ++ bytes) (other_place prefix 0 [] 5 [] (place prefix 5 ++ bytes) refl (bytes, refl)) ∙ holds.states bytes
@@ -138,9 +178,13 @@ module _ (prefix : List ℕ) (m : Map) (store : Store) (index : IndexDefinition)
         storable = holds.lawful.storable;
         rising = holds.lawful.rising;
         listed = listed_more store.schema.indexes (index ∷ []) store.states holds.lawful.listed;
-      }) (λ at schema state entry. first_leaves at schema) (λ number differ. refl)
+      }) (λ at schema state entry range. first_leaves at schema) (λ number differ. refl)
       (set_there m (schema_key prefix) (schema_bytes (with_index store.schema index))) first_states
-      (subst (HasIndex prefix store.records first index) (sym (ap (λ o. unwrap_or o Readable) (state_of_none store.schema.indexes index.number store.states (none_before store.schema.indexes index.number others) holds.lawful.listed))) (defined_none index.kind prefix index store.records first none first_nothing))
+      (subst (HasIndex prefix (built_of store index.number) store.records first index) (sym not_listed) (defined_none index.kind prefix index store.records first none first_nothing))
+      (subst (λ s. HasPositions s prefix index.number (built_of store index.number) first) (sym not_listed) first_ranges)
+    where
+      not_listed : unwrap_or (lookup (λ own. own == index.number) store.states) Readable ≡ Readable
+      not_listed = ap (λ o. unwrap_or o Readable) (state_of_none store.schema.indexes index.number store.states (none_before store.schema.indexes index.number others) holds.lawful.listed)
 
   -- RECORDS: where there are some it is disabled
   disabled_now : Holds prefix (after (Set (state_key prefix index.number) (state_value Disabled)) first) (Some (record store { schema = with_index store.schema index; states = with_state index.number Disabled store.states }))
@@ -152,15 +196,19 @@ module _ (prefix : List ℕ) (m : Map) (store : Store) (index : IndexDefinition)
         storable = holds.lawful.storable;
         rising = rising_with index.number Disabled store.states holds.lawful.rising;
         listed =
-            all_with_state (IsListed (store.schema.indexes ++ index ∷ [])) index.number Disabled store.states (record { there = itself_there; state = refl })
-            (λ one is. record { there = is.there; state = refl }) (listed_more store.schema.indexes (index ∷ []) store.states holds.lawful.listed);
-      }) (λ at schema state entry. put_leaves at state ∙ first_leaves at schema) (λ number differ. state_other index.number number Disabled store.states differ)
+            all_with_state (IsListed (store.schema.indexes ++ index ∷ [])) index.number Disabled store.states (record { there = itself_there; state = disabled_listed })
+            (λ one is. record { there = is.there; state = disabled_listed }) (listed_more store.schema.indexes (index ∷ []) store.states holds.lawful.listed);
+      }) (λ at schema state entry range. put_leaves at state ∙ first_leaves at schema) (λ number differ. state_other index.number number Disabled store.states differ)
       (put_leaves (schema_key prefix) (other_place prefix 5 (int (pos index.number) ∷ []) 0 [] (schema_key prefix) refl (itself (schema_key prefix))) ∙ set_there m (schema_key prefix) (schema_bytes (with_index store.schema index)))
       (states_put prefix index.number Disabled store.states first low (states_low store.schema.indexes store.states apart_old holds.lawful.listed) first_states)
-      (subst (HasIndex prefix store.records last index) (sym (state_itself index.number Disabled store.states))
+      (subst (HasIndex prefix (built_of store index.number) store.records last index) (sym (state_itself index.number Disabled store.states))
       (λ bytes.
       put_leaves (entries_prefix prefix index.number ++ bytes) (other_place prefix 5 (int (pos index.number) ∷ []) 2 (int (pos index.number) ∷ []) (entries_prefix prefix index.number ++ bytes) refl (bytes, refl))
       ∙ first_nothing bytes))
+      (subst (λ s. HasPositions s prefix index.number (built_of store index.number) last) (sym (state_itself index.number Disabled store.states))
+      (λ bytes.
+      put_leaves (built_place prefix index.number ++ bytes) (other_place prefix 5 (int (pos index.number) ∷ []) 6 (int (pos index.number) ∷ []) (built_place prefix index.number ++ bytes) refl (bytes, refl))
+      ∙ first_ranges bytes))
     where
       last : Map
       last = after (Set (state_key prefix index.number) (state_value Disabled)) first

@@ -5,11 +5,10 @@ use Rattle.std.specs.FinMap.{get}
 use Rattle.tuple_codec.specs.Item.{Item, IsTuple}
 use Rattle.tuple_codec.specs.Spelling.{int_spelling, spelling}
 use Rattle.kv_core.specs.Range.{KeyRange, point}
-use Rattle.kv_core.specs.Map.{Map, Agree, pairs_in}
+use Rattle.kv_core.specs.Map.{Map, pairs_in}
 use Rattle.kv_core.specs.declared.change.CommitRequest.{CommitRequest}
 use Rattle.cluster_core.specs.declared.answers.ReadError.{ReadError}
-use Rattle.txn.specs.Reads.{seen, has_read}
-use Rattle.txn.proofs.Running.{ran_added, ran_read}
+use Rattle.txn.proofs.Running.{ran_because}
 use Rattle.metadata.specs.declared.definition.TypeDefinition.{TypeDefinition}
 use Rattle.metadata.specs.Lawful.{IsLawfulSchema}
 use Rattle.metadata.specs.Record.{Record}
@@ -18,15 +17,15 @@ use Rattle.metadata.specs.Schema.{find_type}
 use Rattle.metadata.specs.Stored.{IsOfNoRecord, IsStoredAs, IsTypeOf}
 use Rattle.metadata.proofs.StoredApart.{named_typed}
 use Rattle.record_store.specs.declared.error.StoreError.{StoreError}
-use Rattle.record_store.specs.declared.error.StoreError.TheVariants.{Memory, Read, Write, Corrupt, Refused, NoStore, AlreadyThere, OtherSchema, NotAggregate, NotReadable}
+use Rattle.record_store.specs.declared.error.StoreError.TheVariants.{Memory, Read, Write, Corrupt, Refused, NoStore, AlreadyThere, OtherSchema, NotAggregate, NotReadable, WrongState, NotBuilt}
 use Rattle.record_store.specs.Layout.{record_key}
 use Rattle.record_store.specs.Form.{IsFirstBad, IsRecordPair, IsWritten, read_in}
 use Rattle.record_store.specs.Call.{IsUnread, Opened, whole}
 use Rattle.record_store.proofs.Stopping.{all_begin}
-use Rattle.record_store.specs.Reading.{HasNotFound, IsFound, IsKeyOf, IsNotFound, IsRead}
+use Rattle.record_store.specs.Reading.{HasNotFound, HasNotRead, IsFound, IsKeyOf, IsNotFound, IsRead, IsReadError}
 use Rattle.record_store.specs.Steps.{DidRead}
 use Rattle.record_store.proofs.Kept.{itself}
-use Rattle.record_store.proofs.RecordPairs.{all_written, at_key, key_form, no_record_pair, no_total_pair, none_bad, none_there, of_stored, pairs_at, record_there}
+use Rattle.record_store.proofs.RecordPairs.{all_written, at_key, key_form, no_record_pair, no_other_pair, none_bad, none_there, of_stored, pairs_at, record_there}
 
 -- the pairs read at one key
 pub read_at : (m : Map) (key : List ℕ) (value : Option (List ℕ)) → get m key ≡ value → read_in m (point key ∷ []) ≡ at_key key value
@@ -47,7 +46,7 @@ module _ (opened : Opened) (type : TypeDefinition) (key : List Item) (lawful : I
       }
 
   -- READ: the record, or none, that was found
-  read_there : (m : Map) (value : Option (List ℕ)) (found : Option Record) → get m (record_key opened.prefix key) ≡ value → IsFound type (spelling key) value found → IsRead opened key found m
+  pub read_there : (m : Map) (value : Option (List ℕ)) (found : Option Record) → get m (record_key opened.prefix key) ≡ value → IsFound type (spelling key) value found → IsRead opened key found m
   read_there m None found is says = (
     subst (AllByRecursion (IsWritten opened.prefix opened.schema)) (sym (read_at m (record_key opened.prefix key) None is)) tt,
     λ store holds same. says ∙ none_there opened.prefix m store holds key key_of.tuple is,
@@ -62,7 +61,7 @@ module _ (opened : Opened) (type : TypeDefinition) (key : List Item) (lawful : I
   )
 
   -- UNREAD: what was found is none of the type's
-  unread_there : (refuses : KeyRange → ReadError → Type 0) (m : Map) (value : Option (List ℕ)) (error : StoreError) → get m (record_key opened.prefix key) ≡ value →
+  pub unread_there : (refuses : KeyRange → ReadError → Type 0) (m : Map) (value : Option (List ℕ)) (error : StoreError) → get m (record_key opened.prefix key) ≡ value →
       IsNotFound type (spelling key) (record_key opened.prefix key) value error → IsUnread refuses opened (whole (point (record_key opened.prefix key) ∷ [])) error (point (record_key opened.prefix key) ∷ []) m
   unread_there refuses m value Memory is says = all_begin (point (record_key opened.prefix key) ∷ [])
   unread_there refuses m None (Read error) is says = absurd says
@@ -73,6 +72,8 @@ module _ (opened : Opened) (type : TypeDefinition) (key : List Item) (lawful : I
   unread_there refuses m None OtherSchema is says = absurd says
   unread_there refuses m None NotAggregate is says = absurd says
   unread_there refuses m None NotReadable is says = absurd says
+  unread_there refuses m None WrongState is says = absurd says
+  unread_there refuses m None NotBuilt is says = absurd says
   unread_there refuses m None (Corrupt at) is says = absurd says
   unread_there refuses m (Some value) (Read error) is says = absurd says
   unread_there refuses m (Some value) (Write error) is says = absurd says
@@ -82,6 +83,8 @@ module _ (opened : Opened) (type : TypeDefinition) (key : List Item) (lawful : I
   unread_there refuses m (Some value) OtherSchema is says = absurd says
   unread_there refuses m (Some value) NotAggregate is says = absurd says
   unread_there refuses m (Some value) NotReadable is says = absurd says
+  unread_there refuses m (Some value) WrongState is says = absurd says
+  unread_there refuses m (Some value) NotBuilt is says = absurd says
   unread_there refuses m (Some value) (Corrupt at) is says = (
     refl,
     bad,
@@ -99,7 +102,7 @@ module _ (opened : Opened) (type : TypeDefinition) (key : List Item) (lawful : I
 
       neither : IsWritten opened.prefix opened.schema (record_key opened.prefix key, value) → ⊥
       neither (inl pair) = none pair
-      neither (inr total) = no_total_pair opened.prefix key opened.schema.indexes (record_key opened.prefix key, value) (itself (record_key opened.prefix key)) total
+      neither (inr total) = no_other_pair opened.prefix key opened.schema.indexes (record_key opened.prefix key, value) (itself (record_key opened.prefix key)) total
 
       bad : IsFirstBad (IsWritten opened.prefix opened.schema) (read_in m (point (record_key opened.prefix key) ∷ [])) at
       bad = record {
@@ -113,20 +116,33 @@ module _ (opened : Opened) (type : TypeDefinition) (key : List Item) (lawful : I
       }
 
   -- RECORD: a record was read, or wasn't
-  pub record_read : {maps : ℕ → Map} {old new : CommitRequest} (k packed : List ℕ) (value : Option (List ℕ)) (found : Option Record) → k ≡ record_key opened.prefix key → packed ≡ spelling key →
-      new ≡ has_read (point k) old → ((m : Map) → Agree new.reads (maps old.read_version) m → value ≡ get (seen old m) k) → IsFound type packed value found →
-      DidRead maps (point (record_key opened.prefix key) ∷ []) old new (IsRead opened key found)
-  record_read {old = old} k packed value found is pack read answer says =
-      ran_added (ap (λ at. point at ∷ []) is)
-      (ran_read (point k) read (λ m agree. read_there (seen old m) value found (sym (answer m agree ∙ ap (get (seen old m)) is)) (subst (λ p. IsFound type p value found) pack says)))
+  pub record_read : {maps : ℕ → Map} {old new : CommitRequest} (value : Option (List ℕ)) (found : Option Record) → DidRead maps (point (record_key opened.prefix key) ∷ []) old new (λ m. value ≡ get m (record_key opened.prefix key)) →
+      IsFound type (spelling key) value found → DidRead maps (point (record_key opened.prefix key) ∷ []) old new (IsRead opened key found)
+  record_read value found ran says = ran_because ran (λ m is. read_there m value found (sym is) says)
 
-  pub record_unread : {maps : ℕ → Map} {refuses : KeyRange → ℕ → ReadError → Type 0} {old new : CommitRequest} (k packed : List ℕ) (value : Option (List ℕ)) (error : StoreError) → k ≡ record_key opened.prefix key → packed ≡ spelling key →
-      new ≡ has_read (point k) old → ((m : Map) → Agree new.reads (maps old.read_version) m → value ≡ get (seen old m) k) → IsNotFound type packed k value error →
+  pub record_unread : {maps : ℕ → Map} {refuses : KeyRange → ℕ → ReadError → Type 0} {old new : CommitRequest} (value : Option (List ℕ)) (error : StoreError) →
+      DidRead maps (point (record_key opened.prefix key) ∷ []) old new (λ m. value ≡ get m (record_key opened.prefix key)) → IsNotFound type (spelling key) (record_key opened.prefix key) value error →
       HasNotFound maps refuses opened (whole (point (record_key opened.prefix key) ∷ [])) error old new
-  record_unread {refuses = refuses} {old = old} k packed value error is pack read answer says = record {
+  record_unread {refuses = refuses} {old = old} value error ran says = record {
     added = point (record_key opened.prefix key) ∷ [];
-    ran =
-        ran_added (ap (λ at. point at ∷ []) is)
-        (ran_read (point k) read (λ m agree. unread_there (λ range. refuses range old.read_version) (seen old m) value error (sym (answer m agree ∙ ap (get (seen old m)) is))
-        (subst (λ p. IsNotFound type p (record_key opened.prefix key) value error) pack (subst (λ j. IsNotFound type packed j value error) is says))));
+    ran = ran_because ran (λ m is. unread_there (λ range. refuses range old.read_version) m value error (sym is) says);
   }
+
+-- a read of some ranges that isn't answered
+read_error : (opened : Opened) (refuses : KeyRange → ReadError → Type 0) (asked added : List KeyRange) (error : StoreError) (m : Map) → IsReadError refuses asked added error → IsUnread refuses opened (whole asked) error added m
+read_error opened refuses asked added Memory m says = says
+read_error opened refuses asked added (Read error) m says = says
+read_error opened refuses asked added (Write error) m says = absurd says
+read_error opened refuses asked added (Corrupt key) m says = absurd says
+read_error opened refuses asked added (Refused refusal) m says = absurd says
+read_error opened refuses asked added NoStore m says = absurd says
+read_error opened refuses asked added AlreadyThere m says = absurd says
+read_error opened refuses asked added OtherSchema m says = absurd says
+read_error opened refuses asked added NotAggregate m says = absurd says
+read_error opened refuses asked added NotReadable m says = absurd says
+read_error opened refuses asked added WrongState m says = absurd says
+read_error opened refuses asked added NotBuilt m says = absurd says
+
+pub read_unread : {maps : ℕ → Map} {refuses : KeyRange → ℕ → ReadError → Type 0} {old new : CommitRequest} (opened : Opened) (asked : List KeyRange) (error : StoreError) → HasNotRead maps refuses asked error old new → HasNotFound maps refuses opened (whole asked) error old new
+read_unread {refuses = refuses} {old = old} opened asked error is =
+    record { added = is.added; ran = ran_because is.ran (λ m says. read_error opened (λ range. refuses range old.read_version) asked is.added error m says) }

@@ -19,7 +19,7 @@ use Rattle.metadata.specs.Schema.{Schema}
 use Rattle.metadata.specs.Written.{schema_bytes}
 use Rattle.metadata.proofs.OneSchema.{written_once}
 use Rattle.record_store.specs.declared.error.StoreError.{StoreError}
-use Rattle.record_store.specs.declared.error.StoreError.TheVariants.{Memory, Read, Write, Corrupt, Refused, NoStore, AlreadyThere, OtherSchema, NotAggregate, NotReadable}
+use Rattle.record_store.specs.declared.error.StoreError.TheVariants.{Memory, Read, Write, Corrupt, Refused, NoStore, AlreadyThere, OtherSchema, NotAggregate, NotReadable, WrongState, NotBuilt}
 use Rattle.record_store.specs.Store.{Serial}
 use Rattle.record_store.specs.Layout.{schema_key, state_pair, states_range}
 use Rattle.record_store.specs.Holds.{Holds, IsListed}
@@ -60,6 +60,8 @@ module _ (prefix : List ℕ) where
   open_error refuses added OtherSchema m says = absurd says
   open_error refuses added NotAggregate m says = absurd says
   open_error refuses added NotReadable m says = absurd says
+  open_error refuses added WrongState m says = absurd says
+  open_error refuses added NotBuilt m says = absurd says
 
   -- the first read of an opening came to an error, or the second did
   pub first_failed : {maps : ℕ → Map} {refuses : KeyRange → ℕ → ReadError → Type 0} {old new : CommitRequest} (error : StoreError) → HasNotRead maps refuses (point (schema_key prefix) ∷ []) error old new →
@@ -86,7 +88,7 @@ module _ (prefix : List ℕ) where
   -- OPENED: the map has the schema and the states that were read, and all that it holds is a store with them
   has_schema : (m : Map) (schema : Schema) (states : List (ℕ × State)) (written : Option (List ℕ)) (pairs : List Pair) → IsSchema written schema → AreStates prefix schema.indexes pairs states →
       written ≡ get m (schema_key prefix) → pairs ≡ pairs_in m (states_range prefix) → HasSchema (record { prefix = prefix; schema = schema; states = states }) m
-  has_schema m schema states written pairs is are found listed = record { made = is.made; listed = are.disabled; bytes = sym found ∙ is.bytes; states = sym listed ∙ are.are }
+  has_schema m schema states written pairs is are found listed = record { made = is.made; listed = are.are_listed; bytes = sym found ∙ is.bytes; states = sym listed ∙ are.are }
 
   opened_there : (m : Map) (schema : Schema) (states : List (ℕ × State)) (serial : Serial) → HasSchema (record { prefix = prefix; schema = schema; states = states }) m → Holds prefix m serial →
       IsThereAs (record { prefix = prefix; schema = schema; states = states }) serial
@@ -138,7 +140,7 @@ module _ (prefix : List ℕ) where
       AllByRecursion (IsOpeningPair prefix m) (map (state_pair prefix) states)
   states_form m schema [] made written all = tt
   states_form m schema (one ∷ states) made written all =
-      (inr (record { schema = schema; made = made; written = written; is = record { listed = one; disabled = all.0; is = refl } }), states_form m schema states made written all.1)
+      (inr (record { schema = schema; made = made; written = written; is = record { listed = one; is_listed = all.0; is = refl } }), states_form m schema states made written all.1)
 
   -- all pairs read of what holds a store are of the form
   opening_form : (m : Map) (serial : Serial) → Holds prefix m serial → AllByRecursion (IsOpeningPair prefix m) (read_in m (opening_reach prefix))
@@ -166,6 +168,8 @@ module _ (prefix : List ℕ) where
   bad_schema refuses m bytes pairs OtherSchema found listed says = absurd says
   bad_schema refuses m bytes pairs NotAggregate found listed says = absurd says
   bad_schema refuses m bytes pairs NotReadable found listed says = absurd says
+  bad_schema refuses m bytes pairs WrongState found listed says = absurd says
+  bad_schema refuses m bytes pairs NotBuilt found listed says = absurd says
   bad_schema refuses m bytes pairs (Corrupt key) found listed says =
       damaged refuses m bytes key found (record {
         before = [];
@@ -195,7 +199,7 @@ module _ (prefix : List ℕ) where
       split = opening_pairs m (Some bytes) pairs found listed ∙ ap (λ ps. (schema_key prefix, bytes) ∷ ps) among.split;
       good = (
         inl (record { schema = schema; made = is.made; is = λ i. (schema_key prefix, written i) }),
-        subst (AllByRecursion (IsOpeningPair prefix m)) (sym among.good.are) (states_form m schema among.states is.made (sym found ∙ is.bytes) among.good.disabled),
+        subst (AllByRecursion (IsOpeningPair prefix m)) (sym among.good.are) (states_form m schema among.states is.made (sym found ∙ is.bytes) among.good.are_listed),
       );
       malformed = malformed;
       at = says.0;
@@ -230,6 +234,8 @@ module _ (prefix : List ℕ) where
         by_error OtherSchema says = absurd says
         by_error NotAggregate says = absurd says
         by_error NotReadable says = absurd says
+        by_error WrongState says = absurd says
+        by_error NotBuilt says = absurd says
         by_error (Corrupt key) says = damaged refuses m bytes key found (bad_state error key among says)
 
   -- nothing is there

@@ -1,6 +1,6 @@
 -- What the calls on records come to, one by one.
-use Rattle.std.proofs.Common.{◌≡◌, ℕ, Bool, true, false, not, cond, ◌==◌, List, [], ◌∷◌, ◌++◌, refl, sym, ap, subst, ◌∙◌, Option, Some, None, Ok, Err, Result, length, arith, is_some, All}
-use Rattle.std.specs.List.{AllByRecursion, find}
+use Rattle.std.proofs.Common.{◌≡◌, ℕ, Bool, true, false, cond, ◌==◌, List, [], ◌∷◌, ◌++◌, refl, sym, ap, subst, ◌∙◌, Option, Some, None, Ok, Err, Result, length, arith, is_some}
+use Rattle.std.specs.List.{AllByRecursion, find, flat_map}
 use Rattle.std.specs.Prelude.{suc}
 use Rattle.tuple_codec.specs.Item.{Item, IsTuple}
 use Rattle.kv_core.specs.Range.{point}
@@ -16,16 +16,18 @@ use Rattle.metadata.specs.Lawful.{IsLawfulSchema}
 use Rattle.metadata.specs.Record.{Record, primary_key, record_in}
 use Rattle.metadata.specs.Records.{IsStorable, of_type, record_at}
 use Rattle.metadata.specs.Schema.{Schema, find_type}
-use Rattle.record_store.specs.Store.{Store, saved, removed, extended}
+use Rattle.record_store.specs.Store.{Store, extended, removed, saved}
 use Rattle.record_store.specs.Holds.{Holds, IsOfSchema}
 use Rattle.record_store.specs.Call.{AtStore, IsOpenAs, Opened, whole}
 use Rattle.record_store.specs.declared.error.StoreError.TheVariants.{OtherSchema}
 use Rattle.record_store.specs.Calls.{load_service, records_service, remove_service, save_service, schema_service, schema_writes, is_own, save_call}
-use Rattle.record_store.specs.Reading.{IsRead}
-use Rattle.record_store.proofs.Answered.{IsServed, as_added, own_typed}
+use Rattle.record_store.proofs.Answered.{IsServed}
 use Rattle.record_store.proofs.Changed.{extended_holds}
 use Rattle.record_store.proofs.IndexedRecords.{removed_holds_all, saved_holds_all}
-use Rattle.record_store.specs.IndexWrites.{index_writes, remove_writes, save_writes, store_of}
+use Rattle.record_store.specs.IndexWrites.{index_writes, one_index_writes, remove_writes, save_writes}
+use Rattle.index_maint.specs.Built.{position_of}
+use Rattle.record_store.specs.Reading.{asked_built}
+use Rattle.record_store.proofs.Followed.{all_want}
 use Rattle.std.proofs.lemmas.Bool.{eqb-true, false_from_ne_true}
 use Rattle.kv_core.specs.declared.change.Mutation.TheVariants.{Set, ClearRange}
 use Rattle.std.specs.Str.{bytes_eq}
@@ -34,7 +36,6 @@ use Rattle.metadata.specs.declared.refusal.Refusal.TheVariants.{UnknownType}
 use Rattle.record_store.specs.Steps.{DidRead}
 use Rattle.record_store.specs.Form.{IsWritten}
 use Rattle.record_store.specs.Layout.{record_key, record_value}
-use Rattle.metadata.specs.Cell.{IsCell}
 
 -- ---- one record
 
@@ -47,62 +48,48 @@ load_served opened key found m store holds is = record { accepted = refl; answer
 pub filled : {X : Type 0} (x : X) (xs : List X) → (length (x ∷ xs) == 0) ≡ false
 filled x xs = false_from_ne_true (length (x ∷ xs) == 0) (λ is. let none : suc (length xs) ≡ 0 = eqb-true (length (x ∷ xs)) 0 is in omega (arith, none))
 
--- what the indexes want written is told by what was opened
-same_index_writes : (opened : Opened) (store : Store) (number : ℕ) (old new : Option Record) → IsOpenAs opened store → index_writes opened.prefix (store_of opened) number old new ≡ index_writes opened.prefix store number old new
-same_index_writes opened store number old new same i = index_writes opened.prefix (record { schema = sym same.schema i; records = []; states = sym same.states i }) number old new
-
-same_remove_writes : (opened : Opened) (store : Store) (key : List Item) (old : Option Record) → IsOpenAs opened store → remove_writes opened.prefix (store_of opened) key old ≡ remove_writes opened.prefix store key old
-same_remove_writes opened store key None same = refl
-same_remove_writes opened store key (Some old) same = ap (λ ms. ClearRange (point (record_key opened.prefix key)) ∷ ms) (same_index_writes opened store old.definition.number (Some old) None same)
-
 -- what a save writes, by what it read
-abbrev pub replacement : Opened → Record → Option Record → List Mutation
-replacement opened new old = Set (record_key opened.prefix (primary_key new)) (record_value new.cells) ∷ index_writes opened.prefix (store_of opened) new.definition.number old (Some new)
-
-pub save_wrote : (opened : Opened) (new : Record) (old : Option Record) (list : List Mutation) → list ≡ replacement opened new old → (store : Store) → IsOpenAs opened store → old ≡ record_at (primary_key new) store.records →
+pub save_list : (opened : Opened) (new : Record) (old : Option Record) (list : List Mutation) (store : Store) → IsOpenAs opened store → old ≡ record_at (primary_key new) store.records →
+    list ≡ (Set (record_key opened.prefix (primary_key new)) (record_value new.cells) ∷ [])
+    ++ flat_map (λ index. one_index_writes opened new.definition.number (asked_built opened new.definition.number (position_of (primary_key new)) store index) old (Some new) index) opened.schema.indexes →
     list ≡ save_writes opened.prefix store new
-save_wrote opened new old list wrote store same is =
+save_list opened new old list store same is wrote =
     wrote
     ∙ ap (λ ms. Set (record_key opened.prefix (primary_key new)) (record_value new.cells) ∷ ms)
-    (same_index_writes opened store new.definition.number old (Some new) same ∙ ap (λ o. index_writes opened.prefix store new.definition.number o (Some new)) is)
-
-pub save_changes : (opened : Opened) (new : Record) (old : Option Record) (list : List Mutation) → list ≡ replacement opened new old → (length list == 0) ≡ false
-save_changes opened new old list wrote =
-    ap (λ ms. length ms == 0) wrote ∙ filled (Set (record_key opened.prefix (primary_key new)) (record_value new.cells)) (index_writes opened.prefix (store_of opened) new.definition.number old (Some new))
+    (all_want opened store same (primary_key new) new.definition.number old (Some new) ∙ ap (λ o. index_writes opened.prefix store new.definition.number (primary_key new) o (Some new)) is)
 
 -- SAVE: the record stands in its place
-pub save_served : (opened : Opened) (new : Record) (old : Option Record) (list : List Mutation) → list ≡ replacement opened new old → IsOfSchema opened.schema new → IsStorable new →
-    (m : Map) (store : Store) → Holds opened.prefix m (Some store) → IsOpenAs opened store → old ≡ record_at (primary_key new) store.records →
+pub save_served : (opened : Opened) (new : Record) (old : Option Record) (list : List Mutation) → IsOfSchema opened.schema new → IsStorable new →
+    (m : Map) (store : Store) → Holds opened.prefix m (Some store) → IsOpenAs opened store → old ≡ record_at (primary_key new) store.records → list ≡ save_writes opened.prefix store new →
     IsServed opened (save_service opened new) old list m store
-save_served opened new old list wrote typed can m store holds same is =
-    let writes = save_wrote opened new old list wrote store same is in record {
-      accepted = refl;
-      answers = is;
-      wrote = writes;
-      holds = subst (λ ms. Holds opened.prefix (after_all ms m) (Some (saved store new))) (sym writes) (saved_holds_all opened.prefix m store new (subst (λ s. IsOfSchema s new) (sym same.schema) typed) can holds);
-    }
+save_served opened new old list typed can m store holds same is writes = record {
+  accepted = refl;
+  answers = is;
+  wrote = writes;
+  holds = subst (λ ms. Holds opened.prefix (after_all ms m) (Some (saved store new))) (sym writes) (saved_holds_all opened.prefix m store new (subst (λ s. IsOfSchema s new) (sym same.schema) typed) can holds);
+}
 
-pub remove_wrote : (opened : Opened) (key : List Item) (old : Option Record) (list : List Mutation) → list ≡ remove_writes opened.prefix (store_of opened) key old → (store : Store) → IsOpenAs opened store → old ≡ record_at key store.records →
-    list ≡ remove_writes opened.prefix store key (record_at key store.records)
-remove_wrote opened key old list wrote store same is = wrote ∙ same_remove_writes opened store key old same ∙ ap (remove_writes opened.prefix store key) is
+pub remove_list : (opened : Opened) (key : List Item) (number : ℕ) (old : Record) (list : List Mutation) (store : Store) → IsOpenAs opened store → old.definition.number ≡ number →
+    list ≡ (ClearRange (point (record_key opened.prefix key)) ∷ [])
+    ++ flat_map (λ index. one_index_writes opened number (asked_built opened number (position_of key) store index) (Some old) None index) opened.schema.indexes →
+    list ≡ remove_writes opened.prefix store key (Some old)
+remove_list opened key number old list store same is wrote =
+    wrote
+    ∙ ap (λ ms. ClearRange (point (record_key opened.prefix key)) ∷ ms)
+    (all_want opened store same key number (Some old) None ∙ ap (λ n. index_writes opened.prefix store n key (Some old) None) (sym is))
 
 -- REMOVE: the record is gone
-pub remove_served : (opened : Opened) (key : List Item) (old : Option Record) (was_there : Bool) (list : List Mutation) → list ≡ remove_writes opened.prefix (store_of opened) key old → was_there ≡ is_some old → IsTuple key →
-    (m : Map) (store : Store) → Holds opened.prefix m (Some store) → IsOpenAs opened store → old ≡ record_at key store.records →
+pub remove_served : (opened : Opened) (key : List Item) (old : Option Record) (was_there : Bool) (list : List Mutation) → was_there ≡ is_some old → IsTuple key →
+    (m : Map) (store : Store) → Holds opened.prefix m (Some store) → old ≡ record_at key store.records → list ≡ remove_writes opened.prefix store key old →
     IsServed opened (remove_service opened key) was_there list m store
-remove_served opened key old was_there list wrote there tuple m store holds same is =
-    let writes = remove_wrote opened key old list wrote store same is in record {
+remove_served opened key old was_there list there tuple m store holds is wrote =
+    let writes = wrote ∙ ap (remove_writes opened.prefix store key) is in
+    record {
       accepted = refl;
       answers = there ∙ ap is_some is;
       wrote = writes;
       holds = subst (λ ms. Holds opened.prefix (after_all ms m) (Some (removed store key))) (sym writes) (removed_holds_all opened.prefix m store key tuple holds);
     }
-
--- an answer of a removal tells whether something was written
-pub removal_changes : (opened : Opened) (key : List Item) (old : Option Record) (was_there : Bool) (list : List Mutation) → list ≡ remove_writes opened.prefix (store_of opened) key old → was_there ≡ is_some old → (length list == 0) ≡ not was_there
-removal_changes opened key None was_there list wrote there = ap (λ ms. length ms == 0) wrote ∙ sym (ap not there)
-removal_changes opened key (Some r) was_there list wrote there =
-    ap (λ ms. length ms == 0) wrote ∙ filled (ClearRange (point (record_key opened.prefix key))) (index_writes opened.prefix (store_of opened) r.definition.number (Some r) None) ∙ sym (ap not there)
 
 -- a record of the schema's own type is accepted
 pub save_accepted : (opened : Opened) (r : Record) → is_own (find_type opened.schema r.definition.name) r ≡ true → save_call opened r ≡ Ok (save_service opened r)
@@ -164,20 +151,6 @@ pub nothing_read : (maps : ℕ → Map) (opened : Opened) {old : CommitRequest} 
 nothing_read maps opened = ran_still refl (λ m. (refl, (tt, λ store holds same. tt)))
 
 -- ---- saves and scans, by their parts
-
--- the read of a save
-pub save_read : (opened : Opened) (new : Record) (key : List Item) (old : Option Record) {maps : ℕ → Map} {before after : CommitRequest} → key ≡ primary_key new →
-    DidRead maps (point (record_key opened.prefix key) ∷ []) before after (IsRead opened key old) →
-    DidRead maps (point (record_key opened.prefix (primary_key new)) ∷ []) before after (λ m. (point (record_key opened.prefix (primary_key new)) ∷ [] ≡ (save_service opened new).reading.added m) × IsRead opened (primary_key new) old m)
-save_read opened new key old {maps = maps} {before = before} {after = now} same ran =
-    as_added (subst (λ k. DidRead maps (point (record_key opened.prefix k) ∷ []) before now (IsRead opened k old)) same ran)
-
-pub save_serves : (opened : Opened) (new : Record) (old : Option Record) (list : List Mutation) (key : List Item) → list ≡ replacement opened new old →
-    is_own (find_type opened.schema new.definition.name) new ≡ true → record_in new.definition new.cells ≡ Ok new → key ≡ primary_key new → IsTuple key →
-    All IsCell new.cells →
-    (m : Map) (store : Store) → Holds opened.prefix m (Some store) → IsOpenAs opened store → old ≡ record_at (primary_key new) store.records → IsServed opened (save_service opened new) old list m store
-save_serves opened new old list key wrote own made same tuple cells m store holds schema is =
-    save_served opened new old list wrote (own_typed opened.schema new own made) (record { key = subst IsTuple same tuple; cells = cells }) m store holds schema is
 
 pub records_served : (opened : Opened) (number : ℕ) (rows : List Record) (m : Map) (store : Store) → Holds opened.prefix m (Some store) → rows ≡ of_type number store.records → IsServed opened (records_service opened number) rows [] m store
 records_served opened number rows m store holds is = record { accepted = refl; answers = is; wrote = refl; holds = holds }

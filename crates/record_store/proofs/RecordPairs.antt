@@ -1,5 +1,5 @@
 -- Pairs that stand for records: what a map that holds a store has at a record's key and in a type's range, and which pairs are of the written form.
-use Rattle.std.proofs.Common.{◌≡◌, inl, ℕ, Bool, true, false, cond, ◌==◌, ◌<◌, ◌^◌, List, [], ◌∷◌, ◌++◌, refl, sym, ap, subst, ◌∙◌, Option, Some, None, Ok, Err, map, pos}
+use Rattle.std.proofs.Common.{◌≡◌, ◌⊎◌, inl, inr, ℕ, Bool, true, false, cond, ◌==◌, ◌<◌, ◌^◌, List, [], ◌∷◌, ◌++◌, refl, sym, ap, subst, ◌∙◌, Option, Some, None, Ok, Err, map, pos}
 use Rattle.std.specs.List.{AllByRecursion}
 use Rattle.std.specs.List.Sorted.{IsStrictlySortedBy}
 use Rattle.std.specs.Option.{option_map}
@@ -32,11 +32,11 @@ use Rattle.metadata.specs.Stored.{IsOfNoRecord, IsStoredAs, IsTypeOf}
 use Rattle.metadata.proofs.StoredApart.{named_typed, storable}
 use Rattle.metadata.proofs.StoredOnce.{made_is, stored_once}
 use Rattle.record_store.specs.Store.{Store}
-use Rattle.record_store.specs.Layout.{record_key, record_pair, record_value, type_range}
+use Rattle.record_store.specs.Layout.{built_place, record_key, record_pair, record_value, type_range}
 use Rattle.record_store.specs.Holds.{Holds, IsOfSchema}
-use Rattle.record_store.specs.Form.{IsFirstBad, IsRecordPair, IsTotalPair, IsWritten}
+use Rattle.record_store.specs.Form.{IsFirstBad, IsRangePair, IsRecordPair, IsTotalPair, IsWritten}
 use Rattle.record_store.proofs.Held.{type_held, value_held}
-use Rattle.record_store.proofs.Kept.{not_entry}
+use Rattle.record_store.proofs.Kept.{not_entry, not_range}
 use Rattle.metadata.specs.declared.refusal.Refusal.TheVariants.{UnknownType}
 use Rattle.index_maint.proofs.RecordLists.{all_filter}
 
@@ -82,9 +82,11 @@ pub all_written : (prefix : List ℕ) (schema : Schema) (pairs : List Pair) → 
 all_written prefix schema [] all = tt
 all_written prefix schema (pair ∷ pairs) all = (inl all.0, all_written prefix schema pairs all.1)
 
--- a pair in the place of records isn't that of a total
-pub no_total_pair : (prefix : List ℕ) (ns : List Item) (indexes : List IndexDefinition) (pair : Pair) → BeginsWith (key_of prefix (item.int (pos 1) ∷ ns)) pair.0 → IsTotalPair prefix indexes pair → ⊥
-no_total_pair prefix ns indexes pair begins total = not_entry prefix total.index.number 1 ns pair.0 refl begins (spelling (items_of total.group), total.key)
+-- a pair in the place of records isn't that of a total, nor that of a built range
+pub no_other_pair : (prefix : List ℕ) (ns : List Item) (indexes : List IndexDefinition) (pair : Pair) → BeginsWith (key_of prefix (item.int (pos 1) ∷ ns)) pair.0 → IsTotalPair prefix indexes pair ⊎ IsRangePair prefix indexes pair → ⊥
+no_other_pair prefix ns indexes pair begins (inl total) = not_entry prefix total.index.number 1 ns pair.0 refl begins (spelling (items_of total.group), total.key)
+no_other_pair prefix ns indexes pair begins (inr one) =
+    not_range prefix one.index.number 1 ns pair.0 refl begins (subst (BeginsWith (built_place prefix one.index.number)) (sym (ap (λ (p : Pair). p.0) one.is)) (spelling (item.bytes one.range.begin ∷ []), refl))
 
 -- ---- records of a schema
 

@@ -23,12 +23,12 @@ use Rattle.metadata.specs.Stored.{IsStoredAs, IsTypeOf, IsOfNoRecord}
 use Rattle.metadata.proofs.StoredApart.{named_typed, number_small}
 use Rattle.metadata.proofs.StoredOnce.{made_is, stored_once}
 use Rattle.record_store.specs.declared.error.StoreError.{StoreError}
-use Rattle.record_store.specs.declared.error.StoreError.TheVariants.{Memory, Read, Write, Corrupt, Refused, NoStore, AlreadyThere, OtherSchema, NotAggregate, NotReadable}
+use Rattle.record_store.specs.declared.error.StoreError.TheVariants.{Memory, Read, Write, Corrupt, Refused, NoStore, AlreadyThere, OtherSchema, NotAggregate, NotReadable, WrongState, NotBuilt}
 use Rattle.record_store.specs.Layout.{place, record_key, record_pair, record_value, type_range}
 use Rattle.record_store.specs.Store.{Store}
 use Rattle.record_store.specs.Holds.{Holds, IsOfSchema}
 use Rattle.record_store.specs.Form.{IsFirstBad, IsRecordPair, IsWritten, read_in}
-use Rattle.record_store.specs.Call.{AtStore, IsOpenAs, IsUnread, Opened, Reading, first_of, whole}
+use Rattle.record_store.specs.Call.{AreDamaged, AtStore, IsOpenAs, IsUnread, Opened, Reading, first_of, whole}
 use Rattle.record_store.specs.Store.{new_state}
 use Rattle.record_store.specs.Reading.{ArePairsOf, HasNotFound, HasRead, HaveNoRecords, IsPairOf, IsPairOfNone}
 use Rattle.record_store.specs.Steps.{DidRead, IsBeginning}
@@ -36,7 +36,7 @@ use Rattle.record_store.proofs.Stopping.{all_begin}
 use Rattle.record_store.proofs.Held.{type_held, under}
 use Rattle.record_store.proofs.Keys.{in_type_range, record_key_is}
 use Rattle.record_store.proofs.Openings.{pairs_lie}
-use Rattle.record_store.proofs.RecordPairs.{all_written, key_bytes, no_total_pair, none_bad, of_stored, stored_as, type_form}
+use Rattle.record_store.proofs.RecordPairs.{all_written, key_bytes, no_other_pair, none_bad, of_stored, stored_as, type_form}
 use Rattle.std.proofs.lemmas.Bool.{eqb-true}
 use Rattle.std.specs.Option.{IfNone}
 use Rattle.std.proofs.lemmas.List.{append_cancel_left, length-map, take-map}
@@ -78,7 +78,7 @@ module _ (opened : Opened) (type : TypeDefinition) (lawful : IsLawfulSchema open
   pair_is : (pair : Pair) (r : Record) → IsPairOf (place opened.prefix 1) type pair r → pair ≡ record_pair opened.prefix r
   pair_is pair r is i = ((is.behind ∙ ap (λ rest. place opened.prefix 1 ++ rest) is.is.has_key ∙ record_key_is opened.prefix (primary_key r)) i, is.is.has_value i)
 
-  good_form : (pairs : List Pair) (records : List Record) → ArePairsOf (place opened.prefix 1) type pairs records → AllByRecursion (IsWritten opened.prefix opened.schema) pairs
+  pub good_form : (pairs : List Pair) (records : List Record) → ArePairsOf (place opened.prefix 1) type pairs records → AllByRecursion (IsWritten opened.prefix opened.schema) pairs
   good_form [] [] good = tt
   good_form [] (r ∷ records) good = absurd good
   good_form (pair ∷ pairs) [] good = absurd good
@@ -100,15 +100,15 @@ module _ (opened : Opened) (type : TypeDefinition) (lawful : IsLawfulSchema open
       })
 
   -- nor is it that of a total
-  bad_written : (pair : Pair) → contains (type_range opened.prefix type.number) pair.0 ≡ true → type.number < 2 ^ 64 → ((r : Record) → IsPairOf (place opened.prefix 1) type pair r → ⊥) → IsWritten opened.prefix opened.schema pair → ⊥
+  pub bad_written : (pair : Pair) → contains (type_range opened.prefix type.number) pair.0 ≡ true → type.number < 2 ^ 64 → ((r : Record) → IsPairOf (place opened.prefix 1) type pair r → ⊥) → IsWritten opened.prefix opened.schema pair → ⊥
   bad_written pair inside small none (inl is) = bad_form pair inside small none is
   bad_written pair inside small none (inr is) =
       let q = records_prefix opened.prefix type.number in
-      no_total_pair opened.prefix (item.int (pos type.number) ∷ []) opened.schema.indexes pair
+      no_other_pair opened.prefix (item.int (pos type.number) ∷ []) opened.schema.indexes pair
       (under q [] (255 ∷ []) pair.0 (ap (λ b. contains (record { begin = b; end = q ++ 255 ∷ [] }) pair.0) (append-nil q) ∙ inside)) is
 
   -- records that stand for the same pairs are the same
-  same_records : (records others : List Record) (pairs : List Pair) → ArePairsOf (place opened.prefix 1) type pairs records → pairs ≡ map (record_pair opened.prefix) others →
+  pub same_records : (records others : List Record) (pairs : List Pair) → ArePairsOf (place opened.prefix 1) type pairs records → pairs ≡ map (record_pair opened.prefix) others →
       AllByRecursion (λ (r : Record). IsOfSchema opened.schema r × IsStorable r × (r.definition.number ≡ type.number)) others → records ≡ others
   same_records [] [] pairs good is all = refl
   same_records [] (s ∷ others) [] good is all = absurd (cc)
@@ -128,7 +128,7 @@ module _ (opened : Opened) (type : TypeDefinition) (lawful : IsLawfulSchema open
       λ i. one i ∷ same_records records others pairs good.1 rest all.1 i
 
   -- the records of the type are of the schema
-  of_type_good : (records : List Record) → AllByRecursion (IsOfSchema opened.schema) records → AllByRecursion IsStorable records →
+  pub of_type_good : (records : List Record) → AllByRecursion (IsOfSchema opened.schema) records → AllByRecursion IsStorable records →
       AllByRecursion (λ (r : Record). IsOfSchema opened.schema r × IsStorable r × (r.definition.number ≡ type.number)) (of_type type.number records)
   of_type_good [] typed can = tt
   of_type_good (r ∷ records) typed can = by_test (r.definition.number == type.number) refl (of_type_good records typed.1 can.1)
@@ -140,7 +140,7 @@ module _ (opened : Opened) (type : TypeDefinition) (lawful : IsLawfulSchema open
 
   -- ---- what was read
 
-  small : type.number < 2 ^ 64
+  pub small : type.number < 2 ^ 64
   small = number_small opened.schema type lawful own
 
   abbrev here : KeyRange
@@ -167,10 +167,10 @@ module _ (opened : Opened) (type : TypeDefinition) (lawful : IsLawfulSchema open
       in_middle [] all = all.0
       in_middle (pair ∷ before) all = in_middle before all.1
 
-  unread_there : (refuses : KeyRange → ReadError → Type 0) (reading : Reading) (added : List KeyRange) (m : Map) (limit : ℕ) (pairs : List Pair) (error : StoreError) → pairs ≡ take limit (pairs_in m here) → added ≡ reading.added m → reading.pairs m ≡ pairs →
+  unread_there : (refuses : KeyRange → ReadError → Type 0) (reading : Reading) (added : List KeyRange) (m : Map) (limit : ℕ) (pairs : List Pair) (error : StoreError) → reading.set ≡ None → pairs ≡ take limit (pairs_in m here) → added ≡ reading.added m → reading.pairs m ≡ pairs →
       HaveNoRecords (place opened.prefix 1) type pairs error → IsUnread refuses opened reading error added m
-  unread_there refuses reading added m limit pairs error is all read (inl memory) = subst (λ e. IsUnread refuses opened reading e added m) (sym memory) (subst (IsBeginning added) all (all_begin added))
-  unread_there refuses reading added m limit pairs error is all read (inr among) = by_error error among.none
+  unread_there refuses reading added m limit pairs error none is all read (inl memory) = subst (λ e. IsUnread refuses opened reading e added m) (sym memory) (subst (IsBeginning added) all (all_begin added))
+  unread_there refuses reading added m limit pairs error none is all read (inr among) = by_error error among.none
     where
       first : (key : List ℕ) → IsPairOfNone (place opened.prefix 1) type among.bad (Corrupt key) → IsFirstBad (IsWritten opened.prefix opened.schema) (reading.pairs m) key
       first key says = record {
@@ -198,7 +198,9 @@ module _ (opened : Opened) (type : TypeDefinition) (lawful : IsLawfulSchema open
       by_error OtherSchema says = absurd says
       by_error NotAggregate says = absurd says
       by_error NotReadable says = absurd says
-      by_error (Corrupt key) says = (all, first key says, λ store holds same. none_bad (reading.pairs m) key (all_good store holds same) (first key says))
+      by_error WrongState says = absurd says
+      by_error NotBuilt says = absurd says
+      by_error (Corrupt key) says = (all, subst (λ set. AreDamaged opened set (reading.pairs m) key m) (sym none) (first key says), λ store holds same. none_bad (reading.pairs m) key (all_good store holds same) (first key says))
 
   -- ---- all of them
 
@@ -234,7 +236,7 @@ module _ (opened : Opened) (type : TypeDefinition) (lawful : IsLawfulSchema open
         ran_added (ap (λ r. r ∷ []) is)
         (ran_read range read (λ m agree.
         let all : pairs ≡ pairs_in (seen old m) here = answer m agree ∙ ap (pairs_in (seen old m)) is in
-        unread_there (λ r. refuses r old.read_version) (whole (here ∷ [])) (here ∷ []) (seen old m) (length pairs) pairs error (whole_pairs (seen old m) pairs all) refl (read_pairs (seen old m) ∙ sym all)
+        unread_there (λ r. refuses r old.read_version) (whole (here ∷ [])) (here ∷ []) (seen old m) (length pairs) pairs error refl (whole_pairs (seen old m) pairs all) refl (read_pairs (seen old m) ∙ sym all)
         (subst (λ p. HaveNoRecords p type pairs error) at none)));
   }
 
@@ -270,7 +272,7 @@ module _ (opened : Opened) (type : TypeDefinition) (lawful : IsLawfulSchema open
     added = range_read range 1 false pairs ∷ [];
     ran = ran_read (range_read range 1 false pairs) read (λ m agree.
         let some : pairs ≡ take 1 (pairs_in (seen old m) here) = answer m agree ∙ ap (λ r. take 1 (pairs_in (seen old m) r)) is in
-        unread_there (λ r. refuses r old.read_version) (first_of here) (range_read range 1 false pairs ∷ []) (seen old m) 1 pairs error some (ap (λ r. r ∷ []) (first_added (seen old m) range pairs is (answer m agree))) (sym some)
+        unread_there (λ r. refuses r old.read_version) (first_of here) (range_read range 1 false pairs ∷ []) (seen old m) 1 pairs error refl some (ap (λ r. r ∷ []) (first_added (seen old m) range pairs is (answer m agree))) (sym some)
         (subst (λ p. HaveNoRecords p type pairs error) at none));
   }
 

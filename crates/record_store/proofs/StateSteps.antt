@@ -1,5 +1,5 @@
 -- How the code finds the states that pairs stand for, step by step.
-use Rattle.std.proofs.Common.{◌≡◌, inr, ℕ, Bool, true, false, ◌&&◌, ◌||◌, ◌==◌, ◌<◌, ◌≤◌, List, [], ◌∷◌, ◌++◌, refl, sym, ap, subst, ◌∙◌, arith, length, take, drop}
+use Rattle.std.proofs.Common.{◌≡◌, inr, ℕ, Bool, true, false, cond, Option, Some, None, ◌&&◌, ◌||◌, ◌==◌, ◌<◌, ◌≤◌, List, [], ◌∷◌, ◌++◌, refl, sym, ap, subst, ◌∙◌, arith, length, take, drop}
 use Rattle.std.specs.Prelude.{get_or, zero, suc}
 use Rattle.std.specs.Ordering.{is_eq}
 use Rattle.std.specs.List.{AllByRecursion}
@@ -11,14 +11,15 @@ use Rattle.kv_core.specs.Bytes.{key_cmp}
 use Rattle.kv_core.proofs.Order.{tied_keys}
 use Rattle.metadata.specs.declared.index.IndexDefinition.{IndexDefinition}
 use Rattle.metadata.specs.declared.index.State.{State}
-use Rattle.metadata.specs.declared.index.State.TheVariants.{Disabled}
+use Rattle.metadata.specs.declared.index.State.TheVariants.{Readable, WriteOnly, Disabled}
 use Rattle.record_store.specs.declared.error.StoreError.{StoreError}
 use Rattle.record_store.specs.Layout.{state_key, state_pair, state_value}
 use Rattle.record_store.specs.Holds.{IsListed, has_number}
 use Rattle.record_store.specs.Form.{IsStatePair}
-use Rattle.record_store.specs.Reading.{AreStates, HaveNoStates, IsNoState, IsPairOfState, same_pair}
+use Rattle.record_store.specs.Reading.{AreStates, HaveNoStates, IsNoState, IsPairOfState, same_pair, state_told}
 use Rattle.record_store.proofs.NewIndexes.{all_append}
 use Rattle.record_store.proofs.Scanning.{split_at}
+use Rattle.record_store.proofs.States.{disabled_listed}
 
 abbrev Pair : Type 0
 Pair = List ℕ × List ℕ
@@ -50,29 +51,62 @@ number_there (suc i) [] index within is = absurd (omega (arith, within))
 number_there (suc i) (first ∷ indexes) index within is = or_right (first.number == index.number) (has_number indexes index.number) (number_there i indexes index (omega (arith, within)) is)
 
 module _ (prefix : List ℕ) where
-  pub found_state : (i : ℕ) (indexes : List IndexDefinition) (index : IndexDefinition) (pair : Pair) → i < length indexes → index ≡ get_or indexes i index → same_pair pair (state_pair prefix (index.number, Disabled)) ≡ true →
-      IsPairOfState prefix indexes pair (index.number, Disabled)
-  found_state i indexes index pair within is same = record {
-    disabled = record { there = number_there i indexes index within is; state = refl };
-    is = pair_is pair (state_pair prefix (index.number, Disabled)) same;
-  }
+  -- the state told is that of the pair
+  told_is : (number : ℕ) (pair : Pair) (state : State) → Some state ≡ state_told prefix number pair → (state ≡ Readable → ⊥) × (pair ≡ state_pair prefix (number, state))
+  told_is number pair state told =
+      by_tests (same_pair pair (state_pair prefix (number, WriteOnly))) refl (same_pair pair (state_pair prefix (number, Disabled))) refl told
+    where
+      not_readable : WriteOnly ≡ Readable → ⊥
+      not_readable same = cc
+
+      is_that : (own : State) → Some state ≡ Some own → (own ≡ Readable → ⊥) → same_pair pair (state_pair prefix (number, own)) ≡ true → (state ≡ Readable → ⊥) × (pair ≡ state_pair prefix (number, state))
+      is_that own same other tied =
+          let is : state ≡ own = cc in
+          subst (λ s. (s ≡ Readable → ⊥) × (pair ≡ state_pair prefix (number, s))) (sym is) (other, pair_is pair (state_pair prefix (number, own)) tied)
+
+      by_tests : (a : Bool) → same_pair pair (state_pair prefix (number, WriteOnly)) ≡ a → (b : Bool) → same_pair pair (state_pair prefix (number, Disabled)) ≡ b →
+          Some state ≡ cond a (Some WriteOnly) (cond b (Some Disabled) None) → (state ≡ Readable → ⊥) × (pair ≡ state_pair prefix (number, state))
+      by_tests true one b other same = is_that WriteOnly same not_readable one
+      by_tests false one true other same = is_that Disabled same disabled_listed other
+      by_tests false one false other same = let no : ◌≡◌ {A = Option State} (Some state) None = same in absurd (cc)
+
+  -- a state's own pair tells it
+  tells_itself : (number : ℕ) (state : State) → (state ≡ Readable → ⊥) → state_told prefix number (state_pair prefix (number, state)) ≡ None → ⊥
+  tells_itself number Readable listed none = listed refl
+  tells_itself number WriteOnly listed none =
+      let some : ◌≡◌ {A = Option State} (Some WriteOnly) None =
+      sym (ap (λ b. cond b (Some WriteOnly) (cond (same_pair (state_pair prefix (number, WriteOnly)) (state_pair prefix (number, Disabled))) (Some Disabled) None)) (same_itself (state_pair prefix (number, WriteOnly)))) ∙ none in
+      absurd (cc)
+  tells_itself number Disabled listed none =
+      by_test (same_pair (state_pair prefix (number, Disabled)) (state_pair prefix (number, WriteOnly)))
+      (sym (ap (λ b. cond (same_pair (state_pair prefix (number, Disabled)) (state_pair prefix (number, WriteOnly))) (Some WriteOnly) (cond b (Some Disabled) None)) (same_itself (state_pair prefix (number, Disabled)))) ∙ none)
+    where
+      by_test : (b : Bool) → ◌≡◌ {A = Option State} (cond b (Some WriteOnly) (Some Disabled)) None → ⊥
+      by_test true none = cc
+      by_test false none = cc
+
+  pub found_state : (i : ℕ) (indexes : List IndexDefinition) (index : IndexDefinition) (pair : Pair) (state : State) → i < length indexes → index ≡ get_or indexes i index → Some state ≡ state_told prefix index.number pair →
+      IsPairOfState prefix indexes pair (index.number, state)
+  found_state i indexes index pair state within is told =
+      let known = told_is index.number pair state told in record {
+        is_listed = record { there = number_there i indexes index within is; state = known.0 };
+        is = known.1;
+      }
 
   -- a pair of none of the indexes is of no state
-  pub no_state_pair : (indexes : List IndexDefinition) (pair : Pair) → AllByRecursion (λ (index : IndexDefinition). same_pair pair (state_pair prefix (index.number, Disabled)) ≡ false) indexes → IsStatePair prefix indexes pair → ⊥
-  no_state_pair indexes pair none is = go indexes is.disabled.there none
+  pub no_state_pair : (indexes : List IndexDefinition) (pair : Pair) → AllByRecursion (λ (index : IndexDefinition). state_told prefix index.number pair ≡ None) indexes → IsStatePair prefix indexes pair → ⊥
+  no_state_pair indexes pair none is = go indexes is.is_listed.there none
     where
-      pair_of : (number : ℕ) → is.listed.0 ≡ number → pair ≡ state_pair prefix (number, Disabled)
-      pair_of number same = is.is ∙ (λ i. (state_key prefix (same i), state_value (is.disabled.state i)))
+      itself : (number : ℕ) → is.listed.0 ≡ number → state_told prefix number pair ≡ None → ⊥
+      itself number same none =
+          tells_itself number is.listed.1 is.is_listed.state (ap (state_told prefix number) (sym (is.is ∙ (λ i. (state_key prefix (same i), state_value is.listed.1)))) ∙ none)
 
-      itself : (number : ℕ) → is.listed.0 ≡ number → same_pair pair (state_pair prefix (number, Disabled)) ≡ true
-      itself number same = ap (λ p. same_pair p (state_pair prefix (number, Disabled))) (pair_of number same) ∙ same_itself (state_pair prefix (number, Disabled))
-
-      by_test : (left : List IndexDefinition) (index : IndexDefinition) (b : Bool) → (index.number == is.listed.0) ≡ b → (b || has_number left is.listed.0) ≡ true → same_pair pair (state_pair prefix (index.number, Disabled)) ≡ false →
+      by_test : (left : List IndexDefinition) (index : IndexDefinition) (b : Bool) → (index.number == is.listed.0) ≡ b → (b || has_number left is.listed.0) ≡ true → state_told prefix index.number pair ≡ None →
           (has_number left is.listed.0 ≡ true → ⊥) → ⊥
-      by_test left index true same there other rest = let yes = itself index.number (sym (eqb-true index.number is.listed.0 same)) in cc
+      by_test left index true same there other rest = itself index.number (sym (eqb-true index.number is.listed.0 same)) other
       by_test left index false same there other rest = rest there
 
-      go : (left : List IndexDefinition) → has_number left is.listed.0 ≡ true → AllByRecursion (λ (index : IndexDefinition). same_pair pair (state_pair prefix (index.number, Disabled)) ≡ false) left → ⊥
+      go : (left : List IndexDefinition) → has_number left is.listed.0 ≡ true → AllByRecursion (λ (index : IndexDefinition). state_told prefix index.number pair ≡ None) left → ⊥
       go [] there all = cc
       go (index ∷ left) there all = by_test left index (index.number == is.listed.0) refl there all.0 (λ more. go left more all.1)
 
@@ -80,7 +114,7 @@ module _ (prefix : List ℕ) where
   pub states_more : (i : ℕ) (indexes : List IndexDefinition) (pairs : List Pair) (pair : Pair) (states : List (ℕ × State)) (one : ℕ × State) → i < length pairs → pair ≡ get_or pairs i pair →
       AreStates prefix indexes (take i pairs) states → IsPairOfState prefix indexes pair one → AreStates prefix indexes (take (suc i) pairs) (states ++ one ∷ [])
   states_more i indexes pairs pair states one within is good more = record {
-    disabled = all_append (IsListed indexes) states one good.disabled more.disabled;
+    are_listed = all_append (IsListed indexes) states one good.are_listed more.is_listed;
     are =
         take-suc pairs i pair within ∙ ap (λ p. take i pairs ++ p ∷ []) (sym is ∙ more.is) ∙ ap (λ ps. ps ++ state_pair prefix one ∷ []) good.are ∙ sym (map-append (state_pair prefix) states (one ∷ []));
   }

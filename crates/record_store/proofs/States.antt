@@ -23,7 +23,7 @@ use Rattle.kv_core.proofs.Pairs.{contains-point-is}
 use Rattle.kv_core.proofs.Stored.{stored, stored-set, stored-cleared}
 use Rattle.metadata.specs.declared.index.IndexDefinition.{IndexDefinition}
 use Rattle.metadata.specs.declared.index.State.{State}
-use Rattle.metadata.specs.declared.index.State.TheVariants.{Readable}
+use Rattle.metadata.specs.declared.index.State.TheVariants.{Readable, Disabled}
 use Rattle.metadata.specs.Schema.{Schema}
 use Rattle.metadata.specs.Lawful.{IsLawfulSchema}
 use Rattle.metadata.proofs.TestedIndexes.{tested}
@@ -87,6 +87,10 @@ rising_with number state (one ∷ states) rising = by_order (nat_cmp number one.
     by_order Less is rest = ((ranked number one.0 Less is, all_above number one.0 states (ranked number one.0 Less is) rising.0), rising)
     by_order Equal is rest = rising
     by_order Greater is rest = (all_with_state (λ later. one.0 < later.0) number state states (ranked number one.0 Greater is) (λ later less. less) rising.0, rest)
+
+-- a disabled index isn't readable
+pub disabled_listed : Disabled ≡ Readable → ⊥
+disabled_listed same = cc
 
 -- what holds of each holds of each that a filter keeps
 pub all_kept : {X : Type 0} (P : X → Type 0) (p : X → Bool) (xs : List X) → AllByRecursion P xs → AllByRecursion P (filter p xs)
@@ -165,10 +169,28 @@ state_with number at state (one ∷ states) = by_order (nat_cmp number one.0) re
     by_order Greater is rest = ap (cond (one.0 == at) (Some one.1)) rest ∙ both (number == at) (one.0 == at) refl refl (ranked number one.0 Greater is)
 
 -- TAKEN OUT: for each other number what was listed is
-pub state_without : (number at : ℕ) (states : List (ℕ × State)) → (at ≡ number → ⊥) → state_at at (without_state number states) ≡ state_at at states
-state_without number at states differ =
+pub lookup_without : {X : Type 0} (number at : ℕ) (listed : List (ℕ × X)) → (at ≡ number → ⊥) → lookup (λ own. own == at) (filter (λ (one : ℕ × X). not (one.0 == number)) listed) ≡ lookup (λ own. own == at) listed
+lookup_without number at listed differ =
     lookup-filter-keys (λ own. own == at) (λ own. not (own == number)) true
-    (λ own same. ap not (false_from_ne_true (own == number) (λ is. differ (sym (eqb-true own at same) ∙ eqb-true own number is)))) states
+    (λ own same. ap not (false_from_ne_true (own == number) (λ is. differ (sym (eqb-true own at same) ∙ eqb-true own number is)))) listed
+
+-- and for the number itself nothing is
+pub listed_gone : {X : Type 0} (number : ℕ) (listed : List (ℕ × X)) → lookup (λ own. own == number) (filter (λ (one : ℕ × X). not (one.0 == number)) listed) ≡ None
+listed_gone number [] = refl
+listed_gone {X = X} number (one ∷ listed) = by_test (one.0 == number) refl (listed_gone number listed)
+  where
+    left : List (ℕ × X)
+    left = filter (λ (other : ℕ × X). not (other.0 == number)) listed
+
+    by_test : (b : Bool) → (one.0 == number) ≡ b → lookup (λ own. own == number) left ≡ None → lookup (λ own. own == number) (cond (not b) (one ∷ left) left) ≡ None
+    by_test true is rest = rest
+    by_test false is rest = ap (λ b. cond b (Some one.1) (lookup (λ own. own == number) left)) is ∙ rest
+
+pub state_gone : (number : ℕ) (states : List (ℕ × State)) → state_at number (without_state number states) ≡ None
+state_gone number states = listed_gone number states
+
+pub state_without : (number at : ℕ) (states : List (ℕ × State)) → (at ≡ number → ⊥) → state_at at (without_state number states) ≡ state_at at states
+state_without number at states differ = lookup_without number at states differ
 
 -- where no index has a number no state is listed for it
 pub state_of_none : (indexes : List IndexDefinition) (number : ℕ) (states : List (ℕ × State)) → (has_number indexes number ≡ true → ⊥) → AllByRecursion (IsListed indexes) states → state_at number states ≡ None

@@ -8,7 +8,7 @@ use Rattle.cluster_core.specs.declared.answers.ReadError.{ReadError}
 use Rattle.cluster_core.specs.declared.answers.ReadError.TheVariants as read
 use Rattle.txn.proofs.Running.{ran_because, ran_still}
 use Rattle.record_store.specs.declared.error.StoreError.{StoreError}
-use Rattle.record_store.specs.declared.error.StoreError.TheVariants.{Memory, Read, Write, Corrupt, Refused, NoStore, AlreadyThere, OtherSchema, NotAggregate, NotReadable}
+use Rattle.record_store.specs.declared.error.StoreError.TheVariants.{Memory, Read, Write, Corrupt, Refused, NoStore, AlreadyThere, OtherSchema, NotAggregate, NotReadable, WrongState, NotBuilt}
 use Rattle.record_store.specs.Call.{IsUnread, Opened, Reading}
 use Rattle.record_store.specs.Reading.{HasNotFound, HasNotRead, IsReadError}
 use Rattle.record_store.specs.Steps.{DidRead, IsBeginning, IsNextRefused, no_memory, of_read}
@@ -57,6 +57,8 @@ error_more refuses asked added more AlreadyThere says = absurd says
 error_more refuses asked added more OtherSchema says = absurd says
 error_more refuses asked added more NotAggregate says = absurd says
 error_more refuses asked added more NotReadable says = absurd says
+error_more refuses asked added more WrongState says = absurd says
+error_more refuses asked added more NotBuilt says = absurd says
 
 pub error_behind : (refuses : KeyRange → ReadError → Type 0) (before asked added : List KeyRange) (error : StoreError) → IsReadError refuses asked added error → IsReadError refuses (before ++ asked) (before ++ added) error
 error_behind refuses before asked added Memory says = begin_behind before says
@@ -69,6 +71,8 @@ error_behind refuses before asked added AlreadyThere says = absurd says
 error_behind refuses before asked added OtherSchema says = absurd says
 error_behind refuses before asked added NotAggregate says = absurd says
 error_behind refuses before asked added NotReadable says = absurd says
+error_behind refuses before asked added WrongState says = absurd says
+error_behind refuses before asked added NotBuilt says = absurd says
 
 -- READ: the one read that was asked for first was refused, or memory was wanting
 pub read_failed : {maps : ℕ → Map} {refuses : KeyRange → ℕ → ReadError → Type 0} {old new : CommitRequest} (range other : KeyRange) (error : ReadError) → range ≡ other → new ≡ old →

@@ -1,9 +1,10 @@
 -- What a call on an open store establishes, whatever map the snapshot turns out to have.
-use Rattle.std.specs.Prelude.{◌≡◌, ◌⊎◌, ℕ, Bool, true, false, not, List, [], ◌∷◌, Some, None}
-use Rattle.std.specs.Prelude.{Result, Ok, Err, length, ◌==◌}
+use Rattle.std.specs.Prelude.{◌≡◌, ◌⊎◌, ℕ, Bool, true, false, not, List, [], ◌∷◌, ◌++◌, Option, Some, None}
+use Rattle.std.specs.Prelude.{Result, Ok, Err, length, ◌==◌, is_some, if◌then◌else◌}
+use Rattle.std.specs.FinMap.{get}
 use Rattle.std.specs.List.{AllByRecursion}
 use Rattle.kv_core.specs.Range.{KeyRange}
-use Rattle.kv_core.specs.Map.{Map, after_all}
+use Rattle.kv_core.specs.Map.{Map, after_all, pairs_in}
 use Rattle.kv_core.specs.Read.{range_read, read_of}
 use Rattle.kv_core.specs.Limits.{write_all_refusal}
 use Rattle.kv_core.specs.declared.change.CommitRequest.{CommitRequest}
@@ -16,7 +17,9 @@ use Rattle.record_store.specs.declared.error.StoreError.{StoreError}
 use Rattle.record_store.specs.declared.error.StoreError.TheVariants.{Memory, Read, Write, Corrupt}
 use Rattle.record_store.specs.Store.{Store}
 use Rattle.record_store.specs.Holds.{Holds}
+use Rattle.range_set.specs.Stored.{AreWritten, IsFirstDamaged}
 use Rattle.record_store.specs.Form.{IsFirstBad, IsWritten, read_in}
+use Rattle.record_store.specs.Layout.{built_place, built_range}
 use Rattle.record_store.specs.Steps.{DidRead, IsBeginning, IsNextRefused}
 
 -- a store that was opened: the prefix of its keys, and the schema and the states of indexes that were found there
@@ -30,16 +33,27 @@ pub record IsOpenAs (opened : Opened) (store : Store) : Type 0 where
   pub schema : store.schema ≡ opened.schema
   pub states : store.states ≡ opened.states
 
--- what a call reads of a map, in reading order: the ranges that it asks for, those that it adds to the ranges read, and
--- the pairs
+-- what a call reads of a map, in reading order: the ranges that it asks for, those that it adds to the ranges read, the
+-- index of which it reads all built ranges first, if it does, and the other pairs
 pub record Reading : Type 0 where
   pub asked : Map → List KeyRange
   pub added : Map → List KeyRange
+  pub set : Option ℕ
   pub pairs : Map → List (List ℕ × List ℕ)
 
 -- all pairs of some ranges are read
 abbrev pub whole : List KeyRange → Reading
-whole ranges = record { asked = λ m. ranges; added = λ m. ranges; pairs = λ m. read_in m ranges }
+whole ranges = record { asked = λ m. ranges; added = λ m. ranges; set = None; pairs = λ m. read_in m ranges }
+
+-- all built ranges of the index with this number are read
+abbrev pub all_built : List ℕ → ℕ → Reading
+all_built prefix number =
+    record {
+      asked = λ m. built_range prefix number ∷ [];
+      added = λ m. built_range prefix number ∷ [];
+      set = Some number;
+      pairs = λ m. [];
+    }
 
 -- the first pair of a range is read, if there is one
 abbrev pub first_of : KeyRange → Reading
@@ -47,8 +61,50 @@ first_of range =
     record {
       asked = λ m. range ∷ [];
       added = λ m. range_read range 1 false (read_of m range 1 false) ∷ [];
+      set = None;
       pairs = λ m. read_of m range 1 false;
     }
+
+-- one reading, and then another, of pairs alone
+abbrev pub then_reads : Reading → Reading → Reading
+then_reads one other =
+    record {
+      asked = λ m. one.asked m ++ other.asked m;
+      added = λ m. one.added m ++ other.added m;
+      set = one.set;
+      pairs = λ m. one.pairs m ++ other.pairs m;
+    }
+
+-- a reading of pairs where a pair stands at a key
+abbrev pub where_there : List ℕ → Reading → Reading
+where_there key reading =
+    record {
+      asked = λ m. if is_some (get m key) then reading.asked m else [];
+      added = λ m. if is_some (get m key) then reading.added m else [];
+      set = None;
+      pairs = λ m. if is_some (get m key) then reading.pairs m else [];
+    }
+
+-- what is read of a map is of the written form: of built ranges that are read whole all together, of the rest each pair
+abbrev pub AreSound : Opened → Option ℕ → List (List ℕ × List ℕ) → Map → Type 0
+AreSound opened None pairs m = AllByRecursion (IsWritten opened.prefix opened.schema) pairs
+AreSound opened (Some number) pairs m =
+    AreWritten (built_place opened.prefix number) (pairs_in m (built_range opened.prefix number))
+    × AllByRecursion (IsWritten opened.prefix opened.schema) pairs
+
+abbrev pub IsSound : Opened → Reading → Map → Type 0
+IsSound opened reading m = AreSound opened reading.set (reading.pairs m) m
+
+-- of the pairs read the first one that isn't of the written form has this key
+abbrev pub AreDamaged : Opened → Option ℕ → List (List ℕ × List ℕ) → List ℕ → Map → Type 0
+AreDamaged opened None pairs key m = IsFirstBad (IsWritten opened.prefix opened.schema) pairs key
+AreDamaged opened (Some number) pairs key m =
+    IsFirstDamaged (built_place opened.prefix number) (pairs_in m (built_range opened.prefix number)) key
+    ⊎ (AreWritten (built_place opened.prefix number) (pairs_in m (built_range opened.prefix number))
+    × IsFirstBad (IsWritten opened.prefix opened.schema) pairs key)
+
+abbrev pub IsDamagedAt : Opened → Reading → List ℕ → Map → Type 0
+IsDamagedAt opened reading key m = AreDamaged opened reading.set (reading.pairs m) key m
 
 -- what a call may be refused for once it has read: nothing, or by the store that is there so
 pub data Objection : Type 0 where
@@ -99,7 +155,7 @@ pub record IsAnswered {A : Type 0} (maps : ℕ → Map) (opened : Opened) (call 
   pub written : List Mutation
   pub changes : (length written == 0) ≡ not (service.changes answer)
   pub ran : Ran maps added old new written (λ m. (added ≡ service.reading.added m)
-      × AllByRecursion (IsWritten opened.prefix opened.schema) (service.reading.pairs m)
+      × IsSound opened service.reading m
       × AtStore opened m (IsDone opened service answer old.mutations written m))
 
 -- why reads aren't answered: memory is wanting, or a read is refused, in either case behind the first ones; or all were
@@ -109,8 +165,7 @@ IsUnread refuses opened reading Memory added m = IsBeginning added (reading.adde
 IsUnread refuses opened reading (Read error) added m =
     IsBeginning added (reading.added m) × IsNextRefused refuses (reading.asked m) added error
 IsUnread refuses opened reading (Corrupt key) added m =
-    (added ≡ reading.added m) × IsFirstBad (IsWritten opened.prefix opened.schema) (reading.pairs m) key
-    × AtStore opened m (λ store. ⊥)
+    (added ≡ reading.added m) × IsDamagedAt opened reading key m × AtStore opened m (λ store. ⊥)
 IsUnread refuses opened reading error added m = ⊥
 
 -- why a call is refused for what it read: all was answered, all pairs are of the written form, and the store that is
@@ -119,7 +174,7 @@ abbrev pub IsObjectedTo : Opened → Reading → Objection → StoreError → Li
 IsObjectedTo opened reading Never error added m = ⊥
 IsObjectedTo opened reading (Where own test) error added m =
     (error ≡ own) × (added ≡ reading.added m)
-    × AllByRecursion (IsWritten opened.prefix opened.schema) (reading.pairs m)
+    × IsSound opened reading m
     × AtStore opened m (λ store. test store ≡ true)
 
 -- why a service isn't done: its reads aren't answered; or all were, all pairs are of the written form, and a limit
@@ -133,8 +188,7 @@ IsFailure refuses opened service (Read error) before added m =
 IsFailure refuses opened service (Corrupt key) before added m =
     IsUnread refuses opened service.reading (Corrupt key) added m
 IsFailure refuses opened service (Write error) before added m =
-    (added ≡ service.reading.added m)
-    × AllByRecursion (IsWritten opened.prefix opened.schema) (service.reading.pairs m)
+    (added ≡ service.reading.added m) × IsSound opened service.reading m
     × AtStore opened m (λ store. (is_objected service.objection store ≡ false)
     × (write_all_refusal before (service.writes store) ≡ Some error))
 IsFailure refuses opened service error before added m =

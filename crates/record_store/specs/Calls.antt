@@ -1,6 +1,6 @@
 -- The calls on an open store, one by one: what each reads, answers, leaves and writes.
 use Rattle.std.specs.Prelude.{◌≡◌, ℕ, ℤ, Bool, true, false, List, [], ◌∷◌, Option, Some, None, Result, Ok, Err}
-use Rattle.std.specs.Prelude.{is_some, map, if◌then◌else◌}
+use Rattle.std.specs.Prelude.{is_some, map, not, if◌then◌else◌}
 use Rattle.tuple_codec.specs.Item.{Item}
 use Rattle.kv_core.specs.Range.{point}
 use Rattle.kv_core.specs.declared.change.Mutation.{Mutation}
@@ -13,11 +13,12 @@ use Rattle.metadata.specs.declared.index.IndexKind.{IndexKind}
 use Rattle.metadata.specs.declared.index.IndexKind.TheVariants.{Value, Count, Sum}
 use Rattle.metadata.specs.declared.index.IndexRequest.{IndexRequest}
 use Rattle.metadata.specs.declared.index.State.{State}
-use Rattle.metadata.specs.declared.index.State.TheVariants.{Readable, Disabled}
+use Rattle.metadata.specs.declared.index.State.TheVariants.{Readable, WriteOnly, Disabled}
 use Rattle.metadata.specs.declared.refusal.Refusal.{Refusal}
 use Rattle.metadata.specs.declared.refusal.Refusal.TheVariants.{UnknownIndex, UnknownType, WrongKind}
 use Rattle.record_store.specs.declared.error.StoreError.{StoreError}
 use Rattle.record_store.specs.declared.error.StoreError.TheVariants.{Refused, OtherSchema, NotAggregate, NotReadable}
+use Rattle.record_store.specs.declared.error.StoreError.TheVariants.{WrongState, NotBuilt}
 use Rattle.metadata.specs.Change.{add_type}
 use Rattle.metadata.specs.Group.{fits_group}
 use Rattle.metadata.specs.IndexChange.{new_index, with_index, without_index}
@@ -27,11 +28,16 @@ use Rattle.metadata.specs.Same.{same_type}
 use Rattle.metadata.specs.Schema.{Schema, find_index, find_type}
 use Rattle.metadata.specs.Written.{schema_bytes}
 use Rattle.index_maint.specs.Totals.{as_signed, count_share, group_key, sum_share, total}
-use Rattle.record_store.specs.Store.{disabled, dropped, extended, indexed, listed_as, new_state}
-use Rattle.record_store.specs.Store.{removed, saved, state_in, with_state, without_state}
+use Rattle.record_store.specs.Store.{built_of, dropped, extended, indexed, listed_as, marked, new_state}
+use Rattle.record_store.specs.Store.{readable, removed, saved, state_in, with_state, without_state}
 use Rattle.record_store.specs.Layout.{record_key, schema_key, type_range}
-use Rattle.record_store.specs.IndexWrites.{disable_writes, drop_writes, index_added_writes, remove_writes, save_writes}
-use Rattle.record_store.specs.Call.{Call, Never, Opened, Service, first_of, whole}
+use Rattle.record_store.specs.IndexWrites.{drop_writes, index_added_writes, marked_writes, readable_writes}
+use Rattle.record_store.specs.IndexWrites.{remove_writes, save_writes}
+use Rattle.range_set.specs.Gaps.{is_whole}
+use Rattle.index_maint.specs.Built.{position_of}
+use Rattle.record_store.specs.BuiltReading.{built_reading, number_in}
+use Rattle.record_store.specs.Call.{Call, Never, Opened, Service, Where, all_built, first_of, then_reads, where_there}
+use Rattle.record_store.specs.Call.{whole}
 
 -- what is done with a value, or the refusal that the schema or the record meets
 abbrev pub done_with : {K A : Type 0} → (K → Service A) → Result K Refusal → Call A
@@ -52,10 +58,13 @@ load_service opened key = record {
 abbrev pub load_call : Opened → List ℕ → List Cell → Call (Option Record)
 load_call opened name cells = done_with (load_service opened) (key_of opened.schema name cells)
 
--- SAVE: a record is put in the place of that with its primary key, which is answered, and its indexes follow
+-- SAVE: a record is put in the place of that with its primary key, which is answered, and its indexes follow; for that
+-- is read whether its position is built
 abbrev pub save_service : Opened → Record → Service (Option Record)
 save_service opened r = record {
-  reading = whole (point (record_key opened.prefix (primary_key r)) ∷ []);
+  reading =
+      then_reads (whole (point (record_key opened.prefix (primary_key r)) ∷ []))
+      (built_reading opened r.definition.number (position_of (primary_key r)) opened.schema.indexes);
   objection = Never;
   answer = λ store. record_at (primary_key r) store.records;
   after = λ store. saved store r;
@@ -72,10 +81,14 @@ abbrev pub save_call : Opened → Record → Call (Option Record)
 save_call opened r =
     if is_own (find_type opened.schema r.definition.name) r then Ok (save_service opened r) else Err OtherSchema
 
--- REMOVE: the record of a primary key is taken out, where it is there, and its indexes follow
+-- REMOVE: the record of a primary key is taken out, where it is there, and its indexes follow; where it is there is
+-- read whether its position is built
 abbrev pub remove_service : Opened → List Item → Service Bool
 remove_service opened key = record {
-  reading = whole (point (record_key opened.prefix key) ∷ []);
+  reading =
+      then_reads (whole (point (record_key opened.prefix key) ∷ []))
+      (where_there (record_key opened.prefix key)
+      (built_reading opened (number_in key) (position_of key) opened.schema.indexes));
   objection = Never;
   answer = λ store. is_some (record_at key store.records);
   after = λ store. removed store key;
@@ -197,27 +210,85 @@ drop_service opened number = record {
 abbrev pub drop_call : Opened → List ℕ → Call Schema
 drop_call opened name = done_with (drop_service opened) (index_number (find_index opened.schema name))
 
--- DISABLE: the state of an index is written, its entries go, and the states are answered
-abbrev pub disable_service : Opened → ℕ → Service (List (ℕ × State))
-disable_service opened number = record {
+-- MARK: a state of an index that isn't readable is written, what is kept of the index goes, and the states are answered
+abbrev pub mark_service : State → Opened → ℕ → Service (List (ℕ × State))
+mark_service state opened number = record {
   reading = whole [];
   objection = Never;
-  answer = λ store. with_state number Disabled store.states;
-  after = λ store. disabled store number;
-  writes = λ store. disable_writes opened.prefix number;
+  answer = λ store. with_state number state store.states;
+  after = λ store. marked state store number;
+  writes = λ store. marked_writes state opened.prefix number;
   changes = λ answer. true;
 }
 
-abbrev pub disable_call : Opened → List ℕ → Call (List (ℕ × State))
-disable_call opened name = done_with (disable_service opened) (index_number (find_index opened.schema name))
+abbrev pub mark_call : State → Opened → List ℕ → Call (List (ℕ × State))
+mark_call state opened name = done_with (mark_service state opened) (index_number (find_index opened.schema name))
 
--- the opened store without the index with this number, and with that index disabled
+-- DISABLE, and WRITE-ONLY
+abbrev pub disable_service : Opened → ℕ → Service (List (ℕ × State))
+disable_service opened number = mark_service Disabled opened number
+
+abbrev pub disable_call : Opened → List ℕ → Call (List (ℕ × State))
+disable_call opened name = mark_call Disabled opened name
+
+abbrev pub write_only_service : Opened → ℕ → Service (List (ℕ × State))
+write_only_service opened number = mark_service WriteOnly opened number
+
+abbrev pub write_only_call : Opened → List ℕ → Call (List (ℕ × State))
+write_only_call opened name = mark_call WriteOnly opened name
+
+-- an index in this state, if that is write-only, or the refusal
+abbrev pub in_write_only : State → IndexDefinition → Result IndexDefinition StoreError
+in_write_only Readable index = Err WrongState
+in_write_only WriteOnly index = Ok index
+in_write_only Disabled index = Err WrongState
+
+-- the write-only index that was found by a name, or the refusal
+abbrev pub write_only_found : Opened → Option IndexDefinition → Result IndexDefinition StoreError
+write_only_found opened None = Err (Refused UnknownIndex)
+write_only_found opened (Some index) = in_write_only (state_in opened.states index.number) index
+
+abbrev pub write_only_named : Opened → List ℕ → Result IndexDefinition StoreError
+write_only_named opened name = write_only_found opened (find_index opened.schema name)
+
+-- what is done with a value, or the refusal
+abbrev pub done_or_refused : {K A : Type 0} → (K → Service A) → Result K StoreError → Call A
+done_or_refused service (Ok value) = Ok (service value)
+done_or_refused service (Err refusal) = Err refusal
+
+-- READABLE: the built ranges of a write-only index are read; where every position is built its state and these ranges
+-- go, and the states are answered
+abbrev pub readable_service : Opened → ℕ → Service (List (ℕ × State))
+readable_service opened number = record {
+  reading = all_built opened.prefix number;
+  objection = Where NotBuilt (λ store. not (is_whole (built_of store number)));
+  answer = λ store. without_state number store.states;
+  after = λ store. readable store number;
+  writes = λ store. readable_writes opened.prefix number;
+  changes = λ answer. true;
+}
+
+abbrev pub readable_call : Opened → List ℕ → Call (List (ℕ × State))
+readable_call opened name =
+    done_or_refused (λ index. readable_service opened index.number) (write_only_named opened name)
+
+-- the opened store without the index with this number, and with that index in a state that isn't readable
 abbrev pub opened_without : Opened → ℕ → Opened
 opened_without opened number =
     record opened { schema = without_index opened.schema number; states = without_state number opened.states }
 
+abbrev pub opened_marked : State → Opened → ℕ → Opened
+opened_marked state opened number = record opened { states = with_state number state opened.states }
+
+-- so with that index disabled, with it write-only, and with it readable
 abbrev pub opened_disabled : Opened → ℕ → Opened
-opened_disabled opened number = record opened { states = with_state number Disabled opened.states }
+opened_disabled opened number = opened_marked Disabled opened number
+
+abbrev pub opened_write_only : Opened → ℕ → Opened
+opened_write_only opened number = opened_marked WriteOnly opened number
+
+abbrev pub opened_readable : Opened → ℕ → Opened
+opened_readable opened number = record opened { states = without_state number opened.states }
 
 -- STATE: the state of the index of this name, or the refusal
 abbrev pub state_named : Opened → List ℕ → Result State Refusal

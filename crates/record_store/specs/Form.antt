@@ -13,7 +13,8 @@ use Rattle.metadata.specs.Records.{IsStorable}
 use Rattle.metadata.specs.Schema.{Schema}
 use Rattle.metadata.specs.Written.{schema_bytes}
 use Rattle.index_maint.specs.Totals.{IsGroup, group_key}
-use Rattle.record_store.specs.Layout.{record_pair, schema_key, schema_pair, state_pair}
+use Rattle.range_set.specs.Stored.{IsStoredRange, range_pair}
+use Rattle.record_store.specs.Layout.{built_place, record_pair, schema_key, schema_pair, state_pair}
 use Rattle.record_store.specs.Holds.{IsListed, IsOfSchema}
 
 -- a pair stands for a record of the schema
@@ -32,9 +33,18 @@ pub record IsTotalPair (prefix : List ℕ) (indexes : List IndexDefinition) (pai
   pub key : pair.0 ≡ group_key prefix index.number group
   pub bytes : length pair.1 ≡ 8
 
--- a pair that a call reads is of the written form of its place: it stands for a record or for a total
+-- a pair stands for a built range of one of these indexes
+pub record IsRangePair (prefix : List ℕ) (indexes : List IndexDefinition) (pair : List ℕ × List ℕ) : Type 0 where
+  pub index : IndexDefinition
+  pub there : Contains indexes index
+  pub range : KeyRange
+  pub stored : IsStoredRange range
+  pub is : pair ≡ range_pair (built_place prefix index.number) range
+
+-- a pair that a call reads is of the written form of its place: it stands for a record, a total or a built range
 abbrev pub IsWritten : List ℕ → Schema → List ℕ × List ℕ → Type 0
-IsWritten prefix schema pair = IsRecordPair prefix schema pair ⊎ IsTotalPair prefix schema.indexes pair
+IsWritten prefix schema pair =
+    IsRecordPair prefix schema pair ⊎ (IsTotalPair prefix schema.indexes pair ⊎ IsRangePair prefix schema.indexes pair)
 
 -- a pair stands for a schema
 pub record IsSchemaPair (prefix : List ℕ) (pair : List ℕ × List ℕ) : Type 0 where
@@ -42,10 +52,10 @@ pub record IsSchemaPair (prefix : List ℕ) (pair : List ℕ × List ℕ) : Type
   pub made : IsLawfulSchema schema
   pub is : pair ≡ schema_pair prefix schema
 
--- a pair stands for the state of one of these indexes, which is disabled
+-- a pair stands for the state of one of these indexes, which isn't readable
 pub record IsStatePair (prefix : List ℕ) (indexes : List IndexDefinition) (pair : List ℕ × List ℕ) : Type 0 where
   pub listed : ℕ × State
-  pub disabled : IsListed indexes listed
+  pub is_listed : IsListed indexes listed
   pub is : pair ≡ state_pair prefix listed
 
 -- a pair stands for the state of an index of the schema that the map has

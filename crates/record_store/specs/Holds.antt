@@ -4,9 +4,11 @@ use Rattle.std.specs.List.{AllByRecursion, list_any}
 use Rattle.std.specs.FinMap.{from_entries, get}
 use Rattle.tuple_codec.specs.Subspace.{BeginsWith}
 use Rattle.kv_core.specs.Map.{Map}
+use Rattle.kv_core.specs.Range.{KeyRange}
+use Rattle.range_set.specs.Stored.{HasSet}
 use Rattle.metadata.specs.declared.index.IndexDefinition.{IndexDefinition}
 use Rattle.metadata.specs.declared.index.State.{State}
-use Rattle.metadata.specs.declared.index.State.TheVariants.{Disabled}
+use Rattle.metadata.specs.declared.index.State.TheVariants.{Readable, WriteOnly, Disabled}
 use Rattle.metadata.specs.Lawful.{IsLawfulSchema}
 use Rattle.metadata.specs.Record.{Record, record_of}
 use Rattle.metadata.specs.Records.{AreOrdered, IsStorable}
@@ -14,8 +16,8 @@ use Rattle.metadata.specs.Schema.{Schema}
 use Rattle.metadata.specs.Written.{schema_bytes}
 use Rattle.index_maint.specs.Kept.{HasKept}
 use Rattle.index_maint.specs.Layout.{entries_prefix}
-use Rattle.record_store.specs.Store.{Store, Serial, state_of}
-use Rattle.record_store.specs.Layout.{place, record_pair, schema_key, state_pair}
+use Rattle.record_store.specs.Store.{Store, Serial, built_of, state_of}
+use Rattle.record_store.specs.Layout.{built_place, place, record_pair, schema_key, state_pair}
 
 -- a record of the schema: the schema's type of its name makes it of its cells
 abbrev pub IsOfSchema : Schema → Record → Type 0
@@ -25,11 +27,10 @@ IsOfSchema schema r = record_of schema r.definition.name r.cells ≡ Ok r
 abbrev pub has_number : List IndexDefinition → ℕ → Bool
 has_number indexes number = list_any (λ index. index.number == number) indexes
 
--- a state that is listed: of an index that is there, and that is disabled; readable ones are not listed, and there are
--- no write-only ones so far
+-- a state that is listed: of an index that is there, and that isn't readable
 pub record IsListed (indexes : List IndexDefinition) (listed : ℕ × State) : Type 0 where
   pub there : IsTrue (has_number indexes listed.0)
-  pub state : listed.1 ≡ Disabled
+  pub state : listed.1 ≡ Readable → ⊥
 
 -- the numbers of states rise strictly
 abbrev pub AreRising : List (ℕ × State) → Type 0
@@ -37,7 +38,7 @@ AreRising [] = Unit {0}
 AreRising (one ∷ states) = AllByRecursion (λ later. one.0 < later.0) states × AreRising states
 
 -- a lawful store: its schema is one that calls make, its records are of the schema, in order, and can be stored, and
--- its states are those of indexes that are disabled, by rising numbers
+-- its states are those of indexes that aren't readable, by rising numbers
 pub record IsLawful (store : Store) : Type 0 where
   pub schema : IsLawfulSchema store.schema
   pub typed : AllByRecursion (IsOfSchema store.schema) store.records
@@ -58,12 +59,24 @@ HasPairs begin pairs m = (bytes : List ℕ) → get m (begin ++ bytes) ≡ get (
 abbrev pub IsNoEntry : List ℕ → List IndexDefinition → List ℕ → Type 0
 IsNoEntry prefix indexes key = AllByRecursion (λ index. BeginsWith (entries_prefix prefix index.number) key → ⊥) indexes
 
--- a key of no place: it isn't the schema's, and no record, entry, total or state can have it
+-- no built range of these indexes can have the key
+abbrev pub IsNoRange : List ℕ → List IndexDefinition → List ℕ → Type 0
+IsNoRange prefix indexes key = AllByRecursion (λ index. BeginsWith (built_place prefix index.number) key → ⊥) indexes
+
+-- what a map has of an index's built positions by its state: a set that has just these where it is write-only, else
+-- nothing
+abbrev pub HasPositions : State → List ℕ → ℕ → List KeyRange → Map → Type 0
+HasPositions Readable prefix number ranges m = (bytes : List ℕ) → get m (built_place prefix number ++ bytes) ≡ None
+HasPositions WriteOnly prefix number ranges m = HasSet (built_place prefix number) ranges m
+HasPositions Disabled prefix number ranges m = (bytes : List ℕ) → get m (built_place prefix number ++ bytes) ≡ None
+
+-- a key of no place: it isn't the schema's, and no record, entry, total, state or built range can have it
 pub record IsElsewhere (prefix : List ℕ) (indexes : List IndexDefinition) (key : List ℕ) : Type 0 where
   pub schema : key ≡ schema_key prefix → ⊥
   pub records : BeginsWith (place prefix 1) key → ⊥
   pub entries : IsNoEntry prefix indexes key
   pub states : BeginsWith (place prefix 5) key → ⊥
+  pub ranges : IsNoRange prefix indexes key
 
 -- under the prefix the map has just what stands for this lawful store
 pub record HoldsStore (prefix : List ℕ) (m : Map) (store : Store) : Type 0 where
@@ -71,9 +84,14 @@ pub record HoldsStore (prefix : List ℕ) (m : Map) (store : Store) : Type 0 whe
   pub schema : get m (schema_key prefix) ≡ Some (schema_bytes store.schema)
   pub records : HasPairs (place prefix 1) (map (record_pair prefix) store.records) m
   pub entries :
-      AllByRecursion (λ index. HasKept (state_of store index.number) prefix index [] store.records m)
+      AllByRecursion
+      (λ index. HasKept (state_of store index.number) prefix index (built_of store index.number) store.records m)
       store.schema.indexes
   pub states : HasPairs (place prefix 5) (map (state_pair prefix) store.states) m
+  pub ranges :
+      AllByRecursion
+      (λ index. HasPositions (state_of store index.number) prefix index.number (built_of store index.number) m)
+      store.schema.indexes
   pub nothing_else :
       (key : List ℕ) → BeginsWith prefix key → IsElsewhere prefix store.schema.indexes key → get m key ≡ None
 

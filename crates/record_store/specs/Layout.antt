@@ -9,7 +9,9 @@ use Rattle.metadata.specs.declared.index.State.TheVariants.{Readable, WriteOnly,
 use Rattle.metadata.specs.Layout.{Pair, entries_prefix, records_prefix}
 use Rattle.metadata.specs.Schema.{Schema}
 use Rattle.metadata.specs.Written.{schema_bytes}
+use Rattle.range_set.specs.Calls.{whole_range}
 pub use Rattle.metadata.specs.Layout.{place, record_key, record_pair, record_value}
+pub use Rattle.index_maint.specs.Layout.{built_place}
 
 -- the key (0) of the schema
 abbrev pub schema_key : List ℕ → List ℕ
@@ -44,6 +46,10 @@ state_pair prefix listed = (state_key prefix listed.0, state_value listed.1)
 abbrev pub entries_range : List ℕ → ℕ → KeyRange
 entries_range prefix number =
     record { begin = entries_prefix prefix number; end = entries_prefix prefix number ++ 255 ∷ [] }
+
+-- the range of the keys of the built ranges of the index with this number
+abbrev pub built_range : List ℕ → ℕ → KeyRange
+built_range prefix number = whole_range (built_place prefix number)
 
 -- the range of the records of the type with this number
 abbrev pub type_range : List ℕ → ℕ → KeyRange

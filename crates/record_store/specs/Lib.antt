@@ -3,8 +3,10 @@ pub mod Layout
 pub mod Holds
 pub mod Form
 pub mod Call
+pub mod BuiltReading
 pub mod Calls
 pub mod Opening
 pub mod Steps
 pub mod Reading
 pub mod IndexWrites
+pub mod Building

@@ -31,7 +31,7 @@ opening_reach prefix = point (schema_key prefix) ∷ states_range prefix ∷ []
 abbrev pub AtSerials : List ℕ → Map → (Serial → Type 0) → Type 0
 AtSerials prefix m Fact = (serial : Serial) → Holds prefix m serial → Fact serial
 
--- the map has the bytes of this schema, and the pairs of these states, each of an index that is disabled
+-- the map has the bytes of this schema, and the pairs of these states, each of an index that isn't readable
 pub record HasSchema (opened : Opened) (m : Map) : Type 0 where
   pub made : IsLawfulSchema opened.schema
   pub listed : AllByRecursion (IsListed opened.schema.indexes) opened.states

@@ -1,6 +1,7 @@
 -- What the reads of a store and the decoding of what they find establish, beneath whole calls.
-use Rattle.std.specs.Prelude.{◌≡◌, ◌⊎◌, ℕ, ℤ, Bool, false, ◌&&◌, List, [], ◌∷◌, ◌++◌, Option, Some, None, length, map}
-use Rattle.std.specs.List.{AllByRecursion, Contains}
+use Rattle.std.specs.Prelude.{◌≡◌, ◌⊎◌, ℕ, ℤ, Bool, false, ◌&&◌, if◌then◌else◌, List, [], ◌∷◌, ◌++◌}
+use Rattle.std.specs.Prelude.{Option, Some, None, length, map}
+use Rattle.std.specs.List.{AllByRecursion, Contains, flat_map}
 use Rattle.std.specs.Ordering.{is_eq}
 use Rattle.tuple_codec.specs.Item.{Item, IsTuple}
 use Rattle.kv_core.specs.Addition.{number_of}
@@ -9,13 +10,14 @@ use Rattle.kv_core.specs.Range.{KeyRange, point}
 use Rattle.kv_core.specs.Map.{Map}
 use Rattle.kv_core.specs.Read.{range_read, read_of}
 use Rattle.kv_core.specs.declared.change.CommitRequest.{CommitRequest}
+use Rattle.kv_core.specs.declared.change.Mutation.{Mutation}
 use Rattle.cluster_core.specs.declared.answers.ReadError.{ReadError}
 use Rattle.metadata.specs.declared.cells.Cell.{Cell}
 use Rattle.metadata.specs.declared.definition.TypeDefinition.{TypeDefinition}
 use Rattle.metadata.specs.declared.index.IndexDefinition.{IndexDefinition}
 use Rattle.metadata.specs.declared.index.IndexKind.TheVariants.{Value}
 use Rattle.metadata.specs.declared.index.State.{State}
-use Rattle.metadata.specs.declared.index.State.TheVariants.{Readable}
+use Rattle.metadata.specs.declared.index.State.TheVariants.{Readable, WriteOnly, Disabled}
 use Rattle.metadata.specs.Lawful.{IsLawfulSchema}
 use Rattle.metadata.specs.Record.{Record, key_items}
 use Rattle.metadata.specs.Records.{of_type, record_at}
@@ -26,11 +28,14 @@ use Rattle.index_maint.specs.Totals.{as_signed, group_key}
 use Rattle.record_store.specs.declared.error.StoreError.{StoreError}
 use Rattle.record_store.specs.declared.error.StoreError.TheVariants.{Memory, Read, Corrupt, NoStore, AlreadyThere}
 use Rattle.record_store.specs.Layout.{record_key, schema_key, state_pair, type_range}
-use Rattle.record_store.specs.Form.{IsStatePair, IsWritten, read_in}
+use Rattle.record_store.specs.Form.{IsFirstBad, IsStatePair, IsWritten, read_in}
 use Rattle.record_store.specs.Holds.{IsListed}
 use Rattle.record_store.specs.Call.{AtStore, IsUnread, Opened, Reading}
 use Rattle.record_store.specs.Calls.{total_of}
-use Rattle.record_store.specs.Store.{new_state, state_in}
+use Rattle.record_store.specs.Store.{Store, built_of, new_state, state_in}
+use Rattle.record_store.specs.BuiltReading.{added_of, asks, found_of}
+use Rattle.record_store.specs.IndexWrites.{one_index_writes}
+use Rattle.range_set.specs.Gaps.{has_position}
 use Rattle.record_store.specs.Steps.{DidRead, IsBeginning, IsNextRefused}
 
 -- why reads of these ranges stopped behind the ones that were added: memory is wanting, or the next read is refused so
@@ -70,10 +75,16 @@ abbrev pub IsNoSchema : List ℕ → Option (List ℕ) → StoreError → Type 0
 IsNoSchema prefix None error = error ≡ NoStore
 IsNoSchema prefix (Some bytes) error = IsBadSchema prefix bytes error
 
+-- the state of the index with this number whose pair this is, if it is one: that of a readable index is never written
+abbrev pub state_told : List ℕ → ℕ → List ℕ × List ℕ → Option State
+state_told prefix number pair =
+    if same_pair pair (state_pair prefix (number, WriteOnly)) then Some WriteOnly
+    else if same_pair pair (state_pair prefix (number, Disabled)) then Some Disabled else None
+
 -- a pair is that of the state of one of the indexes
 pub record IsPairOfState (prefix : List ℕ) (indexes : List IndexDefinition) (pair : List ℕ × List ℕ)
     (listed : ℕ × State) : Type 0 where
-  pub disabled : IsListed indexes listed
+  pub is_listed : IsListed indexes listed
   pub is : pair ≡ state_pair prefix listed
 
 -- why a pair is that of no state: memory is wanting, or it isn't
@@ -85,7 +96,7 @@ IsNoState prefix indexes pair error = ⊥
 -- the pairs are those of these states, each of one of the indexes
 pub record AreStates (prefix : List ℕ) (indexes : List IndexDefinition) (pairs : List (List ℕ × List ℕ))
     (states : List (ℕ × State)) : Type 0 where
-  pub disabled : AllByRecursion (IsListed indexes) states
+  pub are_listed : AllByRecursion (IsListed indexes) states
   pub are : pairs ≡ map (state_pair prefix) states
 
 -- behind pairs of states one isn't
@@ -172,6 +183,82 @@ pub record HasNotFound (maps : ℕ → Map) (refuses : KeyRange → ℕ → Read
     (reading : Reading) (error : StoreError) (old new : CommitRequest) : Type 0 where
   pub added : List KeyRange
   pub ran : DidRead maps added old new (IsUnread (λ range. refuses range old.read_version) opened reading error added)
+
+-- why reads stopped before all were answered: memory is wanting, or the next one is refused
+abbrev pub IsStopped : (KeyRange → ReadError → Type 0) → Reading → StoreError → List KeyRange → Map → Type 0
+IsStopped refuses reading Memory added m = IsBeginning added (reading.added m)
+IsStopped refuses reading (Read error) added m =
+    IsBeginning added (reading.added m) × IsNextRefused refuses (reading.asked m) added error
+IsStopped refuses reading error added m = ⊥
+
+-- reads stopped
+pub record HasStopped (maps : ℕ → Map) (refuses : KeyRange → ℕ → ReadError → Type 0) (reading : Reading)
+    (error : StoreError) (old new : CommitRequest) : Type 0 where
+  pub added : List KeyRange
+  pub ran : DidRead maps added old new (IsStopped (λ range. refuses range old.read_version) reading error added)
+
+-- of one index was read what a writer of a record at this position reads
+pub record HasReadOne (maps : ℕ → Map) (opened : Opened) (number : ℕ) (position : List ℕ) (index : IndexDefinition)
+    (pairs : List (List ℕ × List ℕ)) (old new : CommitRequest) : Type 0 where
+  pub added : List KeyRange
+  pub ran :
+      DidRead maps added old new (λ m.
+      (added ≡ added_of opened number position m index) × (pairs ≡ found_of opened number position m index))
+
+-- so of these indexes
+pub record HasReadBuilt (maps : ℕ → Map) (opened : Opened) (number : ℕ) (position : List ℕ)
+    (indexes : List IndexDefinition) (found : List (List (List ℕ × List ℕ))) (old new : CommitRequest) : Type 0 where
+  pub added : List KeyRange
+  pub ran :
+      DidRead maps added old new (λ m.
+      (added ≡ flat_map (added_of opened number position m) indexes)
+      × (found ≡ map (found_of opened number position m) indexes))
+
+-- the position is built in an index, where that is asked for
+abbrev pub asked_built : Opened → ℕ → List ℕ → Store → IndexDefinition → Bool
+asked_built opened number position store index =
+    if asks opened number index then has_position (built_of store index.number) position else false
+
+-- what was found for an index tells that, where it is what was read of a map: it is of the written form, and so it is
+-- in each store there
+abbrev pub IsToldOf : Opened → ℕ → List ℕ → IndexDefinition → List (List ℕ × List ℕ) → Bool → Type 0
+IsToldOf opened number position index found told =
+    (m : Map) → found ≡ found_of opened number position m index →
+    AllByRecursion (IsWritten opened.prefix opened.schema) found
+    × AtStore opened m (λ store. told ≡ asked_built opened number position store index)
+
+-- why it doesn't: memory is wanting, or, where it is what was read of a map, the first pair of it that isn't of the
+-- written form has this key, and no store is there
+abbrev pub IsUntoldOf : Opened → ℕ → List ℕ → IndexDefinition → List (List ℕ × List ℕ) → StoreError → Type 0
+IsUntoldOf opened number position index found Memory = Unit {0}
+IsUntoldOf opened number position index found (Corrupt key) =
+    (m : Map) → found ≡ found_of opened number position m index →
+    IsFirstBad (IsWritten opened.prefix opened.schema) found key × AtStore opened m (λ store. ⊥)
+IsUntoldOf opened number position index found error = ⊥
+
+-- mutations were put behind others; and where this was found for all indexes of a map, what was found for some of them
+-- is of the written form, and by each store there they are those that these indexes want written
+abbrev pub HaveFollowed :
+    Opened → ℕ → List ℕ → Option Record → Option Record → List (List (List ℕ × List ℕ)) → List IndexDefinition →
+    List Mutation → List Mutation → Type 0
+HaveFollowed opened number position old new found indexes before after =
+    (more : List Mutation) × (after ≡ before ++ more)
+    × ((m : Map) → found ≡ map (found_of opened number position m) opened.schema.indexes →
+    AllByRecursion (IsWritten opened.prefix opened.schema) (flat_map (found_of opened number position m) indexes)
+    × AtStore opened m (λ store.
+    more ≡ flat_map (λ index.
+    one_index_writes opened number (asked_built opened number position store index) old new index) indexes))
+
+-- why indexes don't follow: memory is wanting, or, where this was found for all indexes of a map, the first pair of it
+-- that isn't of the written form has this key, and no store is there
+abbrev pub HaveNotFollowed : Opened → ℕ → List ℕ → List (List (List ℕ × List ℕ)) → StoreError → Type 0
+HaveNotFollowed opened number position found Memory = Unit {0}
+HaveNotFollowed opened number position found (Corrupt key) =
+    (m : Map) → found ≡ map (found_of opened number position m) opened.schema.indexes →
+    IsFirstBad (IsWritten opened.prefix opened.schema)
+    (flat_map (found_of opened number position m) opened.schema.indexes) key
+    × AtStore opened m (λ store. ⊥)
+HaveNotFollowed opened number position found error = ⊥
 
 -- a pair has the key of a record of the type behind the place of records, and its value
 pub record IsPairOf (records_place : List ℕ) (type : TypeDefinition) (pair : List ℕ × List ℕ) (stored : Record) :

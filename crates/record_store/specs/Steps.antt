@@ -10,9 +10,11 @@ use Rattle.cluster_core.specs.declared.answers.ReadError.TheVariants as read
 use Rattle.metadata.specs.declared.refusal.MetadataError.{MetadataError}
 use Rattle.metadata.specs.declared.refusal.MetadataError.TheVariants as meta
 use Rattle.metadata.specs.declared.refusal.Refusal.TheVariants.{UnknownIndex, UnknownType}
+use Rattle.range_set.specs.declared.error.RangeSetError.{RangeSetError}
+use Rattle.range_set.specs.declared.error.RangeSetError.TheVariants as set
 use Rattle.txn.specs.Runs.{Ran}
 use Rattle.record_store.specs.declared.error.StoreError.{StoreError}
-use Rattle.record_store.specs.declared.error.StoreError.TheVariants.{Memory, Read, Write, Refused}
+use Rattle.record_store.specs.declared.error.StoreError.TheVariants.{Memory, Read, Write, Corrupt, Refused}
 
 -- the error that want of memory is
 abbrev pub no_memory : StoreError
@@ -35,6 +37,12 @@ of_read error = Read error
 abbrev pub of_write : WriteError → StoreError
 of_write write.Memory = Memory
 of_write error = Write error
+
+-- the error that a set of positions isn't read for
+abbrev pub of_set : RangeSetError → StoreError
+of_set set.Memory = Memory
+of_set (set.Read error) = Read error
+of_set (set.Corrupt key) = Corrupt key
 
 -- the error that a refusal of a schema or of a record is
 abbrev pub of_metadata : MetadataError → StoreError

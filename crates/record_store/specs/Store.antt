@@ -2,11 +2,13 @@
 use Rattle.std.specs.Prelude.{ℕ, Bool, true, false, ◌==◌, not, List, [], ◌∷◌, Option, unwrap_or, filter}
 use Rattle.std.specs.BTreeMap.{insert_entry}
 use Rattle.std.specs.Option.{option_map}
+use Rattle.std.specs.Map.{lookup}
 use Rattle.std.specs.Ordering.{nat_cmp}
 use Rattle.tuple_codec.specs.Item.{Item}
+use Rattle.kv_core.specs.Range.{KeyRange}
 use Rattle.metadata.specs.declared.index.IndexDefinition.{IndexDefinition}
 use Rattle.metadata.specs.declared.index.State.{State}
-use Rattle.metadata.specs.declared.index.State.TheVariants.{Readable, Disabled}
+use Rattle.metadata.specs.declared.index.State.TheVariants.{Readable, WriteOnly, Disabled}
 use Rattle.metadata.specs.Index.{listed_state}
 use Rattle.metadata.specs.IndexChange.{with_index, without_index}
 use Rattle.metadata.specs.Schema.{Schema}
@@ -14,11 +16,13 @@ use Rattle.metadata.specs.Record.{Record}
 use Rattle.metadata.specs.Records.{of_type, with_record, without_record}
 
 -- a store: its records stand in the order of their primary keys, each key once, and so do the states of the indexes
--- that aren't readable, by the indexes' numbers
+-- that aren't readable, by the indexes' numbers; of an index that is being built it has the built positions, as ranges
+-- of which only the positions count
 pub record Store : Type 0 where
   pub schema : Schema
   pub records : List Record
   pub states : List (ℕ × State)
+  pub built : List (ℕ × List KeyRange)
 
 -- the state of the index with this number, by the states that are listed: it is readable where none is
 abbrev pub state_in : List (ℕ × State) → ℕ → State
@@ -26,6 +30,17 @@ state_in states number = unwrap_or (listed_state states number) Readable
 
 abbrev pub state_of : Store → ℕ → State
 state_of store number = state_in store.states number
+
+-- the built positions of the index with this number: none where none are listed
+abbrev pub built_in : List (ℕ × List KeyRange) → ℕ → List KeyRange
+built_in built number = unwrap_or (lookup (λ own. own == number) built) []
+
+abbrev pub built_of : Store → ℕ → List KeyRange
+built_of store number = built_in store.built number
+
+-- built positions without those of the index with this number
+abbrev pub without_built : ℕ → List (ℕ × List KeyRange) → List (ℕ × List KeyRange)
+without_built number built = filter (λ listed. not (listed.0 == number)) built
 
 -- no store, or a store
 abbrev pub Serial : Type 0
@@ -37,7 +52,7 @@ schema_in serial = option_map (λ store. store.schema) serial
 
 -- a new store of this schema, without records, whose indexes are readable
 abbrev pub created : Schema → Store
-created schema = record { schema = schema; records = []; states = [] }
+created schema = record { schema = schema; records = []; states = []; built = [] }
 
 -- the store after a save, after a removal, and with another schema
 abbrev pub saved : Store → Record → Store
@@ -72,7 +87,7 @@ abbrev pub listed_as : ℕ → State → List (ℕ × State) → List (ℕ × St
 listed_as number Readable states = states
 listed_as number state states = with_state number state states
 
--- the store with one more index, without the index with this number, and with that index disabled
+-- the store with one more index, and without the index with this number
 abbrev pub indexed : Store → IndexDefinition → Store
 indexed store index = record store {
   schema = with_index store.schema index;
@@ -80,8 +95,35 @@ indexed store index = record store {
 }
 
 abbrev pub dropped : Store → ℕ → Store
-dropped store number =
-    record store { schema = without_index store.schema number; states = without_state number store.states }
+dropped store number = record store {
+  schema = without_index store.schema number;
+  states = without_state number store.states;
+  built = without_built number store.built;
+}
 
+-- the store with that index in a state that isn't readable, and nothing of it built
+abbrev pub marked : State → Store → ℕ → Store
+marked state store number = record store {
+  states = with_state number state store.states;
+  built = without_built number store.built;
+}
+
+-- so with that index disabled, and with it write-only
 abbrev pub disabled : Store → ℕ → Store
-disabled store number = record store { states = with_state number Disabled store.states }
+disabled store number = marked Disabled store number
+
+abbrev pub write_only : Store → ℕ → Store
+write_only store number = marked WriteOnly store number
+
+-- the store with that index readable
+abbrev pub readable : Store → ℕ → Store
+readable store number = record store {
+  states = without_state number store.states;
+  built = without_built number store.built;
+}
+
+-- the store where this range of that index is built too
+abbrev pub built : Store → ℕ → KeyRange → Store
+built store number range = record store {
+  built = (number, range ∷ built_of store number) ∷ without_built number store.built;
+}

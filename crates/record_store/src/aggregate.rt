@@ -45,7 +45,7 @@ fn total_found(key: &Bytes, value: Option<Bytes>) -> Result<i64, StoreError>
 
 impl Store {
     // The index of this name.
-    fn index(&self, name: &Text) -> Result<&IndexDefinition, StoreError>
+    pub(crate) fn index(&self, name: &Text) -> Result<&IndexDefinition, StoreError>
         ensures found { IfOk result (λ index. find_index self.now.schema name.now ≡ Some index.now) }
         ensures refused { IfErr result (λ error.
             (error ≡ unknown_index) × (find_index self.now.schema name.now ≡ None)) }

@@ -1,9 +1,10 @@
 ghost use Rattle.std.specs.Prelude.{◌≡◌};
-ghost use Rattle.record_store.specs.Steps.{no_memory, of_metadata, of_read, of_write};
+ghost use Rattle.record_store.specs.Steps.{no_memory, of_metadata, of_read, of_set, of_write};
 
 use cluster_core::ReadError;
 use kv_core::{Bytes, WriteError};
 use metadata::{MetadataError, Refusal};
+use range_set::RangeSetError;
 use std::alloc::{AllocError, AllocFailed};
 use thiserror::Error;
 
@@ -40,6 +41,12 @@ pub enum StoreError {
     /// The index isn't readable.
     #[error("the index isn't readable")]
     NotReadable,
+    /// The index isn't write-only.
+    #[error("the index isn't write-only")]
+    WrongState,
+    /// Not every position of the index is built.
+    #[error("not every position of the index is built")]
+    NotBuilt,
 }
 
 impl From<AllocError> for StoreError {
@@ -76,6 +83,18 @@ impl From<WriteError> for StoreError {
         match error {
             WriteError::Memory => StoreError::Memory,
             error => StoreError::Write(error),
+        }
+    }
+}
+
+impl From<RangeSetError> for StoreError {
+    ghost from_gives = { λ error made. made ≡ of_set error };
+
+    fn from(error: RangeSetError) -> StoreError {
+        match error {
+            RangeSetError::Memory => StoreError::Memory,
+            RangeSetError::Read(error) => StoreError::Read(error),
+            RangeSetError::Corrupt(key) => StoreError::Corrupt(key),
         }
     }
 }

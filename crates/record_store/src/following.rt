@@ -1,14 +1,26 @@
 // How the indexes of a store follow its records.
-ghost use Rattle.std.specs.Prelude.{◌≡◌, ◌==◌, ◌++◌, OnOk, find};
+ghost use Rattle.std.specs.Prelude.{◌≡◌, ◌==◌, ◌++◌, [], IfErr, IfOk, OnOk, find, get_or, map};
 ghost use Rattle.std.specs.Option.{option_copied};
-ghost use Rattle.record_store.specs.IndexWrites.{index_writes, one_index_writes, store_of};
+ghost use Rattle.record_store.specs.IndexWrites.{one_index_writes};
+ghost use Rattle.record_store.specs.Reading.{HaveFollowed, HaveNotFollowed};
 ghost use Rattle.record_store.specs.Store.{state_in};
 
+use crate::error::StoreError;
 use crate::store::Store;
 use index_maint::push_kept_changes;
-use kv_core::Mutation;
+use kv_core::{Mutation, Pair};
 use metadata::{IndexDefinition, Record, State};
-use std::alloc::{AllocError, Global};
+use std::alloc::AllocError;
+
+// What was found at a place, or nothing.
+fn found_at(found: &[Vec<Pair>], at: usize) -> &[Pair]
+    ensures { result.now ≡ get_or (map (λ pairs. pairs.items) found.now) at [] }
+{
+    match found.get(at) {
+        Some(pairs) => pairs.as_slice(),
+        None => &[],
+    }
+}
 
 impl Store {
     // What is listed for the index with this number.
@@ -28,17 +40,19 @@ impl Store {
         }
     }
 
-    // Puts what one index wants written, where it is of the type with this number, by its state.
+    // Puts what one index wants written, where it is of the type with this number, by its state and by
+    // whether the records' position is built.
     fn push_changes_of(
         &self,
         index: &IndexDefinition,
         number: u64,
+        at_built: bool,
         old: Option<&Record>,
         new: Option<&Record>,
         mutations: &mut Vec<Mutation>,
     ) -> Result<(), AllocError>
         ensures { OnOk result (mutations.new.items
-            ≡ mutations.old.items ++ one_index_writes self.now number (option_copied old.entry)
+            ≡ mutations.old.items ++ one_index_writes self.now number at_built (option_copied old.entry)
             (option_copied new.entry) index.now) }
     {
         if index.type_number != number {
@@ -46,25 +60,31 @@ impl Store {
         }
         let (alloc, prefix) = (self.alloc(), self.prefix());
         let state = self.state_of(index.number);
-        push_kept_changes(alloc, prefix, index, state, false, old, new, mutations)?;
+        push_kept_changes(alloc, prefix, index, state, at_built, old, new, mutations)?;
         Ok(())
     }
 
-    // Puts what the indexes of the type with this number want written where one record of it gives
-    // way to another.
+    // Puts what the indexes of the type with this number want written where one record of it at this
+    // position gives way to another, by what was found of their built ranges.
     pub(crate) fn push_index_changes(
         &self,
         number: u64,
+        position: &[u8],
+        found: &[Vec<Pair>],
         old: Option<&Record>,
         new: Option<&Record>,
         mutations: &mut Vec<Mutation>,
-    ) -> Result<(), AllocError>
-        ensures { OnOk result (mutations.new.items
-            ≡ mutations.old.items ++ index_writes self.now.prefix (store_of self.now) number (option_copied old.entry)
-            (option_copied new.entry)) }
+    ) -> Result<(), StoreError>
+        ensures followed { OnOk result (HaveFollowed self.now number position.now (option_copied old.entry)
+            (option_copied new.entry) (map (λ pairs. pairs.items) found.now) self.now.schema.indexes
+            mutations.old.items mutations.new.items) }
+        ensures refused { IfErr result (HaveNotFollowed self.now number position.now
+            (map (λ pairs. pairs.items) found.now)) }
     {
-        for index in self.schema().indexes() {
-            self.push_changes_of(index, number, old, new, mutations)?;
+        for (at, index) in self.schema().indexes().iter().enumerate() {
+            let pairs = found_at(found, at);
+            let at_built = self.is_built(number, position, index, pairs)?;
+            self.push_changes_of(index, number, at_built, old, new, mutations)?;
         }
         Ok(())
     }

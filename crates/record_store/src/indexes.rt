@@ -1,4 +1,4 @@
-// The states of a store's indexes; its indexes are dropped and disabled.
+// The states of a store's indexes; its indexes are dropped.
 ghost use Rattle.std.specs.Prelude.{◌≡◌, ◌++◌, ◌∷◌, [], ℕ, List, Ok, Err, Option, IfOk, IfErr, OnErr, OnOk};
 ghost use Rattle.kv_core.specs.Map.{Map};
 ghost use Rattle.metadata.specs.Schema.{find_index};
@@ -9,17 +9,17 @@ ghost use Rattle.metadata.specs.IndexChange.{without_index};
 ghost use Rattle.metadata.specs.Lawful.{IsLawfulSchema};
 ghost use Rattle.metadata.specs.Written.{schema_bytes};
 ghost use Rattle.metadata.specs.declared.index.State.{State};
-ghost use Rattle.record_store.specs.IndexWrites.{disable_writes};
-ghost use Rattle.record_store.specs.Layout.{entries_range, schema_key, state_key};
+ghost use Rattle.record_store.specs.IndexWrites.{clear_kept};
+ghost use Rattle.record_store.specs.Layout.{built_range, entries_range, schema_key, state_key};
 ghost use Rattle.record_store.specs.Store.{still_listed, with_state};
 ghost use Rattle.txn.specs.Refusing.{NeverRefuses};
 ghost use Rattle.record_store.specs.Call.{IsAnswered, IsRefused};
-ghost use Rattle.record_store.specs.Calls.{disable_call, drop_call, index_number};
-ghost use Rattle.record_store.specs.Calls.{index_states, opened_disabled, opened_without, state_named};
+ghost use Rattle.record_store.specs.Calls.{drop_call, index_number};
+ghost use Rattle.record_store.specs.Calls.{index_states, opened_without, state_named};
 
 use crate::create::schema_mutations;
 use crate::error::StoreError;
-use crate::layout::{entries_range, state_key, state_value};
+use crate::layout::{built_range, entries_range, state_key};
 use crate::store::Store;
 use kv_core::{KeyRange, Mutation};
 use metadata::{MetadataError, Refusal, Schema, State};
@@ -78,7 +78,7 @@ pub(crate) fn with_state(
 
 impl Store {
     // The number of the index of this name.
-    fn index_number(&self, name: &Text) -> Result<u64, MetadataError>
+    pub(crate) fn index_number(&self, name: &Text) -> Result<u64, MetadataError>
         ensures found { IfOk result (λ number. index_number (find_index self.now.schema name.now) ≡ Ok number) }
         ensures refused { IfErr result (λ error.
             IsRefusedAs error (index_number (find_index self.now.schema name.now))) }
@@ -103,33 +103,36 @@ impl Store {
         }
     }
 
+    // Puts what takes out all that is kept of the index with this number.
+    pub(crate) fn push_clear_kept(
+        &self,
+        number: u64,
+        mutations: &mut Vec<Mutation>,
+    ) -> Result<(), AllocError>
+        ensures { OnOk result (mutations.new.items
+            ≡ mutations.old.items ++ clear_kept self.now.prefix number) }
+    {
+        let alloc = self.alloc();
+        let entries = entries_range(alloc, self.prefix(), number)?;
+        mutations.push(Mutation::ClearRange(entries))?;
+        let built = built_range(alloc, self.prefix(), number)?;
+        mutations.push(Mutation::ClearRange(built))?;
+        Ok(())
+    }
+
     // What dropping the index with this number writes, where this schema is left.
     fn drop_mutations(&self, next: &Schema, number: u64) -> Result<Vec<Mutation>, AllocError>
         ensures { IfOk result (λ mutations.
             mutations.items ≡ Set (schema_key self.now.prefix) (schema_bytes next.now)
             ∷ ClearRange (entries_range self.now.prefix number)
+            ∷ ClearRange (built_range self.now.prefix number)
             ∷ ClearRange (point (state_key self.now.prefix number)) ∷ []) }
     {
         let alloc = self.alloc();
         let mut mutations = schema_mutations(alloc, self.prefix(), next)?;
-        let entries = entries_range(alloc, self.prefix(), number)?;
-        mutations.push(Mutation::ClearRange(entries))?;
+        self.push_clear_kept(number, &mut mutations)?;
         let key = state_key(alloc, self.prefix(), number)?;
         mutations.push(Mutation::ClearRange(KeyRange::point(alloc, &key)?))?;
-        Ok(mutations)
-    }
-
-    // What disabling the index with this number writes.
-    fn disable_mutations(&self, number: u64) -> Result<Vec<Mutation>, AllocError>
-        ensures { IfOk result (λ mutations. mutations.items ≡ disable_writes self.now.prefix number) }
-    {
-        let alloc = self.alloc();
-        let key = state_key(alloc, self.prefix(), number)?;
-        let value = state_value(alloc, State::Disabled)?;
-        let entries = entries_range(alloc, self.prefix(), number)?;
-        let mut mutations = Vec::new(alloc);
-        mutations.push(Mutation::Set { key, value })?;
-        mutations.push(Mutation::ClearRange(entries))?;
         Ok(mutations)
     }
 
@@ -176,35 +179,6 @@ impl Store {
         tx.write_all(mutations)?;
         self.schema = next;
         self.states.retain(|listed| listed.0 != number);
-        Ok(())
-    }
-
-    /// Disables the index of this name: its state is written, and what is kept of it goes. It reads
-    /// nothing.
-    ///
-    /// Refused with `UnknownIndex` where there is no such index, and last with the write limit that
-    /// is met. After a refusal the store is as before.
-    pub fn mark_disabled(&mut self, tx: &mut Transaction, name: &Text) -> Result<(), StoreError>
-        ensures disabled { OnOk result
-            ((maps : ℕ → Map) → IsAnswered maps self.old
-            (disable_call self.old name.now) self.new.states tx.old tx.new) }
-        ensures opened { OnOk result ((number : ℕ) → index_number (find_index self.old.schema name.now) ≡ Ok number →
-            self.new ≡ opened_disabled self.old number) }
-        ensures kept { OnErr result (self.new ≡ self.old) }
-        ensures refused { IfErr result (λ error.
-            (maps : ℕ → Map) → IsRefused maps NeverRefuses self.old
-            (disable_call self.old name.now) error tx.old tx.new) }
-    {
-        let number = self.index_number(name)?;
-        let next = with_state(
-            self.alloc(),
-            self.states.as_slice(),
-            number,
-            State::Disabled,
-        )?;
-        let mutations = self.disable_mutations(number)?;
-        tx.write_all(mutations)?;
-        self.states = next;
         Ok(())
     }
 }

@@ -2,18 +2,20 @@
 ghost use Rattle.std.specs.Prelude.{◌≡◌, ◌∷◌, [], All, IfOk, IsTrue, OnOk, pos};
 ghost use Rattle.tuple_codec.specs.Item.{int};
 ghost use Rattle.kv_core.specs.Bytes.{end_of_keys, key_lt};
+ghost use Rattle.kv_core.specs.Range.{is_key_range};
 ghost use Rattle.metadata.specs.Cell.{IsCell};
-ghost use Rattle.record_store.specs.Layout.{entries_range, place, record_key, record_value, schema_key};
+ghost use Rattle.record_store.specs.Building.{positions_range};
+ghost use Rattle.record_store.specs.Layout.{built_range, entries_range, place, record_key, record_value, schema_key};
 ghost use Rattle.record_store.specs.Layout.{state_key, state_number, state_value, states_range, type_range};
 
-use index_maint::entries_prefix;
+use index_maint::{built_place, entries_prefix};
 use kv_core::{Bytes, KeyRange};
 use metadata::{Cells, State};
 use std::alloc::{AllocError, Global};
 use tuple_codec::{Element, Subspace, Tuple, TupleInt, pack, pack_into};
 
 // The tuple of a number alone.
-fn number_tuple(alloc: Global, number: u64) -> Result<Tuple, AllocError>
+pub(crate) fn number_tuple(alloc: Global, number: u64) -> Result<Tuple, AllocError>
     ensures { IfOk result (λ tuple. tuple ≡ int (pos number) ∷ []) }
 {
     let mut elements = Vec::new(alloc);
@@ -94,6 +96,29 @@ pub(crate) fn type_range(alloc: Global, prefix: &[u8], number: u64) -> Result<Ke
     }
 }
 
+/// The range of the records of the type with this number at positions of a range.
+pub(crate) fn positions_range(
+    alloc: Global,
+    prefix: &[u8],
+    number: u64,
+    range: &KeyRange,
+) -> Result<KeyRange, AllocError>
+    requires { IsTrue (key_lt prefix.now end_of_keys) }
+    ensures keys { IfOk result (λ keys. keys ≡ positions_range prefix.now number range.now) }
+    ensures lawful { OnOk result (IsTrue (is_key_range range.now)) }
+{
+    let tuple = number_tuple(alloc, number)?;
+    let before = record_key(alloc, prefix, &tuple)?;
+    let mut begin = Vec::from_slice(alloc, before.as_slice())?;
+    begin.extend_from_slice(range.begin().as_slice())?;
+    let mut end = Vec::from_slice(alloc, before.as_slice())?;
+    end.extend_from_slice(range.end().as_slice())?;
+    match KeyRange::new(Bytes::new(begin), Bytes::new(end)) {
+        Some(keys) => Ok(keys),
+        None => unreachable!(),
+    }
+}
+
 // The number that stands for a state.
 fn state_number(state: State) -> u64
     ensures { result ≡ state_number state }
@@ -124,6 +149,19 @@ pub(crate) fn state_value(alloc: Global, state: State) -> Result<Bytes, AllocErr
     let tuple = number_tuple(alloc, state_number(state))?;
     let value = pack(alloc, &tuple)?;
     Ok(Bytes::new(value))
+}
+
+/// The range of the built ranges of the index with this number.
+pub(crate) fn built_range(alloc: Global, prefix: &[u8], number: u64) -> Result<KeyRange, AllocError>
+    requires { IsTrue (key_lt prefix.now end_of_keys) }
+    ensures { IfOk result (λ range. range ≡ built_range prefix.now number) }
+{
+    let place = built_place(alloc, prefix, number)?;
+    let ends = Subspace::new(place).range(alloc)?;
+    match KeyRange::new(Bytes::new(ends.begin), Bytes::new(ends.end)) {
+        Some(range) => Ok(range),
+        None => unreachable!(),
+    }
 }
 
 /// The range of the entries of the index with this number.

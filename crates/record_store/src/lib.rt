@@ -6,13 +6,16 @@
 
 mod adding;
 mod aggregate;
+mod built;
 mod create;
 mod error;
 mod following;
 mod indexes;
 mod layout;
 mod load;
+mod marks;
 mod opening;
+mod parts;
 mod reading;
 mod remove;
 mod save;

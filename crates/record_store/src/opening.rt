@@ -3,13 +3,12 @@ ghost use Rattle.std.specs.FinMap.{get as value_at};
 ghost use Rattle.kv_core.specs.Bytes.{end_of_keys, key_lt};
 ghost use Rattle.kv_core.specs.Map.{pairs_in};
 ghost use Rattle.kv_core.specs.Range.{point};
-ghost use Rattle.metadata.specs.declared.index.State.TheVariants.{Disabled};
 ghost use Rattle.metadata.specs.Lawful.{IsLawfulSchema};
 ghost use Rattle.metadata.specs.Written.{schema_bytes};
 ghost use Rattle.record_store.specs.Layout.{schema_key, state_pair, states_range};
 ghost use Rattle.record_store.specs.Opening.{IsOpened, IsUnopened};
 ghost use Rattle.record_store.specs.Reading.{AreStates, HasNotRead, HaveNoStates, IsBadSchema, IsNoSchema};
-ghost use Rattle.record_store.specs.Reading.{IsNoState, IsPairOfState, IsSchema, same_pair};
+ghost use Rattle.record_store.specs.Reading.{IsNoState, IsPairOfState, IsSchema, same_pair, state_told};
 ghost use Rattle.record_store.specs.Steps.{DidRead};
 
 use crate::error::StoreError;
@@ -83,22 +82,45 @@ fn schema_found(alloc: Global, prefix: &[u8], written: Option<Bytes>) -> Result<
     }
 }
 
-// Whether the pair is that of the state of the index with this number, which is disabled.
-fn is_disabled_pair(
+// Whether the pair is that of this state of the index with this number.
+fn is_pair_of(
+    alloc: Global,
+    prefix: &[u8],
+    number: u64,
+    state: State,
+    pair: &Pair,
+) -> Result<bool, AllocError>
+    requires { IsTrue (key_lt prefix.now end_of_keys) }
+    ensures { IfOk result (λ same. same ≡ same_pair pair.now (state_pair prefix.now (number, state))) }
+{
+    let key = state_key(alloc, prefix, number)?;
+    let value = state_value(alloc, state)?;
+    Ok(pair.0 == key && pair.1 == value)
+}
+
+// The state of the index with this number whose pair this is, if it is one.
+fn state_told(
     alloc: Global,
     prefix: &[u8],
     number: u64,
     pair: &Pair,
-) -> Result<bool, AllocError>
+) -> Result<Option<State>, AllocError>
     requires { IsTrue (key_lt prefix.now end_of_keys) }
-    ensures { IfOk result (λ same. same ≡ same_pair pair.now (state_pair prefix.now (number, Disabled))) }
+    ensures { IfOk result (λ told. told ≡ state_told prefix.now number pair.now) }
 {
-    let key = state_key(alloc, prefix, number)?;
-    let value = state_value(alloc, State::Disabled)?;
-    Ok(pair.0 == key && pair.1 == value)
+    let is_write_only = is_pair_of(alloc, prefix, number, State::WriteOnly, pair)?;
+    if is_write_only {
+        return Ok(Some(State::WriteOnly));
+    }
+    let is_disabled = is_pair_of(alloc, prefix, number, State::Disabled, pair)?;
+    Ok(if is_disabled {
+        Some(State::Disabled)
+    } else {
+        None
+    })
 }
 
-// The state that a pair stands for: one of these indexes is disabled.
+// The state that a pair stands for, of one of these indexes.
 fn state_found(
     alloc: Global,
     prefix: &[u8],
@@ -110,9 +132,9 @@ fn state_found(
     ensures refused { IfErr result (IsNoState prefix.now indexes.now pair.now) }
 {
     for index in indexes {
-        let is_its_pair = is_disabled_pair(alloc, prefix, index.number, pair)?;
-        if is_its_pair {
-            return Ok((index.number, State::Disabled));
+        let told = state_told(alloc, prefix, index.number, pair)?;
+        if let Some(state) = told {
+            return Ok((index.number, state));
         }
     }
     Err(StoreError::Corrupt(pair.0.copy()?))
@@ -144,7 +166,7 @@ impl Store {
     /// Refused with `NoStore` where no schema stands there, with `Corrupt` and its key where the
     /// first pair that isn't of the written form is the schema's or a state's, and with the
     /// snapshot's refusal of a read. Of the written form are the pairs of those of the schema's
-    /// indexes that are disabled: where there is a pair of another state, `Corrupt` is answered.
+    /// indexes that are write-only or disabled: that of a readable one is never written.
     pub fn open<S: Snapshot>(
         alloc: Global,
         prefix: &[u8],

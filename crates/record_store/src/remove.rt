@@ -1,44 +1,51 @@
-ghost use Rattle.std.specs.Prelude.{◌≡◌, IfOk, IfErr};
-ghost use Rattle.record_store.specs.IndexWrites.{remove_writes, store_of};
+ghost use Rattle.std.specs.Prelude.{◌≡◌, ◌∷◌, [], None, Some, IfOk, IfErr, map};
+ghost use Rattle.kv_core.specs.Range.{point};
+ghost use Rattle.kv_core.specs.declared.change.Mutation.TheVariants.{ClearRange};
+ghost use Rattle.record_store.specs.Layout.{record_key};
+ghost use Rattle.record_store.specs.Reading.{HaveFollowed, HaveNotFollowed};
 ghost use Rattle.record_store.specs.Call.{IsAnswered, IsRefused};
 ghost use Rattle.record_store.specs.Calls.{remove_call};
 
+use crate::built::position_of;
 use crate::error::StoreError;
 use crate::layout::record_key;
 use crate::store::Store;
-use kv_core::{KeyRange, Mutation};
+use kv_core::{KeyRange, Mutation, Pair};
 use metadata::{Cells, Record, key_of};
-use std::alloc::AllocError;
 use tuple_codec::{Text, Tuple};
 use txn::{Snapshot, Transaction};
 
 impl Store {
-    // What removing the record with this primary key writes, of which this was found.
+    // What removing this record of the type with this number writes, which has this primary key.
     fn removal(
         &self,
+        number: u64,
+        old: &Record,
         primary_key: &Tuple,
-        found: &Option<Record>,
-    ) -> Result<Vec<Mutation>, AllocError>
-        ensures { IfOk result (λ mutations.
-            mutations.items ≡ remove_writes self.now.prefix (store_of self.now) primary_key.now found.now) }
+        position: &[u8],
+        found: &[Vec<Pair>],
+    ) -> Result<Vec<Mutation>, StoreError>
+        ensures mutations { IfOk result (λ mutations.
+            HaveFollowed self.now number position.now (Some old.now) None
+            (map (λ pairs. pairs.items) found.now) self.now.schema.indexes
+            (ClearRange (point (record_key self.now.prefix primary_key.now)) ∷ []) mutations.items) }
+        ensures refused { IfErr result (HaveNotFollowed self.now number position.now
+            (map (λ pairs. pairs.items) found.now)) }
     {
         let alloc = self.alloc();
+        let key = record_key(alloc, self.prefix(), primary_key)?;
+        let range = KeyRange::point(alloc, &key)?;
         let mut mutations = Vec::new(alloc);
-        if let Some(old) = found {
-            let key = record_key(alloc, self.prefix(), primary_key)?;
-            let range = KeyRange::point(alloc, &key)?;
-            mutations.push(Mutation::ClearRange(range))?;
-            let number = old.definition().number;
-            self.push_index_changes(number, Some(old), None, &mut mutations)?;
-        }
+        mutations.push(Mutation::ClearRange(range))?;
+        self.push_index_changes(number, position, found, Some(old), None, &mut mutations)?;
         Ok(mutations)
     }
 
     /// Takes out the record of the type of this name with these key cells, and tells whether there
-    /// was one; the readable indexes of its type follow, of whatever kind. Where there was none
-    /// nothing is written.
+    /// was one; the indexes of its type follow as with `save`, and as much is read for them. Where there
+    /// was none nothing is written, and nothing more is read.
     ///
-    /// Refused as `load` is, and last with the write limit that the removal meets.
+    /// Refused as `load` is before anything is read; then as `save` is.
     pub fn remove<S: Snapshot>(
         &self,
         tx: &mut Transaction,
@@ -55,9 +62,16 @@ impl Store {
     {
         let definition = self.definition(type_name)?;
         let primary_key = key_of(self.alloc(), self.schema(), type_name, key)?;
-        let old = self.read_record(tx, db, definition, &primary_key)?;
-        let mutations = self.removal(&primary_key, &old)?;
+        let position = position_of(self.alloc(), definition.number, &primary_key)?;
+        let Some(value) = self.read_value(tx, db, &primary_key)? else {
+            return Ok(false);
+        };
+        let at = position.as_slice();
+        let found = self.read_built(tx, db, definition.number, at)?;
+        let old = self.record_with(definition, &primary_key, &value)?;
+        let found = found.as_slice();
+        let mutations = self.removal(definition.number, &old, &primary_key, at, found)?;
         tx.write_all(mutations)?;
-        Ok(old.is_some())
+        Ok(true)
     }
 }

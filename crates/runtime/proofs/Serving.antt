@@ -23,8 +23,8 @@ use Rattle.cluster_core.proofs.LogMaps.{tier_has_database}
 use Rattle.cluster_core.proofs.Versions.{rising-numbered}
 use Rattle.schedule.specs.declared.step.Command.{Command}
 use Rattle.schedule.specs.declared.reply.Reply.{Reply}
-use Rattle.schedule.specs.declared.reply.Reply.TheVariants.{Begun, Done, SavedNew, SavedOver, Found, Absent, Removed, Rows, Planned, State, Total, Submitted, ReadOnly, Nothing, Reported, Corrupt, Refused}
-use Rattle.schedule.specs.declared.refusal.Refusal.TheVariants.{NoSuchClient, NoSuchRole, Busy, NoTransaction, NoPlan, BadName, NameTaken, UnknownType, UnknownIndex, UnknownField, WrongKind, NullKey, BadSchema, TooMany, TooDeep, TooLarge, SortTwice, SortNotServed, AlreadyThere, NoStore, OtherSchema, IndexNotReadable, NotAggregate, NotReadable, FutureVersion, TooOld, VersionsExhausted, KeyOutside, KeyTooLarge, ValueTooLarge, TransactionTooLarge}
+use Rattle.schedule.specs.declared.reply.Reply.TheVariants.{Begun, Done, SavedNew, SavedOver, Found, Absent, Removed, Rows, Planned, State, Total, Built, Finished, Submitted, ReadOnly, Nothing, Reported, Corrupt, Refused}
+use Rattle.schedule.specs.declared.refusal.Refusal.TheVariants.{NoSuchClient, NoSuchRole, Busy, NoTransaction, NoPlan, BadName, NameTaken, UnknownType, UnknownIndex, UnknownField, WrongKind, NullKey, BadSchema, TooMany, TooDeep, TooLarge, SortTwice, SortNotServed, AlreadyThere, NoStore, OtherSchema, IndexNotReadable, NotAggregate, NotReadable, WrongState, NotBuilt, BadLimit, FutureVersion, TooOld, VersionsExhausted, KeyOutside, KeyTooLarge, ValueTooLarge, TransactionTooLarge}
 use Rattle.schedule.specs.Contract.{IsSerialAt}
 use Rattle.schedule.specs.Holds.{Stands}
 use Rattle.schedule.specs.Past.{Attempt, Open, Submission, is_changed}
@@ -153,6 +153,9 @@ unrefused refuses within (Refused OtherSchema) none is = absurd is
 unrefused refuses within (Refused IndexNotReadable) none is = absurd is
 unrefused refuses within (Refused NotAggregate) none is = absurd is
 unrefused refuses within (Refused NotReadable) none is = absurd is
+unrefused refuses within (Refused WrongState) none is = absurd is
+unrefused refuses within (Refused NotBuilt) none is = absurd is
+unrefused refuses within (Refused BadLimit) none is = absurd is
 unrefused refuses within (Refused FutureVersion) none is = none is.range reads.FutureVersion is.refused
 unrefused refuses within (Refused TooOld) none is = none is.range reads.TooOld is.refused
 unrefused refuses within (Refused VersionsExhausted) none is = absurd is
@@ -171,6 +174,8 @@ unrefused refuses within (Rows rows) none is = absurd is
 unrefused refuses within (Planned plan) none is = absurd is
 unrefused refuses within (State state) none is = absurd is
 unrefused refuses within (Total total) none is = absurd is
+unrefused refuses within (Built records range) none is = absurd is
+unrefused refuses within Finished none is = absurd is
 unrefused refuses within (Submitted version) none is = absurd is
 unrefused refuses within ReadOnly none is = absurd is
 unrefused refuses within Nothing none is = absurd is

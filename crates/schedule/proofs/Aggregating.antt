@@ -72,13 +72,13 @@ module _ (opened : Opened) (name : List ℕ) (group : List Cell) where
   by_refusal index is None none = record {
     opens = refl;
     reads = read_so index is none;
-    unobjected = refl;
+    objects = tt;
     undamaged = λ m. refl;
     accepted = λ total. refl;
     reading = λ total. refl;
-    replies = λ s lawful same. sym (ap (λ (o : Served). o.0) (served_so index s same is none));
-    leaves = λ s same. ap (λ (o : Served). o.1) (served_so index s same is none);
-    wrote = λ s same. refl;
+    replies = λ s lawful same accepted. sym (ap (λ (o : Served). o.0) (served_so index s same is none));
+    leaves = λ s same accepted. ap (λ (o : Served). o.1) (served_so index s same is none);
+    wrote = λ s same accepted. refl;
   }
   by_refusal index is (Some error) stands =
       let told = refusal_told index.kind (fits_group opened.schema index group) (state_in opened.states index.number) error stands in (

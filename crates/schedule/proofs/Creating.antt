@@ -116,6 +116,8 @@ uncreated_at {refuses = refuses} {old = old} request schema error made is = refu
     right fault.OtherSchema ranges m says serial stands = absurd says
     right fault.NotAggregate ranges m says serial stands = absurd says
     right fault.NotReadable ranges m says serial stands = absurd says
+    right fault.WrongState ranges m says serial stands = absurd says
+    right fault.NotBuilt ranges m says serial stands = absurd says
     right fault.AlreadyThere ranges m says None stands = absurd (says.2 None stands refl)
     right fault.AlreadyThere ranges m says (Some store) stands =
         own_right refused (Create request) old.mutations fault.AlreadyThere AlreadyThere m (Some store) refl (sym (ap (λ o. (served_create (Some store) o).0) made)) refl
@@ -137,6 +139,8 @@ uncreated_at {refuses = refuses} {old = old} request schema error made is = refu
     stop fault.OtherSchema ranges m says = absurd says
     stop fault.NotAggregate ranges m says = absurd says
     stop fault.NotReadable ranges m says = absurd says
+    stop fault.WrongState ranges m says = absurd says
+    stop fault.NotBuilt ranges m says = absurd says
     stop fault.AlreadyThere ranges m says = record {
       there = tt;
       reads = all ranges says.0;

@@ -2,7 +2,7 @@
 use Rattle.std.proofs.Common.{◌≡◌, ℕ, Bool, true, false, ◌&&◌, cond, List, [], ◌∷◌, ◌++◌, ◌⊎◌, inl, inr, map, refl, sym, ap, subst, ◌∙◌, Option, Some, None}
 use Rattle.std.specs.Prelude.{option_and_then, option_map}
 use Rattle.std.specs.FinMap.{entries}
-use Rattle.std.specs.List.{AllByRecursion, list_all}
+use Rattle.std.specs.List.{list_all}
 use Rattle.std.proofs.lemmas.Bool.{and_parts}
 use Rattle.kv_core.specs.Range.{KeyRange}
 use Rattle.kv_core.specs.Map.{Map}
@@ -18,7 +18,7 @@ use Rattle.metadata.specs.Schema.{find_type}
 use Rattle.record_store.specs.declared.error.StoreError.{StoreError}
 use Rattle.record_store.specs.declared.error.StoreError.TheVariants as fault
 use Rattle.record_store.specs.Call.{AtStore, IsOpenAs, Opened, Reading, whole}
-use Rattle.record_store.specs.Form.{IsWritten}
+use Rattle.record_store.specs.Call as call
 use Rattle.record_store.specs.Holds.{Holds}
 use Rattle.record_store.specs.Opening.{AtSerials, HasSchema, IsOpened, IsThereAs, opening_reach}
 use Rattle.record_store.specs.Steps.{IsBeginning, IsNextRefused}
@@ -55,7 +55,8 @@ use Rattle.schedule.specs.Query.{opened_as}
 use Rattle.schedule.specs.Reach.{opened_in, added_by, open_reach, own_damage, own_reading, reach, writes}
 use Rattle.schedule.specs.Performed.{IsPerformed, IsPerformedAt, IsReadRefusedAs, IsSound}
 use Rattle.schedule.specs.Calls.{IsRefused}
-use Rattle.schedule.proofs.Outcomes.{Looks, answered_as, at_serial, begin_serial, located, looked}
+use Rattle.schedule.proofs.Outcomes.{answered_as, at_serial, begin_serial, located}
+use Rattle.schedule.proofs.Looking.{Looks, looked}
 use Rattle.schedule.proofs.Reached.{all_added, next_within, own_asked, told_refusal}
 use Rattle.schedule.proofs.Stops.{IsRight, IsStop, at, opened_is, read_right, refused_by, served_idle, stop_memory, told_damage, told_read}
 
@@ -106,7 +107,7 @@ executed_at {refuses = refuses} {old = old} opened command plan rows executes is
 
     sound : (m : Map) → HasRows (at opened) plan is.type rows is.added m → IsSound (Some (at opened)) command answer m
     sound m fact = (
-      subst (λ (r : Reading). AllByRecursion (IsWritten store_prefix opened.schema) (r.pairs m)) (sym so.reads) tt,
+      subst (λ (r : Reading). call.IsSound (at opened) r m) (sym so.reads) tt,
       so.damage m ∙ no_damage (node_reading store_prefix (entries m) is.type (plan_of plan).root).found rows (node_ok store_prefix (entries m) is.type (plan_of plan).root ∙ fact.meaning),
     )
 
@@ -180,6 +181,8 @@ unexecuted_at {maps = maps} {refuses = refuses} {old = old} {mid = mid} {new = n
     by_error fault.OtherSchema is = absurd is
     by_error fault.NotAggregate is = absurd is
     by_error fault.NotReadable is = absurd is
+    by_error fault.WrongState is = absurd is
+    by_error fault.NotBuilt is = absurd is
 
 -- ---- the same where the opened store stands at the store's prefix
 

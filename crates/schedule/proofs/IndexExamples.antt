@@ -6,8 +6,8 @@ use Rattle.metadata.specs.declared.cells.Kind.TheVariants as kind
 use Rattle.metadata.specs.declared.definition.Field.{Field}
 use Rattle.metadata.specs.declared.index.IndexKind.TheVariants.{Value}
 use Rattle.metadata.specs.declared.index.IndexRequest.{IndexRequest}
-use Rattle.metadata.specs.declared.index.State.TheVariants.{Readable, Disabled}
-use Rattle.schedule.specs.declared.refusal.Refusal.TheVariants.{BadSchema, NameTaken, UnknownField, UnknownIndex, UnknownType}
+use Rattle.metadata.specs.declared.index.State.TheVariants as states
+use Rattle.schedule.specs.declared.refusal.Refusal.TheVariants.{BadSchema, NameTaken, NotBuilt, UnknownField, UnknownIndex, UnknownType, WrongState}
 use Rattle.kv_core.specs.Bytes.{next_key}
 use Rattle.kv_core.specs.Range.{point}
 use Rattle.kv_core.specs.declared.change.Mutation.TheVariants.{Set, ClearRange}
@@ -16,7 +16,7 @@ use Rattle.kv_core.specs.Read.{range_read, read_of}
 use Rattle.record_store.specs.Store.{Serial}
 use Rattle.record_store.specs.Layout.{record_value, type_range}
 use Rattle.schedule.specs.declared.step.Command.{Command}
-use Rattle.schedule.specs.declared.step.Command.TheVariants.{Create, Save, Remove, Index, Drop, Disable, State}
+use Rattle.schedule.specs.declared.step.Command.TheVariants.{Create, Save, Remove, Index, Drop, Disable, Readable, State, WriteOnly}
 use Rattle.schedule.specs.declared.reply.Reply.{Reply}
 use Rattle.schedule.specs.declared.reply.Reply.TheVariants as answers
 use Rattle.schedule.specs.declared.reply.Reply.TheVariants.{Done, SavedNew, SavedOver, Refused}
@@ -66,14 +66,19 @@ replies serial [] = []
 replies serial (command ∷ commands) = (served serial command).0 ∷ replies (served serial command).1 commands
 
 -- an index that comes with the store, or to a type without records, is readable; one that comes to a type with records is disabled
-states : replies None (create ∷ State a ∷ Index (asked z t (b ∷ [])) ∷ save 1 5 ∷ Index (asked b t (b ∷ [])) ∷ State b ∷ State z ∷ Disable a ∷ State a ∷ Drop a ∷ State a ∷ Index (asked a t (a ∷ [])) ∷ [])
-    ≡ Done ∷ answers.State Readable ∷ answers.State Readable ∷ SavedNew ∷ answers.State Disabled ∷ answers.State Disabled ∷ answers.State Readable ∷ Done ∷ answers.State Disabled ∷ Done ∷ Refused UnknownIndex ∷ answers.State Disabled ∷ []
-states = refl
+kept_states : replies None (create ∷ State a ∷ Index (asked z t (b ∷ [])) ∷ save 1 5 ∷ Index (asked b t (b ∷ [])) ∷ State b ∷ State z ∷ Disable a ∷ State a ∷ Drop a ∷ State a ∷ Index (asked a t (a ∷ [])) ∷ [])
+    ≡ Done ∷ answers.State states.Readable ∷ answers.State states.Readable ∷ SavedNew ∷ answers.State states.Disabled ∷ answers.State states.Disabled ∷ answers.State states.Readable ∷ Done ∷ answers.State states.Disabled ∷ Done ∷ Refused UnknownIndex ∷ answers.State states.Disabled ∷ []
+kept_states = refl
 
 -- what is refused of indexes
 refusals : replies None (create ∷ Index (asked b z (a ∷ [])) ∷ Index (asked a t (a ∷ [])) ∷ Index (asked b t (z ∷ [])) ∷ Index (asked b t []) ∷ Drop b ∷ Disable b ∷ State b ∷ [])
     ≡ Done ∷ Refused UnknownType ∷ Refused NameTaken ∷ Refused UnknownField ∷ Refused BadSchema ∷ Refused UnknownIndex ∷ Refused UnknownIndex ∷ Refused UnknownIndex ∷ []
 refusals = refl
+
+-- an index is write-only from any state; it is readable again once all of it is built, and no other one is marked so
+marks : replies None (create ∷ Readable a ∷ WriteOnly a ∷ State a ∷ Readable a ∷ Disable a ∷ Readable a ∷ WriteOnly b ∷ Readable b ∷ [])
+    ≡ Done ∷ Refused WrongState ∷ Done ∷ answers.State states.WriteOnly ∷ Refused NotBuilt ∷ Done ∷ Refused WrongState ∷ Refused UnknownIndex ∷ Refused UnknownIndex ∷ []
+marks = refl
 
 abbrev there : Serial
 there = effects None (create ∷ save 1 5 ∷ [])
@@ -95,9 +100,9 @@ removing : (writes there (Remove t (i 1 ∷ [])) ≡ ClearRange (point one) ∷ 
 unfolding int_spelling byte_count
 removing = (refl, refl)
 
--- a disabled index isn't written, and what disabling writes is its state and the range of its entries
+-- a disabled index isn't written, and what disabling writes is its state and the ranges of its entries and of its built ranges
 disabled : (writes (effects there (Disable a ∷ [])) (save 1 6) ≡ Set one (record_value (row 1 6)) ∷ [])
-    × (writes there (Disable a) ≡ Set (0x15 ∷ 0x01 ∷ 0x15 ∷ 0x05 ∷ 0x15 ∷ 0x01 ∷ []) (0x15 ∷ 0x02 ∷ []) ∷ ClearRange (record { begin = 0x15 ∷ 0x01 ∷ 0x15 ∷ 0x02 ∷ 0x15 ∷ 0x01 ∷ []; end = 0x15 ∷ 0x01 ∷ 0x15 ∷ 0x02 ∷ 0x15 ∷ 0x01 ∷ 0xff ∷ [] }) ∷ [])
+    × (writes there (Disable a) ≡ Set (0x15 ∷ 0x01 ∷ 0x15 ∷ 0x05 ∷ 0x15 ∷ 0x01 ∷ []) (0x15 ∷ 0x02 ∷ []) ∷ ClearRange (record { begin = 0x15 ∷ 0x01 ∷ 0x15 ∷ 0x02 ∷ 0x15 ∷ 0x01 ∷ []; end = 0x15 ∷ 0x01 ∷ 0x15 ∷ 0x02 ∷ 0x15 ∷ 0x01 ∷ 0xff ∷ [] }) ∷ ClearRange (record { begin = 0x15 ∷ 0x01 ∷ 0x15 ∷ 0x06 ∷ 0x15 ∷ 0x01 ∷ 0x00 ∷ []; end = 0x15 ∷ 0x01 ∷ 0x15 ∷ 0x06 ∷ 0x15 ∷ 0x01 ∷ 0xff ∷ [] }) ∷ [])
 unfolding int_spelling byte_count
 disabled = (refl, refl)
 

@@ -8,6 +8,7 @@ use Rattle.txn.proofs.Running.{ran_still}
 use Rattle.metadata.specs.declared.index.IndexDefinition.{IndexDefinition}
 use Rattle.metadata.specs.declared.index.IndexRequest.{IndexRequest}
 use Rattle.metadata.specs.declared.index.State as states
+use Rattle.metadata.specs.declared.index.State.TheVariants as mark
 use Rattle.metadata.specs.declared.refusal.Refusal.{Refusal}
 use Rattle.metadata.specs.IndexChange.{new_index}
 use Rattle.metadata.specs.Schema.{find_index}
@@ -15,12 +16,13 @@ use Rattle.record_store.specs.Store.{Store, state_in}
 use Rattle.record_store.specs.declared.error.StoreError.TheVariants.{Refused}
 use Rattle.record_store.specs.Call.{Call, IsAnswered, IsOpenAs, Never, Opened, Service, whole}
 use Rattle.record_store.specs.Opening.{IsOpened}
-use Rattle.record_store.specs.Calls.{disable_call, disable_service, done_with, drop_call, drop_service, index_call, index_number, index_service, state_named}
+use Rattle.record_store.specs.Calls.{disable_call, disable_service, done_with, drop_call, drop_service, index_call, index_number, index_service, state_named, write_only_call, write_only_service}
 use Rattle.schedule.specs.declared.step.Command.TheVariants.{Index, Drop, Disable, State}
+use Rattle.schedule.specs.declared.step.Command.TheVariants as commands
 use Rattle.schedule.specs.declared.reply.Reply.{Reply}
 use Rattle.schedule.specs.declared.reply.Reply.TheVariants as reply
-use Rattle.schedule.specs.Serve.{served_by, served_disable, served_drop, served_index, served_state}
-use Rattle.schedule.specs.Reach.{disabling, dropping, first_reading, indexing}
+use Rattle.schedule.specs.Serve.{served_by, served_disable, served_drop, served_index, served_state, served_write_only}
+use Rattle.schedule.specs.Reach.{call_reading, dropping, indexing, marking}
 use Rattle.schedule.specs.Calls.{IsRefused}
 use Rattle.schedule.specs.Refusals.{of_schema}
 use Rattle.schedule.specs.Performed.{IsPerformed}
@@ -44,20 +46,20 @@ index_meets opened request = done_meets (at opened) (Index request) (index_servi
     serves index is = record {
       opens = refl;
       undamaged = λ m. refl;
-      reads = ap first_reading is;
-      unobjected = refl;
+      reads = ap (λ o. call_reading (done_with (index_service (at opened)) o)) is;
+      objects = tt;
       accepted = λ state. refl;
       reading = λ state. refl;
-      replies = λ store lawful same. sym (ap (λ o. (served_by store (served_index store) o).0) (here store same is));
-      leaves = λ store same. ap (λ o. (served_by store (served_index store) o).1) (here store same is);
-      wrote = λ store same. ap (indexing store) (here store same is);
+      replies = λ store lawful same accepted. sym (ap (λ o. (served_by store (served_index store) o).0) (here store same is));
+      leaves = λ store same accepted. ap (λ o. (served_by store (served_index store) o).1) (here store same is);
+      wrote = λ store same accepted. ap (indexing store) (here store same is);
     }
 
     refuses : (refusal : Refusal) → new_index opened.schema request ≡ Err refusal → Refuses (at opened) (Index request) (of_schema refusal)
     refuses refusal is = record {
       opens = refl;
       undamaged = λ m. refl;
-      reads = ap first_reading is;
+      reads = ap (λ o. call_reading (done_with (index_service (at opened)) o)) is;
       replies = λ store same. sym (ap (λ o. (served_by store (served_index store) o).0) (here store same is));
       idle = λ store same. ap (indexing store) (here store same is);
     }
@@ -79,12 +81,12 @@ drop_meets opened name = done_meets (at opened) (Drop name) (drop_service (at op
       opens = refl;
       undamaged = λ m. refl;
       reads = refl;
-      unobjected = refl;
+      objects = tt;
       accepted = λ answer. refl;
       reading = λ answer. refl;
-      replies = λ store lawful same. sym (ap (λ o. (served_by store (served_drop store) o).0) (numbered opened name store same is));
-      leaves = λ store same. ap (λ o. (served_by store (served_drop store) o).1) (numbered opened name store same is);
-      wrote = λ store same. ap (dropping store) (numbered opened name store same is);
+      replies = λ store lawful same accepted. sym (ap (λ o. (served_by store (served_drop store) o).0) (numbered opened name store same is));
+      leaves = λ store same accepted. ap (λ o. (served_by store (served_drop store) o).1) (numbered opened name store same is);
+      wrote = λ store same accepted. ap (dropping store) (numbered opened name store same is);
     }
 
     refuses : (refusal : Refusal) → index_number (find_index opened.schema name) ≡ Err refusal → Refuses (at opened) (Drop name) (of_schema refusal)
@@ -104,12 +106,12 @@ disable_meets opened name = done_meets (at opened) (Disable name) (disable_servi
       opens = refl;
       undamaged = λ m. refl;
       reads = refl;
-      unobjected = refl;
+      objects = tt;
       accepted = λ answer. refl;
       reading = λ answer. refl;
-      replies = λ store lawful same. sym (ap (λ o. (served_by store (served_disable store) o).0) (numbered opened name store same is));
-      leaves = λ store same. ap (λ o. (served_by store (served_disable store) o).1) (numbered opened name store same is);
-      wrote = λ store same. ap disabling (numbered opened name store same is);
+      replies = λ store lawful same accepted. sym (ap (λ o. (served_by store (served_disable store) o).0) (numbered opened name store same is));
+      leaves = λ store same accepted. ap (λ o. (served_by store (served_disable store) o).1) (numbered opened name store same is);
+      wrote = λ store same accepted. ap (marking mark.Disabled) (numbered opened name store same is);
     }
 
     refuses : (refusal : Refusal) → index_number (find_index opened.schema name) ≡ Err refusal → Refuses (at opened) (Disable name) (of_schema refusal)
@@ -118,7 +120,32 @@ disable_meets opened name = done_meets (at opened) (Disable name) (disable_servi
       undamaged = λ m. refl;
       reads = refl;
       replies = λ store same. sym (ap (λ o. (served_by store (served_disable store) o).0) (numbered opened name store same is));
-      idle = λ store same. ap disabling (numbered opened name store same is);
+      idle = λ store same. ap (marking mark.Disabled) (numbered opened name store same is);
+    }
+
+pub write_only_meets : (opened : Opened) (name : List ℕ) → Meets (at opened) (commands.WriteOnly name) (write_only_call (at opened) name) told_done
+write_only_meets opened name = done_meets (at opened) (commands.WriteOnly name) (write_only_service (at opened)) told_done (index_number (find_index opened.schema name)) serves refuses
+  where
+    serves : (number : ℕ) → index_number (find_index opened.schema name) ≡ Ok number → Serves (at opened) (commands.WriteOnly name) (write_only_service (at opened) number) told_done
+    serves number is = record {
+      opens = refl;
+      undamaged = λ m. refl;
+      reads = refl;
+      objects = tt;
+      accepted = λ answer. refl;
+      reading = λ answer. refl;
+      replies = λ store lawful same accepted. sym (ap (λ o. (served_by store (served_write_only store) o).0) (numbered opened name store same is));
+      leaves = λ store same accepted. ap (λ o. (served_by store (served_write_only store) o).1) (numbered opened name store same is);
+      wrote = λ store same accepted. ap (marking mark.WriteOnly) (numbered opened name store same is);
+    }
+
+    refuses : (refusal : Refusal) → index_number (find_index opened.schema name) ≡ Err refusal → Refuses (at opened) (commands.WriteOnly name) (of_schema refusal)
+    refuses refusal is = record {
+      opens = refl;
+      undamaged = λ m. refl;
+      reads = refl;
+      replies = λ store same. sym (ap (λ o. (served_by store (served_write_only store) o).0) (numbered opened name store same is));
+      idle = λ store same. ap (marking mark.WriteOnly) (numbered opened name store same is);
     }
 
 -- ---- state
@@ -154,12 +181,12 @@ state_meets opened name = done_meets (at opened) (State name) state_service told
       opens = refl;
       undamaged = λ m. refl;
       reads = refl;
-      unobjected = refl;
+      objects = tt;
       accepted = λ state. refl;
       reading = λ state. refl;
-      replies = λ store lawful same. sym (ap (λ o. (served_by store (served_state store) o).0) (numbered opened name store same is));
-      leaves = λ store same. ap (λ o. (served_by store (served_state store) o).1) (numbered opened name store same is);
-      wrote = λ store same. refl;
+      replies = λ store lawful same accepted. sym (ap (λ o. (served_by store (served_state store) o).0) (numbered opened name store same is));
+      leaves = λ store same accepted. ap (λ o. (served_by store (served_state store) o).1) (numbered opened name store same is);
+      wrote = λ store same accepted. refl;
     }
 
 -- the index of a name whose state is known

@@ -14,8 +14,11 @@ pub mod SettleSteps
 pub mod Reached
 pub mod Stops
 pub mod Outcomes
+pub mod Looking
 pub mod Serving
 pub mod IndexServing
+pub mod Marking
+pub mod BuildServing
 pub mod Aggregating
 pub mod Plans
 pub mod Creating

@@ -1,5 +1,5 @@
 -- What commands come to, from what the calls that they make on the store establish.
-use Rattle.std.proofs.Common.{◌≡◌, ℕ, Bool, true, not, cond, ◌==◌, List, [], ◌∷◌, ◌++◌, inl, inr, refl, sym, ap, subst, ◌∙◌, append-nil, option_map, Some, None, Ok, Err, Result, length, arith}
+use Rattle.std.proofs.Common.{◌≡◌, ℕ, Bool, true, false, not, cond, ◌==◌, List, [], ◌∷◌, ◌++◌, inl, inr, refl, sym, ap, subst, ◌∙◌, append-nil, option_map, Some, None, Ok, Err, Result, length, arith}
 use Rattle.std.proofs.lemmas.Bool.{eqb-true}
 use Rattle.kv_core.specs.Range.{KeyRange}
 use Rattle.kv_core.specs.Map.{Map, after_all}
@@ -21,8 +21,7 @@ use Rattle.record_store.specs.declared.error.StoreError.TheVariants.{Memory, Rea
 use Rattle.record_store.specs.declared.error.StoreError.TheVariants as fault
 use Rattle.record_store.specs.Store.{Store, Serial}
 use Rattle.record_store.specs.Holds.{Holds, IsLawful}
-use Rattle.record_store.specs.Call.{AtStore, Call, IsAnswered, IsDone, IsFailure, IsObjectedTo, IsOpenAs, Never, Opened, Reading, Service, whole}
-use Rattle.record_store.specs.Form.{IsFirstBad, IsWritten}
+use Rattle.record_store.specs.Call.{AtStore, Call, IsAnswered, IsDamagedAt, IsDone, IsFailure, IsObjectedTo, IsOpenAs, Never, Objection, Opened, Reading, Service, Where, is_objected, whole}
 use Rattle.record_store.specs.Call as call
 use Rattle.record_store.specs.Opening.{AtSerials, HasSchema, IsOpenFailure, IsOpened, IsThereAs, IsUnopened, opening_reach}
 use Rattle.record_store.specs.Steps.{IsBeginning, IsNextRefused, of_metadata}
@@ -84,20 +83,29 @@ refused_unopened {refuses = refuses} {old = old} command error opens is none uno
     stop fault.OtherSchema ranges m says = absurd says
     stop fault.NotAggregate ranges m says = absurd says
     stop fault.NotReadable ranges m says = absurd says
+    stop fault.WrongState ranges m says = absurd says
+    stop fault.NotBuilt ranges m says = absurd says
 
 -- ---- calls on an open store
 
--- what a command is by the service that it asks of the store: it reads the same behind the opening, and at each store that was opened so it replies as the service answers, leaves what that leaves, and writes the same
+-- what an objection is to a command: at each store that was opened so and is objected to, the reply is its refusal, and nothing is written
+abbrev pub Objects : Opened → Command → Objection → Type 0
+Objects opened command Never = Unit {0}
+Objects opened command (Where error test) =
+    (refusal : Refusal) × (own_refusal error ≡ Some refusal)
+    × ((store : Store) → IsOpenAs opened store → test store ≡ true → IsReply (Some store) command (reply.Refused refusal) × (writes (Some store) command ≡ []))
+
+-- what a command is by the service that it asks of the store: it reads the same behind the opening, and at each store that was opened so and isn't objected to it replies as the service answers, leaves what that leaves, and writes the same
 pub record Serves {A : Type 0} (opened : Opened) (command : Command) (service : Service A) (told : A → Reply) : Type 0 where
   pub opens : open_reach command ≡ opening_reach store_prefix
   pub reads : own_reading (Some opened) command ≡ service.reading
-  pub unobjected : service.objection ≡ Never
+  pub objects : Objects opened command service.objection
   pub undamaged : (m : Map) → own_damage (Some opened) command m ≡ None
   pub accepted : (answer : A) → is_accepted (told answer) ≡ true
   pub reading : (answer : A) → not (service.changes answer) ≡ is_reading command (told answer)
-  pub replies : (store : Store) → IsLawful store → IsOpenAs opened store → IsReply (Some store) command (told (service.answer store))
-  pub leaves : (store : Store) → IsOpenAs opened store → effect (Some store) command ≡ Some (service.after store)
-  pub wrote : (store : Store) → IsOpenAs opened store → writes (Some store) command ≡ service.writes store
+  pub replies : (store : Store) → IsLawful store → IsOpenAs opened store → is_objected service.objection store ≡ false → IsReply (Some store) command (told (service.answer store))
+  pub leaves : (store : Store) → IsOpenAs opened store → is_objected service.objection store ≡ false → effect (Some store) command ≡ Some (service.after store)
+  pub wrote : (store : Store) → IsOpenAs opened store → is_objected service.objection store ≡ false → writes (Some store) command ≡ service.writes store
 
 -- what a command is whose call has its own refusal: it reads nothing behind the opening, at each store that was opened so this is its reply, and it writes nothing
 pub record Refuses (opened : Opened) (command : Command) (refusal : Refusal) : Type 0 where
@@ -146,6 +154,8 @@ module _ {maps : ℕ → Map} {refuses : KeyRange → ℕ → ReadError → Type
   refused_own (Refused why) own = own_stopped (Refused why) (ap (option_map reply.Refused) own) (λ all ranges same. same)
   refused_own fault.NotAggregate own = own_stopped fault.NotAggregate (ap (option_map reply.Refused) own) (λ all ranges same. same)
   refused_own fault.NotReadable own = own_stopped fault.NotReadable (ap (option_map reply.Refused) own) (λ all ranges same. same)
+  refused_own fault.WrongState own = own_stopped fault.WrongState (ap (option_map reply.Refused) own) (λ all ranges same. same)
+  refused_own fault.NotBuilt own = own_stopped fault.NotBuilt (ap (option_map reply.Refused) own) (λ all ranges same. same)
   refused_own Memory own = absurd (cc)
   refused_own (Read reason) own = absurd (cc)
   refused_own (Write reason) own = absurd (cc)
@@ -190,13 +200,13 @@ performed_at {refuses = refuses} {old = old} {mid = mid} {A = A} opened command 
     here m reads done None stands has = absurd has
     here m reads done (Some store) stands has =
         let now = done store stands has in
-        let wrote : is.written ≡ writes (Some store) command = now.wrote ∙ sym (serves.wrote store has) in record {
+        let wrote : is.written ≡ writes (Some store) command = now.wrote ∙ sym (serves.wrote store has now.accepted) in record {
           right = inl (subst (λ o. IsLimited o (Some store) command (told answer))
               (sym now.allowed ∙ ap (λ ms. write_all_refusal ms is.written) (unwritten opened is_opened) ∙ ap (write_all_refusal old.mutations) wrote)
-              (subst (λ a. IsReply (Some store) command (told a)) (sym now.answers) (serves.replies store stands.lawful has)));
+              (subst (λ a. IsReply (Some store) command (told a)) (sym now.answers) (serves.replies store stands.lawful has now.accepted)));
           wrote = wrote ∙ ap (λ b. cond b (writes (Some store) command) []) (sym (serves.accepted answer));
           holds = subst (λ b. Stands (after_all is.written m) (cond b (effect (Some store) command) (Some store))) (sym (serves.accepted answer))
-              (subst (Stands (after_all is.written m)) (sym (serves.leaves store has)) now.holds);
+              (subst (Stands (after_all is.written m)) (sym (serves.leaves store has now.accepted)) now.holds);
           reads = all_added (told answer) (at_serial opened command m (Some store) (opening_reach store_prefix ++ is.added) stands has (all_ranges opened command is.service told serves is.added m reads));
         }
 
@@ -217,8 +227,27 @@ refused_at {refuses = refuses} {old = old} {mid = mid} opened command (Ok servic
     same_version : mid.read_version ≡ old.read_version
     same_version = is_opened.ran.version
 
-    unobjected : (error : StoreError) (ranges : List KeyRange) (m : Map) → IsObjectedTo (at opened) service.reading service.objection error ranges m → ⊥
-    unobjected error ranges m says = subst (λ o. IsObjectedTo (at opened) service.reading o error ranges m) serves.unobjected says
+    -- the store that is there is objected to
+    objected : (error : StoreError) → ((refusal : Refusal) → own_refusal error ≡ Some refusal → reply_of error ≡ Some (reply.Refused refusal)) → ((all added : List KeyRange) → added ≡ all → HasStopped error all added) → (ranges : List KeyRange) (m : Map) →
+        HasSchema (at opened) m × AtSerials store_prefix m (IsThereAs (at opened)) → (objection : Objection) → Objects (at opened) command objection → IsObjectedTo (at opened) service.reading objection error ranges m →
+        IsStop refused (Some (at opened)) command old.mutations error (opening_reach store_prefix ++ ranges) m
+    objected error replied stopped ranges m has Never objects says = absurd says
+    objected error replied stopped ranges m has (Where own test) objects says =
+        let is_reply : reply_of error ≡ Some (reply.Refused objects.0) = replied objects.0 (ap own_refusal says.0 ∙ objects.1) in record {
+          there = (refl, has.0);
+          reads = stopped _ _ (all_ranges opened command service told serves ranges m says.1);
+          told = λ answer same. told_refused (Some (at opened)) command objects.0 answer m (sym is_reply ∙ same) (sound_by (at opened) command (reply.Refused objects.0) m service.reading serves.reads (serves.undamaged m) says.2);
+          held = λ serial stands. (
+            right serial stands (has.1 serial stands),
+            stopped _ _ (at_serial opened command m serial (opening_reach store_prefix ++ ranges) stands (has.1 serial stands) (all_ranges opened command service told serves ranges m says.1)),
+          );
+        }
+      where
+        right : (serial : Serial) → Holds store_prefix m serial → IsThereAs (at opened) serial → IsRight refused command old.mutations error m serial
+        right None holds none = absurd none
+        right (Some store) holds same =
+            let so = objects.2 store same (says.3 store holds same) in
+            own_right refused command old.mutations error objects.0 m (Some store) (replied objects.0 (ap own_refusal says.0 ∙ objects.1)) so.0 so.1
 
     stop : (error : StoreError) (ranges : List KeyRange) (m : Map) → HasSchema (at opened) m × AtSerials store_prefix m (IsThereAs (at opened)) → IsFailure (λ range. refuses range mid.read_version) (at opened) service error mid.mutations ranges m →
         IsStop refused (Some (at opened)) command old.mutations error (opening_reach store_prefix ++ ranges) m
@@ -240,7 +269,7 @@ refused_at {refuses = refuses} {old = old} {mid = mid} opened command (Ok servic
     stop (Corrupt key) ranges m has says = record {
       there = (refl, has.0);
       reads = all_ranges opened command service told serves ranges m says.0;
-      told = λ answer same. told_damage (Some (at opened)) command key answer m same (inl (subst (λ (r : Reading). IsFirstBad (IsWritten store_prefix opened.schema) (r.pairs m) key) (sym serves.reads) says.1));
+      told = λ answer same. told_damage (Some (at opened)) command key answer m same (inl (subst (λ (r : Reading). IsDamagedAt (at opened) r key m) (sym serves.reads) says.1));
       held = λ serial stands. damaged serial stands (has.1 serial stands);
     }
       where
@@ -261,13 +290,15 @@ refused_at {refuses = refuses} {old = old} {mid = mid} opened command (Ok servic
         limited None holds none = absurd none
         limited (Some store) holds same =
             limit_right refused command old.mutations reason m (Some store)
-            (ap (λ ms. write_all_refusal ms (writes (Some store) command)) (sym (unwritten opened is_opened)) ∙ ap (write_all_refusal mid.mutations) (serves.wrote store same) ∙ (says.2 store holds same).1)
-    stop (Refused refusal) ranges m has says = absurd (unobjected (Refused refusal) ranges m says)
-    stop fault.NoStore ranges m has says = absurd (unobjected fault.NoStore ranges m says)
-    stop fault.AlreadyThere ranges m has says = absurd (unobjected fault.AlreadyThere ranges m says)
-    stop fault.OtherSchema ranges m has says = absurd (unobjected fault.OtherSchema ranges m says)
-    stop fault.NotAggregate ranges m has says = absurd (unobjected fault.NotAggregate ranges m says)
-    stop fault.NotReadable ranges m has says = absurd (unobjected fault.NotReadable ranges m says)
+            (ap (λ ms. write_all_refusal ms (writes (Some store) command)) (sym (unwritten opened is_opened)) ∙ ap (write_all_refusal mid.mutations) (serves.wrote store same (says.2 store holds same).0) ∙ (says.2 store holds same).1)
+    stop (Refused refusal) ranges m has says = objected (Refused refusal) (λ own is. ap (option_map reply.Refused) is) (λ all added same. same) ranges m has service.objection serves.objects says
+    stop fault.NoStore ranges m has says = objected fault.NoStore (λ own is. absurd (cc)) (λ all added same. same) ranges m has service.objection serves.objects says
+    stop fault.AlreadyThere ranges m has says = objected fault.AlreadyThere (λ own is. absurd (cc)) (λ all added same. same) ranges m has service.objection serves.objects says
+    stop fault.OtherSchema ranges m has says = objected fault.OtherSchema (λ own is. absurd (cc)) (λ all added same. same) ranges m has service.objection serves.objects says
+    stop fault.NotAggregate ranges m has says = objected fault.NotAggregate (λ own is. ap (option_map reply.Refused) is) (λ all added same. same) ranges m has service.objection serves.objects says
+    stop fault.NotReadable ranges m has says = objected fault.NotReadable (λ own is. ap (option_map reply.Refused) is) (λ all added same. same) ranges m has service.objection serves.objects says
+    stop fault.WrongState ranges m has says = objected fault.WrongState (λ own is. ap (option_map reply.Refused) is) (λ all added same. same) ranges m has service.objection serves.objects says
+    stop fault.NotBuilt ranges m has says = objected fault.NotBuilt (λ own is. ap (option_map reply.Refused) is) (λ all added same. same) ranges m has service.objection serves.objects says
 
 -- ---- the same where the opened store stands at the store's prefix
 
@@ -280,59 +311,6 @@ pub performed : {maps : ℕ → Map} {refuses : KeyRange → ReadError → Type 
 performed {maps = maps} {old = old} {mid = mid} {new = new} opened command asked told answer here meets is_opened is =
     performed_at opened command (asked (at opened)) told answer meets (subst (λ o. IsOpened maps o old mid) (located opened here) is_opened)
     (subst (λ o. IsAnswered maps o (asked o) answer mid new) (located opened here) is)
-
--- what a command with this reply is that only looks at what was opened: it reads nothing behind the opening, writes nothing, and leaves each store that was opened so as it was
-pub record Looks (opened : Opened) (command : Command) (answer : Reply) : Type 0 where
-  pub opens : open_reach command ≡ opening_reach store_prefix
-  pub reads : own_reading (Some opened) command ≡ whole []
-  pub undamaged : (m : Map) → own_damage (Some opened) command m ≡ None
-  pub reading : is_reading command answer ≡ true
-  pub told : (m : Map) → IsSound (Some opened) command answer m → IsTold (Some opened) command answer m
-  pub replies : (store : Store) → IsOpenAs opened store → IsReply (Some store) command answer
-  pub idle : (store : Store) → IsOpenAs opened store → writes (Some store) command ≡ []
-  pub leaves : (store : Store) → IsOpenAs opened store → effect (Some store) command ≡ Some store
-
-looked_at : {maps : ℕ → Map} {refuses : KeyRange → ReadError → Type 0} {old new : CommitRequest} (opened : Opened) (command : Command) (answer : Reply) →
-    Looks (at opened) command answer → IsOpened maps (at opened) old new → IsPerformed maps refuses command answer old new
-looked_at {refuses = refuses} {old = old} opened command answer looks is = record {
-  opened = Some (at opened);
-  added = opening_reach store_prefix;
-  written = [];
-  changes = sym looks.reading;
-  ran = ran_because is.ran (λ m has. (
-    record {
-      there = (refl, has.0);
-      reads = all_added answer (opening_added (Some (at opened)) command m looks.opens looks.reads);
-      told = looks.told m (sound_by (at opened) command answer m (whole []) looks.reads (looks.undamaged m) tt);
-    },
-    λ serial stands. here m serial stands (has.1 serial stands),
-  ));
-}
-  where
-    same : {A : Type 0} (b : Bool) (x y : A) → x ≡ y → y ≡ cond b x y
-    same true x y is = sym is
-    same Bool.false x y is = refl
-
-    here : (m : Map) (serial : Serial) → Stands m serial → IsThereAs (at opened) serial → IsPerformedAt refuses command answer old.mutations [] (opening_reach store_prefix) m serial
-    here m None stands has = absurd has
-    here m (Some store) stands has = record {
-      right = inl (served_idle old.mutations (Some store) command answer (looks.idle store has) (looks.replies store has));
-      wrote = same (is_accepted answer) (writes (Some store) command) [] (looks.idle store has);
-      holds = subst (Stands m) (same (is_accepted answer) (effect (Some store) command) (Some store) (looks.leaves store has)) stands;
-      reads = all_added answer (at_serial opened command m (Some store) (opening_reach store_prefix) stands has (opening_added (Some (at opened)) command m looks.opens looks.reads));
-    }
-
--- LOOKED: a store was opened, and the command asks for nothing else
-pub looked : {maps : ℕ → Map} {refuses : KeyRange → ReadError → Type 0} {old new : CommitRequest} (opened : Opened) (command : Command) (answer : Reply) → opened.prefix ≡ store_prefix →
-    Looks (at opened) command answer → IsOpened maps opened old new → IsPerformed maps refuses command answer old new
-looked {maps = maps} {old = old} {new = new} opened command answer here looks is_opened =
-    looked_at opened command answer looks (subst (λ o. IsOpened maps o old new) (located opened here) is_opened)
-
--- LOOKED: memory is wanting
-pub looked_memory : {maps : ℕ → Map} {refuses : KeyRange → ℕ → ReadError → Type 0} {old new : CommitRequest} (opened : Opened) (command : Command) → opened.prefix ≡ store_prefix →
-    open_reach command ≡ opening_reach store_prefix → IsOpened maps opened old new → IsRefused maps refuses command Memory old new
-looked_memory {maps = maps} {old = old} {new = new} opened command here opens is_opened =
-    memory_opened opened command opens (subst (λ o. IsOpened maps o old new) (located opened here) is_opened)
 
 -- NOT ANSWERED
 pub refused : {maps : ℕ → Map} {refuses : KeyRange → ℕ → ReadError → Type 0} {old mid new : CommitRequest} {A : Type 0} (opened : Opened) (command : Command) (asked : Opened → Call A) (told : A → Reply) (error : StoreError) →

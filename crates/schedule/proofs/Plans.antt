@@ -30,7 +30,7 @@ use Rattle.schedule.specs.Query.{Unrefused, states_of}
 use Rattle.schedule.specs.Performed.{IsPerformed, IsSound, IsTold}
 use Rattle.schedule.specs.Past.{is_reading}
 use Rattle.schedule.specs.Refusals.{of_query}
-use Rattle.schedule.proofs.Outcomes.{Looks, looked}
+use Rattle.schedule.proofs.Looking.{Looks, looked}
 use Rattle.schedule.proofs.Reached.{told_accepted, told_refusal}
 use Rattle.schedule.proofs.Stops.{at}
 

@@ -46,7 +46,8 @@ use Rattle.schedule.specs.Query.{IsQueryReply, IsRowsReply, Unrefused, states_of
 use Rattle.schedule.specs.Refusals.{of_query}
 use Rattle.schedule.proofs.Executions as run
 use Rattle.schedule.proofs.Executions.{Executes}
-use Rattle.schedule.proofs.Outcomes.{Looks, answered_as, located, looked, looked_memory}
+use Rattle.schedule.proofs.Outcomes.{answered_as, located}
+use Rattle.schedule.proofs.Looking.{Looks, looked, looked_memory}
 use Rattle.schedule.proofs.Plans.{there}
 use Rattle.schedule.proofs.Reached.{told_refusal}
 use Rattle.schedule.proofs.Stops.{at}
@@ -92,7 +93,7 @@ module _ (opened : Opened) (q : Asked) where
 each_readable : (opened : Opened) (t : TypeDefinition) (is : List IndexDefinition) → AllByRecursion (MayBeUsed opened.schema (index_states opened) t) is → AllByRecursion (IsReadableAt opened) is
 each_readable opened t [] all = tt
 each_readable opened t (i ∷ is) all =
-    let store : Store = record { schema = opened.schema; records = []; states = opened.states } in
+    let store : Store = record { schema = opened.schema; records = []; states = opened.states; built = [] } in
     let may = scannable store (index_states opened) t i (states_told opened store (record { schema = refl; states = refl })) all.0 in
     (record { there = may.there; readable = may.readable }, each_readable opened t is all.1)
 

@@ -1,7 +1,6 @@
 -- What commands read: by a schema and a map, and by what is there.
 use Rattle.std.proofs.Common.{◌≡◌, ℕ, Bool, true, false, List, [], ◌∷◌, ◌++◌, refl, sym, ap, subst, ◌∙◌, append-nil, Option, Some, None, Ok, Err, Result, length}
 use Rattle.std.specs.Prelude.{drop}
-use Rattle.std.specs.List.{AllByRecursion}
 use Rattle.std.specs.FinMap.{get}
 use Rattle.std.proofs.lemmas.Bool.{or_left, or_right}
 use Rattle.std.proofs.lemmas.List.Folds.{list_any-append}
@@ -13,14 +12,14 @@ use Rattle.schedule.specs.declared.refusal.Refusal.{Refusal}
 use Rattle.schedule.specs.declared.refusal.Refusal.TheVariants.{NoStore}
 use Rattle.metadata.specs.Asked.{schema_asked}
 use Rattle.metadata.specs.Schema.{Schema}
-use Rattle.record_store.specs.Form.{IsWritten}
 use Rattle.record_store.specs.Layout.{schema_key}
 use Rattle.record_store.specs.Call.{Opened, Reading, whole}
+use Rattle.record_store.specs.Call as call
 use Rattle.record_store.specs.Opening.{opening_reach}
 use Rattle.record_store.specs.Steps.{IsBeginning, IsNextRefused}
 use Rattle.record_store.proofs.Stopping.{all_begin, begin_more}
 use Rattle.schedule.specs.declared.step.Command.{Command}
-use Rattle.schedule.specs.declared.step.Command.TheVariants.{Create, «Type», Save, Load, Remove, Query, Plan, Execute, Index, Drop, Disable, State, Aggregate}
+use Rattle.schedule.specs.declared.step.Command.TheVariants.{Create, «Type», Save, Load, Remove, Query, Plan, Execute, Index, Drop, Disable, WriteOnly, Readable, Build, State, Aggregate}
 use Rattle.schedule.specs.declared.reply.Reply.{Reply}
 use Rattle.schedule.specs.declared.reply.Reply.TheVariants as reply
 use Rattle.schedule.specs.Layout.{store_prefix}
@@ -41,6 +40,10 @@ alone (Execute plan) = refl
 alone (Index request) = refl
 alone (Drop name) = refl
 alone (Disable name) = refl
+alone (WriteOnly name) = refl
+alone (Readable name) = refl
+alone (Build name Rattle.std.proofs.Common.zero) = refl
+alone (Build name (Rattle.std.proofs.Common.suc more)) = refl
 alone (State name) = refl
 alone (Aggregate name group) = refl
 
@@ -117,6 +120,8 @@ told_accepted opened command (reply.Rows rows) m is sound = sound
 told_accepted opened command (reply.Planned plan) m is sound = sound
 told_accepted opened command (reply.State state) m is sound = sound
 told_accepted opened command (reply.Total total) m is sound = sound
+told_accepted opened command (reply.Built records range) m is sound = sound
+told_accepted opened command reply.Finished m is sound = sound
 told_accepted opened command (reply.Submitted version) m is sound = sound
 told_accepted opened command reply.ReadOnly m is sound = sound
 told_accepted opened command reply.Nothing m is sound = sound
@@ -139,9 +144,13 @@ sound_none (Execute plan) m none = none
 sound_none (Index request) m none = none
 sound_none (Drop name) m none = none
 sound_none (Disable name) m none = none
+sound_none (WriteOnly name) m none = none
+sound_none (Readable name) m none = none
+sound_none (Build name Rattle.std.proofs.Common.zero) m none = tt
+sound_none (Build name (Rattle.std.proofs.Common.suc more)) m none = none
 sound_none (State name) m none = none
 sound_none (Aggregate name group) m none = none
 
 -- that all pairs of a reading are, and that there is no damage
-pub sound_by : (opened : Opened) (command : Command) (answer : Reply) (m : Map) (reading : Reading) → own_reading (Some opened) command ≡ reading → own_damage (Some opened) command m ≡ None → AllByRecursion (IsWritten store_prefix opened.schema) (reading.pairs m) → IsSound (Some opened) command answer m
-sound_by opened command answer m reading is undamaged good = (subst (λ (r : Reading). AllByRecursion (IsWritten store_prefix opened.schema) (r.pairs m)) (sym is) good, undamaged)
+pub sound_by : (opened : Opened) (command : Command) (answer : Reply) (m : Map) (reading : Reading) → own_reading (Some opened) command ≡ reading → own_damage (Some opened) command m ≡ None → call.IsSound opened reading m → IsSound (Some opened) command answer m
+sound_by opened command answer m reading is undamaged good = (subst (λ (r : Reading). call.IsSound opened r m) (sym is) good, undamaged)

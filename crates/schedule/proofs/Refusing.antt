@@ -9,7 +9,7 @@ use Rattle.schedule.specs.declared.step.Command.{Command}
 use Rattle.schedule.specs.declared.step.Step.{Step}
 use Rattle.schedule.specs.declared.step.Step.TheVariants.{Begin, Perform, Execute, Commit, Abandon, Resolve, Log, Pull, Report, Lost, Settle}
 use Rattle.schedule.specs.declared.reply.Reply.{Reply}
-use Rattle.schedule.specs.declared.reply.Reply.TheVariants.{Begun, Done, SavedNew, SavedOver, Found, Absent, Removed, Rows, Planned, State, Total, Submitted, ReadOnly, Nothing, Reported, Refused, Corrupt}
+use Rattle.schedule.specs.declared.reply.Reply.TheVariants.{Begun, Done, SavedNew, SavedOver, Found, Absent, Removed, Rows, Planned, State, Total, Built, Finished, Submitted, ReadOnly, Nothing, Reported, Refused, Corrupt}
 use Rattle.schedule.specs.declared.reply.Report as telling
 use Rattle.planner.specs.Asked.{AskedPlan}
 use Rattle.schedule.specs.declared.step.Command.TheVariants as asks
@@ -102,6 +102,8 @@ leaves_any config requests past step (Rows rows) right = tt
 leaves_any config requests past step (Planned plan) right = tt
 leaves_any config requests past step (State state) right = tt
 leaves_any config requests past step (Total total) right = tt
+leaves_any config requests past step (Built records range) right = tt
+leaves_any config requests past step Finished right = tt
 leaves_any config requests past step (Submitted version) right = tt
 leaves_any config requests past step ReadOnly right = tt
 leaves_any config requests past step Nothing right = tt

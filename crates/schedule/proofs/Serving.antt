@@ -35,7 +35,7 @@ use Rattle.schedule.specs.Refusals.{of_schema}
 use Rattle.schedule.specs.Serve.{served_by, served_save, served_load, served_remove, served_type, cells_in, reply_to_save, reply_to_load, reply_to_remove}
 use Rattle.schedule.specs.Past.{is_accepted, is_reading}
 use Rattle.schedule.specs.Layout.{store_prefix}
-use Rattle.schedule.specs.Reach.{schema_written, saving, removing, record_reach, key_reach}
+use Rattle.schedule.specs.Reach.{call_reading, schema_written, saving, removing}
 use Rattle.schedule.specs.Calls.{removal_reply}
 use Rattle.schedule.proofs.Outcomes.{Meets, Refuses, Serves}
 use Rattle.schedule.proofs.Stops.{at}
@@ -70,20 +70,20 @@ load_meets opened name cells = done_meets (at opened) (Load name cells) (load_se
     serves key is = record {
       opens = refl;
       undamaged = λ m. refl;
-      reads = ap (λ o. whole (key_reach o)) is;
-      unobjected = refl;
+      reads = ap (λ o. call_reading (done_with (load_service (at opened)) o)) is;
+      objects = tt;
       accepted = λ found. load_accepted (cells_in found);
       reading = λ found. load_reads name cells (cells_in found);
-      replies = λ store lawful same. sym (ap (λ o. (served_by store (served_load store) o).0) (here store same is));
-      leaves = λ store same. ap (λ o. (served_by store (served_load store) o).1) (here store same is);
-      wrote = λ store same. refl;
+      replies = λ store lawful same accepted. sym (ap (λ o. (served_by store (served_load store) o).0) (here store same is));
+      leaves = λ store same accepted. ap (λ o. (served_by store (served_load store) o).1) (here store same is);
+      wrote = λ store same accepted. refl;
     }
 
     refuses : (refusal : Refusal) → key_of opened.schema name cells ≡ Err refusal → Refuses (at opened) (Load name cells) (of_schema refusal)
     refuses refusal is = record {
       opens = refl;
       undamaged = λ m. refl;
-      reads = ap (λ o. whole (key_reach o)) is;
+      reads = ap (λ o. call_reading (done_with (load_service (at opened)) o)) is;
       replies = λ store same. sym (ap (λ o. (served_by store (served_load store) o).0) (here store same is));
       idle = λ store same. refl;
     }
@@ -112,20 +112,20 @@ remove_meets opened name cells = done_meets (at opened) (Remove name cells) (rem
     serves key is = record {
       opens = refl;
       undamaged = λ m. refl;
-      reads = ap (λ o. whole (key_reach o)) is;
-      unobjected = refl;
+      reads = ap (λ o. call_reading (done_with (remove_service (at opened)) o)) is;
+      objects = tt;
       accepted = remove_accepted;
       reading = remove_reads name cells;
-      replies = λ store lawful same. removed_reply (record_at key store.records) ∙ sym (ap (λ o. (served_by store (served_remove store) o).0) (here store same is));
-      leaves = λ store same. ap (λ o. (served_by store (served_remove store) o).1) (here store same is);
-      wrote = λ store same. ap (removing store) (here store same is);
+      replies = λ store lawful same accepted. removed_reply (record_at key store.records) ∙ sym (ap (λ o. (served_by store (served_remove store) o).0) (here store same is));
+      leaves = λ store same accepted. ap (λ o. (served_by store (served_remove store) o).1) (here store same is);
+      wrote = λ store same accepted. ap (removing store) (here store same is);
     }
 
     refuses : (refusal : Refusal) → key_of opened.schema name cells ≡ Err refusal → Refuses (at opened) (Remove name cells) (of_schema refusal)
     refuses refusal is = record {
       opens = refl;
       undamaged = λ m. refl;
-      reads = ap (λ o. whole (key_reach o)) is;
+      reads = ap (λ o. call_reading (done_with (remove_service (at opened)) o)) is;
       replies = λ store same. sym (ap (λ o. (served_by store (served_remove store) o).0) (here store same is));
       idle = λ store same. ap (removing store) (here store same is);
     }
@@ -189,7 +189,7 @@ pub save_refuses : (opened : Opened) (name : List ℕ) (cells : List Cell) (refu
 save_refuses opened name cells refusal is = record {
   opens = refl;
   undamaged = λ m. refl;
-  reads = ap (λ o. whole (record_reach o)) is;
+  reads = ap (λ o. call_reading (done_with (save_service (at opened)) o)) is;
   replies = λ store same. sym (ap (λ o. (served_by store (served_save store) o).0) (ap (λ s. record_of s name cells) same.schema ∙ is));
   idle = λ store same. ap (saving store) (ap (λ s. record_of s name cells) same.schema ∙ is);
 }
@@ -204,13 +204,13 @@ save_meets opened name cells r is = subst (λ b. Meets (at opened) (Save name ce
     serves = record {
       opens = refl;
       undamaged = λ m. refl;
-      reads = ap (λ o. whole (record_reach o)) is;
-      unobjected = refl;
+      reads = ap (λ o. call_reading (done_with (save_service (at opened)) o)) is;
+      objects = tt;
       accepted = λ old. save_accepted (cells_in old);
       reading = λ old. save_changes name cells (cells_in old);
-      replies = λ store lawful same. sym (ap (λ o. (served_by store (served_save store) o).0) (here store same));
-      leaves = λ store same. ap (λ o. (served_by store (served_save store) o).1) (here store same);
-      wrote = λ store same. ap (saving store) (here store same);
+      replies = λ store lawful same accepted. sym (ap (λ o. (served_by store (served_save store) o).0) (here store same));
+      leaves = λ store same accepted. ap (λ o. (served_by store (served_save store) o).1) (here store same);
+      wrote = λ store same accepted. ap (saving store) (here store same);
     }
 
 -- ---- type
@@ -229,12 +229,12 @@ type_meets opened request = done_meets (at opened) («Type» request) (schema_se
       opens = refl;
       undamaged = λ m. refl;
       reads = refl;
-      unobjected = refl;
+      objects = tt;
       accepted = λ answer. refl;
       reading = λ answer. refl;
-      replies = λ store lawful same. sym (ap (λ o. (served_by store (served_type store) o).0) (here store same is));
-      leaves = λ store same. ap (λ o. (served_by store (served_type store) o).1) (here store same is);
-      wrote = λ store same. ap schema_written (here store same is);
+      replies = λ store lawful same accepted. sym (ap (λ o. (served_by store (served_type store) o).0) (here store same is));
+      leaves = λ store same accepted. ap (λ o. (served_by store (served_type store) o).1) (here store same is);
+      wrote = λ store same accepted. ap schema_written (here store same is);
     }
 
     refuses : (refusal : Refusal) → add_type opened.schema request ≡ Err refusal → Refuses (at opened) («Type» request) (of_schema refusal)

@@ -15,7 +15,7 @@ use Rattle.cluster_core.specs.declared.answers.ReadError.TheVariants as read
 use Rattle.txn.specs.Runs.{Ran}
 use Rattle.txn.proofs.Running.{ran_because, ran_still}
 use Rattle.schedule.specs.declared.refusal.Refusal.{Refusal}
-use Rattle.schedule.specs.declared.refusal.Refusal.TheVariants.{AlreadyThere, NoStore, NotAggregate, NotReadable, OtherSchema, FutureVersion, TooOld, KeyOutside, KeyTooLarge, ValueTooLarge, TransactionTooLarge}
+use Rattle.schedule.specs.declared.refusal.Refusal.TheVariants.{AlreadyThere, NoStore, NotAggregate, NotReadable, WrongState, NotBuilt, OtherSchema, FutureVersion, TooOld, KeyOutside, KeyTooLarge, ValueTooLarge, TransactionTooLarge}
 use Rattle.record_store.specs.declared.error.StoreError.{StoreError}
 use Rattle.record_store.specs.declared.error.StoreError.TheVariants.{Memory, Read, Write, Corrupt, Refused}
 use Rattle.record_store.specs.declared.error.StoreError.TheVariants as fault
@@ -25,7 +25,7 @@ use Rattle.record_store.specs.Opening.{IsOpened, IsThereAs, opening_reach}
 use Rattle.record_store.specs.Steps.{IsBeginning}
 use Rattle.record_store.proofs.Stopping.{all_begin, none_begin}
 use Rattle.schedule.specs.declared.step.Command.{Command}
-use Rattle.schedule.specs.declared.step.Command.TheVariants.{Create, «Type», Save, Load, Remove, Query, Plan, Execute, Index, Drop, Disable, State, Aggregate}
+use Rattle.schedule.specs.declared.step.Command.TheVariants.{Create, «Type», Save, Load, Remove, Query, Plan, Execute, Index, Drop, Disable, WriteOnly, Readable, Build, State, Aggregate}
 use Rattle.schedule.specs.declared.reply.Reply.{Reply}
 use Rattle.schedule.specs.declared.reply.Reply.TheVariants as reply
 use Rattle.schedule.specs.Layout.{store_prefix}
@@ -63,6 +63,9 @@ refuses_all (Plan query) refusal = refl
 refuses_all (Index request) refusal = refl
 refuses_all (Drop name) refusal = refl
 refuses_all (Disable name) refusal = refl
+refuses_all (WriteOnly name) refusal = refl
+refuses_all (Readable name) refusal = refl
+refuses_all (Build name limit) refusal = refl
 refuses_all (State name) refusal = refl
 refuses_all (Aggregate name group) refusal = refl
 
@@ -78,6 +81,9 @@ corrupts_all (Plan query) key = refl
 corrupts_all (Index request) key = refl
 corrupts_all (Drop name) key = refl
 corrupts_all (Disable name) key = refl
+corrupts_all (WriteOnly name) key = refl
+corrupts_all (Readable name) key = refl
+corrupts_all (Build name limit) key = refl
 corrupts_all (State name) key = refl
 corrupts_all (Aggregate name group) key = refl
 
@@ -105,6 +111,8 @@ error_refuses command fault.AlreadyThere answer is = refusing command AlreadyThe
 error_refuses command fault.OtherSchema answer is = refusing command OtherSchema answer is
 error_refuses command fault.NotAggregate answer is = refusing command NotAggregate answer is
 error_refuses command fault.NotReadable answer is = refusing command NotReadable answer is
+error_refuses command fault.WrongState answer is = refusing command WrongState answer is
+error_refuses command fault.NotBuilt answer is = refusing command NotBuilt answer is
 
 -- what is there, by what was opened
 pub opened_is : (opened : Opened) (serial : Serial) → opened.prefix ≡ store_prefix → IsThereAs opened serial → opened_in serial ≡ Some opened
@@ -128,6 +136,8 @@ stopped_begin fault.AlreadyThere {ranges = ranges} has = subst (IsBeginning rang
 stopped_begin fault.OtherSchema {ranges = ranges} has = subst (IsBeginning ranges) has (all_begin ranges)
 stopped_begin fault.NotAggregate {ranges = ranges} has = subst (IsBeginning ranges) has (all_begin ranges)
 stopped_begin fault.NotReadable {ranges = ranges} has = subst (IsBeginning ranges) has (all_begin ranges)
+stopped_begin fault.WrongState {ranges = ranges} has = subst (IsBeginning ranges) has (all_begin ranges)
+stopped_begin fault.NotBuilt {ranges = ranges} has = subst (IsBeginning ranges) has (all_begin ranges)
 
 stopped_added : (error : StoreError) (answer : Reply) (all ranges : List KeyRange) → reply_of error ≡ Some answer → HasStopped error all ranges → HasAdded answer all ranges
 stopped_added Memory answer all ranges is has = absurd (cc)
@@ -142,6 +152,8 @@ stopped_added fault.AlreadyThere answer all ranges is has = all_added answer has
 stopped_added fault.OtherSchema answer all ranges is has = all_added answer has
 stopped_added fault.NotAggregate answer all ranges is has = all_added answer has
 stopped_added fault.NotReadable answer all ranges is has = all_added answer has
+stopped_added fault.WrongState answer all ranges is has = all_added answer has
+stopped_added fault.NotBuilt answer all ranges is has = all_added answer has
 
 -- why the reply of an error is right at what is there
 abbrev pub IsRight : (KeyRange → ReadError → Type 0) → Command → List Mutation → StoreError → Map → Serial → Type 0

@@ -16,7 +16,7 @@ use Rattle.txn.specs.Runs.{with_ranges}
 use Rattle.txn.proofs.Running.{ran_because, ran_keeps, with_ranges_append}
 use Rattle.schedule.specs.declared.step.Command.{Command}
 use Rattle.schedule.specs.declared.reply.Reply.{Reply}
-use Rattle.schedule.specs.declared.reply.Reply.TheVariants.{Begun, Done, SavedNew, SavedOver, Found, Absent, Removed, Rows, Planned, State, Total, Submitted, ReadOnly, Nothing, Reported, Refused, Corrupt}
+use Rattle.schedule.specs.declared.reply.Reply.TheVariants.{Begun, Done, SavedNew, SavedOver, Found, Absent, Removed, Rows, Planned, State, Total, Built, Finished, Submitted, ReadOnly, Nothing, Reported, Refused, Corrupt}
 use Rattle.record_store.specs.Store.{Serial}
 use Rattle.schedule.specs.Serve.{IsReply, effect, effects}
 use Rattle.schedule.specs.Past.{Attempt, Open, accepted, is_accepted, is_reading, is_changed}
@@ -50,6 +50,8 @@ read_refuses refuses within (Rows rows) is = absurd is
 read_refuses refuses within (Planned plan) is = absurd is
 read_refuses refuses within (State state) is = absurd is
 read_refuses refuses within (Total total) is = absurd is
+read_refuses refuses within (Built records range) is = absurd is
+read_refuses refuses within Finished is = absurd is
 read_refuses refuses within (Submitted version) is = absurd is
 read_refuses refuses within ReadOnly is = absurd is
 read_refuses refuses within Nothing is = absurd is

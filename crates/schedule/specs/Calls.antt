@@ -11,6 +11,7 @@ use Rattle.schedule.specs.declared.refusal.Refusal.TheVariants.{FutureVersion, T
 use Rattle.schedule.specs.declared.refusal.Refusal.TheVariants.{ValueTooLarge, TransactionTooLarge}
 use Rattle.schedule.specs.declared.refusal.Refusal.TheVariants.{NoStore, AlreadyThere}
 use Rattle.schedule.specs.declared.refusal.Refusal.TheVariants.{OtherSchema, NotAggregate, NotReadable}
+use Rattle.schedule.specs.declared.refusal.Refusal.TheVariants.{NotBuilt, WrongState}
 use Rattle.record_store.specs.declared.error.StoreError.{StoreError}
 use Rattle.record_store.specs.declared.error.StoreError.TheVariants as store
 use Rattle.schedule.specs.declared.step.Command.{Command}
@@ -45,6 +46,8 @@ reply_of store.AlreadyThere = Some (reply.Refused AlreadyThere)
 reply_of store.OtherSchema = Some (reply.Refused OtherSchema)
 reply_of store.NotAggregate = Some (reply.Refused NotAggregate)
 reply_of store.NotReadable = Some (reply.Refused NotReadable)
+reply_of store.WrongState = Some (reply.Refused WrongState)
+reply_of store.NotBuilt = Some (reply.Refused NotBuilt)
 
 -- the reply to a removal that took a record out, or found none
 abbrev pub removal_reply : Bool → Reply

@@ -54,6 +54,7 @@ steps_reading opened None = whole []
 steps_reading opened (Some steps) = record {
   asked = λ m. reads_of opened.prefix (entries m) steps.0 steps.1;
   added = λ m. reads_of opened.prefix (entries m) steps.0 steps.1;
+  set = None;
   pairs = λ m. [];
 }
 

@@ -4,12 +4,14 @@ use Rattle.std.specs.Prelude.{Option, Some, None, ◌==◌, if◌then◌else◌,
 use Rattle.std.specs.List.{list_any}
 use Rattle.std.specs.Option.{option_map}
 use Rattle.schedule.specs.declared.step.Command.{Command}
-use Rattle.schedule.specs.declared.step.Command.TheVariants.{Aggregate, Execute, Load, Plan, Query, Remove, State}
+use Rattle.schedule.specs.declared.step.Command.TheVariants.{Aggregate, Build, Execute, Load, Plan, Query}
+use Rattle.schedule.specs.declared.step.Command.TheVariants.{Remove, State}
 use Rattle.schedule.specs.declared.step.Step.{Step}
 use Rattle.schedule.specs.declared.step.Step.TheVariants.{Begin, Perform, Commit, Abandon}
 use Rattle.schedule.specs.declared.step.Step.TheVariants as steps
 use Rattle.schedule.specs.declared.reply.Reply.{Reply}
-use Rattle.schedule.specs.declared.reply.Reply.TheVariants.{Begun, Done, Planned, Submitted, Refused, Corrupt, Absent}
+use Rattle.schedule.specs.declared.reply.Reply.TheVariants.{Begun, Done, Planned, Submitted, Refused, Corrupt}
+use Rattle.schedule.specs.declared.reply.Reply.TheVariants.{Absent, Finished}
 use Rattle.planner.specs.Asked.{AskedPlan}
 
 -- the steps so far with their replies, the newest first
@@ -47,6 +49,7 @@ is_reading (Execute plan) reply = true
 is_reading (State name) reply = true
 is_reading (Aggregate name group) reply = true
 is_reading (Remove type cells) Absent = true
+is_reading (Build name limit) Finished = true
 is_reading command reply = false
 
 -- a command changed something

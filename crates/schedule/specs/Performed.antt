@@ -1,7 +1,6 @@
 -- What a command establishes that was performed on a transaction, whatever map the snapshot turns out to have.
-use Rattle.std.specs.Prelude.{◌≡◌, ◌⊎◌, ℕ, Bool, true, false, List, [], Option, Some}
+use Rattle.std.specs.Prelude.{◌≡◌, ◌⊎◌, ℕ, zero, Bool, true, false, List, [], Option, Some}
 use Rattle.std.specs.Prelude.{None, Result, Ok, Err, IsTrue, length, ◌==◌, if◌then◌else◌}
-use Rattle.std.specs.List.{AllByRecursion}
 use Rattle.std.specs.FinMap.{get}
 use Rattle.kv_core.specs.Range.{KeyRange, contains, covers}
 use Rattle.kv_core.specs.Map.{Map, after_all}
@@ -20,11 +19,12 @@ use Rattle.metadata.specs.Asked.{schema_asked}
 use Rattle.metadata.specs.Schema.{Schema}
 use Rattle.schedule.specs.declared.step.Command.{Command}
 use Rattle.schedule.specs.declared.reply.Reply.{Reply}
-use Rattle.schedule.specs.declared.step.Command.TheVariants.{Create}
+use Rattle.schedule.specs.declared.step.Command.TheVariants.{Build, Create}
 use Rattle.schedule.specs.declared.reply.Reply.TheVariants.{Refused, Corrupt}
-use Rattle.record_store.specs.Call.{Opened}
+use Rattle.record_store.specs.Call.{IsDamagedAt, Opened}
+use Rattle.record_store.specs.Call as call
 use Rattle.record_store.specs.Store.{Serial}
-use Rattle.record_store.specs.Form.{IsFirstBad, IsOpeningPair, IsWritten, read_in}
+use Rattle.record_store.specs.Form.{IsFirstBad, IsOpeningPair, read_in}
 use Rattle.record_store.specs.Layout.{schema_key}
 use Rattle.record_store.specs.Opening.{HasSchema, opening_reach}
 use Rattle.record_store.specs.Steps.{IsBeginning}
@@ -109,9 +109,10 @@ IsMadeOf (Err refusal) answer m = Unit {0}
 -- opened, no pair stands where a schema does
 abbrev pub IsSound : Option Opened → Command → Reply → Map → Type 0
 IsSound (Some opened) command answer m =
-    AllByRecursion (IsWritten store_prefix opened.schema) ((own_reading (Some opened) command).pairs m)
+    call.IsSound opened (own_reading (Some opened) command) m
     × (own_damage (Some opened) command m ≡ None)
 IsSound None (Create request) answer m = IsMadeOf (schema_asked request) answer m
+IsSound None (Build name zero) answer m = Unit {0}
 IsSound None command answer m = get m (schema_key store_prefix) ≡ None
 
 -- the first pair read that isn't of the written form has this key: one that opening the store reads, where a pair
@@ -121,7 +122,7 @@ IsDamaged None command key m =
     (get m (schema_key store_prefix) ≡ None → ⊥)
     × IsFirstBad (IsOpeningPair store_prefix m) (read_in m (opening_reach store_prefix)) key
 IsDamaged (Some opened) command key m =
-    IsFirstBad (IsWritten store_prefix opened.schema) ((own_reading (Some opened) command).pairs m) key
+    IsDamagedAt opened (own_reading (Some opened) command) key m
     ⊎ (own_damage (Some opened) command m ≡ Some key)
 
 -- the pairs are sound, unless a read was refused

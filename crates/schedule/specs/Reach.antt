@@ -1,44 +1,38 @@
 -- What a command reads, in order, and what it writes.
-use Rattle.std.specs.Prelude.{ℕ, List, [], ◌∷◌, ◌++◌, Option, Some, None, option_map, Result, Ok, Err}
+use Rattle.std.specs.Prelude.{ℕ, zero, suc, Bool, true, List, [], ◌∷◌, ◌++◌, Option, Some, None, option_map}
+use Rattle.std.specs.Prelude.{Result, Ok, Err}
 use Rattle.planner.specs.View.{plan_of}
 use Rattle.tuple_codec.specs.Item.{Item}
-use Rattle.kv_core.specs.Range.{KeyRange, point}
+use Rattle.kv_core.specs.Range.{KeyRange}
 use Rattle.kv_core.specs.Map.{Map}
 use Rattle.kv_core.specs.declared.change.Mutation.{Mutation}
 use Rattle.metadata.specs.declared.refusal.Refusal.{Refusal}
 use Rattle.metadata.specs.declared.index.IndexDefinition.{IndexDefinition}
+use Rattle.metadata.specs.declared.index.State.{State}
+use Rattle.metadata.specs.declared.index.State.TheVariants.{WriteOnly, Disabled}
 use Rattle.metadata.specs.Asked.{schema_asked}
 use Rattle.metadata.specs.Change.{add_type}
 use Rattle.metadata.specs.IndexChange.{new_index}
 use Rattle.metadata.specs.Schema.{Schema, find_index}
-use Rattle.metadata.specs.Record.{Record, primary_key, record_of, key_of}
+use Rattle.metadata.specs.Record.{Record, record_of, key_of}
 use Rattle.schedule.specs.declared.step.Command.{Command}
 use Rattle.schedule.specs.declared.step.Command.TheVariants.{Create, «Type», Save, Load, Remove}
 use Rattle.schedule.specs.declared.step.Command.TheVariants.{Query, Execute, Index, Drop, Disable, Aggregate}
+use Rattle.schedule.specs.declared.step.Command.TheVariants as commands
 use Rattle.metadata.specs.Records.{record_at}
-use Rattle.record_store.specs.Store.{Store, Serial}
-use Rattle.record_store.specs.Layout.{record_key, type_range}
-use Rattle.record_store.specs.Call.{Call, Opened, Reading, first_of, whole}
+use Rattle.range_set.specs.Gaps.{is_whole}
+use Rattle.record_store.specs.Store.{Store, Serial, built_of, state_of}
+use Rattle.record_store.specs.Call.{Call, Opened, Reading, whole}
 use Rattle.record_store.specs.Opening.{opening_reach}
-use Rattle.record_store.specs.Calls.{aggregate_call, index_number, schema_writes}
-use Rattle.record_store.specs.IndexWrites.{disable_writes, drop_writes, index_added_writes, remove_writes, save_writes}
+use Rattle.record_store.specs.Calls.{aggregate_call, done_with, index_call, index_number, load_call}
+use Rattle.record_store.specs.Calls.{readable_call, remove_call, save_service, schema_writes}
+use Rattle.record_store.specs.IndexWrites.{drop_writes, index_added_writes, marked_writes, readable_writes}
+use Rattle.record_store.specs.IndexWrites.{remove_writes, save_writes}
+use Rattle.record_store.specs.Building.{gap_of}
+use Rattle.online_builder.specs.Stepping.{step_call, step_writes}
 use Rattle.schedule.specs.Layout.{store_prefix}
 use Rattle.schedule.specs.Executed.{plan_steps, query_steps, steps_damage, steps_reading}
 use Rattle.schedule.specs.Query.{opened_as}
-
--- the key of a record that is asked for
-abbrev pub key_reach : Result (List Item) Refusal → List KeyRange
-key_reach (Ok key) = point (record_key store_prefix key) ∷ []
-key_reach (Err refusal) = []
-
-abbrev pub record_reach : Result Record Refusal → List KeyRange
-record_reach (Ok r) = point (record_key store_prefix (primary_key r)) ∷ []
-record_reach (Err refusal) = []
-
--- the first record of the type of an index that is asked for
-abbrev pub first_reading : Result IndexDefinition Refusal → Reading
-first_reading (Ok index) = first_of (type_range store_prefix index.type_number)
-first_reading (Err refusal) = whole []
 
 -- what a call reads that isn't refused
 abbrev pub call_reading : {A : Type 0} → Call A → Reading
@@ -49,15 +43,19 @@ call_reading (Err error) = whole []
 abbrev pub opened_in : Serial → Option Opened
 opened_in serial = option_map opened_as serial
 
--- what a command reads behind the opening of the store: the key of its record or of its group's total, or the first
--- record of its type, or what the steps of its plan read
+-- what a command reads behind the opening of the store: what its call reads, or the steps of its plan
 abbrev pub own_reading : Option Opened → Command → Reading
-own_reading (Some opened) (Save name cells) = whole (record_reach (record_of opened.schema name cells))
-own_reading (Some opened) (Load name cells) = whole (key_reach (key_of opened.schema name cells))
-own_reading (Some opened) (Remove name cells) = whole (key_reach (key_of opened.schema name cells))
+own_reading (Some opened) (Save name cells) =
+    call_reading (done_with (save_service opened) (record_of opened.schema name cells))
+own_reading (Some opened) (Load name cells) = call_reading (load_call opened name cells)
+own_reading (Some opened) (Remove name cells) = call_reading (remove_call opened name cells)
 own_reading (Some opened) (Query query) = steps_reading opened (query_steps opened query)
 own_reading (Some opened) (Execute plan) = steps_reading opened (plan_steps opened (plan_of plan))
-own_reading (Some opened) (Index request) = first_reading (new_index opened.schema request)
+own_reading (Some opened) (Index request) = call_reading (index_call opened request)
+own_reading (Some opened) (commands.Readable name) = call_reading (readable_call opened name)
+own_reading (Some opened) (commands.Build name zero) = whole []
+own_reading (Some opened) (commands.Build name (suc more)) =
+    call_reading (step_call opened (record { name = name; limit = suc more }))
 own_reading (Some opened) (Aggregate name group) = call_reading (aggregate_call opened name group)
 own_reading opened command = whole []
 
@@ -67,13 +65,15 @@ own_damage (Some opened) (Query query) m = steps_damage opened (query_steps open
 own_damage (Some opened) (Execute plan) m = steps_damage opened (plan_steps opened (plan_of plan)) m
 own_damage opened command m = None
 
--- what a command reads to open the store: nothing where it makes one of types and indexes that are refused
+-- what a command reads to open the store: nothing where it makes one of types and indexes that are refused, or is to
+-- build no record
 abbrev pub make_reach : Result Schema Refusal → List KeyRange
 make_reach (Ok schema) = opening_reach store_prefix
 make_reach (Err refusal) = []
 
 abbrev pub open_reach : Command → List KeyRange
 open_reach (Create request) = make_reach (schema_asked request)
+open_reach (commands.Build name zero) = []
 open_reach command = opening_reach store_prefix
 
 -- the ranges that a command asks a map for, in order: those of opening the store, and its own by what was opened
@@ -103,14 +103,34 @@ abbrev pub indexing : Store → Result IndexDefinition Refusal → List Mutation
 indexing store (Ok index) = index_added_writes store_prefix store index
 indexing store (Err refusal) = []
 
--- what dropping and disabling an index write
+-- what dropping an index writes, and marking it with a state that isn't readable
 abbrev pub dropping : Store → Result ℕ Refusal → List Mutation
 dropping store (Ok number) = drop_writes store_prefix store number
 dropping store (Err refusal) = []
 
-abbrev pub disabling : Result ℕ Refusal → List Mutation
-disabling (Ok number) = disable_writes store_prefix number
-disabling (Err refusal) = []
+abbrev pub marking : State → Result ℕ Refusal → List Mutation
+marking state (Ok number) = marked_writes state store_prefix number
+marking state (Err refusal) = []
+
+-- what marking an index in this state readable writes: nothing where it isn't write-only, or isn't built at each
+-- position
+abbrev pub readying : ℕ → State → Bool → List Mutation
+readying number WriteOnly true = readable_writes store_prefix number
+readying number state whole = []
+
+abbrev pub readying_by : Store → Option IndexDefinition → List Mutation
+readying_by store None = []
+readying_by store (Some index) =
+    readying index.number (state_of store index.number) (is_whole (built_of store index.number))
+
+-- what building a part of an index in this state writes: nothing where it isn't write-only
+abbrev pub building : Store → ℕ → IndexDefinition → State → List Mutation
+building store limit index WriteOnly = step_writes store_prefix limit index store (gap_of store index.number)
+building store limit index state = []
+
+abbrev pub building_by : Store → ℕ → Option IndexDefinition → List Mutation
+building_by store limit None = []
+building_by store limit (Some index) = building store limit index (state_of store index.number)
 
 -- what a command writes, in order
 abbrev pub writes : Serial → Command → List Mutation
@@ -120,5 +140,9 @@ writes (Some store) (Save name cells) = saving store (record_of store.schema nam
 writes (Some store) (Remove name cells) = removing store (key_of store.schema name cells)
 writes (Some store) (Index request) = indexing store (new_index store.schema request)
 writes (Some store) (Drop name) = dropping store (index_number (find_index store.schema name))
-writes (Some store) (Disable name) = disabling (index_number (find_index store.schema name))
+writes (Some store) (Disable name) = marking Disabled (index_number (find_index store.schema name))
+writes (Some store) (commands.WriteOnly name) = marking WriteOnly (index_number (find_index store.schema name))
+writes (Some store) (commands.Readable name) = readying_by store (find_index store.schema name)
+writes (Some store) (commands.Build name zero) = []
+writes (Some store) (commands.Build name (suc more)) = building_by store (suc more) (find_index store.schema name)
 writes serial command = []

@@ -8,7 +8,8 @@ use Rattle.query.specs.declared.error.QueryError.{QueryError}
 use Rattle.query.specs.declared.error.QueryError.TheVariants as query
 use Rattle.schedule.specs.declared.refusal.Refusal.{Refusal}
 use Rattle.schedule.specs.declared.refusal.Refusal.TheVariants.{NoSuchClient, NoSuchRole, Busy, NoTransaction, NoPlan}
-use Rattle.schedule.specs.declared.refusal.Refusal.TheVariants.{BadName, IndexNotReadable, NotAggregate, NotReadable}
+use Rattle.schedule.specs.declared.refusal.Refusal.TheVariants.{BadLimit, BadName, IndexNotReadable, NotAggregate}
+use Rattle.schedule.specs.declared.refusal.Refusal.TheVariants.{NotBuilt, NotReadable, WrongState}
 use Rattle.schedule.specs.declared.refusal.Refusal.TheVariants.{NameTaken, UnknownType, UnknownIndex, UnknownField}
 use Rattle.schedule.specs.declared.refusal.Refusal.TheVariants.{WrongKind, NullKey, BadSchema, TooMany, AlreadyThere}
 use Rattle.schedule.specs.declared.refusal.Refusal.TheVariants.{TooDeep, TooLarge, SortTwice, SortNotServed}
@@ -29,11 +30,13 @@ of_schema schema.NullKey = NullKey
 of_schema schema.BadSchema = BadSchema
 of_schema schema.TooMany = TooMany
 
--- the refusal of a step whose call on an open store is refused so before it reads, if it is
+-- the refusal of a step whose call on an open store is refused so before it reads, or for what it read, if it is
 abbrev pub own_refusal : StoreError → Option Refusal
 own_refusal (store.Refused refusal) = Some (of_schema refusal)
 own_refusal store.NotAggregate = Some NotAggregate
 own_refusal store.NotReadable = Some NotReadable
+own_refusal store.WrongState = Some WrongState
+own_refusal store.NotBuilt = Some NotBuilt
 own_refusal error = None
 
 -- the refusal of a step whose query is refused so
@@ -71,6 +74,9 @@ name_of OtherSchema = codes "OtherSchema"
 name_of IndexNotReadable = codes "IndexNotReadable"
 name_of NotAggregate = codes "NotAggregate"
 name_of NotReadable = codes "NotReadable"
+name_of WrongState = codes "WrongState"
+name_of NotBuilt = codes "NotBuilt"
+name_of BadLimit = codes "BadLimit"
 name_of FutureVersion = codes "FutureVersion"
 name_of TooOld = codes "TooOld"
 name_of VersionsExhausted = codes "VersionsExhausted"

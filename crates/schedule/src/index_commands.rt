@@ -66,6 +66,42 @@ pub(crate) fn disable_index<S: Snapshot>(
     Ok(Reply::Done)
 }
 
+/// Marks the index of this name write-only.
+pub(crate) fn mark_write_only<S: Snapshot>(
+    alloc: Global,
+    tx: &mut Transaction,
+    db: &S,
+    name: &Text,
+) -> Result<Reply, StoreError>
+    ensures performed { IfOk result (λ answer.
+        IsPerformed (S.map_at db.now) (λ range. S.may_refuse db.now range tx.old.read_version)
+        (Command.WriteOnly name.now) answer tx.old tx.new) }
+    ensures refused { IfErr result (λ error.
+        IsRefused (S.map_at db.now) (S.may_refuse db.now) (Command.WriteOnly name.now) error tx.old tx.new) }
+{
+    let mut store = open(alloc, tx, db)?;
+    store.mark_write_only(tx, name)?;
+    Ok(Reply::Done)
+}
+
+/// Marks the write-only index of this name readable.
+pub(crate) fn mark_readable<S: Snapshot>(
+    alloc: Global,
+    tx: &mut Transaction,
+    db: &S,
+    name: &Text,
+) -> Result<Reply, StoreError>
+    ensures performed { IfOk result (λ answer.
+        IsPerformed (S.map_at db.now) (λ range. S.may_refuse db.now range tx.old.read_version)
+        (Command.Readable name.now) answer tx.old tx.new) }
+    ensures refused { IfErr result (λ error.
+        IsRefused (S.map_at db.now) (S.may_refuse db.now) (Command.Readable name.now) error tx.old tx.new) }
+{
+    let mut store = open(alloc, tx, db)?;
+    store.mark_readable(tx, db, name)?;
+    Ok(Reply::Done)
+}
+
 /// Asks for the state of the index of this name.
 pub(crate) fn index_state<S: Snapshot>(
     alloc: Global,

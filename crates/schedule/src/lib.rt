@@ -7,6 +7,7 @@ ghost use Rattle.cluster_core.specs.declared.answers.ConfigError.{ConfigError as
 ghost use Rattle.schedule.specs.Contract.{IsRightRun};
 
 mod asked_query;
+mod building;
 mod clients;
 mod commands;
 mod database;

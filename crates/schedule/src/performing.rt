@@ -2,9 +2,12 @@ ghost use Rattle.std.specs.Prelude.{◌≡◌, None, Some, IfOk, IfErr, OnErr};
 ghost use Rattle.schedule.specs.Performed.{IsPerformed, IsStopped};
 ghost use Rattle.schedule.specs.Calls.{IsRefused, read_reply, reply_of, write_reply};
 
+use crate::building::build;
 use crate::commands::{add_type, create, load, remove, save};
 use crate::executing::{execute, query};
-use crate::index_commands::{add_index, aggregate, disable_index, drop_index, index_state};
+use crate::index_commands::{
+    add_index, aggregate, disable_index, drop_index, index_state, mark_readable, mark_write_only,
+};
 use crate::planning::plan;
 use crate::refusal::Refusal;
 use crate::reply::Reply;
@@ -57,6 +60,8 @@ fn reply_of(error: StoreError) -> Result<Reply, AllocError>
         StoreError::OtherSchema => Ok(Reply::Refused(Refusal::OtherSchema)),
         StoreError::NotAggregate => Ok(Reply::Refused(Refusal::NotAggregate)),
         StoreError::NotReadable => Ok(Reply::Refused(Refusal::NotReadable)),
+        StoreError::WrongState => Ok(Reply::Refused(Refusal::WrongState)),
+        StoreError::NotBuilt => Ok(Reply::Refused(Refusal::NotBuilt)),
     }
 }
 
@@ -85,6 +90,9 @@ fn answer<S: Snapshot>(
         Command::Index(request) => add_index(alloc, tx, db, request),
         Command::Drop(name) => drop_index(alloc, tx, db, name),
         Command::Disable(name) => disable_index(alloc, tx, db, name),
+        Command::WriteOnly(name) => mark_write_only(alloc, tx, db, name),
+        Command::Readable(name) => mark_readable(alloc, tx, db, name),
+        Command::Build(name, limit) => build(alloc, tx, db, name, *limit),
         Command::State(name) => index_state(alloc, tx, db, name),
         Command::Aggregate(name, group) => aggregate(alloc, tx, db, name, group),
     }

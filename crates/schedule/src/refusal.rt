@@ -59,6 +59,12 @@ pub enum Refusal {
     NotAggregate,
     /// The index isn't readable.
     NotReadable,
+    /// The index isn't write-only.
+    WrongState,
+    /// Not every position of the index is built.
+    NotBuilt,
+    /// A step of a builder is to build no record.
+    BadLimit,
     /// A server doesn't have the version yet.
     FutureVersion,
     /// The version lies longer ago than the window allows.
@@ -138,6 +144,9 @@ impl Refusal {
             Refusal::IndexNotReadable => "IndexNotReadable",
             Refusal::NotAggregate => "NotAggregate",
             Refusal::NotReadable => "NotReadable",
+            Refusal::WrongState => "WrongState",
+            Refusal::NotBuilt => "NotBuilt",
+            Refusal::BadLimit => "BadLimit",
             Refusal::FutureVersion => "FutureVersion",
             Refusal::TooOld => "TooOld",
             Refusal::VersionsExhausted => "VersionsExhausted",

@@ -114,6 +114,10 @@ pub enum Reply {
     State(State),
     /// The total of the group.
     Total(i64),
+    /// So many records of the index's type were built, all those at positions of this range.
+    Built { records: usize, range: KeyRange },
+    /// Every position of the index was built already.
+    Finished,
     /// The transaction is submitted at this version.
     Submitted(u64),
     /// The transaction changed nothing and has ended.

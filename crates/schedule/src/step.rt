@@ -34,6 +34,13 @@ pub enum Command {
     Drop(Text),
     /// Disables the index of this name.
     Disable(Text),
+    /// Marks the index of this name write-only, without a built position.
+    WriteOnly(Text),
+    /// Marks the write-only index of this name readable, once every position of it is built.
+    Readable(Text),
+    /// Builds a part of the first gap in the write-only index of this name, of at most so many
+    /// records, one at least.
+    Build(Text, u32),
     /// Asks for the state of the index of this name.
     State(Text),
     /// Asks for the total of the group of these cells, of the COUNT or SUM index of this name.
@@ -57,6 +64,9 @@ impl Command {
             Command::Index(request) => Ok(Command::Index(request.copy()?)),
             Command::Drop(name) => Ok(Command::Drop(name.copy()?)),
             Command::Disable(name) => Ok(Command::Disable(name.copy()?)),
+            Command::WriteOnly(name) => Ok(Command::WriteOnly(name.copy()?)),
+            Command::Readable(name) => Ok(Command::Readable(name.copy()?)),
+            Command::Build(name, limit) => Ok(Command::Build(name.copy()?, *limit)),
             Command::State(name) => Ok(Command::State(name.copy()?)),
             Command::Aggregate(name, group) => Ok(Command::Aggregate(name.copy()?, group.copy()?)),
         }

@@ -23,9 +23,9 @@ no_step_of_number name number n1 n2 n3 n4 n5 n6 n7 =
 
 -- a name that no command with one part has
 pub no_command_with : (name : List ℕ) (part : Data) → (name ≡ codes "create" → ⊥) → (name ≡ codes "type" → ⊥) → (name ≡ codes "query" → ⊥) → (name ≡ codes "plan" → ⊥) → (name ≡ codes "index" → ⊥)
-    → (name ≡ codes "drop" → ⊥) → (name ≡ codes "disable" → ⊥) → (name ≡ codes "state" → ⊥) → command_with name part ≡ None
-no_command_with name part n1 n2 n3 n4 n5 n6 n7 n8 =
-    rw (differs _ name n1, differs _ name n2, differs _ name n3, differs _ name n4, differs _ name n5, differs _ name n6, differs _ name n7, differs _ name n8)
+    → (name ≡ codes "drop" → ⊥) → (name ≡ codes "disable" → ⊥) → (name ≡ codes "write_only" → ⊥) → (name ≡ codes "readable" → ⊥) → (name ≡ codes "state" → ⊥) → command_with name part ≡ None
+no_command_with name part n1 n2 n3 n4 n5 n6 n7 n8 n9 n10 =
+    rw (differs _ name n1, differs _ name n2, differs _ name n3, differs _ name n4, differs _ name n5, differs _ name n6, differs _ name n7, differs _ name n8, differs _ name n9, differs _ name n10)
 
 -- no step has three parts behind its number
 three_parts : (name : List ℕ) (number : ℕ) (parts : List Data) → 3 ≤ length parts → numbered_step name number parts ≡ None

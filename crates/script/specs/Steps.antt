@@ -1,5 +1,6 @@
 -- The step that JSON stands for.
-use Rattle.std.specs.Prelude.{ℕ, List, [], ◌∷◌, codes, Option, None, option_map, option_and_then}
+use Rattle.std.specs.Prelude.{ℕ, ◌^◌, nat_lt, if◌then◌else◌, List, [], ◌∷◌, codes, Option, Some, None}
+use Rattle.std.specs.Prelude.{option_map, option_and_then}
 use Rattle.schedule.specs.declared.step.Command.{Command}
 use Rattle.schedule.specs.declared.step.Command.TheVariants as commands
 use Rattle.schedule.specs.declared.step.Step.{Step}
@@ -23,15 +24,24 @@ command_with name part =
     ∷ (codes "index", λ d. option_map commands.Index (index_in d))
     ∷ (codes "drop", λ d. option_map commands.Drop (as_str d))
     ∷ (codes "disable", λ d. option_map commands.Disable (as_str d))
+    ∷ (codes "write_only", λ d. option_map commands.WriteOnly (as_str d))
+    ∷ (codes "readable", λ d. option_map commands.Readable (as_str d))
     ∷ (codes "state", λ d. option_map commands.State (as_str d)) ∷ []) name)
 
--- the command of this name with the name of a type, or of an index, and cells
+-- a whole number of 32 bits without sign
+abbrev pub limit_in : Data → Option ℕ
+limit_in d = option_and_then (λ number. if nat_lt number (2 ^ 32) then Some number else None) (number_in d)
+
+-- the command of this name with the name of a type, or of an index, and cells or a limit
 abbrev pub command_on : List ℕ → Data → Data → Option Command
-command_on name owner cells =
-    option_and_then (λ t. option_and_then (λ cs.
-    named ((codes "save", commands.Save t cs) ∷ (codes "load", commands.Load t cs)
-    ∷ (codes "remove", commands.Remove t cs) ∷ (codes "aggregate", commands.Aggregate t cs) ∷ []) name)
-    (cells_in cells)) (as_str owner)
+command_on name owner part =
+    option_and_then (λ t.
+    option_and_then (λ (reads : Data → Option Command). reads part)
+    (named ((codes "save", λ d. option_map (commands.Save t) (cells_in d))
+    ∷ (codes "load", λ d. option_map (commands.Load t) (cells_in d))
+    ∷ (codes "remove", λ d. option_map (commands.Remove t) (cells_in d))
+    ∷ (codes "aggregate", λ d. option_map (commands.Aggregate t) (cells_in d))
+    ∷ (codes "build", λ d. option_map (commands.Build t) (limit_in d)) ∷ []) name)) (as_str owner)
 
 -- the step of this name with just the number of a client or of a role
 abbrev pub step_of_number : List ℕ → ℕ → Option Step
@@ -44,7 +54,7 @@ step_of_number name number =
 abbrev pub numbered_step : List ℕ → ℕ → List Data → Option Step
 numbered_step name number [] = step_of_number name number
 numbered_step name number (part ∷ []) = option_map (Perform number) (command_with name part)
-numbered_step name number (type_name ∷ cells ∷ []) = option_map (Perform number) (command_on name type_name cells)
+numbered_step name number (owner ∷ part ∷ []) = option_map (Perform number) (command_on name owner part)
 numbered_step name number parts = None
 
 -- the step that is this name alone

@@ -64,6 +64,18 @@ fn push_reports(alloc: Global, line: &mut String, reports: &[Report]) -> Result<
     Ok(())
 }
 
+// Writes how many records a builder built, and the ends of their range in hexadecimal.
+fn push_built(
+    alloc: Global,
+    line: &mut String,
+    records: usize,
+    range: &KeyRange,
+) -> Result<(), AllocError> {
+    let begin = hex::encode(alloc, range.begin().as_slice())?;
+    let end = hex::encode(alloc, range.end().as_slice())?;
+    write!(line, "built {records} {begin}..{end}")
+}
+
 // Writes that the pair of a key isn't a store's, the key in hexadecimal digits.
 fn push_corrupt(alloc: Global, line: &mut String, key: &Bytes) -> Result<(), AllocError> {
     let digits = hex::encode(alloc, key.as_slice())?;
@@ -92,6 +104,8 @@ fn push_reply(alloc: Global, line: &mut String, reply: &Reply) -> Result<(), All
         Reply::Planned(plan) => push_plan(alloc, line, plan),
         Reply::State(state) => line.push_str(state_name(*state)),
         Reply::Total(total) => write!(line, "total {total}"),
+        Reply::Built { records, range } => push_built(alloc, line, *records, range),
+        Reply::Finished => line.push_str("finished"),
         Reply::Submitted(version) => write!(line, "submitted {version}"),
         Reply::ReadOnly => line.push_str("read only"),
         Reply::Nothing => line.push_str("nothing"),

@@ -1,7 +1,7 @@
 ghost use Rattle.std.specs.Prelude.{◌≡◌, Some, None, IfOk, IfErr, map};
 ghost use Rattle.serde_json.specs.View.{view};
 ghost use Rattle.json_forms.specs.QueryJson.{query_in};
-ghost use Rattle.script.specs.Steps.{command_on, command_with, common_step};
+ghost use Rattle.script.specs.Steps.{command_on, command_with, common_step, limit_in};
 ghost use Rattle.script.specs.Steps.{numbered_step, step_in, step_of_number};
 
 use json_forms::{
@@ -33,24 +33,39 @@ fn command_of_one(alloc: Global, name: &str, part: &Value) -> Result<Command, Pa
         "index" => Ok(Command::Index(index_of(alloc, part)?)),
         "drop" => Ok(Command::Drop(text_of(alloc, part)?)),
         "disable" => Ok(Command::Disable(text_of(alloc, part)?)),
+        "write_only" => Ok(Command::WriteOnly(text_of(alloc, part)?)),
+        "readable" => Ok(Command::Readable(text_of(alloc, part)?)),
         "state" => Ok(Command::State(text_of(alloc, part)?)),
         _ => Err(PartError::BadForm),
     }
 }
 
-// A command with the name of a type, or of an index, and cells behind the client.
-fn command_on(alloc: Global, name: &str, owner: &Value, cells: &Value) -> Result<Command, PartError>
-    ensures ok { IfOk result (λ command. command_on name.now (view owner.now) (view cells.now) ≡ Some command) }
+// A whole number of 32 bits without sign.
+fn limit_of(value: &Value) -> Result<u32, PartError>
+    ensures ok { IfOk result (λ limit. limit_in (view value.now) ≡ Some limit) }
+    ensures err { IfErr result (λ error. error ≡ PartError.BadForm → limit_in (view value.now) ≡ None) }
+{
+    let number = number_of(value)?;
+    if number < 1 << 32 {
+        Ok(number as u32)
+    } else {
+        Err(PartError::BadForm)
+    }
+}
+
+// A command with the name of a type, or of an index, and cells or a limit behind the client.
+fn command_on(alloc: Global, name: &str, owner: &Value, part: &Value) -> Result<Command, PartError>
+    ensures ok { IfOk result (λ command. command_on name.now (view owner.now) (view part.now) ≡ Some command) }
     ensures err { IfErr result (λ error. error ≡ PartError.BadForm
-        → command_on name.now (view owner.now) (view cells.now) ≡ None) }
+        → command_on name.now (view owner.now) (view part.now) ≡ None) }
 {
     let owner = text_of(alloc, owner)?;
-    let cells = cells_of(alloc, cells)?;
     match name {
-        "save" => Ok(Command::Save(owner, cells)),
-        "load" => Ok(Command::Load(owner, cells)),
-        "remove" => Ok(Command::Remove(owner, cells)),
-        "aggregate" => Ok(Command::Aggregate(owner, cells)),
+        "save" => Ok(Command::Save(owner, cells_of(alloc, part)?)),
+        "load" => Ok(Command::Load(owner, cells_of(alloc, part)?)),
+        "remove" => Ok(Command::Remove(owner, cells_of(alloc, part)?)),
+        "aggregate" => Ok(Command::Aggregate(owner, cells_of(alloc, part)?)),
+        "build" => Ok(Command::Build(owner, limit_of(part)?)),
         _ => Err(PartError::BadForm),
     }
 }
@@ -81,8 +96,8 @@ fn numbered_step(alloc: Global, name: &str, number: u64, parts: &[Value]) -> Res
     match parts {
         [] => step_of_number(name, number),
         [part] => Ok(Step::Perform(number, command_of_one(alloc, name, part)?)),
-        [owner, cells] => {
-            let command = command_on(alloc, name, owner, cells)?;
+        [owner, part] => {
+            let command = command_on(alloc, name, owner, part)?;
             Ok(Step::Perform(number, command))
         }
         _ => Err(PartError::BadForm),

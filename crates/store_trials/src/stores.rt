@@ -11,7 +11,7 @@ const CREATE: &str = r#"["create",0,{"types":[
 const SCHEMA: &str =
     "150114=1501150114050515010274000505026b0015010005026100150100050262001501000005140000000500";
 
-static STEPS: [Row; 124] = [
+static STEPS: [Row; 141] = [
     // What was asked is written, byte by byte.
     (New, "", "", ""),
     (Perform, CREATE, "", "ok"),
@@ -145,6 +145,61 @@ static STEPS: [Row; 124] = [
     ),
     (Perform, r#"["state",0,"no"]"#, "", "refused Corrupt 150114"),
     (Perform, CREATE, "", "refused AlreadyThere"),
+    // Built ranges of a write-only COUNT index: one that ends before it begins, and one that begins in another.
+    (New, "", "", ""),
+    (
+        Pair,
+        "150114=150115011501\
+         050515010274000505026b00150100050261001501000502620015010000051400000005051501027600150215010515010000ff0000",
+        "",
+        "",
+    ),
+    (Pair, "150115051501=1501", "", ""),
+    (Pair, "15011506150101150500=1503", "", ""),
+    (Perform, r#"["state",0,"v"]"#, "", "write-only"),
+    (
+        Perform,
+        r#"["build",0,"v",1]"#,
+        "",
+        "refused Corrupt 15011506150101150500",
+    ),
+    (
+        Perform,
+        r#"["readable",0,"v"]"#,
+        "",
+        "refused Corrupt 15011506150101150500",
+    ),
+    (
+        Perform,
+        r#"["save",0,"t",[6,1,null]]"#,
+        "",
+        "refused Corrupt 15011506150101150500",
+    ),
+    (Perform, r#"["save",0,"t",[1,1,null]]"#, "", "saved new"),
+    (Written, "", "", "1501150115011501=1501150100"),
+    (New, "", "", ""),
+    (
+        Pair,
+        "150114=150115011501\
+         050515010274000505026b00150100050261001501000502620015010000051400000005051501027600150215010515010000ff0000",
+        "",
+        "",
+    ),
+    (Pair, "150115051501=1501", "", ""),
+    (Pair, "1501150615010100=1503", "", ""),
+    (Pair, "15011506150101150200=1505", "", ""),
+    (
+        Perform,
+        r#"["build",0,"v",1]"#,
+        "",
+        "refused Corrupt 15011506150101150200",
+    ),
+    (
+        Perform,
+        r#"["readable",0,"v"]"#,
+        "",
+        "refused Corrupt 15011506150101150200",
+    ),
     // A whole schema, and then a state of no index beside it.
     (New, "", "", ""),
     (Pair, SCHEMA, "", ""),

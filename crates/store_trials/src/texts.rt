@@ -36,6 +36,8 @@ enum AnyError {
     OtherSchema,
     NotAggregate,
     NotReadable,
+    WrongState,
+    NotBuilt,
     ExecSchema,
     ExecIndex,
     ExecRead(ReadError),
@@ -55,7 +57,7 @@ const TRUNCATED: UnpackError = UnpackError {
 };
 
 /// Every error, and its text.
-static TEXTS: [(AnyError, &str); 63] = [
+static TEXTS: [(AnyError, &str); 65] = [
     (
         AnyError::Write(WriteError::KeyOutside),
         "the key lies outside the keys, which end before the byte FF",
@@ -172,6 +174,11 @@ static TEXTS: [(AnyError, &str); 63] = [
         "the index is neither a COUNT nor a SUM index",
     ),
     (AnyError::NotReadable, "the index isn't readable"),
+    (AnyError::WrongState, "the index isn't write-only"),
+    (
+        AnyError::NotBuilt,
+        "not every position of the index is built",
+    ),
     (
         AnyError::ExecSchema,
         "the plan's type isn't that of the store's schema",
@@ -277,6 +284,8 @@ fn printed(alloc: Global, error: AnyError) -> Result<String, AllocError> {
         AnyError::OtherSchema => StoreError::OtherSchema.to_string(alloc),
         AnyError::NotAggregate => StoreError::NotAggregate.to_string(alloc),
         AnyError::NotReadable => StoreError::NotReadable.to_string(alloc),
+        AnyError::WrongState => StoreError::WrongState.to_string(alloc),
+        AnyError::NotBuilt => StoreError::NotBuilt.to_string(alloc),
         AnyError::ExecSchema => ExecError::OtherSchema.to_string(alloc),
         AnyError::ExecIndex => ExecError::IndexNotReadable.to_string(alloc),
         AnyError::ExecRead(error) => ExecError::Read(error).to_string(alloc),

@@ -1,6 +1,6 @@
 use Rattle.range_set.specs.Steps.{no_memory}
 use Rattle.range_set.proofs.Pairs.{exit_with}
-use Rattle.range_set.proofs.Telling.{gap_damaged, gap_found_there}
+use Rattle.range_set.proofs.Telling.{gap_damaged, gap_found_in, gap_found_there}
 use Rattle.range_set.proofs.reading.first_gap.Goals as goal
 
 pub returns-in_err-ranges-clause-refused : goal.returns-in_err-ranges-clause-refused
@@ -18,5 +18,11 @@ returns-in_err-gap-clause-refused g c =
 pub returns-clause-gap : goal.returns-clause-gap
 returns-clause-gap g c =
     gap_found_there (g.S.Snapshot.map_at c.args.db.now) (g.S.Snapshot.may_refuse c.args.db.now) c.args.place.now c.args.tx.now c.get_all.new.self c.in_ok-range.range c.in_ok-pairs.pairs.items c.as_slice.result.now
+    c.in_ok-range.ensures c.in_ok-pairs.ensures.reads c.in_ok-pairs.ensures.answer c.as_slice.ensures.value c.in_ok-ranges.ranges.items c.as_slice-2.result.now c.in_ok-gap.gap
+    c.in_ok-ranges.ensures.found c.as_slice-2.ensures.value c.in_ok-gap.ensures
+
+pub returns-clause-told : goal.returns-clause-told
+returns-clause-told g c =
+    gap_found_in (g.S.Snapshot.map_at c.args.db.now) (g.S.Snapshot.may_refuse c.args.db.now) c.args.place.now c.args.tx.now c.get_all.new.self c.in_ok-range.range c.in_ok-pairs.pairs.items c.as_slice.result.now
     c.in_ok-range.ensures c.in_ok-pairs.ensures.reads c.in_ok-pairs.ensures.answer c.as_slice.ensures.value c.in_ok-ranges.ranges.items c.as_slice-2.result.now c.in_ok-gap.gap
     c.in_ok-ranges.ensures.found c.as_slice-2.ensures.value c.in_ok-gap.ensures

@@ -52,6 +52,21 @@ returns-in-Disable-clause-performed g c =
     subst (λ command. IfOk c.disable_index.result (λ answer. IsPerformed (g.S.Snapshot.map_at c.args.db.now) (λ range. g.S.Snapshot.may_refuse c.args.db.now range c.args.tx.now.read_version) command answer c.args.tx.now c.disable_index.new.tx))
     (sym c.in-Disable.is) c.disable_index.ensures.performed
 
+pub returns-in-WriteOnly-clause-performed : goal.returns-in-WriteOnly-clause-performed
+returns-in-WriteOnly-clause-performed g c =
+    subst (λ command. IfOk c.mark_write_only.result (λ answer. IsPerformed (g.S.Snapshot.map_at c.args.db.now) (λ range. g.S.Snapshot.may_refuse c.args.db.now range c.args.tx.now.read_version) command answer c.args.tx.now c.mark_write_only.new.tx))
+    (sym c.in-WriteOnly.is) c.mark_write_only.ensures.performed
+
+pub returns-in-Readable-clause-performed : goal.returns-in-Readable-clause-performed
+returns-in-Readable-clause-performed g c =
+    subst (λ command. IfOk c.mark_readable.result (λ answer. IsPerformed (g.S.Snapshot.map_at c.args.db.now) (λ range. g.S.Snapshot.may_refuse c.args.db.now range c.args.tx.now.read_version) command answer c.args.tx.now c.mark_readable.new.tx))
+    (sym c.in-Readable.is) c.mark_readable.ensures.performed
+
+pub returns-in-Build-clause-performed : goal.returns-in-Build-clause-performed
+returns-in-Build-clause-performed g c =
+    subst (λ command. IfOk c.build.result (λ answer. IsPerformed (g.S.Snapshot.map_at c.args.db.now) (λ range. g.S.Snapshot.may_refuse c.args.db.now range c.args.tx.now.read_version) command answer c.args.tx.now c.build.new.tx))
+    (sym c.in-Build.is) c.build.ensures.performed
+
 pub returns-in-Plan-clause-performed : goal.returns-in-Plan-clause-performed
 returns-in-Plan-clause-performed g c =
     subst (λ command. IfOk c.plan.result (λ answer. IsPerformed (g.S.Snapshot.map_at c.args.db.now) (λ range. g.S.Snapshot.may_refuse c.args.db.now range c.args.tx.now.read_version) command answer c.args.tx.now c.plan.new.tx))

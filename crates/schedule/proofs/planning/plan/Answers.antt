@@ -1,7 +1,8 @@
 use Rattle.std.proofs.Common.{refl}
 use Rattle.record_store.specs.Steps.{no_memory}
 use Rattle.schedule.specs.declared.step.Command.TheVariants.{Plan}
-use Rattle.schedule.proofs.Outcomes.{looked_memory, refused_unopened}
+use Rattle.schedule.proofs.Outcomes.{refused_unopened}
+use Rattle.schedule.proofs.Looking.{looked_memory}
 use Rattle.schedule.proofs.Stops.{exit_with}
 use Rattle.schedule.proofs.Plans.{plan_performed}
 use Rattle.schedule.proofs.planning.plan.Goals as goal

@@ -1,8 +1,7 @@
-use Rattle.std.proofs.Common.{◌≡◌, ◌++◌, take}
-use Rattle.std.specs.List.{flat_map}
+use Rattle.std.proofs.Common.{map, take}
 use Rattle.std.specs.Option.{option_copied}
-use Rattle.record_store.specs.IndexWrites.{one_index_writes}
+use Rattle.record_store.specs.Reading.{HaveFollowed}
 use Rattle.record_store.proofs.store.Store.push_index_changes.Given as goal
 
-abbrev pub invariant-loop-index : goal.invariant-loop-index
-invariant-loop-index l = l.mutations.items ≡ l.fn.mutations.items ++ flat_map (one_index_writes l.self l.number (option_copied l.old) (option_copied l.new)) (take l.index-index l.index-items)
+abbrev pub invariant-loop-at : goal.invariant-loop-at
+invariant-loop-at l = HaveFollowed l.self l.number l.position (option_copied l.old) (option_copied l.new) (map (λ pairs. pairs.items) l.found) (take l.at l.self.schema.indexes) l.fn.mutations.items l.mutations.items

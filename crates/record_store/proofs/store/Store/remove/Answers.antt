@@ -1,36 +1,97 @@
-use Rattle.std.proofs.Common.{◌∙◌, ap, sym, refl}
+use Rattle.std.proofs.Common.{◌≡◌, ◌∙◌, ℕ, List, [], ◌∷◌, Option, Some, None, Vec, Global, ap, map, refl, subst, sym}
+use Rattle.std.specs.FinMap.{get}
+use Rattle.kv_core.specs.Range.{point}
+use Rattle.kv_core.specs.declared.bytes.Bytes.{Bytes}
+use Rattle.kv_core.specs.declared.change.Mutation.TheVariants.{ClearRange}
+use Rattle.metadata.specs.Answers.{IsRefusedAs}
 use Rattle.metadata.specs.Record.{key_of}
-use Rattle.record_store.specs.Steps.{of_write}
-use Rattle.record_store.specs.Calls.{done_with, remove_call, remove_service}
-use Rattle.record_store.proofs.Answered.{answered, as_added, refused_limit}
+use Rattle.record_store.specs.Calls.{remove_service}
+use Rattle.record_store.specs.Layout.{record_key}
+use Rattle.record_store.specs.Reading.{HaveFollowed, HaveNotFollowed}
+use Rattle.record_store.specs.Steps.{DidRead, of_metadata, of_write}
+use Rattle.record_store.proofs.Answered.{refused_own}
 use Rattle.record_store.proofs.Openings.{exit_with}
-use Rattle.record_store.proofs.RecordCalls.{removal_changes, remove_served, remove_wrote}
-use Rattle.record_store.specs.Steps.{no_memory}
-use Rattle.record_store.proofs.Answered.{refused_memory}
+use Rattle.record_store.proofs.Removes.{given_at, remove_absent, remove_answered, remove_built_refused, remove_follow_refused, remove_key_refused, remove_limit_refused, remove_record_refused}
 use Rattle.record_store.proofs.store.Store.remove.Goals as goal
 
-pub returns-clause-removed : goal.returns-clause-removed
-returns-clause-removed g c =
-    answered (g.S.Snapshot.map_at c.args.db.now) (g.S.Snapshot.may_refuse c.args.db.now) c.args.self.now (remove_call c.args.self.now c.args.type_name.now c.args.key.now) (remove_service c.args.self.now c.in_ok-primary_key.primary_key)
-    c.is_some.result c.in_ok-mutations.mutations.items
-    (ap (done_with (remove_service c.args.self.now)) (ap (λ s. key_of s c.args.type_name.now c.args.key.now) (sym c.schema.ensures) ∙ c.in_ok-primary_key.ensures.key))
-    (removal_changes c.args.self.now c.in_ok-primary_key.primary_key c.in_ok-old.old c.is_some.result c.in_ok-mutations.mutations.items c.in_ok-mutations.ensures c.is_some.ensures)
-    (as_added c.in_ok-old.ensures.found) c.in_ok-write_all.ensures.ok c.in_ok-write_all.ensures.allowed
-    (λ m store holds same is. remove_served c.args.self.now c.in_ok-primary_key.primary_key c.in_ok-old.old c.is_some.result c.in_ok-mutations.mutations.items c.in_ok-mutations.ensures c.is_some.ensures c.in_ok-primary_key.ensures.is_tuple m store holds same is)
+pub returns-in_err-primary_key-clause-refused : goal.returns-in_err-primary_key-clause-refused
+returns-in_err-primary_key-clause-refused g c =
+    exit_with c.from_residual-in_err-primary_key.result (of_metadata c.in_err-primary_key.field-0.0) _ c.from_residual-in_err-primary_key.ensures
+    (refused_own (g.S.Snapshot.map_at c.args.db.now) (g.S.Snapshot.may_refuse c.args.db.now) c.args.self.now (remove_service c.args.self.now) (key_of c.args.self.now.schema c.args.type_name.now c.args.key.now) c.in_err-primary_key.field-0.0
+    (subst (λ s. IsRefusedAs c.in_err-primary_key.field-0.0 (key_of s c.args.type_name.now c.args.key.now)) c.schema.ensures c.in_err-primary_key.ensures.refused) refl)
+
+pub returns-in_err-value-clause-refused : goal.returns-in_err-value-clause-refused
+returns-in_err-value-clause-refused g c =
+    exit_with c.from_residual-in_err-value.result c.in_err-value.field-0.0 _ c.from_residual-in_err-value.ensures
+    (remove_key_refused c.args.self.now c.args.type_name.now c.args.key.now c.in_ok-definition.definition.now c.in_ok-primary_key.primary_key c.in_err-value.ensures.lawful c.in_ok-definition.ensures.found c.in_ok-definition.ensures.own
+    (ap (λ s. key_of s c.args.type_name.now c.args.key.now) (sym c.schema.ensures) ∙ c.in_ok-primary_key.ensures.key) c.in_ok-primary_key.ensures.is_tuple c.in_ok-position.position.items (given_at c.args.self.now.schema c.args.type_name.now c.args.key.now c.in_ok-definition.definition.now c.in_ok-primary_key.primary_key c.in_ok-position.position.items c.in_ok-definition.ensures.found (ap (λ s. key_of s c.args.type_name.now c.args.key.now) (sym c.schema.ensures) ∙ c.in_ok-primary_key.ensures.key) c.in_ok-primary_key.ensures.is_tuple c.in_ok-position.ensures) c.in_err-value.field-0.0 c.in_err-value.ensures.refused)
+
+pub returns-in_default-clause-removed : goal.returns-in_default-clause-removed
+returns-in_default-clause-removed g c =
+    remove_absent c.args.self.now c.args.type_name.now c.args.key.now c.in_ok-definition.definition.now c.in_ok-primary_key.primary_key c.in_ok-value.ensures.lawful c.in_ok-definition.ensures.found c.in_ok-definition.ensures.own
+    (ap (λ s. key_of s c.args.type_name.now c.args.key.now) (sym c.schema.ensures) ∙ c.in_ok-primary_key.ensures.key) c.in_ok-primary_key.ensures.is_tuple c.in_ok-position.position.items (given_at c.args.self.now.schema c.args.type_name.now c.args.key.now c.in_ok-definition.definition.now c.in_ok-primary_key.primary_key c.in_ok-position.position.items c.in_ok-definition.ensures.found (ap (λ s. key_of s c.args.type_name.now c.args.key.now) (sym c.schema.ensures) ∙ c.in_ok-primary_key.ensures.key) c.in_ok-primary_key.ensures.is_tuple c.in_ok-position.ensures)
+    (subst (λ o. DidRead (g.S.Snapshot.map_at c.args.db.now) (point (record_key c.args.self.now.prefix c.in_ok-primary_key.primary_key) ∷ []) c.args.tx.now c.read_value.new.tx (λ m. o ≡ get m (record_key c.args.self.now.prefix c.in_ok-primary_key.primary_key)))
+    (none_of c.in_ok-value.field-0 c.in_default.not-Some) c.in_ok-value.ensures.read)
+  where
+    none_of : (o : Option (List ℕ)) → ((value : List ℕ) → o ≡ Some value → ⊥) → o ≡ None
+    none_of None none = refl
+    none_of (Some value) none = absurd (none value refl)
+
+pub returns-in_err-found-clause-refused : goal.returns-in_err-found-clause-refused
+returns-in_err-found-clause-refused g c =
+    exit_with c.from_residual-in_err-found.result c.in_err-found.field-0.0 _ c.from_residual-in_err-found.ensures
+    (remove_built_refused c.args.self.now c.args.type_name.now c.args.key.now c.in_ok-definition.definition.now c.in_ok-primary_key.primary_key c.in_ok-value.ensures.lawful c.in_ok-definition.ensures.found c.in_ok-definition.ensures.own
+    (ap (λ s. key_of s c.args.type_name.now c.args.key.now) (sym c.schema.ensures) ∙ c.in_ok-primary_key.ensures.key) c.in_ok-primary_key.ensures.is_tuple c.as_slice-at.result.now (c.as_slice-at.ensures.value ∙ given_at c.args.self.now.schema c.args.type_name.now c.args.key.now c.in_ok-definition.definition.now c.in_ok-primary_key.primary_key c.in_ok-position.position.items c.in_ok-definition.ensures.found (ap (λ s. key_of s c.args.type_name.now c.args.key.now) (sym c.schema.ensures) ∙ c.in_ok-primary_key.ensures.key) c.in_ok-primary_key.ensures.is_tuple c.in_ok-position.ensures) c.in-Some.value (g.S.Snapshot.may_refuse c.args.db.now) read c.in_err-found.field-0.0 c.in_err-found.ensures.refused)
+  where
+    read : DidRead (g.S.Snapshot.map_at c.args.db.now) (point (record_key c.args.self.now.prefix c.in_ok-primary_key.primary_key) ∷ []) c.args.tx.now c.read_value.new.tx (λ m. Some c.in-Some.value ≡ get m (record_key c.args.self.now.prefix c.in_ok-primary_key.primary_key))
+    read = subst (λ o. DidRead (g.S.Snapshot.map_at c.args.db.now) (point (record_key c.args.self.now.prefix c.in_ok-primary_key.primary_key) ∷ []) c.args.tx.now c.read_value.new.tx (λ m. o ≡ get m (record_key c.args.self.now.prefix c.in_ok-primary_key.primary_key))) c.in-Some.is c.in_ok-value.ensures.read
+
+pub returns-in_err-old-clause-refused : goal.returns-in_err-old-clause-refused
+returns-in_err-old-clause-refused g c =
+    exit_with c.from_residual-in_err-old.result c.in_err-old.field-0.0 _ c.from_residual-in_err-old.ensures
+    (remove_record_refused c.args.self.now c.args.type_name.now c.args.key.now c.in_ok-definition.definition.now c.in_ok-primary_key.primary_key c.in_ok-value.ensures.lawful c.in_ok-definition.ensures.found c.in_ok-definition.ensures.own
+    (ap (λ s. key_of s c.args.type_name.now c.args.key.now) (sym c.schema.ensures) ∙ c.in_ok-primary_key.ensures.key) c.in_ok-primary_key.ensures.is_tuple c.as_slice-at.result.now (c.as_slice-at.ensures.value ∙ given_at c.args.self.now.schema c.args.type_name.now c.args.key.now c.in_ok-definition.definition.now c.in_ok-primary_key.primary_key c.in_ok-position.position.items c.in_ok-definition.ensures.found (ap (λ s. key_of s c.args.type_name.now c.args.key.now) (sym c.schema.ensures) ∙ c.in_ok-primary_key.ensures.key) c.in_ok-primary_key.ensures.is_tuple c.in_ok-position.ensures) c.in-Some.value (g.S.Snapshot.may_refuse c.args.db.now) read (map (λ pairs. pairs.items) c.in_ok-found.found.items) c.in_ok-found.ensures.read c.in_err-old.field-0.0 c.in_err-old.ensures.refused)
+  where
+    read : DidRead (g.S.Snapshot.map_at c.args.db.now) (point (record_key c.args.self.now.prefix c.in_ok-primary_key.primary_key) ∷ []) c.args.tx.now c.read_value.new.tx (λ m. Some c.in-Some.value ≡ get m (record_key c.args.self.now.prefix c.in_ok-primary_key.primary_key))
+    read = subst (λ o. DidRead (g.S.Snapshot.map_at c.args.db.now) (point (record_key c.args.self.now.prefix c.in_ok-primary_key.primary_key) ∷ []) c.args.tx.now c.read_value.new.tx (λ m. o ≡ get m (record_key c.args.self.now.prefix c.in_ok-primary_key.primary_key))) c.in-Some.is c.in_ok-value.ensures.read
+
+pub returns-in_err-mutations-clause-refused : goal.returns-in_err-mutations-clause-refused
+returns-in_err-mutations-clause-refused g c =
+    exit_with c.from_residual-in_err-mutations.result c.in_err-mutations.field-0.0 _ c.from_residual-in_err-mutations.ensures
+    (remove_follow_refused c.args.self.now c.args.type_name.now c.args.key.now c.in_ok-definition.definition.now c.in_ok-primary_key.primary_key c.in_ok-value.ensures.lawful c.in_ok-definition.ensures.found c.in_ok-definition.ensures.own
+    (ap (λ s. key_of s c.args.type_name.now c.args.key.now) (sym c.schema.ensures) ∙ c.in_ok-primary_key.ensures.key) c.in_ok-primary_key.ensures.is_tuple c.as_slice-at.result.now (c.as_slice-at.ensures.value ∙ given_at c.args.self.now.schema c.args.type_name.now c.args.key.now c.in_ok-definition.definition.now c.in_ok-primary_key.primary_key c.in_ok-position.position.items c.in_ok-definition.ensures.found (ap (λ s. key_of s c.args.type_name.now c.args.key.now) (sym c.schema.ensures) ∙ c.in_ok-primary_key.ensures.key) c.in_ok-primary_key.ensures.is_tuple c.in_ok-position.ensures) c.in-Some.value (g.S.Snapshot.may_refuse c.args.db.now) read (map (λ pairs. pairs.items) c.in_ok-found.found.items) c.in_ok-found.ensures.read c.in_ok-old.old c.in_ok-old.ensures.found c.in_err-mutations.field-0.0
+    (subst (λ (fs : List (Vec (Bytes × Bytes) Global)). HaveNotFollowed c.args.self.now c.in_ok-definition.definition.now.number c.as_slice-at.result.now (map (λ pairs. pairs.items) fs) c.in_err-mutations.field-0.0) c.as_slice-found.ensures.value c.in_err-mutations.ensures.refused))
+  where
+    read : DidRead (g.S.Snapshot.map_at c.args.db.now) (point (record_key c.args.self.now.prefix c.in_ok-primary_key.primary_key) ∷ []) c.args.tx.now c.read_value.new.tx (λ m. Some c.in-Some.value ≡ get m (record_key c.args.self.now.prefix c.in_ok-primary_key.primary_key))
+    read = subst (λ o. DidRead (g.S.Snapshot.map_at c.args.db.now) (point (record_key c.args.self.now.prefix c.in_ok-primary_key.primary_key) ∷ []) c.args.tx.now c.read_value.new.tx (λ m. o ≡ get m (record_key c.args.self.now.prefix c.in_ok-primary_key.primary_key))) c.in-Some.is c.in_ok-value.ensures.read
 
 pub returns-in_err-write_all-clause-refused : goal.returns-in_err-write_all-clause-refused
 returns-in_err-write_all-clause-refused g c =
     exit_with c.from_residual-in_err-write_all.result (of_write c.in_err-write_all.field-0.0) _ c.from_residual-in_err-write_all.ensures
-    (refused_limit (g.S.Snapshot.map_at c.args.db.now) (g.S.Snapshot.may_refuse c.args.db.now) c.args.self.now (remove_call c.args.self.now c.args.type_name.now c.args.key.now) (remove_service c.args.self.now c.in_ok-primary_key.primary_key)
-    c.in_ok-mutations.mutations.items c.in_err-write_all.field-0.0
-    (ap (done_with (remove_service c.args.self.now)) (ap (λ s. key_of s c.args.type_name.now c.args.key.now) (sym c.schema.ensures) ∙ c.in_ok-primary_key.ensures.key))
-    (as_added c.in_ok-old.ensures.found)
-    (λ m store holds same is. (refl, remove_wrote c.args.self.now c.in_ok-primary_key.primary_key c.in_ok-old.old c.in_ok-mutations.mutations.items c.in_ok-mutations.ensures store same is))
-    c.in_err-write_all.ensures.kept c.in_err-write_all.ensures.refused)
+    (remove_limit_refused c.args.self.now c.args.type_name.now c.args.key.now c.in_ok-definition.definition.now c.in_ok-primary_key.primary_key c.in_ok-value.ensures.lawful c.in_ok-definition.ensures.found c.in_ok-definition.ensures.own
+    (ap (λ s. key_of s c.args.type_name.now c.args.key.now) (sym c.schema.ensures) ∙ c.in_ok-primary_key.ensures.key) c.in_ok-primary_key.ensures.is_tuple c.as_slice-at.result.now (c.as_slice-at.ensures.value ∙ given_at c.args.self.now.schema c.args.type_name.now c.args.key.now c.in_ok-definition.definition.now c.in_ok-primary_key.primary_key c.in_ok-position.position.items c.in_ok-definition.ensures.found (ap (λ s. key_of s c.args.type_name.now c.args.key.now) (sym c.schema.ensures) ∙ c.in_ok-primary_key.ensures.key) c.in_ok-primary_key.ensures.is_tuple c.in_ok-position.ensures) c.in-Some.value (g.S.Snapshot.may_refuse c.args.db.now) read (map (λ pairs. pairs.items) c.in_ok-found.found.items) c.in_ok-found.ensures.read c.in_ok-old.old c.in_ok-old.ensures.found c.in_ok-mutations.mutations.items followed
+    c.in_err-write_all.field-0.0 c.in_err-write_all.ensures.kept c.in_err-write_all.ensures.refused)
+  where
+    read : DidRead (g.S.Snapshot.map_at c.args.db.now) (point (record_key c.args.self.now.prefix c.in_ok-primary_key.primary_key) ∷ []) c.args.tx.now c.read_value.new.tx (λ m. Some c.in-Some.value ≡ get m (record_key c.args.self.now.prefix c.in_ok-primary_key.primary_key))
+    read = subst (λ o. DidRead (g.S.Snapshot.map_at c.args.db.now) (point (record_key c.args.self.now.prefix c.in_ok-primary_key.primary_key) ∷ []) c.args.tx.now c.read_value.new.tx (λ m. o ≡ get m (record_key c.args.self.now.prefix c.in_ok-primary_key.primary_key))) c.in-Some.is c.in_ok-value.ensures.read
 
-pub returns-in_err-mutations-clause-refused : goal.returns-in_err-mutations-clause-refused
-returns-in_err-mutations-clause-refused g c =
-    exit_with c.from_residual-in_err-mutations.result no_memory _ c.from_residual-in_err-mutations.ensures
-    (refused_memory (g.S.Snapshot.map_at c.args.db.now) (g.S.Snapshot.may_refuse c.args.db.now) c.args.self.now (remove_call c.args.self.now c.args.type_name.now c.args.key.now) (remove_service c.args.self.now c.in_ok-primary_key.primary_key)
-    (ap (done_with (remove_service c.args.self.now)) (ap (λ s. key_of s c.args.type_name.now c.args.key.now) (sym c.schema.ensures) ∙ c.in_ok-primary_key.ensures.key))
-    (as_added c.in_ok-old.ensures.found))
+    followed : HaveFollowed c.args.self.now c.in_ok-definition.definition.now.number c.as_slice-at.result.now (Some c.in_ok-old.old) None (map (λ pairs. pairs.items) c.in_ok-found.found.items) c.args.self.now.schema.indexes
+        (ClearRange (point (record_key c.args.self.now.prefix c.in_ok-primary_key.primary_key)) ∷ []) c.in_ok-mutations.mutations.items
+    followed =
+        subst (λ (fs : List (Vec (Bytes × Bytes) Global)). HaveFollowed c.args.self.now c.in_ok-definition.definition.now.number c.as_slice-at.result.now (Some c.in_ok-old.old) None (map (λ pairs. pairs.items) fs) c.args.self.now.schema.indexes
+        (ClearRange (point (record_key c.args.self.now.prefix c.in_ok-primary_key.primary_key)) ∷ []) c.in_ok-mutations.mutations.items) c.as_slice-found.ensures.value c.in_ok-mutations.ensures.mutations
+
+pub returns-clause-removed : goal.returns-clause-removed
+returns-clause-removed g c =
+    remove_answered c.args.self.now c.args.type_name.now c.args.key.now c.in_ok-definition.definition.now c.in_ok-primary_key.primary_key c.in_ok-value.ensures.lawful c.in_ok-definition.ensures.found c.in_ok-definition.ensures.own
+    (ap (λ s. key_of s c.args.type_name.now c.args.key.now) (sym c.schema.ensures) ∙ c.in_ok-primary_key.ensures.key) c.in_ok-primary_key.ensures.is_tuple c.as_slice-at.result.now (c.as_slice-at.ensures.value ∙ given_at c.args.self.now.schema c.args.type_name.now c.args.key.now c.in_ok-definition.definition.now c.in_ok-primary_key.primary_key c.in_ok-position.position.items c.in_ok-definition.ensures.found (ap (λ s. key_of s c.args.type_name.now c.args.key.now) (sym c.schema.ensures) ∙ c.in_ok-primary_key.ensures.key) c.in_ok-primary_key.ensures.is_tuple c.in_ok-position.ensures) c.in-Some.value (g.S.Snapshot.may_refuse c.args.db.now) read (map (λ pairs. pairs.items) c.in_ok-found.found.items) c.in_ok-found.ensures.read c.in_ok-old.old c.in_ok-old.ensures.found c.in_ok-mutations.mutations.items followed
+    c.in_ok-write_all.ensures.ok c.in_ok-write_all.ensures.allowed
+  where
+    read : DidRead (g.S.Snapshot.map_at c.args.db.now) (point (record_key c.args.self.now.prefix c.in_ok-primary_key.primary_key) ∷ []) c.args.tx.now c.read_value.new.tx (λ m. Some c.in-Some.value ≡ get m (record_key c.args.self.now.prefix c.in_ok-primary_key.primary_key))
+    read = subst (λ o. DidRead (g.S.Snapshot.map_at c.args.db.now) (point (record_key c.args.self.now.prefix c.in_ok-primary_key.primary_key) ∷ []) c.args.tx.now c.read_value.new.tx (λ m. o ≡ get m (record_key c.args.self.now.prefix c.in_ok-primary_key.primary_key))) c.in-Some.is c.in_ok-value.ensures.read
+
+    followed : HaveFollowed c.args.self.now c.in_ok-definition.definition.now.number c.as_slice-at.result.now (Some c.in_ok-old.old) None (map (λ pairs. pairs.items) c.in_ok-found.found.items) c.args.self.now.schema.indexes
+        (ClearRange (point (record_key c.args.self.now.prefix c.in_ok-primary_key.primary_key)) ∷ []) c.in_ok-mutations.mutations.items
+    followed =
+        subst (λ (fs : List (Vec (Bytes × Bytes) Global)). HaveFollowed c.args.self.now c.in_ok-definition.definition.now.number c.as_slice-at.result.now (Some c.in_ok-old.old) None (map (λ pairs. pairs.items) fs) c.args.self.now.schema.indexes
+        (ClearRange (point (record_key c.args.self.now.prefix c.in_ok-primary_key.primary_key)) ∷ []) c.in_ok-mutations.mutations.items) c.as_slice-found.ensures.value c.in_ok-mutations.ensures.mutations

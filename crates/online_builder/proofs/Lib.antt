@@ -1,0 +1,4 @@
+pub mod GapCounts
+pub mod Advances
+pub mod Parts
+pub mod StepCalls

@@ -1,0 +1,95 @@
+-- What a step of a builder reads, answers, leaves and writes.
+use Rattle.std.specs.Prelude.{ℕ, Bool, true, false, List, [], ◌∷◌, length, Option, Some, None, nat_lt, if◌then◌else◌}
+use Rattle.kv_core.specs.Bytes.{next_key}
+use Rattle.kv_core.specs.Range.{KeyRange, part_before}
+use Rattle.kv_core.specs.declared.change.Mutation.{Mutation}
+use Rattle.range_set.specs.Told.{gap_in}
+use Rattle.metadata.specs.declared.index.IndexDefinition.{IndexDefinition}
+use Rattle.metadata.specs.Record.{Record}
+use Rattle.index_maint.specs.Built.{position}
+use Rattle.index_maint.specs.Kept.{records_within}
+use Rattle.index_maint.specs.Parts.{first_part}
+use Rattle.record_store.specs.Building.{built_writes, gap_of, limited_to, positions_range}
+use Rattle.record_store.specs.Call.{Call, Never, Opened, Reading, Service, whole}
+use Rattle.record_store.specs.Calls.{done_or_refused, write_only_named}
+use Rattle.record_store.specs.Layout.{built_place, built_range}
+use Rattle.record_store.specs.Store.{Store, built}
+use Rattle.online_builder.specs.declared.progress.Progress.{Progress}
+use Rattle.online_builder.specs.declared.progress.Progress.TheVariants.{Built, Finished}
+
+-- what a builder builds: the index of this name, by at most so many records in a step
+pub record Plan : Type 0 where
+  pub name : List ℕ
+  pub limit : ℕ
+
+-- a step built something
+abbrev pub has_built : Progress → Bool
+has_built (Built records range) = true
+has_built Finished = false
+
+-- what a step answers by the first gap: the gap's part up to behind so many records, or all of it where there are
+-- fewer, and how many records are there
+abbrev pub progress_in : ℕ → IndexDefinition → Store → Option KeyRange → Progress
+progress_in limit index store None = Finished
+progress_in limit index store (Some gap) =
+    let part = first_part limit gap index store.records in
+    Built (length (records_within part index store.records)) part
+
+-- the store after it: that part is built
+abbrev pub stepped : ℕ → IndexDefinition → Store → Option KeyRange → Store
+stepped limit index store None = store
+stepped limit index store (Some gap) = built store index.number (first_part limit gap index store.records)
+
+-- what it writes
+abbrev pub step_writes : List ℕ → ℕ → IndexDefinition → Store → Option KeyRange → List Mutation
+step_writes prefix limit index store None = []
+step_writes prefix limit index store (Some gap) =
+    built_writes prefix index (first_part limit gap index store.records) store.records
+
+-- what it reads behind the built ranges by the first gap that they leave: the first records in it
+abbrev pub behind : Opened → ℕ → IndexDefinition → Option KeyRange → Reading
+behind opened limit index None = whole []
+behind opened limit index (Some gap) = limited_to limit (positions_range opened.prefix index.type_number gap)
+
+-- all built ranges, and what is read behind them
+abbrev pub reading_by : Opened → ℕ → IndexDefinition → Option KeyRange → Reading
+reading_by opened limit index gap = record {
+  asked = λ m. built_range opened.prefix index.number ∷ (behind opened limit index gap).asked m;
+  added = λ m. built_range opened.prefix index.number ∷ (behind opened limit index gap).added m;
+  set = Some index.number;
+  pairs = λ m. (behind opened limit index gap).pairs m;
+}
+
+-- what it reads of a map, by the gap that the map tells
+abbrev pub step_reading : Opened → ℕ → IndexDefinition → Reading
+step_reading opened limit index = record {
+  asked = λ m. (reading_by opened limit index (gap_in (built_place opened.prefix index.number) m)).asked m;
+  added = λ m. (reading_by opened limit index (gap_in (built_place opened.prefix index.number) m)).added m;
+  set = Some index.number;
+  pairs = λ m. (reading_by opened limit index (gap_in (built_place opened.prefix index.number) m)).pairs m;
+}
+
+-- STEP: a part of the first gap is built
+abbrev pub step_service : Opened → ℕ → IndexDefinition → Service Progress
+step_service opened limit index = record {
+  reading = step_reading opened limit index;
+  objection = Never;
+  answer = λ store. progress_in limit index store (gap_of store index.number);
+  after = λ store. stepped limit index store (gap_of store index.number);
+  writes = λ store. step_writes opened.prefix limit index store (gap_of store index.number);
+  changes = has_built;
+}
+
+abbrev pub step_call : Opened → Plan → Call Progress
+step_call opened plan = done_or_refused (step_service opened plan.limit) (write_only_named opened plan.name)
+
+-- ---- beneath the call
+
+-- the position behind the last of some records, or this end where there are none
+abbrev pub last_end : List Record → List ℕ → List ℕ
+last_end [] end = end
+last_end (r ∷ rows) end = last_end rows (next_key (position r))
+
+-- the part of a gap that is made by the records that were found in it: all of it where they are fewer than so many
+abbrev pub part_made : ℕ → List Record → KeyRange → KeyRange
+part_made limit rows gap = if nat_lt (length rows) limit then gap else part_before (last_end rows gap.end) gap

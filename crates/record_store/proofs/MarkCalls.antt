@@ -1,0 +1,207 @@
+-- What marking an index with another state comes to.
+use Rattle.std.proofs.Common.{◌≡◌, ◌⊎◌, inl, inr, ℕ, Bool, true, false, not, ◌||◌, ◌==◌, List, [], ◌∷◌, length, refl, sym, ap, subst, ◌∙◌, Option, Some, None, Ok, Err, Result}
+use Rattle.std.specs.Prelude.{IsNone}
+use Rattle.std.specs.List.{AllByRecursion}
+use Rattle.std.proofs.lemmas.Bool.{eqb-true}
+use Rattle.kv_core.specs.Range.{KeyRange}
+use Rattle.kv_core.specs.Map.{Map, after_all}
+use Rattle.kv_core.specs.Limits.{write_all_refusal}
+use Rattle.kv_core.specs.declared.change.CommitRequest.{CommitRequest}
+use Rattle.kv_core.specs.declared.change.Mutation.{Mutation}
+use Rattle.kv_core.specs.declared.change.WriteError.{WriteError}
+use Rattle.kv_core.specs.declared.change.WriteError.TheVariants as write
+use Rattle.cluster_core.specs.declared.answers.ReadError.{ReadError}
+use Rattle.txn.specs.Reads.{with_mutations}
+use Rattle.txn.proofs.Running.{ran_because}
+use Rattle.range_set.specs.declared.error.RangeSetError.{RangeSetError}
+use Rattle.range_set.specs.declared.error.RangeSetError.TheVariants as set
+use Rattle.range_set.specs.Calls.{all_ranges}
+use Rattle.range_set.specs.Calls as reads
+use Rattle.range_set.specs.Gaps.{is_whole}
+use Rattle.range_set.specs.Stored.{HasSet}
+use Rattle.metadata.specs.declared.index.IndexDefinition.{IndexDefinition}
+use Rattle.metadata.specs.declared.index.State.{State}
+use Rattle.metadata.specs.declared.index.State.TheVariants.{Readable, WriteOnly, Disabled}
+use Rattle.metadata.specs.declared.refusal.Refusal.{Refusal}
+use Rattle.metadata.specs.Schema.{Schema, find_index}
+use Rattle.record_store.specs.declared.error.StoreError.{StoreError}
+use Rattle.record_store.specs.declared.error.StoreError.TheVariants.{Memory, NotBuilt}
+use Rattle.record_store.specs.Store.{Store, built_of, marked, readable, state_in, state_of, with_state, without_state}
+use Rattle.record_store.specs.Layout.{built_place, built_range}
+use Rattle.record_store.specs.Holds.{HasPositions, Holds, has_number}
+use Rattle.record_store.specs.Call.{AtStore, Call, IsAnswered, IsObjectedTo, IsOpenAs, IsRefused, IsSound, IsUnread, Opened, Reading, Service, Where, all_built}
+use Rattle.record_store.specs.Calls.{done_or_refused, in_write_only, index_number, mark_service, opened_readable, readable_call, readable_service, write_only_found, write_only_named}
+use Rattle.record_store.specs.IndexWrites.{marked_writes, readable_writes}
+use Rattle.record_store.specs.Reading.{HasNotFound}
+use Rattle.record_store.specs.Steps.{DidRead, IsBeginning, IsNextRefused, of_set, of_write}
+use Rattle.record_store.proofs.Answered.{IsServed, answered, refused_limit, refused_memory, refused_unread}
+use Rattle.record_store.proofs.IndexCalls.{named_there}
+use Rattle.record_store.proofs.IndexChanges.{marked_holds}
+use Rattle.record_store.proofs.Marked.{readable_holds}
+use Rattle.record_store.proofs.Stopping.{all_begin, none_begin}
+
+-- ---- names
+
+-- a write-only index that is found by its name is there, and is write-only
+pub found_write_only : (opened : Opened) (name : List ℕ) (index : IndexDefinition) → write_only_named opened name ≡ Ok index → (find_index opened.schema name ≡ Some index) × (state_in opened.states index.number ≡ WriteOnly)
+found_write_only opened name index is = by_name (find_index opened.schema name) is
+  where
+    by_state : (state : State) (one : IndexDefinition) → in_write_only state one ≡ Ok index → (one ≡ index) × (state ≡ WriteOnly)
+    by_state Readable one found = absurd (cc)
+    by_state WriteOnly one found = let same : one ≡ index = cc in (same, refl)
+    by_state Disabled one found = absurd (cc)
+
+    by_name : (o : Option IndexDefinition) → write_only_found opened o ≡ Ok index → (o ≡ Some index) × (state_in opened.states index.number ≡ WriteOnly)
+    by_name None found = absurd (cc)
+    by_name (Some one) found = let both = by_state (state_in opened.states one.number) one found in (ap Some both.0, ap (λ (i : IndexDefinition). state_in opened.states i.number) (sym both.0) ∙ both.1)
+
+pub number_named : (opened : Opened) (name : List ℕ) (index : IndexDefinition) → write_only_named opened name ≡ Ok index → index_number (find_index opened.schema name) ≡ Ok index.number
+number_named opened name index is = ap index_number (found_write_only opened name index is).0
+
+-- ---- marks
+
+-- MARK: the index has its state, and nothing of it is kept
+pub mark_served : (opened : Opened) (number : ℕ) (state : State) (states : List (ℕ × State)) (list : List Mutation) → (state ≡ Readable → ⊥) → list ≡ marked_writes state opened.prefix number → states ≡ with_state number state opened.states →
+    has_number opened.schema.indexes number ≡ true → (m : Map) (store : Store) → Holds opened.prefix m (Some store) → IsOpenAs opened store → IsServed opened (mark_service state opened number) states list m store
+mark_served opened number state states list other wrote is there m store holds same = record {
+  accepted = refl;
+  answers = is ∙ ap (with_state number state) (sym same.states);
+  wrote = wrote;
+  holds =
+      subst (λ ms. Holds opened.prefix (after_all ms m) (Some (marked state store number))) (sym wrote)
+      (marked_holds opened.prefix m store number (ap (λ (s : Schema). has_number s.indexes number) same.schema ∙ there) holds state other);
+}
+
+-- ---- built positions
+
+-- what a map has of the index with a number
+positions_of : (prefix : List ℕ) (m : Map) (states : ℕ → State) (built : ℕ → List KeyRange) (number : ℕ) (indexes : List IndexDefinition) → has_number indexes number ≡ true →
+    AllByRecursion (λ index. HasPositions (states index.number) prefix index.number (built index.number) m) indexes → HasPositions (states number) prefix number (built number) m
+positions_of prefix m states built number [] there all = absurd (cc)
+positions_of prefix m states built number (index ∷ indexes) there all = by_test (index.number == number) refl there (λ more. positions_of prefix m states built number indexes more all.1)
+  where
+    by_test : (b : Bool) → (index.number == number) ≡ b → (b || has_number indexes number) ≡ true → (has_number indexes number ≡ true → HasPositions (states number) prefix number (built number) m) →
+        HasPositions (states number) prefix number (built number) m
+    by_test true is some go = subst (λ n. HasPositions (states n) prefix n (built n) m) (eqb-true index.number number is) all.0
+    by_test false is some go = go some
+
+module _ (opened : Opened) (number : ℕ) (there : has_number opened.schema.indexes number ≡ true) (building : state_in opened.states number ≡ WriteOnly) where
+  abbrev place : List ℕ
+  place = built_place opened.prefix number
+
+  abbrev reading : Reading
+  reading = all_built opened.prefix number
+
+  -- the state is that of each store that was opened so
+  pub store_building : (store : Store) → IsOpenAs opened store → state_of store number ≡ WriteOnly
+  store_building store same = ap (λ ss. state_in ss number) same.states ∙ building
+
+  -- SET: a store that is there has the built positions as a set
+  pub set_there : (m : Map) (store : Store) → Holds opened.prefix m (Some store) → IsOpenAs opened store → HasSet place (built_of store number) m
+  set_there m store holds same =
+      subst (λ s. HasPositions s opened.prefix number (built_of store number) m) (store_building store same)
+      (positions_of opened.prefix m (state_of store) (built_of store) number store.schema.indexes (ap (λ (s : Schema). has_number s.indexes number) same.schema ∙ there) holds.ranges)
+
+  -- READ: all of it was read
+  pub set_read : {maps : ℕ → Map} {old new : CommitRequest} (Answer : List KeyRange → Type 0) → (found : reads.IsAnswered maps place (all_ranges place) old new Answer) →
+      DidRead maps (found.added ∷ []) old new (λ m. (found.added ∷ [] ≡ reading.added m) × (IsSound opened reading m × AtStore opened m (λ store. Answer (built_of store number))))
+  set_read Answer found = ran_because found.ran (λ m is. (ap (λ r. r ∷ []) is.0, ((is.1, tt), λ store holds same. is.2 (built_of store number) (set_there m store holds same))))
+
+  -- UNREAD: it wasn't
+  pub set_unread : {maps : ℕ → Map} {refuses : KeyRange → ℕ → ReadError → Type 0} {old new : CommitRequest} (error : RangeSetError) → reads.IsRefused maps refuses place (all_ranges place) error old new →
+      HasNotFound maps refuses opened reading (of_set error) old new
+  set_unread {refuses = refuses} {old = old} error unread = record { added = unread.added; ran = ran_because unread.ran (λ m says. by_error error unread.added m says) }
+    where
+      by_error : (e : RangeSetError) (added : List KeyRange) (m : Map) → reads.IsUnread (λ range. refuses range old.read_version) place (all_ranges place) e added m → IsUnread (λ range. refuses range old.read_version) opened reading (of_set e) added m
+      by_error set.Memory added m (inl none) = subst (λ rs. IsBeginning rs (reading.added m)) (sym none) (none_begin (reading.added m))
+      by_error set.Memory added m (inr all) = subst (λ rs. IsBeginning rs (reading.added m)) (sym all) (all_begin (reading.added m))
+      by_error (set.Read e) added m says = (
+        subst (λ rs. IsBeginning rs (reading.added m)) (sym says.0) (none_begin (reading.added m)),
+        subst (λ rs. IsNextRefused (λ range. refuses range old.read_version) (reading.asked m) rs e) (sym says.0) (record { range = built_range opened.prefix number; rest = []; next = refl; refused = says.1 }),
+      )
+      by_error (set.Corrupt key) added m says = (says.0, inl says.1, λ store holds same. says.2 (built_of store number) (set_there m store holds same))
+
+  -- READABLE: where every position is built the index is readable
+  pub readable_served : (states : List (ℕ × State)) (list : List Mutation) → list ≡ readable_writes opened.prefix number → states ≡ without_state number opened.states →
+      (m : Map) (store : Store) → Holds opened.prefix m (Some store) → IsOpenAs opened store → is_whole (built_of store number) ≡ true → IsServed opened (readable_service opened number) states list m store
+  readable_served states list wrote is m store holds same whole = record {
+    accepted = ap not whole;
+    answers = is ∙ ap (without_state number) (sym same.states);
+    wrote = wrote;
+    holds =
+        subst (λ ms. Holds opened.prefix (after_all ms m) (Some (readable store number))) (sym wrote)
+        (readable_holds opened.prefix m store number (ap (λ (s : Schema). has_number s.indexes number) same.schema ∙ there) holds (store_building store same) whole);
+  }
+
+-- OBJECTED: the store that is there is objected to by what was read
+pub refused_unbuilt : {A : Type 0} (maps : ℕ → Map) (refuses : KeyRange → ℕ → ReadError → Type 0) {added : List KeyRange} {old new : CommitRequest} (opened : Opened) (call : Call A) (service : Service A) (test : Store → Bool) → call ≡ Ok service →
+    service.objection ≡ Where NotBuilt test → DidRead maps added old new (λ m. (added ≡ service.reading.added m) × (IsSound opened service.reading m × AtStore opened m (λ store. test store ≡ true))) →
+    IsRefused maps refuses opened call NotBuilt old new
+refused_unbuilt maps refuses {added = added} {old = old} {new = new} opened call service test accepted objects ran =
+    subst (λ c. IsRefused maps refuses opened c NotBuilt old new) (sym accepted)
+    (record { added = added; ran = ran_because ran (λ m found. subst (λ o. IsObjectedTo opened service.reading o NotBuilt added m) (sym objects) (refl, found.0, found.1.0, found.1.1)) })
+
+-- OPENED: the store is left with that index readable
+pub readable_is : (opened : Opened) (prefix : List ℕ) (schema : Schema) (states : List (ℕ × State)) (number other : ℕ) (found : Result ℕ Refusal) → prefix ≡ opened.prefix → schema ≡ opened.schema → states ≡ without_state number opened.states →
+    found ≡ Ok number → found ≡ Ok other → ◌≡◌ {A = Opened} (record { prefix = prefix; schema = schema; states = states }) (opened_readable opened other)
+readable_is opened prefix schema states number other found prefixes schemas listed is again =
+    let both : ◌≡◌ {A = Result ℕ Refusal} (Ok number) (Ok other) = sym is ∙ again in
+    let same : number ≡ other = cc in
+    (λ i. record { prefix = prefixes i; schema = schemas i; states = listed i }) ∙ ap (opened_readable opened) same
+
+-- ---- the call that marks an index readable
+
+-- OWN REFUSAL: there is no such index, or it isn't write-only
+pub readable_refused : (maps : ℕ → Map) (refuses : KeyRange → ℕ → ReadError → Type 0) {old new : CommitRequest} (opened : Opened) (name : List ℕ) (error : StoreError) → write_only_named opened name ≡ Err error → new ≡ old →
+    IsRefused maps refuses opened (readable_call opened name) error old new
+readable_refused maps refuses {old = old} {new = new} opened name error is same =
+    subst (λ o. IsRefused maps refuses opened (done_or_refused (λ (index : IndexDefinition). readable_service opened index.number) o) error old new) (sym is) (inr refl, same)
+
+module _ (maps : ℕ → Map) (refuses : KeyRange → ℕ → ReadError → Type 0) (opened : Opened) (name : List ℕ) (index : IndexDefinition) (named : write_only_named opened name ≡ Ok index) where
+  accepted : readable_call opened name ≡ Ok (readable_service opened index.number)
+  accepted = ap (done_or_refused (λ (one : IndexDefinition). readable_service opened one.number)) named
+
+  known : has_number opened.schema.indexes index.number ≡ true
+  known = named_there opened.schema name index.number (number_named opened name index named)
+
+  marking : state_in opened.states index.number ≡ WriteOnly
+  marking = (found_write_only opened name index named).1
+
+  -- UNREAD: the built ranges weren't read
+  pub readable_unread : {old new : CommitRequest} (at : List ℕ) (error : RangeSetError) → at ≡ built_place opened.prefix index.number → reads.IsRefused maps refuses at (all_ranges at) error old new →
+      IsRefused maps refuses opened (readable_call opened name) (of_set error) old new
+  readable_unread {old = old} {new = new} at error is unread =
+      refused_unread maps refuses opened (readable_call opened name) (readable_service opened index.number) (of_set error) accepted
+      (set_unread opened index.number known marking error (subst (λ p. reads.IsRefused maps refuses p (all_ranges p) error old new) is unread))
+
+  module _ {old mid : CommitRequest} (at : List ℕ) (whole : Bool) (is : at ≡ built_place opened.prefix index.number) (found : reads.IsAnswered maps at (all_ranges at) old mid (λ set. whole ≡ is_whole set)) where
+    there : reads.IsAnswered maps (built_place opened.prefix index.number) (all_ranges (built_place opened.prefix index.number)) old mid (λ set. whole ≡ is_whole set)
+    there = subst (λ p. reads.IsAnswered maps p (all_ranges p) old mid (λ set. whole ≡ is_whole set)) is found
+
+    was_read : DidRead maps (there.added ∷ []) old mid (λ m. (there.added ∷ [] ≡ (all_built opened.prefix index.number).added m)
+        × (IsSound opened (all_built opened.prefix index.number) m × AtStore opened m (λ store. whole ≡ is_whole (built_of store index.number))))
+    was_read = set_read opened index.number known marking (λ set. whole ≡ is_whole set) there
+
+    -- NOT BUILT: not every position is built
+    pub readable_unbuilt : whole ≡ false → IsRefused maps refuses opened (readable_call opened name) NotBuilt old mid
+    readable_unbuilt none =
+        refused_unbuilt maps refuses opened (readable_call opened name) (readable_service opened index.number) (λ store. not (is_whole (built_of store index.number))) accepted refl
+        (ran_because was_read (λ m told. (told.0, (told.1.0, λ store holds same. ap not (sym (told.1.1 store holds same) ∙ none)))))
+
+    -- MEMORY: it was wanting after the read
+    pub readable_memory : IsRefused maps refuses opened (readable_call opened name) Memory old mid
+    readable_memory = refused_memory maps refuses opened (readable_call opened name) (readable_service opened index.number) accepted was_read
+
+    module _ (list : List Mutation) (wrote : list ≡ readable_writes opened.prefix index.number) (all : whole ≡ true) where
+      -- LIMIT: what is to be written was refused
+      pub readable_limited : {new : CommitRequest} (error : WriteError) → new ≡ mid → (error ≡ write.Memory) ⊎ (write_all_refusal mid.mutations list ≡ Some error) → IsRefused maps refuses opened (readable_call opened name) (of_write error) old new
+      readable_limited error same says =
+          refused_limit maps refuses opened (readable_call opened name) (readable_service opened index.number) list error accepted was_read
+          (λ m store holds alike told. (ap not (sym told ∙ all), wrote)) same says
+
+      -- ANSWERED: the index is readable
+      pub readable_answered : {new : CommitRequest} (states : List (ℕ × State)) → states ≡ without_state index.number opened.states → new ≡ with_mutations list mid → IsNone (write_all_refusal mid.mutations list) →
+          IsAnswered maps opened (readable_call opened name) states old new
+      readable_answered states left made allowed =
+          answered maps refuses opened (readable_call opened name) (readable_service opened index.number) states list accepted (ap (λ ms. length ms == 0) wrote) was_read made allowed
+          (λ m store holds alike told. readable_served opened index.number known marking states list wrote left m store holds alike (sym told ∙ all))

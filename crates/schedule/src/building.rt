@@ -1,0 +1,48 @@
+// The command that has a builder build a part of an index.
+ghost use Rattle.std.specs.Prelude.{◌≡◌, IfOk, IfErr};
+ghost use Rattle.schedule.specs.declared.step.Command.{Command};
+ghost use Rattle.schedule.specs.Calls.{IsRefused};
+ghost use Rattle.schedule.specs.Performed.{IsPerformed};
+ghost use Rattle.schedule.specs.Serve.{reply_to_build};
+
+use crate::commands::open;
+use crate::refusal::Refusal;
+use crate::reply::Reply;
+use online_builder::{Builder, Progress};
+use record_store::StoreError;
+use std::alloc::Global;
+use tuple_codec::Text;
+use txn::{Snapshot, Transaction};
+
+/// The reply to a step of a builder.
+fn build_reply(progress: Progress) -> Reply
+    ensures { result ≡ reply_to_build progress }
+{
+    match progress {
+        Progress::Built { records, range } => Reply::Built { records, range },
+        Progress::Finished => Reply::Finished,
+    }
+}
+
+/// Builds a part of the first gap in the write-only index of this name, of at most so many records.
+pub(crate) fn build<S: Snapshot>(
+    alloc: Global,
+    tx: &mut Transaction,
+    db: &S,
+    name: &Text,
+    limit: u32,
+) -> Result<Reply, StoreError>
+    ensures performed { IfOk result (λ answer.
+        IsPerformed (S.map_at db.now) (λ range. S.may_refuse db.now range tx.old.read_version)
+        (Command.Build name.now limit) answer tx.old tx.new) }
+    ensures refused { IfErr result (λ error.
+        IsRefused (S.map_at db.now) (S.may_refuse db.now) (Command.Build name.now limit) error tx.old tx.new) }
+{
+    if limit == 0 {
+        return Ok(Reply::Refused(Refusal::BadLimit));
+    }
+    let store = open(alloc, tx, db)?;
+    let builder = Builder::new(name.copy()?, limit);
+    let progress = builder.step(&store, tx, db)?;
+    Ok(build_reply(progress))
+}
