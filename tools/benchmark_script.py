@@ -3,7 +3,8 @@
 before the next begins.
 
 By default 10,000 saves in transactions of 100 records by 4 clients, and no loads and no indexes. A script has 4,000,000
-bytes at most. With --together the clients begin together, save and commit in turn, and are settled together. With --sql
+bytes at most. With --together the clients begin together, save and commit in turn, and are settled together. With
+--build an index of this kind is built over the saved records in the end, --records of them in a transaction. With --sql
 the same work is printed for the shell of SQLite (`sqlite3 :memory: < FILE`), one transaction after another.
 """
 
@@ -17,6 +18,13 @@ INDEXES = [
     {"name": "by_a", "kind": "value", "type": "t", "columns": ["a"]},
     {"name": "by_b", "kind": "value", "type": "t", "columns": ["b", "a"]},
 ]
+
+
+BUILT = {
+    "value": INDEXES[0],
+    "count": {"name": "count", "kind": "count", "type": "t", "columns": ["a"]},
+    "sum": {"name": "sum", "kind": "sum", "type": "t", "columns": ["a"], "summed": "k"},
+}
 
 
 def save(client, number):
@@ -49,13 +57,24 @@ def rounds(step, count, records, clients):
         yield ["settle"]
 
 
+def build(index, count, records):
+    """The steps that build an index over so many records, so many of them in a transaction, and make it readable."""
+    name = index["name"]
+    yield from (["begin", 0], ["index", 0, index], ["write_only", 0, name], ["commit", 0], ["settle"])
+    for _ in range(count // records + 1):
+        yield from (["begin", 0], ["build", 0, name, records], ["commit", 0], ["settle"])
+    yield from (["begin", 0], ["readable", 0, name], ["commit", 0], ["settle"])
+
+
 def steps(options):
-    """The steps: a store with some indexes, then the saves, then the loads of what was saved."""
+    """The steps: a store with some indexes, then the saves, then the loads of what was saved, then an index built."""
     schema = {"types": [TYPE], "indexes": INDEXES[:options.indexes]}
     yield from (["begin", 0], ["create", 0, schema], ["commit", 0], ["settle"])
     turns = rounds if options.together else transactions
     yield from turns(save, options.saves, options.records, options.clients)
     yield from turns(load, options.loads, options.records, options.clients)
+    if options.build:
+        yield from build(BUILT[options.build], options.saves, options.records)
 
 
 def statements(options):
@@ -80,6 +99,7 @@ def main():
     parser.add_argument("--records", type=int, default=100, help="records of one transaction")
     parser.add_argument("--clients", type=int, default=4, choices=range(1, 17), metavar="1..16")
     parser.add_argument("--together", action="store_true", help="the clients' transactions are open together")
+    parser.add_argument("--build", choices=BUILT, help="the kind of an index that is built in the end")
     parser.add_argument("--sql", action="store_true", help="print SQL in place of a script")
     options = parser.parse_args()
     if options.sql:
