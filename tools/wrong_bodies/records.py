@@ -4,15 +4,13 @@ import hashlib
 import os
 import re
 import subprocess
-from bodies import UNREAD, blanked, bodies_in
+from told import told_by
 from trials import below
 
 FILE = os.path.join("tools", "wrong_bodies", "refused.txt")
 OWN = ("src", "specs", "proofs", "wrong-bodies", "must-fail")
 # a module of definitions, as sources, definitions and proofs name it
 NAMED = re.compile(r"\bRattle\.(\w+)\.specs\.([\w.]*\w)")
-# what the text of a source file tells no crate above it: imports, modules and hints to the prover
-UNHEARD = re.compile(r"^ *(?:pub(?:\([a-z]+\))? )?(?:ghost )?(?:use|mod)\b[^;]*;|#!?\[(?:tactic|cycle)\b[^\]]*\]", re.M)
 # an import of definitions: the module, and the words or its other name
 IMPORTED = re.compile(r"ghost use (Rattle\.\w+\.specs\.[\w.]*\w)(?:\.\{([^}]*)\}| as (\w+))?;")
 # the tool's line on a crate all of whose edits were refused
@@ -23,27 +21,6 @@ HEAD = "# crates whose wrong bodies were refused: how many, and a sum of all on 
 def words_in(text):
     """The words of a text."""
     return set(re.findall(r"\w+", text))
-
-
-def said_by(file, text, words):
-    """What a source file tells crates above it that have these words, a line a line.
-
-    That is all but comments, imports, hints to the prover, bodies, and those functions outside traits that aren't
-    public or of which those crates don't have the name: nothing there calls them.
-    """
-    plain = blanked(text)
-    cuts = [it.span() for it in UNREAD.finditer(text) if it[0].startswith("/")]
-    cuts += [it.span() for it in UNHEARD.finditer(plain)]
-    for it in bodies_in(file, text):
-        begin = plain.rfind("\n", 0, it.head) + 1
-        is_heard = it.of_trait or (plain[begin:it.head].lstrip().startswith("pub ") and it.name in words)
-        cuts.append((it.begin if is_heard else begin, it.end))
-    kept, at = [], 0
-    for begin, end in sorted(cuts):
-        kept.append(text[at:max(at, begin)])
-        at = max(at, end)
-    lines = "".join([*kept, text[at:]]).split("\n")
-    return "\n".join(line.strip() for line in lines if line.strip())
 
 
 def definitions_told(text, said):
@@ -85,9 +62,11 @@ def rests_on(root, crates, name):
     texts = {(name, file): text for file, text in texts_below(os.path.join(root, "crates", name), OWN)}
     new, words = list(texts.values()), set().union(*map(words_in, texts.values()))
     for it in below(crates, name):
-        for file, text in texts_below(os.path.join(root, "crates", it), ("src",)):
-            texts[it, file] = said_by(file, text, words)
-            new += definitions_told(text, texts[it, file])
+        sources = dict(texts_below(os.path.join(root, "crates", it), ("src",)))
+        for file, told in told_by(sources, words).items():
+            if told:
+                texts[it, file] = told
+                new += definitions_told(sources[file], told)
     while new:
         for crate, file in definitions_named(root, crates, new.pop()):
             if (crate, file) not in texts:

@@ -73,6 +73,40 @@ impl Clone for Number {
 }
 """
 
+# One more: types that crates above see by a model alone, by their fields, and not at all.
+TYPES = """#[derive(Drop)]
+pub struct Seen {
+    pub number: u64,
+}
+
+#[derive(Drop)]
+pub struct Modelled {
+    pub(crate) hidden: Hidden,
+    count: u64,
+}
+
+impl Model for Modelled {
+    ghost Value = { ℕ };
+
+    ghost view = { λ m. m.count };
+
+    ghost invariant = { λ m. m.count ≤ 8 };
+}
+
+#[derive(Drop)]
+struct Hidden {
+    inner: Inner,
+}
+
+impl Hidden {
+    pub fn second(&self) -> u64 {
+        2
+    }
+}
+
+pub struct Inner(u64);
+"""
+
 # The edits of low, and what must be said of each.
 EDITS = {
     "next_is_same": ("number + STEP", "number + STEP - 1", "refused"),
@@ -152,7 +186,9 @@ class Recording(unittest.TestCase):
         with tempfile.TemporaryDirectory() as root:
             repository(root)
             files = {
+                "crates/low/src/lib.rt": f"{LOW}\npub use types::{{Modelled, Seen}};\n",
                 "crates/low/src/told.rt": TOLD,
+                "crates/low/src/types.rt": TYPES,
                 "crates/low/specs/Words.antt": "use Rattle.low.specs.Deep.{deep}\n",
                 "crates/low/specs/Deep.antt": "",
                 "crates/low/specs/Others.antt": "",
@@ -172,6 +208,16 @@ class Recording(unittest.TestCase):
                 ("crates/low/src/told.rt", "pub fn", "pub fn sixth() {}\n\npub fn", {"low"}),
                 ("crates/low/src/told.rt", "result ≡ self.now", "result ≡ 2", both),
                 ("crates/low/src/told.rt", "impl", "pub const TWO: u64 = 2;\n\nimpl", both),
+                ("crates/low/src/types.rt", "pub number: u64", "pub number: u32", both),
+                ("crates/low/src/types.rt", "    count: u64", "    count: u32", {"low"}),
+                ("crates/low/src/types.rt", "    count: u64", "    pub count: u64", both),
+                ("crates/low/src/types.rt", "m.count }", "m.count + 1 }", {"low"}),
+                ("crates/low/src/types.rt", "m.count ≤ 8", "m.count ≤ 9", {"low"}),
+                ("crates/low/src/types.rt", "Value = { ℕ }", "Value = { ℤ }", both),
+                ("crates/low/src/types.rt", "inner: Inner", "inner: u64", {"low"}),
+                ("crates/low/src/types.rt", "-> u64 {\n        2", "-> u32 {\n        2", {"low"}),
+                ("crates/low/src/types.rt", "Inner(u64)", "Inner(u32)", {"low"}),
+                ("crates/low/src/types.rt", "number: u64,", "number: u64,\n    pub inner: Inner,", both),
                 ("crates/low/specs/Words.antt", "deep", "other", both),
                 ("crates/low/specs/Deep.antt", "", "-- told\n", both),
                 ("crates/low/specs/Others.antt", "", "-- told\n", {"low"}),
