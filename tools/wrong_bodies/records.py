@@ -4,15 +4,12 @@ import hashlib
 import os
 import re
 import subprocess
+from definitions import Definitions, imports_in, is_named
 from told import told_by
 from trials import below
 
 FILE = os.path.join("tools", "wrong_bodies", "refused.txt")
 OWN = ("src", "specs", "proofs", "wrong-bodies", "must-fail")
-# a module of definitions, as sources, definitions and proofs name it
-NAMED = re.compile(r"\bRattle\.(\w+)\.specs\.([\w.]*\w)")
-# an import of definitions: the module, and the words or its other name
-IMPORTED = re.compile(r"ghost use (Rattle\.\w+\.specs\.[\w.]*\w)(?:\.\{([^}]*)\}| as (\w+))?;")
 # the tool's line on a crate all of whose edits were refused
 ROW = re.compile(r"(?:> )?(\w+): all (\d+) refused, by the sum ([0-9a-f]{64})")
 HEAD = "# crates whose wrong bodies were refused: how many, and a sum of all on which that rests"
@@ -21,15 +18,6 @@ HEAD = "# crates whose wrong bodies were refused: how many, and a sum of all on 
 def words_in(text):
     """The words of a text."""
     return set(re.findall(r"\w+", text))
-
-
-def definitions_told(text, said):
-    """The imports of definitions of a source file whose words stand in what it tells."""
-    words = words_in(said)
-    for path, names, alias in IMPORTED.findall(text):
-        own = [it.split(" as ")[-1].strip() for it in names.split(",")] if names else [alias or path.split(".")[-1]]
-        if any(it in words or not it.isidentifier() for it in own):
-            yield path
 
 
 def texts_below(folder, parts):
@@ -43,37 +31,25 @@ def texts_below(folder, parts):
                     yield os.path.relpath(path, folder), source.read()
 
 
-def definitions_named(root, crates, text):
-    """The modules of definitions that a text names, each as its crate and its file there."""
-    for crate, path in NAMED.findall(text):
-        words = path.split(".")
-        files = ["/".join(["specs", *words[:size]]) + ".antt" for size in range(len(words), 0, -1)]
-        found = next((it for it in files if os.path.isfile(os.path.join(root, "crates", crate, it))), None)
-        if crate in crates and found:
-            yield crate, found
-
-
 def rests_on(root, crates, name):
-    """The texts on which it rests that a crate's edits are refused, by crate and file.
+    """The texts on which it rests that a crate's edits are refused, by crate, file and definition.
 
     Those are the crate's own, what the sources of the crates below it say, and the definitions that any of these texts
-    names. A function is proved from the contracts of what it calls, so of the crates below no body counts and no proof.
+    leads to. A function is proved from the contracts of what it calls, so of the crates below no body counts and no
+    proof.
     """
-    texts = {(name, file): text for file, text in texts_below(os.path.join(root, "crates", name), OWN)}
-    new, words = list(texts.values()), set().union(*map(words_in, texts.values()))
-    for it in below(crates, name):
-        sources = dict(texts_below(os.path.join(root, "crates", it), ("src",)))
+    own = dict(texts_below(os.path.join(root, "crates", name), OWN))
+    texts = {(name, file, ""): text for file, text in own.items()}
+    starts = {it[:3] for text in own.values() for it in imports_in(root, crates, text) if it[0] != name}
+    words = set().union(*map(words_in, own.values()))
+    for crate in below(crates, name):
+        sources = dict(texts_below(os.path.join(root, "crates", crate), ("src",)))
         for file, told in told_by(sources, words).items():
             if told:
-                texts[it, file] = told
-                new += definitions_told(sources[file], told)
-    while new:
-        for crate, file in definitions_named(root, crates, new.pop()):
-            if (crate, file) not in texts:
-                with open(os.path.join(root, "crates", crate, file), encoding="utf-8") as source:
-                    texts[crate, file] = source.read()
-                new.append(texts[crate, file])
-    return texts
+                texts[crate, file, ""] = told
+                imports = imports_in(root, crates, sources[file])
+                starts |= {it[:3] for it in imports if is_named(it[3], told)}
+    return texts | Definitions(root, crates).reached(starts)
 
 
 def digest(root, crates, name):

@@ -73,6 +73,23 @@ impl Clone for Number {
 }
 """
 
+# Definitions of low: what the contract of second names, what that leads to, and one that nothing names.
+WORDS = """use Rattle.low.specs.Deep.{deep, flat}
+use Rattle.low.specs.Whole as all
+
+-- a word
+abbrev pub word : ℕ → Type 0
+word zero = Pair
+word (suc n) = deep
+
+pub record Pair : Type 0 where
+  pub inner : ℕ
+  pub outer : all.whole 1
+
+abbrev pub spare : ℕ → ℕ
+spare n = n
+"""
+
 # One more: types that crates above see by a model alone, by their fields, and not at all.
 TYPES = """#[derive(Drop)]
 pub struct Seen {
@@ -189,8 +206,9 @@ class Recording(unittest.TestCase):
                 "crates/low/src/lib.rt": f"{LOW}\npub use types::{{Modelled, Seen}};\n",
                 "crates/low/src/told.rt": TOLD,
                 "crates/low/src/types.rt": TYPES,
-                "crates/low/specs/Words.antt": "use Rattle.low.specs.Deep.{deep}\n",
-                "crates/low/specs/Deep.antt": "",
+                "crates/low/specs/Words.antt": WORDS,
+                "crates/low/specs/Deep.antt": "abbrev pub deep : ℕ\ndeep = 1\n\nabbrev pub flat : ℕ\nflat = 2\n",
+                "crates/low/specs/Whole.antt": "module _ (n : ℕ) where\n  abbrev pub whole : ℕ\n  whole = n\n",
                 "crates/low/specs/Others.antt": "",
                 "crates/low/proofs/Lib.antt": "",
                 "crates/high/src/lib.rt": HIGH,
@@ -218,8 +236,13 @@ class Recording(unittest.TestCase):
                 ("crates/low/src/types.rt", "-> u64 {\n        2", "-> u32 {\n        2", {"low"}),
                 ("crates/low/src/types.rt", "Inner(u64)", "Inner(u32)", {"low"}),
                 ("crates/low/src/types.rt", "number: u64,", "number: u64,\n    pub inner: Inner,", both),
-                ("crates/low/specs/Words.antt", "deep", "other", both),
-                ("crates/low/specs/Deep.antt", "", "-- told\n", both),
+                ("crates/low/specs/Words.antt", "= deep", "= flat", both),
+                ("crates/low/specs/Words.antt", "inner : ℕ", "inner : ℤ", both),
+                ("crates/low/specs/Words.antt", "spare n = n", "spare n = 2", {"low"}),
+                ("crates/low/specs/Words.antt", "a word", "the word", {"low"}),
+                ("crates/low/specs/Deep.antt", "= 1", "= 2", both),
+                ("crates/low/specs/Deep.antt", "= 2", "= 1", {"low"}),
+                ("crates/low/specs/Whole.antt", "= n", "= 1", both),
                 ("crates/low/specs/Others.antt", "", "-- told\n", {"low"}),
                 ("crates/low/proofs/Lib.antt", "", "-- told\n", {"low"}),
                 ("crates/high/src/lib.rt", "third", "fourth", {"high"}),

@@ -1,0 +1,92 @@
+"""The definitions that texts name, and those that these name in turn."""
+import functools
+import os
+import re
+
+# an import of definitions: its crate, its module, and the words or its other name
+IMPORT = re.compile(r"\buse Rattle\.(\w+)\.specs\.([\w.]*\w)(?:\.\{([^}]*)\}| as (\w+))?")
+# what stands before the name that a line defines
+KEYWORDS = {"pub", "abbrev", "unfoldable", "record", "data"}
+# lines that bring several definitions together, so that a file with one is taken whole
+TOGETHER = re.compile(r"^(?:abbrev )?(?:mutual|module|infix|open|package|ruleset)\b", re.M)
+
+
+def is_named(name, text):
+    """Whether a text has this name as a word; a name with an operator in it counts as one that it has."""
+    return not re.fullmatch(r"[\w'-]+", name) or bool(re.search(rf"(?<![\w'-]){re.escape(name)}(?![\w'-])", text))
+
+
+@functools.cache
+def file_of(root, crate, path):
+    """The file of definitions that an import of a crate's module leads to, or None."""
+    words = path.split(".")
+    files = ["/".join(["specs", *words[:size]]) + ".antt" for size in range(len(words), 0, -1)]
+    return next((it for it in files if os.path.isfile(os.path.join(root, "crates", crate, it))), None)
+
+
+def imports_in(root, crates, text):
+    """What a text imports of definitions: for each the crate, the file, the name there, None for all, and its word here."""
+    for crate, path, names, alias in IMPORT.findall(text):
+        file = file_of(root, crate, path) if crate in crates else None
+        if not file:
+            continue
+        if not names:
+            yield crate, file, None, alias or path.split(".")[-1]
+            continue
+        for name in filter(None, (it.strip() for it in names.split(","))):
+            there, _, here = name.partition(" as ")
+            yield crate, file, there.strip(), (here or there).strip()
+
+
+def parts_in(text):
+    """The text of each definition of a file by its name, with the lines of imports left out; None where it is one part."""
+    if TOGETHER.search(text):
+        return None
+    parts, name = {}, None
+    for line in text.split("\n"):
+        if line.startswith(("--", "use ", "pub mod ")):
+            name = None if line.startswith("use ") else name
+            continue
+        words = line.split()
+        if words and not line[0].isspace() and line[0] != "}":
+            name = next((it for it in words if it not in KEYWORDS), None)
+        if name:
+            parts[name] = parts.get(name, "") + line.rstrip() + "\n"
+    return parts
+
+
+class Definitions:
+    """The definitions of the crates of a repository."""
+
+    def __init__(self, root, crates):
+        self.root, self.crates = root, crates
+        self.read = functools.cache(self.read_anew)
+
+    def read_anew(self, crate, file):
+        """A file of definitions: its parts, its text, and what it imports."""
+        with open(os.path.join(self.root, "crates", crate, file), encoding="utf-8") as source:
+            text = source.read()
+        return parts_in(text), text, list(imports_in(self.root, self.crates, text))
+
+    def part(self, crate, file, name):
+        """A definition's text and what else it leads to; the file's whole text, where it is no definition there."""
+        parts, text, imports = self.read(crate, file)
+        if parts is None or name not in parts:
+            return None, text, [it[:3] for it in imports]
+        text = parts[name]
+        own = [(crate, file, it) for it in parts if it != name and is_named(it, text)]
+        return name, text, own + [it[:3] for it in imports if is_named(it[3], text)]
+
+    def reached(self, starts):
+        """The texts of the definitions that these lead to, by crate, file and name; a file taken whole has no name."""
+        texts, new = {}, list(starts)
+        seen = set(new)
+        while new:
+            crate, file, asked = new.pop()
+            name, text, further = self.part(crate, file, asked)
+            texts[crate, file, name or ""] = text
+            for it in further:
+                if it not in seen:
+                    seen.add(it)
+                    new.append(it)
+        return texts
