@@ -25,7 +25,7 @@ def file_of(root, crate, path):
 
 
 def imports_in(root, crates, text):
-    """What a text imports of definitions: for each the crate, the file, the name there, None for all, and its word here."""
+    """What a text imports of definitions: crate, file, the name there, or None where all is, and the word for it here."""
     for crate, path, names, alias in IMPORT.findall(text):
         file = file_of(root, crate, path) if crate in crates else None
         if not file:
@@ -39,7 +39,7 @@ def imports_in(root, crates, text):
 
 
 def parts_in(text):
-    """The text of each definition of a file by its name, with the lines of imports left out; None where it is one part."""
+    """The text of each definition of a file by its name, without comments and imports; None where it is one part."""
     if TOGETHER.search(text):
         return None
     parts, name = {}, None
