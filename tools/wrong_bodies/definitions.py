@@ -25,7 +25,7 @@ def file_of(root, crate, path):
 
 
 def imports_in(root, crates, text):
-    """What a text imports of definitions: crate, file, the name there, or None where all is, and the word for it here."""
+    """What a text imports of definitions: crate, file, the name there (None for all of them) and its name here."""
     for crate, path, names, alias in IMPORT.findall(text):
         file = file_of(root, crate, path) if crate in crates else None
         if not file:
