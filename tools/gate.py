@@ -1,10 +1,10 @@
 #!/usr/bin/env python3
 """Proves, builds and tests everything: the test command of the repository. It is run at the top of the repository.
 
-1. The tools' own tests, and the house's rules over the files as they stand (tools/house_rules).
-2. `rt ci`: every proof from nothing, the tests, the programs as two compilers build them, and the edits of must-fail/.
-3. Beside it, with what processors are left: the wrong bodies, which the prover must refuse (tools/wrong_bodies). Those
+1. `rt ci`: every proof from nothing, the tests, the programs as two compilers build them, and the edits of must-fail/.
+2. Beside it, with what processors are left: the wrong bodies, which the prover must refuse (tools/wrong_bodies). Those
    of a crate aren't tried again where the record has that they were refused over the same texts; with --whole all are.
+3. Beside it too: the tools' own tests, and the house's rules over the files as they stand (tools/house_rules).
 4. The cases of cases/, the examples and the program's edge, against both built programs (tools/program_tests).
 
 The last line is 'N passed, M failed', and the status is 0 where M is 0.
@@ -38,45 +38,47 @@ def tool_counts(text):
     return (int(found[1]) - failed, failed) if found else (0, 1)
 
 
-def run(title, words, count):
-    """Runs a command, prints what it prints, and answers its counts."""
+def begun(words):
+    """A command that has begun, and the file that has what it prints."""
+    log = tempfile.TemporaryFile("w+", errors="replace")
+    return subprocess.Popen(words, stdin=subprocess.DEVNULL, stdout=log, stderr=subprocess.STDOUT), log
+
+
+def ended(title, command, count):
+    """Waits for a command that has begun, prints what it prints, and answers its counts."""
     print(f"== {title}", flush=True)
-    with tempfile.TemporaryFile("w+", errors="replace") as log:
-        ran = subprocess.run(words, stdin=subprocess.DEVNULL, stdout=log, stderr=subprocess.STDOUT, check=False)
+    process, log = command
+    with log:
+        process.wait()
         log.seek(0)
-        text = log.read()
+        text = CHECKED.sub("", log.read())
     print(text, end="", flush=True)
     passed, failed = count(text)
-    return passed, failed or (1 if ran.returncode else 0)
+    return passed, failed or (1 if process.returncode else 0)
 
 
-def spent(begun):
-    """What the run has taken, in words."""
+def spent(since):
+    """What the run has taken since then, in words."""
     used = resource.getrusage(resource.RUSAGE_CHILDREN)
-    minutes, processors = (time.monotonic() - begun) / 60, (used.ru_utime + used.ru_stime) / 60
+    minutes, processors = (time.monotonic() - since) / 60, (used.ru_utime + used.ru_stime) / 60
     most = used.ru_maxrss / 1e6
     return f"took {minutes:.0f} minutes, {processors:.0f} of processors; the largest process {most:.1f} GB"
 
 
 def main():
-    python, tests, begun = sys.executable, [], time.monotonic()
+    python, since = sys.executable, time.monotonic()
     recorded = [] if "--whole" in sys.argv[1:] else ["--recorded"]
-    with tempfile.TemporaryFile("w+", errors="replace") as log:
-        words = ["nice", "-n", "10", python, "tools/wrong_bodies", "--from-nothing", *recorded]
-        wrong = subprocess.Popen(words, stdin=subprocess.DEVNULL, stdout=log, stderr=subprocess.STDOUT)
-        tests.append(run("rt ci", ["rt", "ci"], counts))
-        tests.append(run("the program", [python, "tools/program_tests", *filter(os.path.isfile, PROGRAMS)], counts))
-        tests.append(run("the tools", [python, "tools/wrong_bodies/tests.py"], tool_counts))
-        tests.append(run("the tools", [python, "tools/house_rules/tests.py"], tool_counts))
-        tests.append(run("the house's rules", [python, "tools/house_rules"], counts))
-        print("== wrong bodies", flush=True)
-        wrong.wait()
-        log.seek(0)
-        text = log.read()
-        print(CHECKED.sub("", text), end="", flush=True)
-        tests.append(counts(text))
+    wrong = begun(["nice", "-n", "10", python, "tools/wrong_bodies", "--from-nothing", *recorded])
+    tools = [begun(["nice", "-n", "10", python, f"tools/{it}/tests.py"]) for it in ("wrong_bodies", "house_rules")]
+    rules = begun([python, "tools/house_rules"])
+    tests = [ended("rt ci", begun(["rt", "ci"]), counts)]
+    programs = filter(os.path.isfile, PROGRAMS)
+    tests.append(ended("the program", begun([python, "tools/program_tests", *programs]), counts))
+    tests += [ended("the tools", it, tool_counts) for it in tools]
+    tests.append(ended("the house's rules", rules, counts))
+    tests.append(ended("wrong bodies", wrong, counts))
     passed, failed = (sum(them) for them in zip(*tests))
-    print(spent(begun))
+    print(spent(since))
     print(f"{passed} passed, {failed} failed")
     return 1 if failed else 0
 
