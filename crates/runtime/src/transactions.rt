@@ -6,7 +6,8 @@ ghost use Rattle.schedule.specs.Past.{is_changed};
 ghost use Rattle.runtime.specs.Clients.{knows_that};
 ghost use Rattle.runtime.specs.Commits.{Answers};
 ghost use Rattle.runtime.specs.Lists.{attempts_of};
-ghost use Rattle.runtime.specs.Serves.{IsAnswer, IsUnanswered};
+ghost use Rattle.runtime.specs.Runs.{Continues};
+ghost use Rattle.runtime.specs.Serves.{IsAnswer, IsUnanswered, KeepsList};
 
 use crate::answers::{CommitError, Done};
 use crate::client::Client;
@@ -32,6 +33,7 @@ pub fn begin<E: End>(client: &mut Client<E>) -> Result<Txn<'_, E>, EnterError>
     ensures list { IfOk result (λ t. IsPrefix client.old.list t.client.now.list) }
     ensures numbers { IfOk result (λ t.
         (t.client.now.last ≡ client.old.last) × (t.client.now.number ≡ client.old.number)) }
+    ensures name { IfOk result (λ t. t.client.now.name ≡ client.old.name) }
 {
     client.begin_here()?;
     Ok(Txn { client })
@@ -43,13 +45,15 @@ impl<E: End> Txn<'_, E> {
     /// The reply is the serial store's for what is committed in the transaction's list at its read
     /// version, as its own accepted commands change it, or a write limit. It is never that of a
     /// refused read: where the published list is more than the window above the transaction's, the
-    /// command has no reply but `TooOld`. Where there is no reply the transaction can go on; after
-    /// `Memory` it has read the first of the command's ranges.
+    /// command has no reply but `TooOld`, and the client has learnt that list. Where there is no
+    /// reply the transaction can go on; after `Memory` it has read the first of the command's ranges.
     pub fn perform(&mut self, command: &Command) -> Result<Reply, EnterError>
         ensures same_reference { self.new.client.ghost_name ≡ self.old.client.ghost_name }
         ensures same { self.new.client.now
-            ≡ knows_that self.old.client.now.name self.old.client.now.list self.old.client.now.number
+            ≡ knows_that self.old.client.now.name self.new.client.now.list self.old.client.now.number
             self.old.client.now.last self.new.client.now.begun }
+        ensures list { KeepsList result self.old.client.now.list self.new.client.now.list }
+        ensures continues { Continues self.old.client.now self.new.client.now }
         ensures answer { (work : _) → self.old.client.now.begun ≡ Some work → IfOk result (λ reply.
             IsAnswer work.front.name.config work.front.list work.transaction work.trace.attempts command.now reply) }
         ensures grown { (work : _) → self.old.client.now.begun ≡ Some work → IfOk result (λ reply.
@@ -57,7 +61,8 @@ impl<E: End> Txn<'_, E> {
             × (after.trace.attempts ≡ work.trace.attempts ++ record { command = command.now; reply = reply } ∷ [])) }
         ensures refused { (work : _) → self.old.client.now.begun ≡ Some work → IfErr result (λ error.
             (after : _) × (self.new.client.now.begun ≡ Some after) × (after.front ≡ work.front)
-            × IsUnanswered work.front error command.now work.transaction work.trace after.transaction after.trace) }
+            × IsUnanswered work.front self.new.client.now.list error command.now work.transaction work.trace
+            after.transaction after.trace) }
     {
         self.client.perform_here(command)
     }
@@ -66,8 +71,10 @@ impl<E: End> Txn<'_, E> {
     ///
     /// After `Committed` the client has learnt a published list that ends with this transaction's
     /// entry, committed, and after `Conflict` one that ends with its entry, refused with that cause.
-    /// `ReadOnly` submits nothing. A number is given to the submission then and after `Unknown`, and
-    /// in no other case.
+    /// `ReadOnly` submits nothing. After `TooOld` it has learnt a list that is more than the window
+    /// above the transaction's, and after `VersionsExhausted` one behind which no version is left, or
+    /// no number for this client. A number is given to the submission with `Committed`, `Conflict` and
+    /// `Unknown`, and in no other case.
     pub fn commit<R: Wait>(self, rt: &R) -> Result<Done, CommitError>
         ensures answer { (work : _) → self.entry.client.now.begun ≡ Some work →
             Answers self.entry.client.now self.exit.0.now work.transaction work.trace result }
