@@ -11,7 +11,7 @@ use Rattle.runtime.specs.declared.answers.Done.TheVariants.{Committed, ReadOnly}
 use Rattle.runtime.specs.declared.answers.CommitError.{CommitError}
 use Rattle.runtime.specs.declared.answers.CommitError.TheVariants.{Conflict, TooOld, VersionsExhausted, Unknown, Memory}
 use Rattle.runtime.specs.History.{Name, Reach}
-use Rattle.runtime.specs.Lists.{IsExhausted, version_of}
+use Rattle.runtime.specs.Lists.{version_of}
 use Rattle.kv_core.specs.Range.{KeyRange}
 use Rattle.runtime.specs.declared.flight.Ruling.{Ruling}
 use Rattle.runtime.specs.declared.flight.HoldError.TheVariants as holds
@@ -65,6 +65,3 @@ conflicting n f c own r t e s range of tells is =
 
 pub too_old : (n : Name) (f : Reach) (c own : ℕ) (r : CommitRequest) (t : Trace) → IsOf n (Some f) → Tells c own r t (Err holds.TooOld) (Some f) → IsConcluded n c own r t (Some f) (Err TooOld) own
 too_old n f c own r t of tells = (refl, subst (λ (m : Name). m.config.window < version_of m.config f.list - r.read_version) of tells)
-
-pub exhausted : (n : Name) (f : Reach) (c own : ℕ) (r : CommitRequest) (t : Trace) → IsOf n (Some f) → Tells c own r t (Err holds.VersionsExhausted) (Some f) → IsConcluded n c own r t (Some f) (Err VersionsExhausted) own
-exhausted n f c own r t of tells = (refl, subst (λ (m : Name). IsExhausted m.config f.list c own) of tells)

@@ -33,8 +33,8 @@ abbrev pub stopped : Command → Performed
 stopped command = record { command = command; reply = Refused refusals.TooOld }
 
 -- why a command has no reply. `TooOld` only where the list that was published begins with the transaction's, and is
--- more than the window above it. Unless memory was wanting the transaction is as before, and else it has written nothing
--- more
+-- more than the window above it. Unless memory was wanting the transaction is as before, and else it has written
+-- nothing more
 abbrev pub IsUnanswered :
     Reach → List Entry → EnterError → Command → CommitRequest → Trace → CommitRequest → Trace → Type 0
 IsUnanswered front published NotEntered command old before new after = (new ≡ old) × (after ≡ before)

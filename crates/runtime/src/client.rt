@@ -256,7 +256,7 @@ fn learnt(me: &Front, seen: &Option<Front>) -> Front
 }
 
 /// What a turn comes to: the answer, and the client's last number.
-#[tactic(auto, using(crate::proofs::Told::committed, crate::proofs::Told::conflicting, crate::proofs::Told::too_old, crate::proofs::Told::exhausted))]
+#[tactic(auto, using(crate::proofs::Told::committed, crate::proofs::Told::conflicting, crate::proofs::Told::too_old))]
 fn concluded(
     answer: Result<Ruling, HoldError>,
     seen: Option<Front>,
