@@ -24,6 +24,9 @@ impl Model for Trace {
     ghost also_owns = { λ _. ftrue };
 }
 
+// It owns nothing, so it may go to another thread, whatever its commands would own.
+unsafe impl Send for Trace {}
+
 impl Trace {
     /// No command.
     pub fn new() -> Trace

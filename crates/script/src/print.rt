@@ -91,7 +91,9 @@ fn state_name(state: State) -> &'static str {
     }
 }
 
-fn push_reply(alloc: Global, line: &mut String, reply: &Reply) -> Result<(), AllocError> {
+/// Writes what a step replied behind what the line holds. Where memory is wanting it answers
+/// `AllocError`, and the line holds a part of the text.
+pub fn push_reply(alloc: Global, line: &mut String, reply: &Reply) -> Result<(), AllocError> {
     match reply {
         Reply::Begun(version) => write!(line, "begun {version}"),
         Reply::Done => line.push_str("ok"),

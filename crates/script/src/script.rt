@@ -37,7 +37,7 @@ fn frame_of(script: &Value) -> Result<&[Value], PartError>
 }
 
 // The configuration of a script, where `config` is the empty object if it isn't there.
-fn script_config(alloc: Global, script: &Value) -> Result<Config, PartError>
+pub(crate) fn script_config(alloc: Global, script: &Value) -> Result<Config, PartError>
     ensures ok { IfOk result (λ config. script_config (view script.now) ≡ Some config) }
     ensures err { IfErr result (λ error. error ≡ PartError.BadForm → script_config (view script.now) ≡ None) }
 {

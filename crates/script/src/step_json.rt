@@ -41,7 +41,7 @@ fn command_of_one(alloc: Global, name: &str, part: &Value) -> Result<Command, Pa
 }
 
 // A whole number of 32 bits without sign.
-fn limit_of(value: &Value) -> Result<u32, PartError>
+pub(crate) fn limit_of(value: &Value) -> Result<u32, PartError>
     ensures ok { IfOk result (λ limit. limit_in (view value.now) ≡ Some limit) }
     ensures err { IfErr result (λ error. error ≡ PartError.BadForm → limit_in (view value.now) ≡ None) }
 {
