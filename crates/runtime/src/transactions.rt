@@ -3,6 +3,7 @@ ghost use Rattle.std.specs.Borrow.{sem, RestsIfErr};
 ghost use mathlib.Core.List.{IsPrefix};
 ghost use Rattle.runtime.specs.contracts.client.Client.{the_row};
 ghost use Rattle.schedule.specs.Past.{is_changed};
+ghost use Rattle.runtime.specs.Calls.{HasPerformed};
 ghost use Rattle.runtime.specs.Clients.{knows_that};
 ghost use Rattle.runtime.specs.Commits.{Answers};
 ghost use Rattle.runtime.specs.Lists.{attempts_of};
@@ -13,8 +14,10 @@ use crate::answers::{CommitError, Done};
 use crate::client::Client;
 use crate::entering::EnterError;
 use crate::turn::End;
-use schedule::{Command, Reply};
+use metadata::Cells;
+use schedule::{AskedQuery, Command, Reply, SharedPlan};
 use std::sync::Wait;
+use tuple_codec::Text;
 
 /// An open transaction of a client, which is lent to it.
 #[derive(Drop)]
@@ -65,6 +68,54 @@ impl<E: End> Txn<'_, E> {
             after.transaction after.trace) }
     {
         self.client.perform_here(command)
+    }
+
+    /// Puts a record of this type in the place of the one with its primary key.
+    pub fn save(&mut self, type_name: Text, cells: Cells) -> Result<Reply, EnterError>
+        ensures same_reference { self.new.client.ghost_name ≡ self.old.client.ghost_name }
+        ensures performed { HasPerformed (Command.Save type_name cells) self.old.client.now result self.new.client.now }
+    {
+        self.perform(&Command::Save(type_name, cells))
+    }
+
+    /// Asks for the record of this type with these key cells.
+    pub fn load(&mut self, type_name: Text, key: Cells) -> Result<Reply, EnterError>
+        ensures same_reference { self.new.client.ghost_name ≡ self.old.client.ghost_name }
+        ensures performed { HasPerformed (Command.Load type_name key) self.old.client.now result self.new.client.now }
+    {
+        self.perform(&Command::Load(type_name, key))
+    }
+
+    /// Takes out the record of this type with these key cells.
+    pub fn remove(&mut self, type_name: Text, key: Cells) -> Result<Reply, EnterError>
+        ensures same_reference { self.new.client.ghost_name ≡ self.old.client.ghost_name }
+        ensures performed { HasPerformed (Command.Remove type_name key) self.old.client.now result self.new.client.now }
+    {
+        self.perform(&Command::Remove(type_name, key))
+    }
+
+    /// Asks for the plan of a query, which `execute` takes, also in a later transaction.
+    pub fn plan(&mut self, query: AskedQuery) -> Result<Reply, EnterError>
+        ensures same_reference { self.new.client.ghost_name ≡ self.old.client.ghost_name }
+        ensures performed { HasPerformed (Command.Plan query) self.old.client.now result self.new.client.now }
+    {
+        self.perform(&Command::Plan(query))
+    }
+
+    /// Asks for the rows of a plan, whenever that was made.
+    pub fn execute(&mut self, plan: SharedPlan) -> Result<Reply, EnterError>
+        ensures same_reference { self.new.client.ghost_name ≡ self.old.client.ghost_name }
+        ensures performed { HasPerformed (Command.Execute plan) self.old.client.now result self.new.client.now }
+    {
+        self.perform(&Command::Execute(plan))
+    }
+
+    /// Asks for the total of a group, of the COUNT or SUM index of this name.
+    pub fn aggregate(&mut self, index: Text, group: Cells) -> Result<Reply, EnterError>
+        ensures same_reference { self.new.client.ghost_name ≡ self.old.client.ghost_name }
+        ensures performed { HasPerformed (Command.Aggregate index group) self.old.client.now result self.new.client.now }
+    {
+        self.perform(&Command::Aggregate(index, group))
     }
 
     /// Commits, and ends the transaction. It waits for the lock, and for readers.
