@@ -242,7 +242,8 @@ fn learnt(me: &Front, seen: &Option<Front>) -> Front
     requires { IsOf me.now.name seen.now }
     ensures name { result.name ≡ me.now.name }
     ensures list { IsPrefix me.now.list result.list }
-    ensures seen { IfSome seen.now (λ front. (front.name ≡ me.now.name) × IsPrefix front.list result.list
+    ensures seen { IfSome seen.now (λ front. (front.name ≡ me.now.name)
+        × IsPrefix front.list result.list
         × (version_of me.now.name.config result.list < 2 ^ 64)) }
 {
     match seen {

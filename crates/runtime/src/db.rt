@@ -46,7 +46,8 @@ fn another<E: End, R: Wait>(
     requires front { front.now.list ≡ [] }
     ensures key { (key.new.table_id ≡ key.old.table_id) × (key.new.me ≡ key.old.me) }
     ensures client { IfOk result (λ client. client ≡ knows_that front.now.name [] number 0 None) }
-    ensures refused { IfErr result (λ error. (error ≡ OpenError.NoPlace) ⊎ (error ≡ OpenError.Memory)) }
+    ensures refused { IfErr result (λ error.
+        (error ≡ OpenError.NoPlace) ⊎ (error ≡ OpenError.Memory)) }
 {
     let mut owned = vault.take(rt, key);
     let reader = place(&mut owned.hold);
@@ -75,7 +76,8 @@ fn clients<E: End, R: Wait>(
 ) -> Result<Vec<Client<E>>, OpenError>
     requires { hold.published ≡ [] }
     ensures clients { IfOk result (λ clients. clients.items ≡ fresh hold.name places) }
-    ensures refused { IfErr result (λ error. (error ≡ OpenError.NoPlace) ⊎ (error ≡ OpenError.Memory)) }
+    ensures refused { IfErr result (λ error.
+        (error ≡ OpenError.NoPlace) ⊎ (error ≡ OpenError.Memory)) }
 {
     let front = hold.front();
     let (vault, mut key) = Vault::new(alloc, Owned { hold, end })?;
@@ -102,8 +104,10 @@ pub fn open<E: End, R: Wait>(
     ensures clients { IfOk result (λ clients.
         (name : Name) × (name.config ≡ config.now) × (clients.items ≡ fresh name config.now.places)) }
     ensures allowed { OnOk result (IsNone (config_refusal config.now)) }
-    ensures refused { IfErr result (λ error. (error ≡ OpenError.NoPlace) ⊎ (error ≡ OpenError.Memory)
-        ⊎ ((why : ConfigRefusal) × (error ≡ OpenError.Config why) × (config_refusal config.now ≡ Some why))) }
+    ensures refused { IfErr result (λ error.
+        (error ≡ OpenError.NoPlace) ⊎ (error ≡ OpenError.Memory)
+        ⊎ ((why : ConfigRefusal) × (error ≡ OpenError.Config why)
+        × (config_refusal config.now ≡ Some why))) }
 {
     let hold = Hold::open(rt, alloc, config)?;
     clients(rt, alloc, end, hold, config.places as usize)

@@ -86,7 +86,8 @@ fn perform_over(
     ensures over { IsOpenOver front.now.name.config front.now.list tx.new trace.new.attempts }
     ensures version { tx.new.read_version ≡ tx.old.read_version }
     ensures refused { IfErr result (λ error.
-        IsUnanswered front.now state.now.front.list error command.now tx.old trace.old tx.new trace.new) }
+        IsUnanswered front.now state.now.front.list error command.now tx.old trace.old
+        tx.new trace.new) }
 {
     if !front.begins(&state.front) {
         return Err(EnterError::NotEntered);

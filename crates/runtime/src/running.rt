@@ -23,7 +23,7 @@ pub trait Body<E: End> {
     /// What an attempt does, by the body and its client before and after it.
     ghost did: { Self → Knows → Result Self.Answer BodyError → Knows → Self → Type 0 };
 
-    /// Performs the commands of one attempt. It leaves the transaction to its caller, who commits it.
+    /// Performs the commands of one attempt. The transaction is left to the caller, who commits it.
     fn attempt(&mut self, tx: &mut Txn<'_, E>) -> Result<Self::Answer, BodyError>
         ensures same_reference { tx.new.client.ghost_name ≡ tx.old.client.ghost_name }
         ensures continues { Continues tx.old.client.now tx.new.client.now }

@@ -48,13 +48,13 @@ impl<E: End> Txn<'_, E> {
     /// The reply is the serial store's for what is committed in the transaction's list at its read
     /// version, as its own accepted commands change it, or a write limit. It is never that of a
     /// refused read: where the published list is more than the window above the transaction's, the
-    /// command has no reply but `TooOld`, and the client has learnt that list. Where there is no
-    /// reply the transaction can go on; after `Memory` it has read the first of the command's ranges.
+    /// command has no reply but `TooOld`, and the client has learnt that list. Where there is no reply
+    /// the transaction can go on; after `Memory` it has read the first of the command's ranges.
     pub fn perform(&mut self, command: &Command) -> Result<Reply, EnterError>
         ensures same_reference { self.new.client.ghost_name ≡ self.old.client.ghost_name }
         ensures same { self.new.client.now
-            ≡ knows_that self.old.client.now.name self.new.client.now.list self.old.client.now.number
-            self.old.client.now.last self.new.client.now.begun }
+            ≡ knows_that self.old.client.now.name self.new.client.now.list
+            self.old.client.now.number self.old.client.now.last self.new.client.now.begun }
         ensures list { KeepsList result self.old.client.now.list self.new.client.now.list }
         ensures continues { Continues self.old.client.now self.new.client.now }
         ensures answer { (work : _) → self.old.client.now.begun ≡ Some work → IfOk result (λ reply.
@@ -64,8 +64,8 @@ impl<E: End> Txn<'_, E> {
             × (after.trace.attempts ≡ work.trace.attempts ++ record { command = command.now; reply = reply } ∷ [])) }
         ensures refused { (work : _) → self.old.client.now.begun ≡ Some work → IfErr result (λ error.
             (after : _) × (self.new.client.now.begun ≡ Some after) × (after.front ≡ work.front)
-            × IsUnanswered work.front self.new.client.now.list error command.now work.transaction work.trace
-            after.transaction after.trace) }
+            × IsUnanswered work.front self.new.client.now.list error command.now
+            work.transaction work.trace after.transaction after.trace) }
     {
         self.client.perform_here(command)
     }
@@ -73,7 +73,8 @@ impl<E: End> Txn<'_, E> {
     /// Puts a record of this type in the place of the one with its primary key.
     pub fn save(&mut self, type_name: Text, cells: Cells) -> Result<Reply, EnterError>
         ensures same_reference { self.new.client.ghost_name ≡ self.old.client.ghost_name }
-        ensures performed { HasPerformed (Command.Save type_name cells) self.old.client.now result self.new.client.now }
+        ensures performed { HasPerformed (Command.Save type_name cells)
+            self.old.client.now result self.new.client.now }
     {
         self.perform(&Command::Save(type_name, cells))
     }
@@ -81,7 +82,8 @@ impl<E: End> Txn<'_, E> {
     /// Asks for the record of this type with these key cells.
     pub fn load(&mut self, type_name: Text, key: Cells) -> Result<Reply, EnterError>
         ensures same_reference { self.new.client.ghost_name ≡ self.old.client.ghost_name }
-        ensures performed { HasPerformed (Command.Load type_name key) self.old.client.now result self.new.client.now }
+        ensures performed { HasPerformed (Command.Load type_name key)
+            self.old.client.now result self.new.client.now }
     {
         self.perform(&Command::Load(type_name, key))
     }
@@ -89,7 +91,8 @@ impl<E: End> Txn<'_, E> {
     /// Takes out the record of this type with these key cells.
     pub fn remove(&mut self, type_name: Text, key: Cells) -> Result<Reply, EnterError>
         ensures same_reference { self.new.client.ghost_name ≡ self.old.client.ghost_name }
-        ensures performed { HasPerformed (Command.Remove type_name key) self.old.client.now result self.new.client.now }
+        ensures performed { HasPerformed (Command.Remove type_name key)
+            self.old.client.now result self.new.client.now }
     {
         self.perform(&Command::Remove(type_name, key))
     }
@@ -97,7 +100,8 @@ impl<E: End> Txn<'_, E> {
     /// Asks for the plan of a query, which `execute` takes, also in a later transaction.
     pub fn plan(&mut self, query: AskedQuery) -> Result<Reply, EnterError>
         ensures same_reference { self.new.client.ghost_name ≡ self.old.client.ghost_name }
-        ensures performed { HasPerformed (Command.Plan query) self.old.client.now result self.new.client.now }
+        ensures performed { HasPerformed (Command.Plan query)
+            self.old.client.now result self.new.client.now }
     {
         self.perform(&Command::Plan(query))
     }
@@ -105,7 +109,8 @@ impl<E: End> Txn<'_, E> {
     /// Asks for the rows of a plan, whenever that was made.
     pub fn execute(&mut self, plan: SharedPlan) -> Result<Reply, EnterError>
         ensures same_reference { self.new.client.ghost_name ≡ self.old.client.ghost_name }
-        ensures performed { HasPerformed (Command.Execute plan) self.old.client.now result self.new.client.now }
+        ensures performed { HasPerformed (Command.Execute plan)
+            self.old.client.now result self.new.client.now }
     {
         self.perform(&Command::Execute(plan))
     }
@@ -113,7 +118,8 @@ impl<E: End> Txn<'_, E> {
     /// Asks for the total of a group, of the COUNT or SUM index of this name.
     pub fn aggregate(&mut self, index: Text, group: Cells) -> Result<Reply, EnterError>
         ensures same_reference { self.new.client.ghost_name ≡ self.old.client.ghost_name }
-        ensures performed { HasPerformed (Command.Aggregate index group) self.old.client.now result self.new.client.now }
+        ensures performed { HasPerformed (Command.Aggregate index group)
+            self.old.client.now result self.new.client.now }
     {
         self.perform(&Command::Aggregate(index, group))
     }
@@ -123,9 +129,9 @@ impl<E: End> Txn<'_, E> {
     /// After `Committed` the client has learnt a published list that ends with this transaction's
     /// entry, committed, and after `Conflict` one that ends with its entry, refused with that cause.
     /// `ReadOnly` submits nothing. After `TooOld` it has learnt a list that is more than the window
-    /// above the transaction's, and after `VersionsExhausted` one behind which no version is left, or
-    /// no number for this client. A number is given to the submission with `Committed`, `Conflict` and
-    /// `Unknown`, and in no other case.
+    /// above the transaction's, and after `VersionsExhausted` one behind which no version is left,
+    /// or no number for this client. A number is given to the submission with `Committed`,
+    /// `Conflict` and `Unknown`, and in no other case.
     pub fn commit<R: Wait>(self, rt: &R) -> Result<Done, CommitError>
         ensures answer { (work : _) → self.entry.client.now.begun ≡ Some work →
             Answers self.entry.client.now self.exit.0.now work.transaction work.trace result }
