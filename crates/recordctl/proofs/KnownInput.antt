@@ -6,7 +6,7 @@ use Rattle.cluster_core.specs.declared.answers.Config.{Config}
 use Rattle.schedule.specs.declared.step.Step.{Step}
 use Rattle.schedule.specs.declared.transcript.Transcript.{Transcript}
 use Rattle.recordctl.specs.declared.fault.Fault.{Fault}
-use Rattle.recordctl.specs.declared.fault.Fault.TheVariants.{OutOfMemory, CannotRead, BadScript, BadConfig, BadArgument, Refused, RefusedSchema, RefusedQuery, SortNotServed}
+use Rattle.recordctl.specs.declared.fault.Fault.TheVariants.{OutOfMemory, CannotRead, BadScript, BadConfig, BadArgument, Refused, RefusedSchema, RefusedQuery, SortNotServed, GaveUp, RefusedCommand, Corrupt}
 use Rattle.json_forms.specs.Json.{value_in}
 use Rattle.script.specs.Script.{IsScript}
 use Rattle.planner.specs.Asked.{AskedPlan}
@@ -48,6 +48,9 @@ explained_moved a b e (Refused kind at) h = h
 explained_moved a b e (RefusedSchema why) h = h
 explained_moved a b e (RefusedQuery why) h = h
 explained_moved a b e SortNotServed h = h
+explained_moved a b e GaveUp h = h
+explained_moved a b e (RefusedCommand why) h = h
+explained_moved a b e Corrupt h = h
 
 -- what is said of the bytes that are read is so of the whole input
 pub transcript_of_front : (known : Option (List ℕ)) (bytes : List ℕ) (transcript : Transcript) → IfSome known (λ text. bytes ≡ take 4000001 text) → IsTranscriptOf bytes transcript → IfSome known (λ text. IsTranscriptOf text transcript)

@@ -1,0 +1,7 @@
+//! Tests of the running database's public calls: clients on threads beside one another.
+#![tactic(auto)]
+
+#[cfg(test)]
+mod beside;
+#[cfg(test)]
+mod transactions;
