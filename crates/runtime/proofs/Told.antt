@@ -1,5 +1,5 @@
 -- What a turn comes to for a client.
-use Rattle.std.proofs.Common.{◌≡◌, ℕ, ◌-◌, ◌<◌, Option, Some, None, refl, sym, ap, ◌∙◌, subst}
+use Rattle.std.proofs.Common.{◌≡◌, ℕ, ◌-◌, ◌<◌, ◌^◌, Option, Some, None, refl, sym, ap, ◌∙◌, subst}
 use Rattle.std.specs.Prelude.{Result, Ok, Err, IfSome}
 use mathlib.Core.List.{IsPrefix}
 use Rattle.kv_core.specs.declared.change.CommitRequest.{CommitRequest}
@@ -19,9 +19,10 @@ use Rattle.runtime.specs.Tells.{EndsWith, IsConcluded, IsOf, Tells}
 use Rattle.runtime.specs.Clients.{Knows}
 use Rattle.runtime.specs.Commits.{Answers}
 use Rattle.runtime.proofs.Entries.{version_begins}
+use Rattle.runtime.proofs.Numbers.{exhausted_begins}
 use Rattle.std.proofs.Common.{arith, ◌≤◌}
 
-pub answers_by : (a b : Knows) (r : CommitRequest) (t : Trace) (seen : Option Reach) (result : Result Done CommitError) → IfSome seen (λ f. (f.name ≡ a.name) × IsPrefix f.list b.list) →
+pub answers_by : (a b : Knows) (r : CommitRequest) (t : Trace) (seen : Option Reach) (result : Result Done CommitError) → IfSome seen (λ f. (f.name ≡ a.name) × IsPrefix f.list b.list × (version_of a.name.config b.list < 2 ^ 64)) →
     IsConcluded a.name a.number a.last r t seen result b.last → Answers a b r t result
 answers_by a b r t (Some f) (Ok (Committed version s)) known is = (
   (is.0.0, (subst (λ (g : Reach). EndsWith a.name.config g.list a.number b.last r t (reported.Committed is.0.0)) (sym is.1) is.0.1, subst (λ (g : Reach). IsPrefix g.list b.list) (sym is.1) known.1, is.3)),
@@ -39,8 +40,8 @@ answers_by a b r t (Some f) (Err TooOld) known is =
     let above : window < version_of a.name.config f.list - r.read_version = is.1 in
     (is.0, omega (arith, reached, above))
 answers_by a b r t None (Err TooOld) known is = absurd is
-answers_by a b r t (Some f) (Err VersionsExhausted) known is = is
-answers_by a b r t None (Err VersionsExhausted) known is = is
+answers_by a b r t (Some f) (Err VersionsExhausted) known is = (is.0, exhausted_begins a.name.config f.list b.list a.number a.last known.1 known.2 is.1)
+answers_by a b r t None (Err VersionsExhausted) known is = absurd is
 answers_by a b r t (Some f) (Err Unknown) known is = is
 answers_by a b r t None (Err Unknown) known is = is
 answers_by a b r t (Some f) (Err Memory) known is = is

@@ -10,8 +10,8 @@ use Rattle.runtime.specs.declared.trace.Trace.{Trace}
 use Rattle.runtime.specs.declared.answers.Done.{Done}
 use Rattle.runtime.specs.declared.answers.Done.TheVariants.{Committed, ReadOnly}
 use Rattle.runtime.specs.declared.answers.CommitError.{CommitError}
-use Rattle.runtime.specs.declared.answers.CommitError.TheVariants.{Conflict, TooOld, Unknown}
-use Rattle.runtime.specs.Lists.{attempts_of, version_of}
+use Rattle.runtime.specs.declared.answers.CommitError.TheVariants.{Conflict, TooOld, VersionsExhausted, Unknown, Memory}
+use Rattle.runtime.specs.Lists.{IsExhausted, attempts_of, version_of}
 use Rattle.runtime.specs.Tells.{EndsWith}
 use Rattle.runtime.specs.Clients.{Knows}
 
@@ -23,7 +23,8 @@ Learnt old new request trace told log =
 
 -- Committed: the list of `seen` ends at that version with this submission, committed. Conflict: the client knows a list
 -- that ends with this submission, refused with that cause. TooOld: it knows a list that is more than the window above
--- the transaction. A number is given in the first two cases and with Unknown, and else none
+-- the transaction. VersionsExhausted: it knows a list behind which there is no version, or no number for this client. A
+-- number is given in the first two cases and with Unknown, and else none
 abbrev pub Answers : Knows → Knows → CommitRequest → Trace → Result Done CommitError → Type 0
 Answers old new request trace (Ok (Committed version seen)) =
     ((v : ℕ) × Learnt old new request trace (reported.Committed v) seen.front.list)
@@ -35,5 +36,7 @@ Answers old new request trace (Err (Conflict seen range)) =
 Answers old new request trace (Err TooOld) =
     (new.last ≡ old.last)
     × (old.name.config.window < version_of old.name.config new.list - request.read_version)
+Answers old new request trace (Err VersionsExhausted) =
+    (new.last ≡ old.last) × IsExhausted old.name.config new.list old.number old.last
 Answers old new request trace (Err Unknown) = old.last < new.last
-Answers old new request trace (Err _) = new.last ≡ old.last
+Answers old new request trace (Err Memory) = new.last ≡ old.last

@@ -11,7 +11,7 @@ use Rattle.runtime.specs.declared.flight.Ruling.{Ruling}
 use Rattle.runtime.specs.declared.flight.HoldError.{HoldError}
 use Rattle.runtime.specs.declared.flight.HoldError.TheVariants.{TooOld, VersionsExhausted, Memory, Unknown}
 use Rattle.runtime.specs.History.{Name, entry_of}
-use Rattle.runtime.specs.Lists.{IsLawful, cause_next, logged_next, pipeline_of, version_of}
+use Rattle.runtime.specs.Lists.{AreLast, IsLawful, cause_next, has_number, logged_next, pipeline_of, version_of}
 use Rattle.runtime.specs.State.{Leads}
 
 -- the entry of a client's submission
@@ -44,6 +44,13 @@ IsInFlight name log p (Ruled ruled) =
 IsInFlight name log p (Added step) =
     (p ≡ pipeline_of name.config (log ++ entry_of step.note ∷ [])) × Leads name log step
 
+-- each client's last number is that of a submission which the list has or will have, unless one is lost
+abbrev pub IsBacked : List ℕ → List Entry → Flight → Type 0
+IsBacked last log Idle = AreLast last log
+IsBacked last log Lost = Unit {0}
+IsBacked last log (Ruled ruled) = AreLast last (log ++ entry_of ruled.note ∷ [])
+IsBacked last log (Added step) = AreLast last (log ++ entry_of step.note ∷ [])
+
 -- the locked state: which database it is, the published list, the list of all entries that were added, that list once
 -- what is reported is added, whether nothing is in flight, and the last submission number of each client
 pub record Held : Type 0 where
@@ -71,7 +78,8 @@ Asks old new client own request trace (Err TooOld) =
     (new ≡ old) × (old.name.config.window < version_of old.name.config old.log - request.read_version)
 Asks old new client own request trace (Err VersionsExhausted) =
     (new ≡ old)
-    × ((version_of old.name.config old.log ≡ 2 ^ 64 - 1) ⊎ (slice_index old.last client ≡ 2 ^ 64 - 1)
+    × ((version_of old.name.config old.log ≡ 2 ^ 64 - 1)
+    ⊎ ((slice_index old.last client ≡ 2 ^ 64 - 1) × (has_number client (2 ^ 64 - 1) old.log ≡ true))
     ⊎ (own ≡ 2 ^ 64 - 1))
 Asks old new client own request trace (Err Memory) = new ≡ old
 Asks old new client own request trace (Err (Unknown number)) =

@@ -1,5 +1,5 @@
 -- Lists of entries: the database that one makes, and what makes one lawful.
-use Rattle.std.specs.Prelude.{◌≡◌, All, ℕ, ◌+◌, ◌-◌, ◌<◌, ◌≤◌, ◌^◌, Bool, true, not, ◌&&◌, ◌==◌, nat_le}
+use Rattle.std.specs.Prelude.{◌≡◌, ◌⊎◌, All, ℕ, ◌+◌, ◌-◌, ◌<◌, ◌≤◌, ◌^◌, Bool, true, not, ◌&&◌, ◌==◌, nat_le}
 use Rattle.std.specs.Prelude.{slice_index, List, [], ◌∷◌, map, length, Option, is_none, if◌then◌else◌}
 use Rattle.std.specs.List.{list_any, list_all}
 use Rattle.kv_core.specs.Map.{Map}
@@ -119,6 +119,21 @@ pub record IsLawful (config : Config) (log : List Entry) : Type 0 where
 -- no submission in the list has a number above its client's last
 abbrev pub is_numbered : List ℕ → List Entry → Bool
 is_numbered last log = list_all (λ e. nat_le e.number (slice_index last e.client)) log
+
+-- the list has the entry of a client's submission of this number
+abbrev pub has_number : ℕ → ℕ → List Entry → Bool
+has_number client number log = list_any (λ e. (e.client == client) && (e.number == number)) log
+
+-- the last number of each client that has one is that of an entry in the list
+pub record AreLast (last : List ℕ) (log : List Entry) : Type 0 where
+  pub stands :
+      (client : ℕ) → 0 < slice_index last client → has_number client (slice_index last client) log ≡ true
+
+-- no version is left behind the list, or no number for this client: the list has its submission of the last number
+-- that there is, or its last number by its own account is that
+abbrev pub IsExhausted : Config → List Entry → ℕ → ℕ → Type 0
+IsExhausted config log client own =
+    (version_of config log ≡ 2 ^ 64 - 1) ⊎ ((has_number client (2 ^ 64 - 1) log ≡ true) ⊎ (own ≡ 2 ^ 64 - 1))
 
 -- the map at each version of the list holds what the accepted commands of the committed entries up to there give
 abbrev pub HoldsEach : Config → List Entry → Type 0

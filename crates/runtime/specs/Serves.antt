@@ -1,5 +1,5 @@
 -- What a transaction over a list is answered.
-use Rattle.std.specs.Prelude.{◌≡◌, ◌-◌, ◌<◌, List, [], ◌∷◌, ◌++◌}
+use Rattle.std.specs.Prelude.{◌≡◌, ◌-◌, ◌<◌, List, [], ◌∷◌, ◌++◌, Result, Ok, Err}
 use mathlib.Core.List.{IsPrefix}
 use Rattle.kv_core.specs.declared.change.CommitRequest.{CommitRequest}
 use Rattle.cluster_core.specs.declared.answers.Config.{Config}
@@ -32,14 +32,22 @@ IsAnswer config log request done command reply =
 abbrev pub stopped : Command → Performed
 stopped command = record { command = command; reply = Refused refusals.TooOld }
 
--- why a command has no reply. `TooOld` only where some list that begins with the transaction's is more than the window
--- above it. Unless memory was wanting the transaction is as before, and else it has written nothing more
-abbrev pub IsUnanswered : Reach → EnterError → Command → CommitRequest → Trace → CommitRequest → Trace → Type 0
-IsUnanswered front NotEntered command old before new after = (new ≡ old) × (after ≡ before)
-IsUnanswered front TooOld command old before new after =
-    (new ≡ old) × (after ≡ before)
-    × ((published : List Entry) × IsPrefix front.list published
+-- why a command has no reply. `TooOld` only where the list that was published begins with the transaction's, and is
+-- more than the window above it. Unless memory was wanting the transaction is as before, and else it has written
+-- nothing more
+abbrev pub IsUnanswered :
+    Reach → List Entry → EnterError → Command → CommitRequest → Trace → CommitRequest → Trace → Type 0
+IsUnanswered front published NotEntered command old before new after = (new ≡ old) × (after ≡ before)
+IsUnanswered front published TooOld command old before new after =
+    (new ≡ old) × (after ≡ before) × IsPrefix front.list published
     × (front.name.config.window
-    < version_of front.name.config published - version_of front.name.config front.list))
-IsUnanswered front Memory command old before new after =
+    < version_of front.name.config published - version_of front.name.config front.list)
+IsUnanswered front published Memory command old before new after =
     (new.mutations ≡ old.mutations) × (after.attempts ≡ before.attempts ++ stopped command ∷ [])
+
+-- a client's list after a command: with `TooOld` it may be longer, and else it stays
+abbrev pub KeepsList : Result Reply EnterError → List Entry → List Entry → Type 0
+KeepsList (Ok reply) old new = new ≡ old
+KeepsList (Err NotEntered) old new = new ≡ old
+KeepsList (Err TooOld) old new = IsPrefix old new
+KeepsList (Err Memory) old new = new ≡ old

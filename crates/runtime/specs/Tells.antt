@@ -10,6 +10,7 @@ use Rattle.runtime.specs.declared.trace.Trace.{Trace}
 use Rattle.runtime.specs.declared.flight.Ruling.{Ruling}
 use Rattle.runtime.specs.declared.flight.HoldError.{HoldError}
 use Rattle.runtime.specs.declared.flight.HoldError.TheVariants.{TooOld, Unknown}
+use Rattle.runtime.specs.declared.flight.HoldError.TheVariants as holds
 use Rattle.runtime.specs.declared.answers.Done.{Done}
 use Rattle.runtime.specs.declared.answers.Done.TheVariants.{Committed, ReadOnly}
 use Rattle.runtime.specs.declared.answers.CommitError.{CommitError}
@@ -17,7 +18,7 @@ use Rattle.runtime.specs.declared.answers.CommitError.TheVariants as commits
 use Rattle.runtime.specs.declared.answers.CommitError.TheVariants.{Conflict, VersionsExhausted, Memory}
 use Rattle.runtime.specs.History.{Name, Reach}
 use Rattle.runtime.specs.Holds.{entry}
-use Rattle.runtime.specs.Lists.{cause_next, version_of}
+use Rattle.runtime.specs.Lists.{IsExhausted, cause_next, version_of}
 
 -- the list ends with the entry of this submission, of which this is told by what stands before it
 abbrev pub EndsWith : Config → List Entry → ℕ → ℕ → CommitRequest → Trace → Reported → Type 0
@@ -32,6 +33,8 @@ Tells client own request trace (Ok ruling) (Some front) =
 Tells client own request trace (Ok ruling) None = own < ruling.number
 Tells client own request trace (Err TooOld) (Some front) =
     front.name.config.window < version_of front.name.config front.list - request.read_version
+Tells client own request trace (Err holds.VersionsExhausted) (Some front) =
+    IsExhausted front.name.config front.list client own
 Tells client own request trace (Err (Unknown number)) front = own < number
 Tells client own request trace _ _ = Unit {0}
 
@@ -51,12 +54,13 @@ IsConcluded name client own request trace (Some front) (Err (Conflict seen range
 IsConcluded name client own request trace (Some front) (Err commits.TooOld) last =
     (last ≡ own) × (name.config.window < version_of name.config front.list - request.read_version)
 IsConcluded name client own request trace (Some front) (Ok ReadOnly) last = ⊥
-IsConcluded name client own request trace (Some front) (Err VersionsExhausted) last = last ≡ own
+IsConcluded name client own request trace (Some front) (Err VersionsExhausted) last =
+    (last ≡ own) × IsExhausted name.config front.list client own
 IsConcluded name client own request trace (Some front) (Err commits.Unknown) last = own < last
 IsConcluded name client own request trace (Some front) (Err Memory) last = last ≡ own
 IsConcluded name client own request trace None (Ok done) last = ⊥
 IsConcluded name client own request trace None (Err (Conflict seen range)) last = ⊥
 IsConcluded name client own request trace None (Err commits.TooOld) last = ⊥
-IsConcluded name client own request trace None (Err VersionsExhausted) last = last ≡ own
+IsConcluded name client own request trace None (Err VersionsExhausted) last = ⊥
 IsConcluded name client own request trace None (Err commits.Unknown) last = own < last
 IsConcluded name client own request trace None (Err Memory) last = last ≡ own

@@ -1,4 +1,5 @@
-ghost use Rattle.std.specs.Prelude.{◌≡◌, ◌^◌, ◌<◌, [], ◌∷◌, ◌++◌, IfOk, MatchResult};
+ghost use Rattle.std.specs.Prelude.{◌≡◌, ◌^◌, ◌<◌, [], ◌∷◌, ◌++◌, ◌⊎◌, Some, IfOk, IfErr, MatchResult};
+ghost use Rattle.cluster_core.specs.Configuration.{config_refusal};
 ghost use Rattle.left_right.specs.Sides.{view};
 ghost use Rattle.runtime.specs.History.{entry_of, name_of, reach};
 ghost use Rattle.runtime.specs.State.{Leads, knows, shown};
@@ -46,7 +47,9 @@ impl Board {
         readers: usize,
     ) -> Result<(Board, Head), ConfigError>
         requires { (0 < readers) × (readers < 2 ^ 32) }
-        ensures { IfOk result (λ r. r.0 ≡ shown (name_of r.1 config.now) [] []) }
+        ensures made { IfOk result (λ r. r.0 ≡ shown (name_of r.1 config.now) [] []) }
+        ensures refused { IfErr result (λ error.
+            (error ≡ ConfigError.Memory) ⊎ (config_refusal config.now ≡ Some error)) }
     {
         let (head, front) = opened(config);
         let first = Published::new(alloc, config, &front)?;

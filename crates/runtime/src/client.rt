@@ -1,5 +1,5 @@
 ghost use Rattle.std.specs.Prelude.{◌≡◌, ℕ, ◌++◌, ◌∷◌, [], Some, None, IfOk, IfErr, IfSome, OnOk, OnErr, Ok};
-ghost use Rattle.std.specs.Prelude.{false};
+ghost use Rattle.std.specs.Prelude.{false, Err, ◌<◌, ◌^◌};
 ghost use Rattle.std.specs.Arc.{arc_value};
 ghost use Rattle.left_right.specs.Sides.{view as knowledge};
 ghost use mathlib.Core.List.{IsPrefix};
@@ -7,8 +7,8 @@ ghost use Rattle.schedule.specs.Past.{is_changed};
 ghost use Rattle.runtime.specs.Clients.{knows_that};
 ghost use Rattle.runtime.specs.Commits.{Answers};
 ghost use Rattle.runtime.specs.History.{Name as TheName};
-ghost use Rattle.runtime.specs.Lists.{attempts_of};
-ghost use Rattle.runtime.specs.Serves.{IsAnswer, IsUnanswered};
+ghost use Rattle.runtime.specs.Lists.{IsLawful, attempts_of, version_of};
+ghost use Rattle.runtime.specs.Serves.{IsAnswer, IsUnanswered, KeepsList};
 ghost use Rattle.runtime.specs.State.{knows};
 ghost use Rattle.runtime.specs.Tells.{IsConcluded, IsOf, Tells};
 ghost use Rattle.kv_core.specs.declared.change.CommitRequest.{CommitRequest as Request};
@@ -92,6 +92,16 @@ impl<E: End> Client<E> {
         }
     }
 
+    /// The last number of the client's submissions, 0 before the first one.
+    pub fn last_number(&self) -> u64
+        ensures number { result ≡ self.now.last }
+        ensures lawful { IsLawful self.now.name.config self.now.list }
+    {
+        let last = self.last;
+        self.me.len();
+        last
+    }
+
     /// Enters the published list, and begins a transaction there.
     pub(crate) fn begin_here(&mut self) -> Result<(), EnterError>
         ensures begun { OnOk result ((work : _) × (self.new.begun ≡ Some work)
@@ -120,7 +130,8 @@ impl<E: End> Client<E> {
     /// Performs a command in the open transaction.
     pub(crate) fn perform_here(&mut self, command: &Command) -> Result<Reply, EnterError>
         ensures same { self.new
-            ≡ knows_that self.old.name self.old.list self.old.number self.old.last self.new.begun }
+            ≡ knows_that self.old.name self.new.list self.old.number self.old.last self.new.begun }
+        ensures list { KeepsList result self.old.list self.new.list }
         ensures answer { (work : _) → self.old.begun ≡ Some work → IfOk result (λ reply.
             IsAnswer work.front.name.config work.front.list work.transaction work.trace.attempts command.now reply) }
         ensures grown { (work : _) → self.old.begun ≡ Some work → IfOk result (λ reply.
@@ -128,7 +139,8 @@ impl<E: End> Client<E> {
             × (after.trace.attempts ≡ work.trace.attempts ++ record { command = command.now; reply = reply } ∷ [])) }
         ensures refused { (work : _) → self.old.begun ≡ Some work → IfErr result (λ error.
             (after : _) × (self.new.begun ≡ Some after) × (after.front ≡ work.front)
-            × IsUnanswered work.front error command.now work.transaction work.trace after.transaction after.trace) }
+            × IsUnanswered work.front self.new.list error command.now work.transaction work.trace
+            after.transaction after.trace) }
     {
         let Some(work) = self.begun.take() else {
             return Err(EnterError::NotEntered);
@@ -142,7 +154,7 @@ impl<E: End> Client<E> {
             mut transaction,
             mut trace,
         } = work;
-        let (reader, answer) = perform_at(
+        let (reader, answer, seen) = perform_at(
             reader,
             self.alloc,
             &front,
@@ -151,6 +163,7 @@ impl<E: End> Client<E> {
             command,
         );
         self.reader = Some(reader);
+        self.me = performed(&self.me, &seen, &answer);
         self.begun = Some(Work {
             front,
             transaction,
@@ -211,15 +224,34 @@ impl<E: End> Client<E> {
     }
 }
 
+/// What is known behind a command: with `TooOld` the list that was published is learnt.
+fn performed(me: &Front, seen: &Front, answer: &Result<Reply, EnterError>) -> Front
+    requires { seen.now.name ≡ me.now.name }
+    ensures name { result.name ≡ me.now.name }
+    ensures list { KeepsList answer.now me.now.list result.list }
+    ensures seen { answer.now ≡ Err EnterError.TooOld → IsPrefix seen.now.list result.list }
+{
+    match answer {
+        Err(EnterError::TooOld) => me.longer(seen),
+        _ => me.again(),
+    }
+}
+
 /// What is known with the list that was published.
 fn learnt(me: &Front, seen: &Option<Front>) -> Front
     requires { IsOf me.now.name seen.now }
     ensures name { result.name ≡ me.now.name }
     ensures list { IsPrefix me.now.list result.list }
-    ensures seen { IfSome seen.now (λ front. (front.name ≡ me.now.name) × IsPrefix front.list result.list) }
+    ensures seen { IfSome seen.now (λ front. (front.name ≡ me.now.name)
+        × IsPrefix front.list result.list
+        × (version_of me.now.name.config result.list < 2 ^ 64)) }
 {
     match seen {
-        Some(seen) => me.longer(seen),
+        Some(seen) => {
+            let known = me.longer(seen);
+            prove!(known.version() <= u64::MAX);
+            known
+        }
         None => me.again(),
     }
 }
@@ -258,7 +290,10 @@ fn concluded(
             Some(_) => (Err(CommitError::TooOld), own),
             None => (Err(CommitError::Memory), own),
         },
-        Err(HoldError::VersionsExhausted) => (Err(CommitError::VersionsExhausted), own),
+        Err(HoldError::VersionsExhausted) => match seen {
+            Some(_) => (Err(CommitError::VersionsExhausted), own),
+            None => (Err(CommitError::Memory), own),
+        },
         Err(HoldError::Memory) => (Err(CommitError::Memory), own),
     }
 }

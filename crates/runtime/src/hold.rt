@@ -1,12 +1,13 @@
 ghost use Rattle.std.specs.Prelude.{◌≡◌, if◌then◌else◌, ◌+◌, ◌-◌, ◌^◌, ◌<◌, true, [], ◌∷◌, ◌++◌, length, slice_index};
-ghost use Rattle.std.specs.Prelude.{IfOk, IfErr, MatchResult, Err, ◌⊎◌};
+ghost use Rattle.std.specs.Prelude.{IfOk, IfErr, IsNone, MatchResult, OnOk, Some, Err, ◌⊎◌};
 ghost use Rattle.std.specs.Bool.{OnTrue};
 ghost use Rattle.left_right.specs.Sides.{view as knowledge};
+ghost use Rattle.cluster_core.specs.Configuration.{config_refusal};
 ghost use Rattle.cluster_core.specs.Roles.{told};
 ghost use Rattle.schedule.specs.Standing.{is_told};
 ghost use Rattle.runtime.specs.Holds.{held, entry, Asks};
 ghost use Rattle.runtime.specs.History.{reach};
-ghost use Rattle.runtime.specs.Lists.{IsOpenOver, cause_next, version_of};
+ghost use Rattle.runtime.specs.Lists.{IsOpenOver, cause_next, has_number, version_of};
 ghost use Rattle.runtime.specs.State.{knows};
 
 use crate::board::Board;
@@ -45,7 +46,7 @@ impl Model for Hold {
     ghost use Rattle.std.specs.Prelude.{◌≡◌, ◌++◌, true};
     ghost use Rattle.runtime.specs.History.{reach};
     ghost use Rattle.runtime.specs.Lists.{is_numbered};
-    ghost use Rattle.runtime.specs.Holds.{Held, held, due_of, is_idle, IsInFlight};
+    ghost use Rattle.runtime.specs.Holds.{Held, held, due_of, is_idle, IsBacked, IsInFlight};
     ghost use Rattle.std.specs.Coded.{codes};
     ghost use Rattle.runtime.specs.contracts.entry.Entry as entries;
 
@@ -61,7 +62,8 @@ impl Model for Hold {
         (h.head ≡ h.board.name.book)
         × (h.front ≡ reach h.board.name (h.board.published ++ h.board.pending))
         × IsInFlight h.board.name (h.board.published ++ h.board.pending) h.pipeline h.flight
-        × (is_numbered h.last.items (due_of h.flight (h.board.published ++ h.board.pending)) ≡ true) };
+        × (is_numbered h.last.items (due_of h.flight (h.board.published ++ h.board.pending)) ≡ true)
+        × IsBacked h.last.items (h.board.published ++ h.board.pending) h.flight };
 }
 
 /// What the logs have of a request of which this was reported.
@@ -139,6 +141,8 @@ impl Hold {
     fn next_number(&self, client: u64, own: u64) -> Result<u64, HoldError>
         ensures above { IfOk result (λ number. (own < number) × (slice_index self.now.last client < number)) }
         ensures client { IfOk result (λ number. client < length self.now.last) }
+        ensures backed { self.now.idle ≡ true → 0 < slice_index self.now.last client
+            → has_number client (slice_index self.now.last client) self.now.log ≡ true }
         ensures refused { IfErr result (λ error. (error ≡ HoldError.Memory) ⊎ ((error ≡ HoldError.VersionsExhausted)
             × ((slice_index self.now.last client ≡ 2 ^ 64 - 1) ⊎ (own ≡ 2 ^ 64 - 1)))) }
     {
@@ -299,6 +303,9 @@ impl Hold {
     /// The state of a new database, without entries, for as many clients as the configuration has
     /// places. It is refused as `Pipeline::new` refuses the configuration.
     pub fn open<R: Wait>(rt: &R, alloc: Global, config: &Config) -> Result<Hold, ConfigError>
+        ensures allowed { OnOk result (IsNone (config_refusal config.now)) }
+        ensures refused { IfErr result (λ error.
+            (error ≡ ConfigError.Memory) ⊎ (config_refusal config.now ≡ Some error)) }
         ensures config { IfOk result (λ hold. hold.name.config ≡ config.now) }
         ensures empty { IfOk result (λ hold. (hold.published ≡ []) × (hold.log ≡ []) × (hold.idle ≡ true)) }
         ensures clients { IfOk result (λ hold. length hold.last ≡ config.now.places) }

@@ -4,7 +4,7 @@ use atomic_table::{Join, Split};
 use cluster_core::Tier;
 use crossbeam_utils::rule::{Outcome, Protocol};
 use left_right::Absorb;
-use left_right::reader::Reader;
+use left_right::reader::{Reader, Reading};
 use left_right::writer::Writer;
 use std::alloc::AllocError;
 
@@ -67,6 +67,9 @@ impl Absorb<Step> for Published {
 
 /// A reader of the published state.
 pub type StateReader = Reader<Published, View, Lawful>;
+
+/// The published state, which a reader has entered.
+pub type StateReading = Reading<Published, View, Lawful>;
 
 /// The writer of the published state.
 pub type StateWriter = Writer<Published, Step, View, Lawful>;

@@ -1,4 +1,5 @@
-ghost use Rattle.std.specs.Prelude.{◌≡◌, [], IfOk};
+ghost use Rattle.std.specs.Prelude.{◌≡◌, ◌⊎◌, [], Some, IfOk, IfErr};
+ghost use Rattle.cluster_core.specs.Configuration.{config_refusal};
 ghost use Rattle.runtime.specs.State.{IsFold};
 
 use crate::entry::Note;
@@ -32,7 +33,9 @@ impl Published {
     /// The state of a new history. It is refused as `Tier::new` refuses the configuration.
     pub fn new(alloc: Global, config: &Config, front: &Front) -> Result<Published, ConfigError>
         requires { (front.now.list ≡ []) × (front.now.name.config ≡ config.now) }
-        ensures { IfOk result (λ p. (p.front ≡ front.now) × IsFold p) }
+        ensures made { IfOk result (λ p. (p.front ≡ front.now) × IsFold p) }
+        ensures refused { IfErr result (λ error.
+            (error ≡ ConfigError.Memory) ⊎ (config_refusal config.now ≡ Some error)) }
     {
         let tier = Tier::new(alloc, config)?;
         let front = front.again();

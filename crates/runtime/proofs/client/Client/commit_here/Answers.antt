@@ -1,10 +1,11 @@
-use Rattle.std.proofs.Common.{rules, ◌≡◌, ◌∙◌, sym, ap, subst, Some, [], true≢false}
+use Rattle.std.proofs.Common.{rules, ◌<◌, ◌^◌, ◌≡◌, ◌∙◌, sym, ap, subst, Some, [], true≢false}
 use Rattle.std.specs.Prelude.{IfSome}
 use mathlib.Core.List.{IsPrefix}
 use Rattle.kv_core.specs.declared.change.CommitRequest.{CommitRequest}
 use Rattle.runtime.specs.declared.work.Work.{Work}
 use Rattle.runtime.specs.History.{Name, Reach}
 use Rattle.runtime.specs.Clients.{Knows, knows_that, IsBegun}
+use Rattle.runtime.specs.Lists.{version_of}
 use Rattle.runtime.specs.Tells.{IsConcluded, IsOf, Tells}
 use Rattle.runtime.proofs.Serving.{nothing_written}
 use Rattle.runtime.proofs.Told.{answers_by}
@@ -21,7 +22,7 @@ returns-clause-answer g c w is =
     let of : IsOf c.self.inside.me.name c.turn-answer.result.1 = subst (λ (n : Name). IsOf n c.turn-answer.result.1) c.self.invariant.2 c.turn-answer.ensures.front in
     let tells : Tells c.self.inside.number c.self.inside.last c.into_request-request.result c.in-Some.field-0.trace c.turn-answer.result.0 c.turn-answer.result.1 = c.turn-answer.ensures.tells in
     let done : IsConcluded c.self.inside.me.name c.self.inside.number c.self.inside.last c.into_request-request.result c.in-Some.field-0.trace c.turn-answer.result.1 c.concluded-result.result.0 c.concluded-result.result.1 = c.concluded-result.ensures c.self.inside.me.name c.self.inside.number c.into_request-request.result c.in-Some.field-0.trace of tells in
-    let known : IfSome c.turn-answer.result.1 (λ (f : Reach). (f.name ≡ c.self.inside.me.name) × IsPrefix f.list c.learnt.result.list) = c.learnt.ensures.seen in
+    let known : IfSome c.turn-answer.result.1 (λ (f : Reach). (f.name ≡ c.self.inside.me.name) × IsPrefix f.list c.learnt.result.list × (version_of c.self.inside.me.name.config c.learnt.result.list < 2 ^ 64)) = c.learnt.ensures.seen in
     let before : Knows = knows_that c.self.inside.me.name c.self.inside.me.list c.self.inside.number c.self.inside.last c.self.inside.begun in
     let after : Knows = knows_that c.learnt.result.name c.learnt.result.list c.self.inside.number c.concluded-result.result.1 c.take.new.self in
     rw (← c.self.view_is, ← r, ← t) (answers_by before after c.into_request-request.result c.in-Some.field-0.trace c.turn-answer.result.1 c.concluded-result.result.0 known done)

@@ -7,9 +7,10 @@ use Rattle.schedule.specs.Standing.{is_told}
 use Rattle.std.specs.Prelude.{if◌then◌else◌}
 use Rattle.runtime.specs.declared.entry.Entry.{Entry}
 use Rattle.runtime.specs.History.{Name, Reach}
-use Rattle.runtime.specs.Lists.{IsLawful, IsOpenOver, is_numbered, pipeline_of, cause_next, version_of}
-use Rattle.runtime.specs.Holds.{Held, IsInFlight, due_of, entry}
+use Rattle.runtime.specs.Lists.{AreLast, IsLawful, IsOpenOver, is_numbered, pipeline_of, cause_next, version_of}
+use Rattle.runtime.specs.Holds.{Held, IsBacked, IsInFlight, due_of, entry}
 use Rattle.runtime.proofs.Lawful.{numbered_raised}
+use Rattle.runtime.proofs.Numbers.{last_next}
 use Rattle.runtime.proofs.Reporting.{taken_next, commit_next}
 use Rattle.runtime.proofs.hold.Hold.submit.Goals as goal
 
@@ -28,7 +29,8 @@ invariant_of-self c =
     let t = taken_next n last log c.args.front.now.list c.args.client c.in_ok-number.number c.args.request c.of.result.value c.args.trace c.self.inside.pipeline c.commit.new.self c.in-Ok-commit.reported c.logged-mutations.result
     law begins over c.of.ensures num some.1 some.0 old c.in-Ok-commit.ensures.handled c.in-Ok-commit.ensures.decided c.in-Ok-commit.ensures.allowed
     (c.logged-mutations.ensures ∙ ap (λ ms. if is_told c.in-Ok-commit.reported then ms else []) c.in-Ok.ensures) in
-    (i.0, i.1, t.0, t.1)
+    let are : AreLast last log = subst (IsBacked last log) c.in-Idle.is i.4 in
+    (i.0, i.1, t.0, t.1, last_next last c.args.client c.in_ok-number.number log (entry c.args.client c.in_ok-number.number c.of.result.value c.args.trace) some.1 refl refl are)
 
 pub invariant_of-self-in-Err-Unknown : goal.invariant_of-self-in-Err-Unknown
 invariant_of-self-in-Err-Unknown c =
@@ -37,7 +39,7 @@ invariant_of-self-in-Err-Unknown c =
     let last : List ℕ = c.self.inside.last.items in
     let num : is_numbered last log ≡ true = subst (λ f. is_numbered last (due_of f log) ≡ true) c.in-Idle.is i.3 in
     let some = subst (λ (h : Held). (slice_index h.last c.args.client < c.in_ok-number.number) × (c.args.client < length h.last)) (sym c.self.view_is) (c.in_ok-number.ensures.above.1, c.in_ok-number.ensures.client) in
-    (i.0, i.1, tt, numbered_raised last c.args.client c.in_ok-number.number log some.1 some.0 num)
+    (i.0, i.1, tt, numbered_raised last c.args.client c.in_ok-number.number log some.1 some.0 num, tt)
 
 pub returns-in-Ok-commit-clause-told : goal.returns-in-Ok-commit-clause-told
 returns-in-Ok-commit-clause-told c =

@@ -1,0 +1,153 @@
+-- What a worker that builds an index comes to, by the committed entries of its own.
+use Rattle.std.specs.Prelude.{◌≡◌, ◌⊎◌, ℕ, ◌+◌, Bool, true, false, ◌&&◌, ◌==◌, nat_lt, nat_le}
+use Rattle.std.specs.Prelude.{List, [], ◌∷◌, ◌++◌, filter, count_by, sum_by, is_none, if◌then◌else◌}
+use Rattle.std.specs.Prelude.{Option, Some, Result, Ok, Err}
+use Rattle.std.specs.List.{list_any}
+use Rattle.std.specs.Str.{bytes_eq}
+use Rattle.kv_core.specs.Range.{KeyRange}
+use Rattle.kv_core.specs.declared.change.CommitRequest.{CommitRequest}
+use Rattle.cluster_core.specs.declared.answers.Config.{Config}
+use Rattle.cluster_core.specs.declared.answers.Reported.{Reported}
+use Rattle.cluster_core.specs.declared.answers.Reported.TheVariants as reported
+use Rattle.schedule.specs.Past.{is_accepted}
+use Rattle.schedule.specs.declared.step.Command.{Command}
+use Rattle.schedule.specs.declared.step.Command.TheVariants.{Build, Readable}
+use Rattle.schedule.specs.declared.reply.Reply.{Reply}
+use Rattle.schedule.specs.declared.reply.Reply.TheVariants as replies
+use Rattle.runtime.specs.declared.entry.Entry.{Entry}
+use Rattle.runtime.specs.declared.trace.Performed.{Performed}
+use Rattle.runtime.specs.declared.trace.Trace.{Trace}
+use Rattle.runtime.specs.declared.work.Work.{Work}
+use Rattle.runtime.specs.declared.building.Turn.{Turn}
+use Rattle.runtime.specs.declared.building.Turn.TheVariants.{Built, Marked, Nothing}
+use Rattle.runtime.specs.declared.building.Built.{Built as Totals}
+use Rattle.runtime.specs.declared.answers.Done.{Done}
+use Rattle.runtime.specs.declared.answers.Done.TheVariants.{Committed, ReadOnly}
+use Rattle.runtime.specs.declared.answers.CommitError.{CommitError}
+use Rattle.runtime.specs.declared.answers.CommitError.TheVariants.{Conflict, TooOld, VersionsExhausted}
+use Rattle.runtime.specs.declared.answers.CommitError.TheVariants.{Unknown, Memory}
+use Rattle.runtime.specs.Clients.{Knows}
+use Rattle.runtime.specs.Commits.{Learnt}
+use Rattle.runtime.specs.Lists.{cause_next}
+
+-- ---- entries of one's own
+
+-- the committed ones of the entries behind a list
+abbrev pub committed_behind : Config → List Entry → List Entry → List Entry
+committed_behind config log [] = []
+committed_behind config log (e ∷ es) =
+    (if is_none (cause_next config log e.request) then e ∷ [] else []) ++ committed_behind config (log ++ e ∷ []) es
+
+-- the entry is of a client's submission that is numbered above one number, and not above another
+abbrev pub is_numbered_in : ℕ → ℕ → ℕ → Entry → Bool
+is_numbered_in client above upto e = (e.client == client) && (nat_lt above e.number && nat_le e.number upto)
+
+-- the committed entries of a list that are of a client's submissions between these numbers
+abbrev pub own_committed : Config → ℕ → ℕ → ℕ → List Entry → List Entry
+own_committed config client above upto log =
+    filter (is_numbered_in client above upto) (committed_behind config [] log)
+
+-- ---- what an entry built
+
+-- a command built a part of the index of this name
+abbrev pub is_build : List ℕ → Command → Reply → Bool
+is_build index (Build name limit) (replies.Built records range) = bytes_eq name index
+is_build index command reply = false
+
+-- so many records it built
+abbrev pub records_by : List ℕ → Command → Reply → ℕ
+records_by index (Build name limit) (replies.Built records range) = if bytes_eq name index then records else 0
+records_by index command reply = 0
+
+-- a command marked the index readable
+abbrev pub is_mark : List ℕ → Command → Reply → Bool
+is_mark index (Readable name) reply = bytes_eq name index && is_accepted reply
+is_mark index command reply = false
+
+-- the same of the commands that an entry's transaction performed
+abbrev pub has_built : List ℕ → Entry → Bool
+has_built index e = list_any (λ (one : Performed). is_build index one.command one.reply) e.trace.attempts
+
+abbrev pub records_built : List ℕ → Entry → ℕ
+records_built index e = sum_by (λ (one : Performed). records_by index one.command one.reply) e.trace.attempts
+
+abbrev pub has_marked : List ℕ → Entry → Bool
+has_marked index e = list_any (λ (one : Performed). is_mark index one.command one.reply) e.trace.attempts
+
+-- what a worker built: of the committed entries in its client's list at the end, those of its submissions in between.
+-- One marked the index readable; `steps` counts those that built a part of it, and `records` adds up what they built
+abbrev pub own_of : Knows → Knows → List Entry
+own_of old new = own_committed old.name.config old.number old.last new.last new.list
+
+pub record IsBuilt (index : List ℕ) (old new : Knows) (totals : Totals) : Type 0 where
+  pub marked : list_any (has_marked index) (own_of old new) ≡ true
+  pub steps : totals.steps ≡ count_by (has_built index) (own_of old new)
+  pub records : totals.records ≡ sum_by (records_built index) (own_of old new)
+
+-- ---- turns of a worker
+
+-- the transaction has performed one command more, with this reply
+abbrev pub Adds : Option Work → Command → Reply → Option Work → Type 0
+Adds old command reply new =
+    (work : Work) → old ≡ Some work →
+    (after : Work) × (new ≡ Some after)
+    × (after.trace.attempts ≡ work.trace.attempts ++ record { command = command; reply = reply } ∷ [])
+
+-- what a turn performed
+abbrev pub HasWorked : List ℕ → Turn → List Performed → Type 0
+HasWorked index (Built records) attempts =
+    (limit : ℕ) × ((range : KeyRange)
+    × (attempts ≡ record { command = Build index limit; reply = replies.Built records range } ∷ []))
+HasWorked index Marked attempts =
+    (limit : ℕ) × (attempts
+    ≡ record { command = Build index limit; reply = replies.Finished }
+    ∷ record { command = Readable index; reply = replies.Done } ∷ [])
+HasWorked index Nothing attempts = Unit {0}
+
+-- a submission was told this, and the client knows its entry; its number is the next one
+abbrev pub Submits : Knows → Knows → CommitRequest → Trace → Reported → Type 0
+Submits old new request trace told =
+    (log : List Entry) × Learnt old new request trace told log × (new.last ≡ old.last + 1)
+
+-- a commit was told to be one, or the submission was refused, or there was none
+abbrev pub Commits : Knows → Knows → Work → Bool → Type 0
+Commits old new work true =
+    (version : ℕ) × Submits old new work.transaction work.trace (reported.Committed version)
+Commits old new work false =
+    (new.last ≡ old.last)
+    ⊎ ((seen : ℕ) × ((range : KeyRange)
+    × Submits old new work.transaction work.trace (reported.Conflict seen range)))
+
+-- the commit was told to be one; another turn may follow it
+abbrev pub is_done : Result Done CommitError → Bool
+is_done (Ok (Committed version seen)) = true
+is_done (Ok ReadOnly) = false
+is_done (Err error) = false
+
+abbrev pub has_ended : Result Done CommitError → Bool
+has_ended (Ok done) = true
+has_ended (Err (Conflict seen range)) = true
+has_ended (Err TooOld) = true
+has_ended (Err VersionsExhausted) = false
+has_ended (Err Unknown) = false
+has_ended (Err Memory) = false
+
+-- a turn came to this: its entry is committed, or it has none, or a refused one
+abbrev pub IsTurn : List ℕ → Turn → Knows → Knows → Type 0
+IsTurn index Nothing old new =
+    (new.last ≡ old.last) ⊎ ((work : Work) × Commits old new work false)
+IsTurn index (Built records) old new =
+    (work : Work) × HasWorked index (Built records) work.trace.attempts × Commits old new work true
+IsTurn index Marked old new =
+    (work : Work) × HasWorked index Marked work.trace.attempts × Commits old new work true
+
+-- how a turn adds to what was built
+abbrev pub steps_of : Turn → ℕ
+steps_of (Built records) = 1
+steps_of Marked = 0
+steps_of Nothing = 0
+
+abbrev pub records_of : Turn → ℕ
+records_of (Built records) = records
+records_of Marked = 0
+records_of Nothing = 0

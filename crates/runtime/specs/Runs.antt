@@ -1,0 +1,136 @@
+-- What a run of transactions comes to: attempts, one after another, and how the last one ended.
+use Rattle.std.specs.Prelude.{◌≡◌, ◌⊎◌, ℕ, zero, suc, ◌<◌, max, Bool, true, false, []}
+use Rattle.std.specs.Prelude.{Some, Result, Ok, Err, if◌then◌else◌}
+use mathlib.Core.List.{IsPrefix}
+use Rattle.schedule.specs.declared.refusal.Refusal.{Refusal}
+use Rattle.schedule.specs.declared.refusal.Refusal.TheVariants as refusals
+use Rattle.txn.specs.declared.retry.Ended.{Ended}
+use Rattle.txn.specs.declared.retry.Ended.TheVariants as ends
+use Rattle.runtime.specs.declared.work.Work.{Work}
+use Rattle.runtime.specs.declared.entering.EnterError.{EnterError}
+use Rattle.runtime.specs.declared.entering.EnterError.TheVariants as entries
+use Rattle.runtime.specs.declared.answers.BodyError.{BodyError}
+use Rattle.runtime.specs.declared.answers.BodyError.TheVariants.{Entry, Refused, Corrupt}
+use Rattle.runtime.specs.declared.answers.CommitError.{CommitError}
+use Rattle.runtime.specs.declared.answers.CommitError.TheVariants.{Conflict, TooOld, VersionsExhausted}
+use Rattle.runtime.specs.declared.answers.CommitError.TheVariants.{Unknown, Memory}
+use Rattle.runtime.specs.declared.answers.Done.{Done}
+use Rattle.runtime.specs.declared.answers.RunError.{RunError}
+use Rattle.runtime.specs.declared.answers.RunError.TheVariants as runs
+use Rattle.runtime.specs.declared.running.Failure.{Failure}
+use Rattle.runtime.specs.declared.running.Failure.TheVariants as failures
+use Rattle.runtime.specs.Clients.{Knows}
+use Rattle.runtime.specs.Commits.{Answers}
+
+-- the client is the same, and its list begins with the one before
+pub record Follows (old new : Knows) : Type 0 where
+  pub name : new.name ≡ old.name
+  pub number : new.number ≡ old.number
+  pub list : IsPrefix old.list new.list
+
+-- the transaction goes on: only its client's list may have grown, and commands may have been performed
+pub record Continues (old new : Knows) : Type 0 where
+  pub follows : Follows old new
+  pub last : new.last ≡ old.last
+  pub begun :
+      (work : Work) → old.begun ≡ Some work →
+      (after : Work) × (new.begun ≡ Some after) × (after.front ≡ work.front)
+
+-- a transaction of the client begins, over a list that begins with its own, which is its own then
+pub record Starts (old new : Knows) : Type 0 where
+  pub follows : Follows old new
+  pub last : new.last ≡ old.last
+  pub begun :
+      (work : Work) × (new.begun ≡ Some work) × (work.front.list ≡ new.list) × (work.trace.attempts ≡ [])
+
+-- the client's transaction is committed, or not, so
+pub record Ends (old : Knows) (result : Result Done CommitError) (new : Knows) : Type 0 where
+  pub follows : Follows old new
+  pub answer :
+      (work : Work) × (old.begun ≡ Some work) × Answers old new work.transaction work.trace result
+
+-- so many steps in turn
+abbrev pub InTurn : {A : Type 0} → (A → A → Type 0) → ℕ → A → A → Type 0
+InTurn Step zero first last = first ≡ last
+InTurn Step (suc n) first last = (before : _) × InTurn Step n first before × Step before last
+
+abbrev pub is_old : Refusal → Bool
+is_old refusals.TooOld = true
+is_old other = false
+
+-- the body gave its transaction up since it reads too long ago
+abbrev pub is_too_old : BodyError → Bool
+is_too_old (Entry entries.TooOld) = true
+is_too_old (Entry entries.NotEntered) = false
+is_too_old (Entry entries.Memory) = false
+is_too_old (Refused refusal) = is_old refusal
+is_too_old (Corrupt key) = false
+
+-- another attempt may come to more
+abbrev pub may_follow : CommitError → Bool
+may_follow (Conflict seen range) = true
+may_follow TooOld = true
+may_follow VersionsExhausted = false
+may_follow Unknown = false
+may_follow Memory = false
+
+-- how an attempt failed that its body gave up, and how one ended whose commit was refused
+abbrev pub failure_by : BodyError → Failure
+failure_by error = if is_too_old error then failures.Ended ends.TooOld else failures.Refused error
+
+abbrev pub ended_by : CommitError → Ended
+ended_by (Conflict seen range) = ends.Conflict
+ended_by TooOld = ends.TooOld
+ended_by VersionsExhausted = ends.Other
+ended_by Unknown = ends.Other
+ended_by Memory = ends.Other
+
+module _ {B A : Type 0} (did : B → Knows → Result A BodyError → Knows → B → Type 0) where
+  -- a transaction began, and the body had this answer in it
+  abbrev pub Tries : B × Knows → Result A BodyError → B × Knows → Type 0
+  Tries old answer new = (start : Knows) × Starts old.1 start × did old.0 start answer new.1 new.0
+
+  -- the body had this answer, and its transaction was committed, or not, so
+  abbrev pub TriesAndEnds : B × Knows → A → Result Done CommitError → B × Knows → Type 0
+  TriesAndEnds old answer result new = (mid : Knows) × Tries old (Ok answer) (new.0, mid) × Ends mid result new.1
+
+  -- an attempt that another one may follow: it read too long ago, or was refused with a conflict
+  abbrev pub Fails : B × Knows → B × Knows → Type 0
+  Fails old new =
+      ((error : BodyError) × (is_too_old error ≡ true) × Tries old (Err error) new)
+      ⊎ ((answer : A) × ((error : CommitError) × (may_follow error ≡ true) × TriesAndEnds old answer (Err error) new))
+
+  -- the transaction wasn't begun, or its body gave it up for another reason
+  abbrev pub IsRefusal : B × Knows → BodyError → B × Knows → Type 0
+  IsRefusal old error new =
+      ((entry : EnterError) × (error ≡ Entry entry) × (new ≡ old))
+      ⊎ ((is_too_old error ≡ false) × Tries old (Err error) new)
+
+  -- the commit was refused for another reason
+  abbrev pub Stops : B × Knows → B × Knows → Type 0
+  Stops old new =
+      (answer : A) × ((error : CommitError) × (may_follow error ≡ false) × TriesAndEnds old answer (Err error) new)
+
+  -- how an attempt failed
+  abbrev pub FailsSo : B × Knows → Failure → B × Knows → Type 0
+  FailsSo old (failures.Refused error) new = IsRefusal old error new
+  FailsSo old (failures.Ended ends.Conflict) new = Fails old new
+  FailsSo old (failures.Ended ends.TooOld) new = Fails old new
+  FailsSo old (failures.Ended ends.Other) new = Stops old new
+  FailsSo old (failures.Ended ends.Committed) new = ⊥
+  FailsSo old (failures.Ended ends.ReadOnly) new = ⊥
+  FailsSo old (failures.Ended ends.FutureVersion) new = ⊥
+  FailsSo old (failures.Ended ends.Unknown) new = ⊥
+
+  -- what a run comes to, of at most so many attempts, and one at least. It answers what the body did in the very
+  -- transaction that ended so; before it were only attempts that another one may follow
+  abbrev pub IsRun : ℕ → B × Knows → Result (A × Done) RunError → B × Knows → Type 0
+  IsRun limit old (Ok both) new =
+      (before : ℕ) × (before < max 1 limit) × ((mid : B × Knows) × InTurn Fails before old mid
+      × TriesAndEnds mid both.0 (Ok both.1) new)
+  IsRun limit old (Err (runs.Refused error)) new =
+      (before : ℕ) × (before < max 1 limit) × ((mid : B × Knows) × InTurn Fails before old mid
+      × IsRefusal mid error new)
+  IsRun limit old (Err runs.GaveUp) new =
+      InTurn Fails (max 1 limit) old new
+      ⊎ ((before : ℕ) × (before < max 1 limit) × ((mid : B × Knows) × InTurn Fails before old mid × Stops mid new))
