@@ -13,6 +13,7 @@ pub mod Swallowed
 pub mod Growth
 pub mod Reaching
 pub mod Retracing
+pub mod Points
 pub mod Indexes
 pub mod Sums
 pub mod Refusals

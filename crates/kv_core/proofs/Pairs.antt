@@ -1,5 +1,5 @@
 -- What a read that stops at its limit has seen: the pairs of a shorter range decide it.
-use Rattle.std.proofs.Common.{◌≡◌, ℕ, zero, suc, ◌<◌, ◌≤◌, Bool, true, false, cond, nat_lt, eqb, ◌&&◌, not, T, None, Some, List, [], ◌∷◌, ◌++◌, length, take, reverse, inl, inr, refl, sym, ap, subst, ◌∙◌, arith}
+use Rattle.std.proofs.Common.{◌≡◌, ℕ, zero, suc, ◌<◌, ◌≤◌, Bool, true, false, cond, nat_lt, eqb, ◌&&◌, not, T, None, Some, List, [], ◌∷◌, ◌++◌, length, take, reverse, inl, inr, refl, sym, ap, subst, ◌∙◌, arith, Option}
 use Rattle.std.proofs.lemmas.Bool.{true≢false, not_from_false, not_from_true, and_from, and_parts, false_from_ne_true, cases_Bool, ltb-false, le-ltb}
 use Rattle.std.proofs.lemmas.Cmp.{nat_list_cmp_total, nat_cmp_total}
 use Rattle.std.proofs.lemmas.List.{reverse-append, length-take-le}
@@ -333,6 +333,28 @@ first-found k (e ∷ es) =
 -- a read of one key's point with limit 1 gives the value at the key
 pub first_value-point : (m : Map) (k : List ℕ) → first_value (read_of m (point k) 1 false) ≡ get m k
 first_value-point m k = ap (λ es. first_value (take 1 es)) (entries-kept m (contains (point k))) ∙ first-found k (entries m) ∙ sym (get-entries m k)
+
+-- the pair of a key that has a value
+abbrev pub pair_of : List ℕ → Option (List ℕ) → List Pair
+pair_of k None = []
+pair_of k (Some v) = (k, v) ∷ []
+
+first_pair : (k : List ℕ) (es : List Pair) → take 1 (filter (λ e. contains (point k) e.0) es) ≡ pair_of k (find key_cmp k es)
+first_pair k [] = refl
+first_pair k (e ∷ es) =
+    elim (cases_Bool (is_eq (key_cmp k e.0))) [
+      | inl same ↦
+          ap (take 1) (filter_here (λ e. contains (point k) e.0) e es (contains-point-is k e.0 ∙ same))
+          ∙ ap (λ q. (q, e.1) ∷ []) (sym (tied_keys k e.0 same))
+          ∙ sym (ap (λ t. pair_of k (cond t (Some e.1) (find key_cmp k es))) same)
+      | inr other ↦
+          ap (take 1) (filter_not (λ e. contains (point k) e.0) e es (contains-point-is k e.0 ∙ other))
+          ∙ first_pair k es ∙ sym (ap (λ t. pair_of k (cond t (Some e.1) (find key_cmp k es))) other)
+    ]
+
+-- a read of one key's point with limit 1 gives the pair of the key
+pub read_of-point : (m : Map) (k : List ℕ) → read_of m (point k) 1 false ≡ pair_of k (get m k)
+read_of-point m k = ap (take 1) (entries-kept m (contains (point k))) ∙ first_pair k (entries m) ∙ ap (pair_of k) (sym (get-entries m k))
 
 -- the point of a key before the end of the keys is a lawful range
 pub is_key_range-point : (k : List ℕ) → key_lt k end_of_keys ≡ true → is_key_range (point k) ≡ true

@@ -19,10 +19,10 @@ so prefix t pair rest value (Err e) same are begins some none = tt
 
 pub returns-in-Some : goal.returns-in-Some
 returns-in-Some c =
-    so c.args.store.now.prefix c.args.definition.now c.args.pair.now c.in-Some.primary_key.now c.as_slice-value.result.now c.decode.result c.as_slice-value.ensures c.bytes_known.ensures
-    (sym c.as_slice-key.ensures ∙ c.in-Some.ensures ∙ ap (λ k. k ++ c.in-Some.primary_key.now) c.requires) c.decode.ensures.found c.decode.ensures.none
+    so c.args.store.now.prefix c.args.definition.now.value c.args.pair.now c.in-Some.primary_key.now c.as_slice-value.result.now c.decode_shared.result c.as_slice-value.ensures c.bytes_known.ensures
+    (sym c.as_slice-key.ensures ∙ c.in-Some.ensures ∙ ap (λ k. k ++ c.in-Some.primary_key.now) c.requires) c.decode_shared.ensures.found c.decode_shared.ensures.none
 
 pub returns-in-None : goal.returns-in-None
 returns-in-None c =
-    read_elsewhere c.args.store.now.prefix c.args.definition.now c.args.pair.now
+    read_elsewhere c.args.store.now.prefix c.args.definition.now.value c.args.pair.now
     (λ begins. c.in-None.ensures (begins.0, c.as_slice-key.ensures ∙ begins.1 ∙ ap (λ k. k ++ begins.0) (sym c.requires)))

@@ -10,4 +10,4 @@ loop-pair-preserved c =
     subst (λ (records : List Record). behind_these records (each_found (record_of c.args.store.now.prefix c.args.definition.now) (drop (c.loop-pair.pair-index + 1) c.args.pairs.now)) ≡ each_found (record_of c.args.store.now.prefix c.args.definition.now) c.args.pairs.now)
     (sym c.in_ok-push-in-Some.ensures.items)
     (made_more (record_of c.args.store.now.prefix c.args.definition.now) c.args.pairs.now c.loop-pair.pair-index c.pair-item.result c.loop-pair.records.items c.in-Some.found
-    c.loop-pair-test.true c.pair-item.is c.loop-pair.invariant (sym c.in-Some.is ∙ c.in_ok-found.ensures))
+    c.loop-pair-test.true c.pair-item.is c.loop-pair.invariant (sym c.in-Some.is ∙ c.in_ok-record_in.ensures ∙ ap (λ t. record_of c.args.store.now.prefix t c.pair-item.result) c.in_ok-shared.ensures))

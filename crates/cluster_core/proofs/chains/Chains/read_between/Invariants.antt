@@ -3,7 +3,7 @@ use Rattle.std.specs.List.{AllByRecursion}
 use Rattle.cluster_core.specs.Chains.{IsFalling, links_of}
 use Rattle.cluster_core.specs.Server.{turned}
 use Rattle.cluster_core.proofs.Shown.{chains_in, pairs_shown}
-use Rattle.cluster_core.proofs.chains.Chains.read.Given as goal
+use Rattle.cluster_core.proofs.chains.Chains.read_between.Given as goal
 
 -- the pairs so far and the first of those that are left are what is asked for
 abbrev pub invariant-loop-rest : goal.invariant-loop-rest

@@ -4,8 +4,8 @@ use Rattle.kv_core.proofs.Stored.{forward}
 use Rattle.cluster_core.specs.Chains.{IsFalling, links_of}
 use Rattle.cluster_core.specs.Server.{turned}
 use Rattle.cluster_core.proofs.Shown.{chains_between, chains_in, falling_in, pairs_shown, read-shown, read_full, read_pair, read_start, read_stops}
-use Rattle.cluster_core.proofs.chains.Chains.read.Goals as goal
-use Rattle.cluster_core.proofs.chains.Chains.read.Goals.{else-loop-rest-test, then-loop-rest-test+in_default}
+use Rattle.cluster_core.proofs.chains.Chains.read_between.Goals as goal
+use Rattle.cluster_core.proofs.chains.Chains.read_between.Goals.{else-loop-rest-test, then-loop-rest-test+in_default}
 
 pub range-rest-requires : goal.range-rest-requires
 range-rest-requires c = forward c.args.range.now _ _ c.begin.ensures.value c.end.ensures c.begin.ensures.lawful
