@@ -1,17 +1,17 @@
 #!/usr/bin/env python3
-"""Prints a script for `recordctl run` that saves many records and loads them: clients in turn, each transaction settled
-before the next begins.
+"""Prints a script for `recordctl run` that saves many records, loads them and queries them: clients in turn, each
+transaction settled before the next begins.
 
-By default 10,000 saves in transactions of 100 records by 4 clients, and no loads and no indexes. A script has 4,000,000
-bytes at most. With --together the clients begin together, save and commit in turn, and are settled together. With
---build an index of this kind is built over the saved records in the end, --records of them in a transaction. With --sql
-the same work is printed for the shell of SQLite (`sqlite3 :memory: < FILE`), one transaction after another.
+By default 10,000 saves in transactions of 100 records by 4 clients, and no loads, queries and indexes. A script has
+4,000,000 bytes at most. With --together the clients begin together, save and commit in turn, and are settled together.
+With --build an index of this kind is built over the saved records in the end, --records of them in a transaction. With
+--sql the same work is printed for the shell of SQLite (`sqlite3 :memory: < FILE`), one transaction after another.
 """
 
 import argparse
 import json
 
-TYPE = {"name": "t", "fields": [["k", "int"], ["a", "int"], ["b", "text"]], "key": ["k"]}
+FIELDS = [["k", "int"], ["a", "int"], ["b", "text"]]
 
 
 INDEXES = [
@@ -26,33 +26,72 @@ BUILT = {
     "sum": {"name": "sum", "kind": "sum", "type": "t", "columns": ["a"], "summed": "k"},
 }
 
+SQL_KINDS = {"int": "INTEGER", "text": "TEXT"}
 
-def save(client, number):
-    return ["save", client, "t", [number, number % 7, "record %d" % number]]
-
-
-def load(client, number):
-    return ["load", client, "t", [number]]
+# a prime, with which places are taken here and there
+STRIDE = 7919
 
 
-def transactions(step, count, records, clients):
-    """A step for each number, in transactions of clients in turn, the last of which may have fewer."""
-    for turn, first in enumerate(range(0, count, records)):
-        client = turn % clients
+def fields(options):
+    """The fields of the type, each with its kind."""
+    return [*FIELDS[:2], ["b", "int"]] if options.numbers else FIELDS
+
+
+def cells(options, number):
+    """The record of a number."""
+    return [number, number % options.values, number * 3 if options.numbers else "record %d" % number]
+
+
+def earlier(options, number):
+    """A number, not above this one, whose record the same transaction saves."""
+    place = number % options.records
+    return number - place + place * STRIDE % (place + 1)
+
+
+def asked(options, number):
+    """The value for which the query of a number asks."""
+    return number * STRIDE % options.values
+
+
+def save(options, client, number):
+    yield ["save", client, "t", cells(options, number)]
+    if options.loaded:
+        yield from load(options, client, earlier(options, number))
+
+
+def load(_, client, number):
+    yield ["load", client, "t", [number]]
+
+
+def query(options, client, number):
+    yield ["query", client, {"type": "t", "filter": ["=", "a", asked(options, number)]}]
+
+
+def whole_query(_, client, __):
+    yield ["query", client, {"type": "t"}]
+
+
+def transactions(work, count, options):
+    """The steps of a work for each number, in transactions of clients in turn, the last of which may have fewer."""
+    for turn, first in enumerate(range(0, count, options.records)):
+        client = turn % options.clients
         yield ["begin", client]
-        for number in range(first, min(first + records, count)):
-            yield step(client, number)
+        for number in range(first, min(first + options.records, count)):
+            yield from work(options, client, number)
         yield from (["commit", client], ["settle"])
 
 
-def rounds(step, count, records, clients):
+def rounds(work, count, options):
     """The same in rounds of all clients, whose transactions are open beside one another."""
+    records, clients = options.records, options.clients
     for first in range(0, count, records * clients):
         parts = [(client, range(first + client * records, min(first + (client + 1) * records, count)))
                  for client in range(clients)]
         yield from (["begin", client] for client, _ in parts)
         for place in range(records):
-            yield from (step(client, numbers[place]) for client, numbers in parts if place < len(numbers))
+            for client, numbers in parts:
+                if place < len(numbers):
+                    yield from work(options, client, numbers[place])
         yield from (["commit", client] for client, _ in parts)
         yield ["settle"]
 
@@ -67,27 +106,52 @@ def build(index, count, records):
 
 
 def steps(options):
-    """The steps: a store with some indexes, then the saves, then the loads of what was saved, then an index built."""
-    schema = {"types": [TYPE], "indexes": INDEXES[:options.indexes]}
+    """The steps: a store with some indexes, the saves, the loads of these, the queries, then an index built."""
+    kind = {"name": "t", "fields": fields(options), "key": ["k"]}
+    schema = {"types": [kind], "indexes": INDEXES[:options.indexes]}
     yield from (["begin", 0], ["create", 0, schema], ["commit", 0], ["settle"])
     turns = rounds if options.together else transactions
-    yield from turns(save, options.saves, options.records, options.clients)
-    yield from turns(load, options.loads, options.records, options.clients)
+    yield from turns(save, options.saves, options)
+    yield from turns(load, options.loads, options)
+    yield from turns(query, options.queries, options)
+    yield from turns(whole_query, options.whole, options)
     if options.build:
         yield from build(BUILT[options.build], options.saves, options.records)
 
 
+def insert_sql(options, number):
+    shown = (f"'{it}'" if isinstance(it, str) else str(it) for it in cells(options, number))
+    yield f"INSERT INTO t VALUES ({', '.join(shown)});"
+    if options.loaded:
+        yield from load_sql(options, earlier(options, number))
+
+
+def load_sql(_, number):
+    yield f"SELECT * FROM t WHERE k = {number};"
+
+
+def query_sql(options, number):
+    yield f"SELECT * FROM t WHERE a = {asked(options, number)};"
+
+
+def whole_query_sql(_, __):
+    yield "SELECT * FROM t;"
+
+
 def statements(options):
     """The same work in SQL, one transaction after another."""
-    yield "CREATE TABLE t (k INTEGER PRIMARY KEY, a INTEGER, b TEXT);"
+    columns = [f"{name} {SQL_KINDS[kind]}" for name, kind in fields(options)]
+    columns[0] += " PRIMARY KEY"
+    yield f"CREATE TABLE t ({', '.join(columns)});"
     for index in INDEXES[:options.indexes]:
         yield f"CREATE INDEX {index['name']} ON t ({', '.join(index['columns'])});"
-    for form, count in (("INSERT INTO t VALUES ({0}, {1}, 'record {0}');", options.saves),
-                        ("SELECT * FROM t WHERE k = {0};", options.loads)):
+    works = ((insert_sql, options.saves), (load_sql, options.loads),
+             (query_sql, options.queries), (whole_query_sql, options.whole))
+    for work, count in works:
         for first in range(0, count, options.records):
             yield "BEGIN;"
             for number in range(first, min(first + options.records, count)):
-                yield form.format(number, number % 7)
+                yield from work(options, number)
             yield "COMMIT;"
 
 
@@ -95,10 +159,15 @@ def main():
     parser = argparse.ArgumentParser(description=__doc__, formatter_class=argparse.RawDescriptionHelpFormatter)
     parser.add_argument("--saves", type=int, default=10_000)
     parser.add_argument("--loads", type=int, default=0)
+    parser.add_argument("--queries", type=int, default=0, help="queries of the records with one value of the field a")
+    parser.add_argument("--whole", type=int, default=0, help="queries of all records")
     parser.add_argument("--indexes", type=int, default=0, choices=range(3), metavar="0..2")
-    parser.add_argument("--records", type=int, default=100, help="records of one transaction")
+    parser.add_argument("--records", type=int, default=100, help="records, loads or queries of one transaction")
     parser.add_argument("--clients", type=int, default=4, choices=range(1, 17), metavar="1..16")
     parser.add_argument("--together", action="store_true", help="the clients' transactions are open together")
+    parser.add_argument("--loaded", action="store_true", help="after each save a load of what its transaction saved")
+    parser.add_argument("--values", type=int, default=7, help="how many values the field a takes")
+    parser.add_argument("--numbers", action="store_true", help="the field b is a whole number in place of a text")
     parser.add_argument("--build", choices=BUILT, help="the kind of an index that is built in the end")
     parser.add_argument("--sql", action="store_true", help="print SQL in place of a script")
     options = parser.parse_args()

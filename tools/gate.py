@@ -5,7 +5,8 @@
 2. Beside it, with what processors are left: the wrong bodies, which the prover must refuse (tools/wrong_bodies). Those
    of a crate aren't tried again where the record has that they were refused over the same texts; with --whole all are.
 3. Beside it too: the tools' own tests, and the house's rules over the files as they stand (tools/house_rules).
-4. The cases of cases/, the examples and the program's edge, against both built programs (tools/program_tests).
+4. The cases of cases/, the examples and the program's edge, against both built programs (tools/program_tests), and
+   queries whose allocations fail in turn (tools/refused_growths).
 
 The last line is 'N passed, M failed', and the status is 0 where M is 0.
 """
@@ -18,6 +19,8 @@ import tempfile
 import time
 
 PROGRAMS = ["crates/recordctl/out/recordctl", "crates/recordctl/out/recordctl.by-rattle"]
+ASKING = ["crates/memory_trials/out/memory_trials", "crates/memory_trials/out/memory_trials.by-rattle"]
+PROGRAM_TESTS = (("the program", "program_tests", PROGRAMS), ("want of memory", "refused_growths", ASKING))
 COUNTED = re.compile(r"(\d+) (?:passed|refused), (\d+) (?:failed|not)")
 # what the wrong bodies' tool says of each of its checks
 CHECKED = re.compile(r"\w+: (?:proved without edits|a round of \d+, \d+ told|\w+ alone): .*\n")
@@ -72,8 +75,9 @@ def main():
     tools = [begun(["nice", "-n", "10", python, f"tools/{it}/tests.py"]) for it in ("wrong_bodies", "house_rules")]
     rules = begun([python, "tools/house_rules"])
     tests = [ended("rt ci", begun(["rt", "ci"]), counts)]
-    programs = filter(os.path.isfile, PROGRAMS)
-    tests.append(ended("the program", begun([python, "tools/program_tests", *programs]), counts))
+    for title, tool, programs in PROGRAM_TESTS:
+        there = filter(os.path.isfile, programs)
+        tests.append(ended(title, begun([python, f"tools/{tool}", *there]), counts))
     tests += [ended("the tools", it, tool_counts) for it in tools]
     tests.append(ended("the house's rules", rules, counts))
     tests.append(ended("wrong bodies", wrong, counts))

@@ -9,7 +9,8 @@
    to it, since proof terms are laid out by the formatter, which breaks no line of its own.
 6. Each public item of a crate has a doc comment.
 7. Each crate of crates.txt has a README.md.
-8. No document, code, specification or edit leans on a text outside the repository, or on a mark that only one tells.
+8. The drawing of the crates, docs/crates.svg, is that of crates.txt.
+9. No document, code, specification or edit leans on a text outside the repository, or on a mark that only one tells.
 
 A line is printed for each fault, and then one for each rule, with the number of things that it was held against. A rule
 passes where nothing breaks it and there was something to break it. The last line is 'N passed, M failed'; the status is

@@ -1,7 +1,11 @@
 """The house's rules: each answers how many things it was held against, and the place and the kind of each fault."""
 import os
 import re
+import sys
 from sources import bodies, comments, data, files, line_at, lines_of, public_items, read, wide_lines
+
+sys.path.append(os.path.dirname(os.path.dirname(os.path.abspath(__file__))))
+from crate_tree import CRATES, DRAWING, drawing, used_by
 
 README_LINES, README_COLUMNS = 80, 100
 FILE_LINES, BODY_LINES, COLUMNS = 400, 40, 120
@@ -79,9 +83,16 @@ def public_items_are_documented(root):
 
 def crates_have_readmes(root):
     """Each crate of crates.txt has a README.md."""
-    listed = [line.split("#")[0].partition(":") for line in lines_of(read(root, "crates.txt"))]
-    readmes = [f"crates/{name.split()[0]}/README.md" for name, colon, _ in listed if colon]
-    return len(readmes), [(it, "isn't there") for it in readmes if not os.path.isfile(os.path.join(root, it))]
+    readmes = [f"crates/{name}/README.md" for name in used_by(read(root, CRATES))]
+    return len(readmes), [(it, "isn't there") for it in readmes if not files(root, it)]
+
+
+def crates_are_drawn(root):
+    """The drawing of the crates is that of crates.txt."""
+    text = read(root, CRATES)
+    is_fresh = bool(files(root, DRAWING)) and read(root, DRAWING) == drawing(text)
+    stale = [(DRAWING, f"isn't that of {CRATES}: run python3 tools/crate_tree.py")]
+    return len(used_by(text)), [] if is_fresh else stale
 
 
 def nothing_is_cited(root):
@@ -103,5 +114,6 @@ RULES = {
     "lines are narrow": lines_are_narrow,
     "public items are documented": public_items_are_documented,
     "crates have a README.md": crates_have_readmes,
+    "crates are drawn": crates_are_drawn,
     "nothing is cited": nothing_is_cited,
 }

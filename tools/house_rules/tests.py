@@ -4,7 +4,7 @@ import subprocess
 import sys
 import tempfile
 import unittest
-from rules import RULES
+from rules import RULES, drawing, used_by
 from sources import bodies, data, is_documented, public_items, wide_lines
 
 HERE = os.path.dirname(os.path.abspath(__file__))
@@ -12,10 +12,12 @@ SOURCE, SPEC, PROOF = "crates/low/src/lib.rt", "crates/low/specs/Low.antt", "cra
 SHOWN = "crates/low/src/shown.rt"
 # in two parts, so that these tests break no rule themselves
 PUBLISHED, LABEL = "pa" + "per", "D" + "12"
+CRATES = "# each crate\nlow:\n"
 
 RIGHT = {
     "README.md": "# A store\n\nIt is small.\n\n```rust\n    n + 1\n```\n",
-    "crates.txt": "# each crate\nlow:\n",
+    "crates.txt": CRATES,
+    "docs/crates.svg": drawing(CRATES),
     "crates/low/README.md": "# low\n",
     SOURCE: "/// The next number.\npub fn next(n: u64) -> u64\n    ensures { result ≡ n + 1 }\n{\n    n + 1\n}\n",
     SHOWN: "fn shown(n: u64) -> u64\n    ensures { result ≡ n + 1 }\n{\n    n + 1\n}\n",
@@ -24,7 +26,7 @@ RIGHT = {
     "tools/one.py": '"""A tool."""\n',
 }
 
-# For each rule, texts that break it, by the file that has them in the place of the right ones.
+# For each rule, texts that break it, by the file that has them in the place of the right ones; None is no file.
 WRONG = {
     "README.md is short": [("README.md", "line\n" * 81), ("README.md", "a" * 101 + "\n")],
     "the code of README.md stands": [
@@ -40,7 +42,10 @@ WRONG = {
         (SOURCE, "#[derive(Clone)]\npub struct Low;\n"), (SOURCE, "/// A type.\npub struct Low {\n}\npub fn a() {}\n"),
         (SOURCE, "// A trait.\npub trait Low {}\n"), (SOURCE, "/// Of low.\nimpl Low {\n    pub const fn a() {}\n}\n"),
     ],
-    "crates have a README.md": [("crates.txt", "low:\nhigh: low\n")],
+    "crates have a README.md": [("crates/low/README.md", None)],
+    "crates are drawn": [
+        ("docs/crates.svg", None), ("docs/crates.svg", "<svg/>\n"), ("docs/crates.svg", drawing("high:\n")),
+    ],
     "nothing is cited": [
         ("README.md", f"As the {PUBLISHED} has it.\n"), (SOURCE, f"// as in {LABEL}\n"), (PROOF, f"-- {LABEL}\n"),
         ("crates/low/must-fail/one.edit", f"file: src/lib.rt\nold: a\nnew: a // the {PUBLISHED}\n"),
@@ -72,7 +77,8 @@ def broken(changes=()):
     """The rules that a repository breaks that has these texts in the place of the right ones."""
     with tempfile.TemporaryDirectory() as root:
         for path, text in {**RIGHT, **dict(changes)}.items():
-            write(root, path, text)
+            if text is not None:
+                write(root, path, text)
         return [name for name, rule in RULES.items() if rule(root)[1]]
 
 
@@ -117,6 +123,23 @@ class Command(unittest.TestCase):
             status, lines = self.ran(root)
             # crates.txt itself is a file that may cite
             self.assertEqual((status, lines[-1]), (1, f"1 passed, {len(RULES) - 1} failed"))
+
+
+class Drawing(unittest.TestCase):
+    def test_what_is_drawn(self):
+        text = "# lowest first\nlow: kit\nmiddle: low\nhigh: middle low kit\nalone:\n"
+        self.assertEqual(used_by(text), {"low": [], "middle": ["low"], "high": ["middle", "low"], "alone": []})
+        drawn = drawing(text)
+        names = ("low", "middle", "high", "alone", "kit")
+        self.assertEqual([drawn.count(f">{name}<") for name in names], [1, 1, 1, 1, 0])
+        # the line from high to low is told by way of middle
+        self.assertEqual(drawn.count("<path"), 2)
+        self.assertEqual(drawing("low:\nhigh: low\n").count("<path"), 1)
+
+    def test_long_lines_turn(self):
+        drawn = drawing("low:\nother:\nmiddle: low\nhigh: middle\ntop: high other\nbeside: middle other\n")
+        self.assertIn("v28", drawn)
+        self.assertEqual(drawing(""), drawing("# nothing\n"))
 
 
 class Reading(unittest.TestCase):

@@ -13,6 +13,8 @@ from cases import cases_in, example_cases
 from edges import MANY_STEPS, MEMORY_LIMITS, SETTLE, byte_cases, command_line_cases, long_cases, long_line
 
 SECONDS = 60
+# how often each race is run again
+RACES = 20
 
 
 def first_difference(wanted, found):
@@ -66,12 +68,22 @@ def memory_fault(program, script, lines, is_begun):
     return None if kinds == wanted else f"only {sorted(kinds)} were printed"
 
 
+def race_fault(program, case, runs):
+    """What is wrong in one of so many runs of a race, each of which must print the same."""
+    return next((it for it in (fault_of(program, case) for _ in range(runs)) if it), None)
+
+
 def faults(program, folder):
     """What each case shows, and what is wrong with it, or None."""
     cases = [*cases_in("cases"), *example_cases("examples"), *long_cases(), *byte_cases(), *command_line_cases(folder)]
     for case in cases:
         yield case.shows, fault_of(program, case)
-    for words, given in ([["run"], SETTLE.encode()], [["pack", "[1]"], b""], [["unpack", "14"], b""]):
+    for case in cases:
+        if "race" in case.words[:1] and case.status == 0:
+            yield f"{RACES} runs: {case.shows}", race_fault(program, case, RACES)
+    race = next(case for case in cases if "race" in case.words[:1] and case.status == 0)
+    for words, given in ([["run"], SETTLE.encode()], [["pack", "[1]"], b""], [["unpack", "14"], b""],
+                         [["race"], race.given]):
         yield f"output that can't be written: {words[0]}", closed_output_fault(program, words, given)
     yield "want of memory for a script", memory_fault(program, *MANY_STEPS, False)
     yield "want of memory for a line", memory_fault(program, *long_line(), True)

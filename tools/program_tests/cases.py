@@ -9,18 +9,26 @@ on; each other line is 'QUERY => PLAN', what `explain` prints of the query, or b
 NAME.trees is such a one for `explain --tree`, where ' / ' stands between the lines of a tree.
 
 A file NAME.words has lines 'KIND `TEXT` => LINE'. The text is given to the program as a word of the command line (kinds
-`pack` and `unpack`), as a script (`script`), as the second step of one (`step`) or as its configuration (`config`). The
-line is what must be printed, alone; behind '! ' it is the line of a fault, with status 1 and nothing printed.
+`pack` and `unpack`), as a script (`script`), as the second step of one (`step`) or as its configuration (`config`), or
+as a race (`race`), as what it says of the index and the clients (`raced`) or as its configuration (`race_config`). The
+line is what must be printed, alone, or the lines between which ' / ' stands; behind '! ' it is the line of a fault,
+with status 1 and nothing printed.
 """
 import os
 import re
 from dataclasses import dataclass
 
 WORD = re.compile(r"(\w+) `([^`]*)` =>(?: (! )?(.*))?")
+# a race over the type t, and an index that counts all its records
+RACE = '{"schema":{"types":[{"name":"t","fields":[["k","int"],["a","int"],["b","int"]],"key":["k"]}]},"type":"t",%s}'
+COUNT = '{"name":"cnt","kind":"count","type":"t","columns":[]}'
 FRAMES = {
     "script": "%s",
     "step": '{"steps":[["begin",0],%s,[]]}',
     "config": '{"config":%s,"steps":[["settle"]]}',
+    "race": "%s",
+    "raced": RACE % '"before":[[1,7,0],[2,null,5]],%s',
+    "race_config": RACE % f'"before":[],"index":{COUNT},"limit":1,"clients":[[],[]],"config":%s',
 }
 
 
@@ -95,8 +103,9 @@ def word_case(name, line):
     if not found:
         raise ValueError(f"{name}: a line is no case: {line}")
     kind, text, wanted = found[1], found[2], (found[3] or "") + (found[4] or "")
-    words, given = ([kind, text], b"") if kind in ("pack", "unpack") else (["run"], (FRAMES[kind] % text).encode())
-    return told_case(f"{name}: {line}", words, given, wanted)
+    command = "race" if kind.startswith("race") else "run"
+    words, given = ([kind, text], b"") if kind in ("pack", "unpack") else ([command], (FRAMES[kind] % text).encode())
+    return told_case(f"{name}: {line}", words, given, wanted.replace(" / ", "\n"))
 
 
 def cases_in(folder):
@@ -119,11 +128,12 @@ def cases_in(folder):
 
 
 def example_cases(folder):
-    """A case for each script of a folder beside which its output stands, and each query beside which its plan does."""
+    """A case for each script and race of a folder beside which its output stands, and each query beside its plan."""
     cases, commands = [], {".out": ["run"], ".plan": ["explain"], ".tree": ["explain", "--tree"]}
     for name in sorted(os.listdir(folder)):
         stem, ending = os.path.splitext(os.path.abspath(os.path.join(folder, name)))
         if ending in commands:
+            words = ["race"] if os.path.basename(stem).startswith("race") else commands[ending]
             with open(os.path.join(folder, name), "rb") as lines:
-                cases.append(Case(f"{folder}/{name}", [*commands[ending], stem + ".json"], b"", 0, lines.read(), b""))
+                cases.append(Case(f"{folder}/{name}", [*words, stem + ".json"], b"", 0, lines.read(), b""))
     return cases

@@ -120,7 +120,8 @@ def command_line_cases(folder):
         with open(path, "w", encoding="utf-8") as file:
             file.write(text)
     refused = [[], ["walk"], ["pack"], ["unpack"], ["pack", "[]", "[]"], ["run", script, script], ["--frobnicate"],
-               ["explain", "--tree", "--tree"], ["explain", "--tree=yes"], ["run", "--tree", script]]
+               ["race", script, script], ["explain", "--tree", "--tree"], ["explain", "--tree=yes"],
+               ["run", "--tree", script]]
     return [
         Case("a script in a file", ["run", script], b"not this", 0, b"1 nothing\n", b""),
         Case("no such file", ["run", f"{folder}/absent.json"], SETTLE.encode(), 1, b"", b"cannot read input\n"),
@@ -128,6 +129,7 @@ def command_line_cases(folder):
         Case("the tree of a plan in a file", ["explain", plan, "--tree"], b"not this", 0, TREE, b""),
         Case("the tree of a plan", ["explain", "--tree"], PLAN.encode(), 0, TREE, b""),
         Case("no such plan", ["explain", "--tree", f"{folder}/absent.json"], b"", 1, b"", b"cannot read input\n"),
+        Case("no such race", ["race", f"{folder}/absent.json"], b"", 1, b"", b"cannot read input\n"),
         *[Case(f"a command line that isn't taken: {it}", it, b"", 2, b"", None) for it in refused],
         Case("help goes to standard error", ["--help"], b"", 2, b"", None),
         Case("help of a command", ["run", "--help"], b"", 2, b"", None),

@@ -6,6 +6,7 @@ ghost use Rattle.std.specs.Ordering.{is_eq};
 ghost use Rattle.kv_core.specs.Addition.{added};
 ghost use Rattle.kv_core.specs.Bytes.{has_key, key_cmp};
 ghost use Rattle.kv_core.specs.Map.{after, pairs_in};
+ghost use Rattle.kv_core.specs.Range.{point};
 ghost use Rattle.kv_core.specs.Read.{read_of};
 ghost use Rattle.kv_core.specs.declared.change.Mutation.TheVariants.{ClearRange};
 ghost use Rattle.cluster_core.specs.Chains.{AreBelow, AreFalling, Writes, links_at, needed, put};
@@ -237,9 +238,9 @@ impl Chains {
         }
     }
 
-    /// The pairs of the range at a version: the first ones in the order of their keys, or with
-    /// `reverse` the last ones with the last one first, as many as there are up to the limit.
-    pub(crate) fn read(
+    // The pairs of the range at a version: the first ones in the order of their keys, or with
+    // `reverse` the last ones with the last one first, as many as there are up to the limit.
+    fn read_between(
         &self,
         range: &KeyRange,
         version: u64,
@@ -261,5 +262,41 @@ impl Chains {
             }
         }
         Ok(pairs)
+    }
+
+    // The pair of a key at a version, where it has a value there.
+    fn read_point(&self, key: &Bytes, version: u64) -> Result<Vec<Pair>, AllocError>
+        requires { AreFalling self.now.chains }
+        ensures { IfOk result (λ pairs.
+            pairs.items ≡ read_of (shown self.now.chains.entries version) (point key.now) 1 false) }
+    {
+        let mut pairs = Vec::new(self.alloc);
+        match value_of(&self.chains, version, key) {
+            None => Ok(pairs),
+            Some(value) => {
+                pairs.push((key.copy()?, value.copy()?))?;
+                Ok(pairs)
+            }
+        }
+    }
+
+    /// The pairs of the range at a version: the first ones in the order of their keys, or with
+    /// `reverse` the last ones with the last one first, as many as there are up to the limit.
+    pub(crate) fn read(
+        &self,
+        range: &KeyRange,
+        version: u64,
+        limit: usize,
+        reverse: bool,
+    ) -> Result<Vec<Pair>, AllocError>
+        requires { AreFalling self.now.chains }
+        ensures { IfOk result (λ pairs.
+            pairs.items ≡ read_of (shown self.now.chains.entries version) range.now limit reverse) }
+    {
+        // A key is looked for by itself: a range takes a search for each of its ends.
+        if limit == 1 && !reverse && range.is_point() {
+            return self.read_point(range.begin(), version);
+        }
+        self.read_between(range, version, limit, reverse)
     }
 }

@@ -23,6 +23,8 @@ pub enum Request {
     Pack(String),
     /// To print the tuple that the bytes of these hexadecimal digits spell.
     Unpack(String),
+    /// To run the race in this file, or without one that on standard input.
+    Race(Option<String>),
 }
 
 /// Why a command line asks for nothing.
@@ -79,17 +81,27 @@ fn unpack_command<'a>(alloc: Global) -> Result<Command<'a>, AllocError> {
         .arg(hex)
 }
 
+fn race_command<'a>(alloc: Global) -> Result<Command<'a>, AllocError> {
+    let file = Arg::new(alloc, "FILE").help("The race; without it standard input is read");
+    Command::new(alloc, "race")
+        .about(
+            "Runs two clients beside the builder of an index, and prints what there is at the end",
+        )
+        .arg(file)
+}
+
 // What the command line may be.
 fn command_line<'a>(alloc: Global) -> Result<Command<'a>, AllocError> {
     Command::new(alloc, "recordctl")
         .about(
-            "Runs scripts over a record store, shows plans of queries, and packs and unpacks tuples",
+            "Runs scripts and races over a record store, shows plans of queries, and packs and unpacks tuples",
         )
         .subcommand_required(true)
         .subcommand(run_command(alloc)?)?
         .subcommand(explain_command(alloc)?)?
         .subcommand(pack_command(alloc)?)?
-        .subcommand(unpack_command(alloc)?)
+        .subcommand(unpack_command(alloc)?)?
+        .subcommand(race_command(alloc)?)
 }
 
 // What the words of the command line match.
@@ -145,6 +157,9 @@ fn request_in(alloc: Global, matches: &ArgMatches) -> Result<Request, AllocError
     }
     if let Some(words) = matches.subcommand_matches("explain") {
         return Ok(Request::Explain(form_in(words), file_in(alloc, words)?));
+    }
+    if let Some(words) = matches.subcommand_matches("race") {
+        return Ok(Request::Race(file_in(alloc, words)?));
     }
     match matches.subcommand_matches("run") {
         Some(words) => Ok(Request::Run(file_in(alloc, words)?)),

@@ -13,6 +13,8 @@ pub mod Swallowed
 pub mod Growth
 pub mod Reaching
 pub mod Retracing
+pub mod PointReads
+pub mod Points
 pub mod Indexes
 pub mod Sums
 pub mod Refusals

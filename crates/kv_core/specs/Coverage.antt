@@ -1,11 +1,9 @@
 -- The keys that ranges cover, as stretches: entries from begins to ends.
 use Rattle.std.specs.Prelude.{◌≡◌, ◌↔◌, ℕ, IsTrue, false, Some, List, map}
-use Rattle.std.specs.List.{list_any}
 use Rattle.std.specs.Map.{lookup}
 use Rattle.std.specs.BTreeMap.{is_at}
-use Rattle.std.specs.BTreeSet.{BTreeSet, contains as has}
 use Rattle.kv_core.specs.Bytes.{has_key, key_cmp, key_le, key_lt}
-use Rattle.kv_core.specs.Range.{KeyRange, covers, is_same_range, range_cmp}
+use Rattle.kv_core.specs.Range.{KeyRange, covers}
 
 -- entries from begins to ends, as ranges
 abbrev pub stretches_of : List (List ℕ × List ℕ) → List KeyRange
@@ -43,8 +41,3 @@ pub record Reaches (entries : List (List ℕ × List ℕ)) (key place : List ℕ
       (q : List ℕ) → IsTrue (key_le key q) → IsTrue (key_lt q place) → IsTrue (covers (stretches_of entries) q)
   pub others : (begin end : List ℕ) → EndsAt entries begin end → IsTrue (key_le begin key) → IsTrue (key_le end place)
   pub ahead : (begin end : List ℕ) → EndsAt entries begin end → IsTrue (key_lt key begin) → IsTrue (key_le place end)
-
--- a set and stretches are those of a list of ranges: the set has just its ranges, and the stretches cover just its keys
-pub record IsIndex (known : BTreeSet KeyRange) (stretches ranges : List KeyRange) : Type 0 where
-  pub has_ranges : (range : KeyRange) → has range_cmp known range ≡ list_any (is_same_range range) ranges
-  pub covers_keys : (key : List ℕ) → covers stretches key ≡ covers ranges key

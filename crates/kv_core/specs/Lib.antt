@@ -1,6 +1,7 @@
 pub mod Bytes
 pub mod Range
 pub mod Coverage
+pub mod RangeIndex
 pub mod Addition
 pub mod Change
 pub mod Map

@@ -11,6 +11,7 @@ mod laws;
 mod limits;
 mod pair;
 mod range;
+mod range_index;
 mod range_list;
 mod removal;
 mod size;

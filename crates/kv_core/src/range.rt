@@ -1,4 +1,4 @@
-ghost use Rattle.std.specs.Prelude.{◌≡◌, IsTrue, IfOk, IfNone, IfSome, Some, not, false, refl};
+ghost use Rattle.std.specs.Prelude.{◌≡◌, IsTrue, IfOk, IfNone, IfSome, MatchBool, Some, not, false, refl};
 ghost use Rattle.std.specs.Ordering.{eq_by_cmp};
 ghost use Rattle.std.specs.Cmp.{eq_by_cmp_equiv, partial_equiv_from_equiv, partial_order_from_agreeing_total};
 ghost use Rattle.kv_core.specs.Bytes.{key_lt, key_max, key_min, end_of_keys};
@@ -99,6 +99,13 @@ fn earlier<'a>(first: &'a Bytes, second: &'a Bytes) -> &'a Bytes
     }
 }
 
+/// Whether two byte strings are equal.
+fn is_equal(bytes: &[u8], others: &[u8]) -> bool
+    ensures { MatchBool result (bytes.now ≡ others.now) (bytes.now ≡ others.now → ⊥) }
+{
+    bytes == others
+}
+
 impl KeyRange {
     /// The range with this begin and this end. It is None exactly where the begin comes after the
     /// end or the end after the byte FF, and takes no memory.
@@ -162,6 +169,17 @@ impl KeyRange {
     {
         let by_begin = self.begin.compare(&other.begin);
         by_begin.then(self.end.compare(&other.end))
+    }
+
+    /// Whether the range has its begin alone: whether it is the point of a key.
+    pub fn is_point(&self) -> bool
+        ensures { MatchBool result (self.now ≡ point self.now.begin)
+            (self.now ≡ point self.now.begin → ⊥) }
+    {
+        match self.end.as_slice().split_last() {
+            Some((last, front)) => *last == 0 && is_equal(front, self.begin.as_slice()),
+            None => false,
+        }
     }
 
     /// Whether no key lies in the range.

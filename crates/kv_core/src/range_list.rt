@@ -2,33 +2,31 @@ ghost use Rattle.std.specs.Prelude.{◌≡◌, [], IsTrue, IfOk, IsOk, OnOk, OnE
 ghost use Rattle.std.specs.List.{list_any};
 ghost use Rattle.kv_core.specs.Range.{is_same_range, with_range, any_meets};
 
-use crate::coverage::Coverage;
 use crate::range::KeyRange;
+use crate::range_index::RangeIndex;
 use std::alloc::{AllocError, Global};
-use std::collections::BTreeSet;
 use std::marker::Model;
 
 /// Ranges of keys, in the order in which they were added.
 ///
-/// Beside the list stand its ranges in their order and the keys that they cover, so that to add a
-/// range, or to ask for one or for its keys, takes time that grows as the logarithm of the list.
+/// Beside the list stands what is known of its ranges, so that to add a range, or to ask for one or
+/// for its keys, takes time that grows as the logarithm of the list.
 #[derive(Debug, Drop)]
 pub struct RangeList {
     ranges: Vec<KeyRange>,
-    known: BTreeSet<KeyRange>,
-    coverage: Coverage,
+    index: RangeIndex,
 }
 
 impl Model for RangeList {
     ghost use Rattle.std.specs.Prelude.{List};
     ghost use Rattle.kv_core.specs.Range.{KeyRange as Range};
-    ghost use Rattle.kv_core.specs.Coverage.{IsIndex};
+    ghost use Rattle.kv_core.specs.RangeIndex.{IsIndexOf};
 
     ghost Value = { List Range };
 
     ghost view = { λ a. a.ranges.items };
 
-    ghost invariant = { λ a. IsIndex a.known a.coverage a.ranges.items };
+    ghost invariant = { λ a. IsIndexOf a.index a.ranges.items };
 }
 
 impl RangeList {
@@ -38,8 +36,7 @@ impl RangeList {
     {
         RangeList {
             ranges: Vec::new(alloc),
-            known: BTreeSet::new(alloc),
-            coverage: Coverage::new(alloc),
+            index: RangeIndex::new(alloc),
         }
     }
 
@@ -47,17 +44,11 @@ impl RangeList {
     pub fn from_ranges(alloc: Global, ranges: Vec<KeyRange>) -> Result<RangeList, AllocError>
         ensures { IfOk result (λ list. list ≡ ranges.items) }
     {
-        let mut known = BTreeSet::new(alloc);
-        let mut coverage = Coverage::new(alloc);
+        let mut index = RangeIndex::new(alloc);
         for range in &ranges {
-            known.insert(range.copy()?)?;
-            coverage.add(range)?;
+            index.note(range)?;
         }
-        Ok(RangeList {
-            ranges,
-            known,
-            coverage,
-        })
+        Ok(RangeList { ranges, index })
     }
 
     /// An equal list, unless memory runs out.
@@ -65,13 +56,8 @@ impl RangeList {
         ensures { IfOk result (λ copy. copy ≡ self.now) }
     {
         let ranges = self.ranges.clone()?;
-        let known = self.known.clone()?;
-        let coverage = self.coverage.copy()?;
-        Ok(RangeList {
-            ranges,
-            known,
-            coverage,
-        })
+        let index = self.index.copy()?;
+        Ok(RangeList { ranges, index })
     }
 
     /// The ranges, in order.
@@ -85,7 +71,7 @@ impl RangeList {
     pub fn has(&self, range: &KeyRange) -> bool
         ensures { result ≡ list_any (is_same_range range.now) self.now }
     {
-        self.known.contains(range)
+        self.index.has(range)
     }
 
     /// Adds a range at the end, unless the list has it, which takes no memory. Where memory runs
@@ -98,14 +84,9 @@ impl RangeList {
         if self.has(&range) {
             return Ok(());
         }
-        // Room for the range is made first, so that nothing fails once its keys are covered.
-        let own = range.copy()?;
+        // Room for the range is made first, so that nothing fails once it is noted.
         self.ranges.reserve(1)?;
-        self.known.insert(own)?;
-        if let Err(error) = self.coverage.add(&range) {
-            self.known.remove(&range);
-            return Err(error);
-        }
+        self.index.note(&range)?;
         self.ranges.push(range)?;
         Ok(())
     }
@@ -114,6 +95,6 @@ impl RangeList {
     pub fn intersects(&self, range: &KeyRange) -> bool
         ensures { result ≡ any_meets range.now self.now }
     {
-        self.coverage.meets(range)
+        self.index.meets(range)
     }
 }

@@ -1,6 +1,5 @@
 -- Bytes are those of one record of a type at most.
 use Rattle.std.proofs.Common.{◌≡◌, ℕ, Bool, true, false, List, Ok, Err, refl, sym, ap, ◌∙◌}
-use Rattle.std.specs.Bool.{MatchBool}
 use Rattle.std.specs.List.{list_any}
 use Rattle.tuple_codec.specs.Spelling.{spelling}
 use Rattle.metadata.specs.declared.cells.Cell.{Cell}
@@ -54,8 +53,3 @@ pub none_of_other_key : (type : TypeDefinition) (key value : List ℕ) (cells : 
 none_of_other_key type key value cells are other r is =
     let same = one_value value cells r.cells are (stored_cells type key value r is) in
     other (is.has_key ∙ ap (λ one. spelling (primary_key one)) (sym (ap (of_cells type) same ∙ made_is type r.cells r is.made)))
-
--- the test tells that the bytes are not those of a key
-pub other_key : (number : ℕ) (key cells : List Cell) (bytes : List ℕ) (same : Bool)
-    → MatchBool same (bytes ≡ spelling (key_items number key)) (bytes ≡ spelling (key_items number key) → ⊥) → same ≡ false → key ≡ cells → bytes ≡ spelling (key_items number cells) → ⊥
-other_key number key cells bytes same told false_is is equal = (rw false_is at told) (equal ∙ ap (λ one. spelling (key_items number one)) (sym is))

@@ -2,13 +2,14 @@ ghost use Rattle.std.specs.Prelude.{◌≡◌, ◌++◌, List, All, IfOk, OnOk};
 ghost use Rattle.std.specs.List.{list_any};
 ghost use Rattle.tuple_codec.specs.Item.{AreBytes, IsTuple, nesting};
 ghost use Rattle.tuple_codec.specs.Elements.{item_in, items_in};
+ghost use Rattle.tuple_codec.specs.Spelling.{item_spelling, outer, spelling};
 ghost use Rattle.metadata.specs.Cell.{IsCell, all_fit, cell_at, cell_of, cells_at};
 ghost use Rattle.metadata.specs.Cell.{cells_of, fits, is_null, item_of, items_of};
 
 use crate::definition::Places;
 use std::alloc::{AllocError, Global};
 use std::marker::Model;
-use tuple_codec::{ByteString, Element, Text, Tuple, TupleInt};
+use tuple_codec::{ByteString, Element, Text, Tuple, TupleInt, pack_element};
 
 /// What a field holds.
 #[derive(Clone, Copy, Debug, PartialEq, Eq, Drop)]
@@ -189,6 +190,53 @@ impl Cells {
         }
     }
 
+    // Whether the cell at this place is null, as one past the end is.
+    fn is_null_at(&self, place: usize) -> bool
+        ensures { result ≡ is_null (cell_at self.now place) }
+    {
+        match self.cells.get(place) {
+            Some(cell) => cell.is_null(),
+            None => true,
+        }
+    }
+
+    // Whether the cell at one of these places is null.
+    fn is_null_among(&self, places: &[usize]) -> bool
+        ensures { result ≡ list_any (λ place. is_null (cell_at self.now place)) places.now }
+    {
+        places.iter().any(|place| self.is_null_at(*place))
+    }
+
+    // Whether one of the cells at these places is null.
+    pub(crate) fn has_null_at(&self, places: &Places) -> bool
+        ensures { result ≡ list_any is_null (cells_at self.now places.now) }
+    {
+        let found = self.is_null_among(places.as_slice());
+        found
+    }
+
+    // Appends the pack of the cell at this place, null past the end.
+    fn pack_cell_at(&self, place: usize, out: &mut Vec<u8>) -> Result<(), AllocError>
+        ensures { OnOk result (out.new.items
+            ≡ out.old.items ++ item_spelling outer (item_of (cell_at self.now place))) }
+    {
+        match self.cells.get(place) {
+            Some(cell) => pack_element(&cell.element()?, out),
+            None => pack_element(&Element::Null, out),
+        }
+    }
+
+    // Appends the pack of the tuple of the cells at these places.
+    pub(crate) fn pack_at(&self, places: &Places, out: &mut Vec<u8>) -> Result<(), AllocError>
+        ensures { OnOk result (out.new.items
+            ≡ out.old.items ++ spelling (items_of (cells_at self.now places.now))) }
+    {
+        for place in places.as_slice() {
+            self.pack_cell_at(*place, out)?;
+        }
+        Ok(())
+    }
+
     /// The cells at these places, null past the end.
     pub fn at(&self, alloc: Global, places: &Places) -> Result<Cells, AllocError>
         ensures { IfOk result (λ cells. cells ≡ cells_at self.now places.now) }
@@ -218,6 +266,19 @@ impl Cells {
     {
         for cell in &self.cells {
             elements.push(cell.element()?)?;
+        }
+        Ok(())
+    }
+
+    /// Appends the pack of the tuple of the cells. Where memory is wanting some of its bytes may
+    /// stand there.
+    pub fn push_pack(&self, out: &mut Vec<u8>) -> Result<(), AllocError>
+        ensures packed { OnOk result (out.new.items
+            ≡ out.old.items ++ spelling (items_of self.now)) }
+        ensures cells { OnOk result (All IsCell self.now) }
+    {
+        for cell in &self.cells {
+            pack_element(&cell.element()?, out)?;
         }
         Ok(())
     }

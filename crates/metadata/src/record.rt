@@ -1,7 +1,7 @@
-ghost use Rattle.std.specs.Prelude.{◌≡◌, Ok, IfOk, IfErr, OnOk, map};
+ghost use Rattle.std.specs.Prelude.{◌≡◌, Ok, Err, IfOk, IfErr, OnOk, map};
 ghost use Rattle.tuple_codec.specs.Item.{IsTuple};
 ghost use Rattle.metadata.specs.Answers.{IsRefusedAs};
-ghost use Rattle.metadata.specs.Cell.{all_fit, cells_at};
+ghost use Rattle.metadata.specs.Cell.{all_fit};
 ghost use Rattle.metadata.specs.Record.{key_items, key_of, primary_key, record_in, record_of};
 
 use crate::cells::{Cells, flat_tuple};
@@ -10,12 +10,14 @@ use crate::refusal::{MetadataError, Refusal};
 use crate::schema::Schema;
 use std::alloc::{AllocError, Global};
 use std::marker::Model;
+use std::rc::Rc;
 use tuple_codec::{Element, Text, Tuple, TupleInt};
 
-/// A record: its type's definition, and a cell for each field, which the definition allows.
+/// A record: its type's definition, which records share, and a cell for each field, which the
+/// definition allows.
 #[derive(Drop)]
 pub struct Record {
-    pub(crate) definition: TypeDefinition,
+    pub(crate) definition: Rc<TypeDefinition>,
     pub(crate) cells: Cells,
 }
 
@@ -25,10 +27,10 @@ impl Model for Record {
 
     ghost Value = { RecordValue };
 
-    ghost view = { λ r. record { definition = r.definition; cells = r.cells } };
+    ghost view = { λ r. record { definition = r.definition.value; cells = r.cells } };
 
-    ghost invariant = { λ r. record_in r.definition r.cells
-        ≡ Ok (record { definition = r.definition; cells = r.cells }) };
+    ghost invariant = { λ r. record_in r.definition.value r.cells
+        ≡ Ok (record { definition = r.definition.value; cells = r.cells }) };
 }
 
 // The primary key of the record of the type with this number and these key cells.
@@ -86,25 +88,19 @@ fn fit_fields(fields: &[Field], cells: &Cells) -> bool
     rest.is_empty()
 }
 
-// The cells of the key of the record of this type with these cells, or why there is no such record.
-pub(crate) fn key_in(
-    alloc: Global,
-    definition: &TypeDefinition,
-    cells: &Cells,
-) -> Result<Cells, MetadataError>
-    ensures key { IfOk result (λ key. key ≡ cells_at cells.now definition.now.key) }
+// Tells why there is no record of this type with these cells.
+pub(crate) fn check_in(definition: &TypeDefinition, cells: &Cells) -> Result<(), Refusal>
     ensures made { OnOk result (record_in definition.now cells.now
         ≡ Ok (record { definition = definition.now; cells = cells.now })) }
-    ensures refused { IfErr result (λ error. IsRefusedAs error (record_in definition.now cells.now)) }
+    ensures refused { IfErr result (λ refusal. record_in definition.now cells.now ≡ Err refusal) }
 {
     if !fit_fields(definition.fields.as_slice(), cells) {
-        return Err(MetadataError::Refused(Refusal::WrongKind));
+        return Err(Refusal::WrongKind);
     }
-    let key = cells.at(alloc, &definition.key)?;
-    if key.has_null() {
-        return Err(MetadataError::Refused(Refusal::NullKey));
+    if cells.has_null_at(&definition.key) {
+        return Err(Refusal::NullKey);
     }
-    Ok(key)
+    Ok(())
 }
 
 impl Record {
@@ -123,8 +119,10 @@ impl Record {
         let Some(definition) = schema.type_named(type_name) else {
             return Err(MetadataError::Refused(Refusal::UnknownType));
         };
-        let _ = key_in(alloc, definition, &cells)?;
-        let definition = definition.copy()?;
+        if let Err(refusal) = check_in(definition, &cells) {
+            return Err(MetadataError::Refused(refusal));
+        }
+        let definition = Rc::new(alloc, definition.copy()?)?;
         Ok(Record { definition, cells })
     }
 

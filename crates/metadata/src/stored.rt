@@ -2,6 +2,7 @@
 ghost use Rattle.std.specs.Prelude.{◌≡◌, ℕ, List, IfOk, IfSome, MatchBool, Some};
 ghost use Rattle.std.specs.Option.{IfNone};
 ghost use Rattle.tuple_codec.specs.Spelling.{spelling};
+ghost use Rattle.metadata.specs.Cell.{cells_at};
 ghost use Rattle.metadata.specs.Record.{Record as RecordValue, key_items, primary_key};
 ghost use Rattle.metadata.specs.Stored.{AreStoredAs, IsOfNoCells, IsOfNoRecord, IsStoredAs, IsTypeOf};
 ghost use Rattle.metadata.specs.Lawful.{IsLawfulSchema};
@@ -11,10 +12,10 @@ ghost use Rattle.metadata.specs.declared.definition.TypeDefinition.{TypeDefiniti
 
 use crate::cells::Cells;
 use crate::definition::TypeDefinition;
-use crate::record::{Record, key_in, key_tuple};
-use crate::refusal::MetadataError;
+use crate::record::{Record, check_in};
 use std::alloc::{AllocError, Global};
-use tuple_codec::{UnpackFailure, pack, unpack};
+use std::rc::Rc;
+use tuple_codec::{Element, TupleInt, UnpackFailure, pack_element, unpack};
 
 // The cells whose pack these bytes are.
 fn cells_in(alloc: Global, value: &[u8]) -> Result<Option<Cells>, AllocError>
@@ -28,14 +29,21 @@ fn cells_in(alloc: Global, value: &[u8]) -> Result<Option<Cells>, AllocError>
     }
 }
 
-// Whether these bytes are the pack of the primary key of the type's number and these cells.
-fn is_key(alloc: Global, number: u64, cells: &Cells, key: &[u8]) -> Result<bool, AllocError>
-    ensures { IfOk result (λ is.
-        MatchBool is (key.now ≡ spelling (key_items number cells.now))
-        (key.now ≡ spelling (key_items number cells.now) → ⊥)) }
+// Whether these bytes are the pack of the primary key of the type's number and the cells of its
+// key.
+fn is_key(
+    alloc: Global,
+    definition: &TypeDefinition,
+    cells: &Cells,
+    key: &[u8],
+) -> Result<bool, AllocError>
+    ensures { let items = key_items definition.now.number (cells_at cells.now definition.now.key) in
+        IfOk result (λ is. MatchBool is (key.now ≡ spelling items) (key.now ≡ spelling items → ⊥)) }
 {
-    let tuple = key_tuple(alloc, number, cells)?;
-    let packed = pack(alloc, &tuple)?;
+    let number = Element::Int(TupleInt::from(definition.number));
+    let mut packed = Vec::with_capacity(alloc, key.len())?;
+    pack_element(&number, &mut packed)?;
+    cells.pack_at(&definition.key, &mut packed)?;
     Ok(packed.as_slice() == key)
 }
 
@@ -55,12 +63,11 @@ impl TypeDefinition {
         let Some(cells) = cells_in(alloc, value)? else {
             return Ok(None);
         };
-        let key = match key_in(alloc, self, &cells) {
-            Ok(key) => key,
-            Err(MetadataError::Memory) => return Err(AllocError),
-            Err(MetadataError::Refused(_)) => return Ok(None),
-        };
-        if !is_key(alloc, self.number, &key, primary_key)? {
+        match check_in(self, &cells) {
+            Ok(()) => {}
+            Err(_) => return Ok(None),
+        }
+        if !is_key(alloc, self, &cells, primary_key)? {
             return Ok(None);
         }
         Ok(Some(cells))
@@ -82,8 +89,28 @@ impl Record {
         let Some(cells) = definition.cells_in(alloc, primary_key, value)? else {
             return Ok(None);
         };
-        let definition = definition.copy()?;
+        let definition = Rc::new(alloc, definition.copy()?)?;
         Ok(Some(Record { definition, cells }))
+    }
+
+    /// The same, where the record shares the definition.
+    pub fn decode_shared(
+        alloc: Global,
+        definition: &Rc<TypeDefinition>,
+        primary_key: &[u8],
+        value: &[u8],
+    ) -> Result<Option<Record>, AllocError>
+        ensures found { IfOk result (λ found.
+            IfSome found (IsStoredAs definition.now.value primary_key.now value.now)) }
+        ensures none { IfOk result (λ found.
+            IfNone found (IsOfNoRecord definition.now.value primary_key.now value.now)) }
+    {
+        let Some(cells) = definition.cells_in(alloc, primary_key, value)? else {
+            return Ok(None);
+        };
+        let definition = definition.clone()?;
+        let record = Record { definition, cells };
+        Ok(Some(record))
     }
 }
 

@@ -1,5 +1,5 @@
 -- What the tests of a store's types and indexes say.
-use Rattle.std.specs.Prelude.{◌≡◌, ◌&&◌, ◌||◌, ◌==◌, ◌⊎◌, ℕ, ◌+◌, ◌<◌, Bool, true, false, cond, List, [], ◌∷◌, ◌++◌, length, take, drop, map, Option, Some, None, refl, Contains, get_or, find}
+use Rattle.std.specs.Prelude.{◌≡◌, ◌&&◌, ◌==◌, ℕ, ◌+◌, ◌<◌, Bool, true, false, cond, List, [], ◌∷◌, length, drop, map, Option, Some, None, refl, get_or, find}
 use Rattle.std.specs.Bool.{Decides}
 use Rattle.std.specs.List.{AllByRecursion, list_all, list_any, starts_with}
 use Rattle.std.specs.Str.{bytes_eq}
@@ -23,7 +23,7 @@ use Rattle.metadata.specs.Schema.{find_type}
 use Rattle.record_store.specs.Call.{Opened}
 use Rattle.metadata.specs.Index.{is_readable}
 use Rattle.record_store.specs.Store.{state_in}
-use Rattle.planner.specs.Plan.{Node, Nodes, Plan}
+use Rattle.planner.specs.Plan.{Plan}
 use Rattle.planner.specs.Planned.{nodes_of}
 use Rattle.planner.specs.Right.{Extends, indexes_of, indexes_of_all, indexes_of_scans}
 use Rattle.planner.specs.View.{index_scan_of, node_of}
@@ -32,7 +32,7 @@ use Rattle.planner.specs.declared.plan.Node as step
 use Rattle.planner.proofs.Lists.{contains_member, member_contained}
 use Rattle.planner.proofs.Residual.{Member, here, there}
 use Rattle.planner.proofs.Scans.{front_or_later}
-use Rattle.plan_exec.specs.Accepting.{Accepts, HasType, IsNotAccepted, IsReadableAt, equal_index, equal_kind, equal_place, extends, may_read}
+use Rattle.plan_exec.specs.Accepting.{HasType, IsReadableAt, equal_index, equal_kind, equal_place, extends, may_read}
 
 -- ---- tests of equality
 

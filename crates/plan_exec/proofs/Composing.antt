@@ -1,5 +1,5 @@
 -- How readings are done one after another.
-use Rattle.std.specs.Prelude.{◌≡◌, ◌⊎◌, ℕ, List, [], ◌∷◌, ◌++◌, Option, Some, None, Result, Ok, Err, refl}
+use Rattle.std.specs.Prelude.{◌≡◌, ◌⊎◌, ℕ, List, [], ◌∷◌, ◌++◌, Result, Ok, Err}
 use Rattle.std.specs.FinMap.{entries}
 use Rattle.std.specs.Result.{result_err, result_map_both}
 use Rattle.std.proofs.Common.{ap, sym, ◌∙◌, subst, inl, inr}
@@ -9,7 +9,7 @@ use Rattle.kv_core.specs.declared.change.CommitRequest.{CommitRequest}
 use Rattle.cluster_core.specs.declared.answers.ReadError.{ReadError}
 use Rattle.cluster_core.specs.declared.answers.ReadError.TheVariants as read
 use Rattle.txn.proofs.Running.{ran_because, ran_still, ran_then}
-use Rattle.record_store.specs.Steps.{DidRead, IsBeginning, IsNextRefused}
+use Rattle.record_store.specs.Steps.{IsBeginning, IsNextRefused}
 use Rattle.record_store.proofs.Stopping.{all_begin, begin_behind, begin_more, next_behind, next_more, none_begin}
 use Rattle.metadata.specs.Layout.{Pair}
 use Rattle.plan_exec.specs.Errors.{no_memory, of_read}

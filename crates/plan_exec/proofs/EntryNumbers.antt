@@ -1,16 +1,14 @@
 -- Which cell has the pack of a whole number.
-use Rattle.std.specs.Prelude.{◌≡◌, ℕ, ◌<◌, ◌≤◌, ◌^◌, Bool, true, false, List, [], ◌∷◌, refl, bytes_eq, pos}
+use Rattle.std.specs.Prelude.{◌≡◌, ℕ, ◌<◌, ◌^◌, Bool, true, false, [], ◌∷◌, refl, bytes_eq, pos}
 use Rattle.std.specs.Bool.{Decides, MatchBool}
-use Rattle.std.proofs.Common.{ap, sym, ◌∙◌, subst, arith}
-use Rattle.std.proofs.lemmas.Bool.{true≢false}
+use Rattle.std.proofs.Common.{ap, sym, subst, arith}
 use Rattle.std.proofs.lemmas.Slice.Eq.{bytes_eq-Decides}
-use Rattle.tuple_codec.specs.Item.{Item, int}
-use Rattle.tuple_codec.specs.Item as item
+use Rattle.tuple_codec.specs.Item.{int}
 use Rattle.tuple_codec.specs.Spelling.{Spells, spelling}
 use Rattle.tuple_codec.proofs.Spellings.{one_tuple, spelling_spells}
 use Rattle.metadata.specs.declared.cells.Cell.{Cell}
 use Rattle.metadata.specs.declared.cells.Cell.TheVariants.{Null, Int, Text, Bytes}
-use Rattle.metadata.specs.Cell.{IsCell, item_of, items_of}
+use Rattle.metadata.specs.Cell.{IsCell, item_of}
 use Rattle.metadata.proofs.CellItems.{is_tuple-items_of}
 use Rattle.std.proofs.lemmas.List.Elements.{All-cons}
 use Rattle.planner.specs.Pack.{pack}

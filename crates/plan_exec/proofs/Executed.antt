@@ -10,16 +10,13 @@ use Rattle.kv_core.specs.declared.change.CommitRequest.{CommitRequest}
 use Rattle.kv_core.proofs.Changes.{Agree-refl}
 use Rattle.cluster_core.specs.declared.answers.ReadError.{ReadError}
 use Rattle.txn.proofs.Running.{ran_because}
-use Rattle.txn.specs.Reads.{seen}
 use Rattle.metadata.specs.declared.definition.TypeDefinition.{TypeDefinition}
-use Rattle.metadata.specs.declared.index.State.TheVariants.{Readable}
 use Rattle.metadata.specs.Record.{Record}
 use Rattle.metadata.specs.Records.{of_type}
 use Rattle.metadata.specs.Schema.{find_type}
 use Rattle.metadata.proofs.StoredApart.{named_typed}
-use Rattle.record_store.specs.Call.{AtStore, IsOpenAs, Opened}
-use Rattle.record_store.specs.Holds.{Holds}
-use Rattle.record_store.specs.Store.{Store, state_in}
+use Rattle.record_store.specs.Call.{AtStore, Opened}
+use Rattle.record_store.specs.Store.{state_in}
 use Rattle.query.specs.Query.{Allows}
 use Rattle.query.specs.View.{query_of}
 use Rattle.planner.specs.Asked.{AskedPlan}

@@ -1,7 +1,7 @@
 -- How a fetch is done: the entries of its scans are read, and then the records.
 use Rattle.std.specs.Prelude.{◌≡◌, ℕ, List, [], ◌∷◌, ◌++◌, map, Vec, refl}
 use Rattle.std.specs.Global.{Global}
-use Rattle.std.proofs.Common.{ap, sym, ◌∙◌, subst}
+use Rattle.std.proofs.Common.{ap, ◌∙◌, subst}
 use Rattle.std.proofs.lemmas.List.{map-append}
 use Rattle.kv_core.specs.Map.{Map}
 use Rattle.kv_core.specs.Range.{KeyRange}
@@ -17,7 +17,7 @@ use Rattle.planner.specs.View.{index_scan_of}
 use Rattle.planner.specs.declared.plan.IndexScan.{IndexScan}
 use Rattle.plan_exec.specs.Errors.{no_memory}
 use Rattle.plan_exec.specs.Executing.{HasFound, HasStopped}
-use Rattle.plan_exec.specs.Reads.{Reading, Wanted, entries_reading, fetch_reading, first_entries, in_turn, keys_of, record_reading, source_reading}
+use Rattle.plan_exec.specs.Reads.{Wanted, entries_reading, fetch_reading, first_entries, in_turn, keys_of, record_reading, source_reading}
 use Rattle.plan_exec.specs.declared.entry.Entry.{Entry}
 use Rattle.plan_exec.specs.declared.error.ExecError.{ExecError}
 use Rattle.plan_exec.proofs.Composing.{found_as, found_made, found_then, stopped_as, stopped_behind, stopped_first, stopped_made, stopped_second}

@@ -3,27 +3,24 @@ use Rattle.std.specs.Prelude.{◌≡◌, ℕ, Bool, true, false, not, ◌&&◌, 
 use Rattle.std.specs.FinMap.{entries, get, get-entries}
 use Rattle.std.specs.FinMap.Entries.{find}
 use Rattle.std.specs.Ordering.{is_le, is_lt, ordering_reverse}
-use Rattle.std.specs.Cmp.{both_ways}
 use Rattle.std.specs.declared.cmp.Ordering.{Ordering}
 use Rattle.std.specs.declared.cmp.Ordering.TheVariants.{Less, Equal, Greater}
 use Rattle.std.specs.Cmp.Lexicographic.{nat_list_cmp_total}
-use Rattle.std.proofs.Common.{ap, sym, ◌∙◌, subst, append_assoc}
+use Rattle.std.proofs.Common.{ap, sym, ◌∙◌, append_assoc}
 use Rattle.tuple_codec.specs.Item.{int}
 use Rattle.tuple_codec.specs.Order.{bytes_cmp}
 use Rattle.tuple_codec.specs.Spelling.{int_spelling, spelling}
 use Rattle.tuple_codec.specs.Spelling as written
-use Rattle.tuple_codec.specs.Subspace.{key_of}
-use Rattle.kv_core.specs.Bytes.{end_of_keys, key_cmp, key_le, key_lt, key_max}
+use Rattle.kv_core.specs.Bytes.{end_of_keys, key_le, key_lt}
 use Rattle.kv_core.specs.Map.{Map}
 use Rattle.kv_core.specs.Map as map
-use Rattle.kv_core.specs.Range.{KeyRange, contains, is_key_range}
+use Rattle.kv_core.specs.Range.{contains, is_key_range}
 use Rattle.kv_core.proofs.Order.{le_from, le_from_lt, le_gives, le_refl, le_trans}
 use Rattle.kv_core.proofs.Pairs.{entries-kept}
 use Rattle.metadata.specs.declared.cells.Cell.{Cell}
 use Rattle.metadata.specs.declared.definition.TypeDefinition.{TypeDefinition}
 use Rattle.metadata.specs.declared.index.IndexDefinition.{IndexDefinition}
 use Rattle.metadata.specs.Cell.{items_of}
-use Rattle.record_store.specs.Layout.{place}
 use Rattle.record_store.proofs.Keys.{below_with, record_below}
 use Rattle.metadata.specs.Layout.{Pair, entries_prefix, record_key, records_prefix}
 use Rattle.planner.specs.Meaning.{pairs_in}

@@ -1,27 +1,22 @@
 -- What is found where nothing is damaged is the planner's meaning.
-use Rattle.std.specs.Prelude.{◌≡◌, ℕ, Bool, true, false, ◌&&◌, ◌||◌, cond, List, [], ◌∷◌, ◌++◌, filter, map, Option, Some, None, option_map, Result, Ok, Err, refl}
+use Rattle.std.specs.Prelude.{◌≡◌, ℕ, List, [], ◌∷◌, ◌++◌, filter, map, Option, Some, None, option_map, Result, Ok, Err, refl}
 use Rattle.std.specs.FinMap.Entries.{find}
-use Rattle.std.specs.List.{list_all, list_any}
 use Rattle.std.specs.Option.{option_and_then, option_zip}
-use Rattle.std.specs.Ordering.{eq_by_cmp, match_ordering}
 use Rattle.std.specs.Result.{result_err, result_map_both, result_ok}
-use Rattle.std.specs.declared.cmp.Ordering.{Ordering}
-use Rattle.std.specs.declared.cmp.Ordering.TheVariants.{Less, Equal, Greater}
 use Rattle.std.proofs.Common.{ap, sym, ◌∙◌}
 use Rattle.tuple_codec.specs.Order.{bytes_cmp}
 use Rattle.metadata.specs.declared.cells.Cell.{Cell}
 use Rattle.metadata.specs.declared.definition.TypeDefinition.{TypeDefinition}
 use Rattle.metadata.specs.declared.index.IndexDefinition.{IndexDefinition}
-use Rattle.metadata.specs.Order.{cells_cmp}
 use Rattle.metadata.specs.Record.{Record}
 use Rattle.query.specs.Truth.{selects}
 use Rattle.metadata.specs.Cell.{items_of}
 use Rattle.metadata.specs.Layout.{Pair, entries_prefix, record_key}
 use Rattle.planner.specs.Layout.{entry_primary_key, primary_cells, record_of}
-use Rattle.planner.specs.Meaning.{all_rows, common, fetched, first_of_each, in_key_order, node_rows, of_each, pairs_in, placed, scanned_keys, source_keys}
-use Rattle.planner.specs.Plan.{IndexScan, Node, Nodes, Scan, Source, distinct, fetch, filtered, intersection, no_nodes, node, one, scan, union, unordered_union}
+use Rattle.planner.specs.Meaning.{all_rows, common, fetched, first_of_each, in_key_order, node_rows, of_each, pairs_in, scanned_keys, source_keys}
+use Rattle.planner.specs.Plan.{IndexScan, Node, Nodes, Source, distinct, fetch, filtered, intersection, no_nodes, node, one, scan, union, unordered_union}
 use Rattle.planner.specs.Range as planned
-use Rattle.plan_exec.specs.Reads.{Reading, Wanted, and_then, behind, each_found, entries_reading, entry_of, fetch_reading, first_entries, found_at_once, in_front, in_turn, keys_of, made_of, node_reading, nodes_reading, or_damaged, record_found, record_reading, source_reading}
+use Rattle.plan_exec.specs.Reads.{Reading, Wanted, and_then, behind, each_found, entries_reading, entry_of, fetch_reading, first_entries, in_front, in_turn, keys_of, made_of, node_reading, nodes_reading, or_damaged, record_found, record_reading, source_reading}
 use Rattle.plan_exec.specs.declared.entry.Entry.{Entry}
 
 -- ---- readings

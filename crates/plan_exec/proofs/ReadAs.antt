@@ -1,5 +1,5 @@
 -- What pairs are read as: the planner's words and those of the record codec say the same.
-use Rattle.std.specs.Prelude.{◌≡◌, All, ℕ, Bool, true, false, cond, List, [], ◌∷◌, ◌++◌, Option, Some, None, Result, Ok, Err, IfSome, IfNone, refl, bytes_eq, pos}
+use Rattle.std.specs.Prelude.{◌≡◌, All, ℕ, Bool, true, false, cond, List, ◌++◌, Option, Some, None, Result, Ok, Err, IfSome, IfNone, refl, bytes_eq}
 use Rattle.std.specs.Option.{option_and_then}
 use Rattle.std.specs.Result.{result_ok}
 use Rattle.std.proofs.Common.{ap, sym, ◌∙◌, subst}
@@ -22,8 +22,8 @@ use Rattle.metadata.proofs.StoredOnce.{made_is}
 use Rattle.record_store.specs.Layout.{place}
 use Rattle.record_store.proofs.Keys.{record_key_is}
 use Rattle.metadata.specs.Layout.{Pair, record_key}
-use Rattle.planner.specs.Layout.{keyed, primary_cells, record_of}
-use Rattle.planner.specs.Pack.{pack, tuple_in, unpack}
+use Rattle.planner.specs.Layout.{keyed, record_of}
+use Rattle.planner.specs.Pack.{unpack}
 use Rattle.planner.proofs.CodecLaws.{reads_back}
 use Rattle.planner.proofs.Lists.{all_each}
 

@@ -1,5 +1,5 @@
 -- What a single read comes to, and what is made of what it finds.
-use Rattle.std.specs.Prelude.{◌≡◌, ◌⊎◌, ℕ, Bool, List, [], ◌∷◌, ◌++◌, reverse, Option, Result, Ok, Err, IfErr, IsErrAnd, if◌then◌else◌, refl}
+use Rattle.std.specs.Prelude.{◌≡◌, ◌⊎◌, ℕ, Bool, List, [], ◌∷◌, reverse, Option, Result, Ok, IfErr, IsErrAnd, if◌then◌else◌, refl}
 use Rattle.std.specs.Result.{IsErr, result_err}
 use Rattle.std.specs.FinMap.{entries, get}
 use Rattle.std.specs.FinMap.Entries.{find}
@@ -14,13 +14,13 @@ use Rattle.cluster_core.specs.declared.answers.ReadError.{ReadError}
 use Rattle.cluster_core.specs.declared.answers.ReadError.TheVariants as read
 use Rattle.txn.specs.Reads.{has_read, seen}
 use Rattle.txn.proofs.Running.{ran_because, ran_read, ran_still}
-use Rattle.record_store.specs.Steps.{DidRead, IsNextRefused}
+use Rattle.record_store.specs.Steps.{DidRead}
 use Rattle.record_store.proofs.Stopping.{all_begin, none_begin}
 use Rattle.metadata.specs.Layout.{Pair}
 use Rattle.planner.specs.Meaning.{pairs_in}
 use Rattle.planner.specs.Range as planned
 use Rattle.plan_exec.specs.Decoding.{IsDamage, IsRefusedRead}
-use Rattle.plan_exec.specs.Errors.{no_memory, of_read}
+use Rattle.plan_exec.specs.Errors.{of_read}
 use Rattle.plan_exec.specs.Executing.{HasFound, HasStopped, IsStopped}
 use Rattle.plan_exec.specs.Reads.{Reading, each_found, scan_range}
 use Rattle.plan_exec.specs.declared.error.ExecError.{ExecError}

@@ -1,5 +1,5 @@
 -- What the steps of a plan read and find, from what their parts do.
-use Rattle.std.specs.Prelude.{◌≡◌, ℕ, List, [], ◌∷◌, ◌++◌, map, flat_map, Result, Ok, Err, refl}
+use Rattle.std.specs.Prelude.{◌≡◌, ℕ, List, [], ◌∷◌, ◌++◌, map, Result, Ok, Err, refl}
 use Rattle.std.specs.Result.{result_map_both}
 use Rattle.std.proofs.Common.{ap, sym, ◌∙◌, append_assoc, append-nil}
 use Rattle.txn.proofs.Running.{ran_still}
@@ -17,7 +17,7 @@ use Rattle.metadata.specs.Layout.{Pair}
 use Rattle.planner.specs.Plan.{Node}
 use Rattle.planner.specs.Planned.{nodes_of}
 use Rattle.plan_exec.specs.Executing.{HasFound, HasStopped}
-use Rattle.plan_exec.specs.Reads.{Reading, and_then, behind, found_at_once, in_turn, made_of, node_reading, nodes_reading}
+use Rattle.plan_exec.specs.Reads.{Reading, behind, in_turn, made_of, node_reading, nodes_reading}
 use Rattle.plan_exec.specs.declared.error.ExecError.{ExecError}
 
 -- the lists one behind another

@@ -9,7 +9,7 @@ use Rattle.metadata.specs.Layout.{entries_prefix}
 use Rattle.planner.specs.Layout.{column_kinds}
 use Rattle.plan_exec.specs.declared.entry.EntryForm.{EntryForm}
 use Rattle.plan_exec.specs.declared.error.ExecError.{ExecError}
-use Rattle.plan_exec.specs.declared.error.ExecError.TheVariants.{OtherSchema, IndexNotReadable, Read, Corrupt, Memory}
+use Rattle.plan_exec.specs.declared.error.ExecError.TheVariants.{Read, Corrupt, Memory}
 
 -- why something isn't made of pairs: memory is wanting, or the first of which it isn't has this key
 abbrev pub IsDamage : {A : Type 0} → Result A (List ℕ) → ExecError → Type 0

@@ -13,6 +13,7 @@ use kv_core::Pair;
 use metadata::{Cells, Record, TypeDefinition};
 use record_store::Store;
 use std::alloc::{AllocError, Global};
+use std::rc::Rc;
 use tuple_codec::{UnpackFailure, unpack};
 
 // Does nothing: its clause tells what the type knows of the numbers.
@@ -27,21 +28,32 @@ fn behind<'a>(front: &[u8], key: &'a [u8]) -> Option<&'a [u8]>
     key.strip_prefix(front)
 }
 
+// An equal definition, to be shared by records.
+pub(crate) fn shared(
+    alloc: Global,
+    definition: &TypeDefinition,
+) -> Result<Rc<TypeDefinition>, AllocError>
+    ensures { IfOk result (λ shared. shared.value ≡ definition.now) }
+{
+    let shared = Rc::new(alloc, definition.copy()?)?;
+    Ok(shared)
+}
+
 // The record of the type that a pair stands for, if it is of the written form.
 pub(crate) fn record_in(
     store: &Store,
     front: &[u8],
-    definition: &TypeDefinition,
+    definition: &Rc<TypeDefinition>,
     pair: &Pair,
 ) -> Result<Option<Record>, AllocError>
     requires { front.now ≡ place store.now.prefix 1 }
-    ensures { IfOk result (λ found. found ≡ record_of store.now.prefix definition.now pair.now) }
+    ensures { IfOk result (λ found. found ≡ record_of store.now.prefix definition.now.value pair.now) }
 {
     let key = pair.0.as_slice();
     let value = pair.1.as_slice();
     bytes_known(value);
     match behind(front, key) {
-        Some(primary_key) => Record::decode(store.alloc(), definition, primary_key, value),
+        Some(primary_key) => Record::decode_shared(store.alloc(), definition, primary_key, value),
         None => Ok(None),
     }
 }
@@ -58,9 +70,10 @@ pub(crate) fn records_in(
         each_found (record_of store.now.prefix definition.now) pairs.now ≡ Ok records.items) }
     ensures damaged { IfErr result (IsDamage (each_found (record_of store.now.prefix definition.now) pairs.now)) }
 {
-    let mut records = Vec::new(store.alloc());
+    let shared = shared(store.alloc(), definition)?;
+    let mut records = Vec::with_capacity(store.alloc(), pairs.len())?;
     for pair in pairs {
-        match record_in(store, front, definition, pair)? {
+        match record_in(store, front, &shared, pair)? {
             Some(found) => records.push(found)?,
             None => return Err(ExecError::Corrupt(pair.0.copy()?)),
         }

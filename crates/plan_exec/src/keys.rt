@@ -60,14 +60,20 @@ pub(crate) fn entries_key(store: &Store, index: &IndexDefinition) -> Result<Vec<
     entries_prefix(store.alloc(), store.prefix(), index.number)
 }
 
-// The key of the record with a primary key of these cells.
-pub(crate) fn record_key(store: &Store, primary_key: &Cells) -> Result<Bytes, AllocError>
+// The key of the record with a primary key of these cells, behind what the keys of all records begin
+// with.
+pub(crate) fn record_key(
+    store: &Store,
+    front: &[u8],
+    primary_key: &Cells,
+) -> Result<Bytes, AllocError>
+    requires { front.now ≡ place store.now.prefix 1 }
     ensures key { IfOk result (λ key. key ≡ record_key store.now.prefix (items_of primary_key.now)) }
     ensures below { IfOk result (λ key. IsTrue (key_lt key end_of_keys)) }
 {
-    let tuple = primary_key.tuple(store.alloc())?;
-    let mut key = records_place(store)?;
-    pack_into(&tuple, &mut key)?;
+    store.prefix();
+    let mut key = Vec::from_slice(store.alloc(), front)?;
+    primary_key.push_pack(&mut key)?;
     Ok(Bytes::new(key))
 }
 

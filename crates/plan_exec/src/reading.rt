@@ -15,7 +15,7 @@ ghost use Rattle.plan_exec.specs.Executing.{HasFound, HasStopped};
 ghost use Rattle.plan_exec.specs.Reads.{entries_reading, entry_with, in_turn, record_found, record_reading};
 ghost use Rattle.plan_exec.specs.Reads.{scan_range, scan_reading};
 
-use crate::decoding::{record_in, records_in};
+use crate::decoding::{record_in, records_in, shared};
 use crate::entries::{entries_in, entry_form};
 use crate::entry::Entry;
 use crate::error::ExecError;
@@ -25,6 +25,7 @@ use metadata::{Cells, Record, TypeDefinition};
 use planner::{IndexScan, KeyRange, Scan};
 use record_store::Store;
 use std::alloc::{AllocError, Global};
+use std::rc::Rc;
 use txn::{Snapshot, Transaction};
 
 // The pairs, turned round where that is asked for.
@@ -122,7 +123,7 @@ fn entry_with(alloc: Global, entries: &[Entry], primary_key: &Cells) -> Result<B
 fn record_at(
     store: &Store,
     front: &[u8],
-    definition: &TypeDefinition,
+    definition: &Rc<TypeDefinition>,
     entries: &[Entry],
     primary_key: &Cells,
     key: Bytes,
@@ -131,9 +132,9 @@ fn record_at(
     requires front { front.now ≡ place store.now.prefix 1 }
     requires key { key ≡ key_of_record store.now.prefix (items_of primary_key.now) }
     ensures found { IfOk result (λ found.
-        record_found store.now.prefix definition.now entries.now primary_key.now value ≡ Ok found) }
+        record_found store.now.prefix definition.now.value entries.now primary_key.now value ≡ Ok found) }
     ensures damaged { IfErr result (IsDamage
-        (record_found store.now.prefix definition.now entries.now primary_key.now value)) }
+        (record_found store.now.prefix definition.now.value entries.now primary_key.now value)) }
 {
     match value {
         Some(value) => {
@@ -151,7 +152,7 @@ fn record_at(
 fn fetch_record<S: Snapshot>(
     store: &Store,
     front: &[u8],
-    definition: &TypeDefinition,
+    definition: &Rc<TypeDefinition>,
     tx: &mut Transaction,
     db: &S,
     entries: &[Entry],
@@ -159,13 +160,13 @@ fn fetch_record<S: Snapshot>(
 ) -> Result<Record, ExecError>
     requires { front.now ≡ place store.now.prefix 1 }
     ensures found { IfOk result (λ found. HasFound (S.map_at db.now)
-        (λ pairs. record_reading store.now.prefix pairs definition.now entries.now primary_key.now) found
+        (λ pairs. record_reading store.now.prefix pairs definition.now.value entries.now primary_key.now) found
         tx.old tx.new) }
     ensures stopped { IfErr result (λ error. HasStopped (S.map_at db.now) (S.may_refuse db.now)
-        (λ pairs. record_reading store.now.prefix pairs definition.now entries.now primary_key.now) error
+        (λ pairs. record_reading store.now.prefix pairs definition.now.value entries.now primary_key.now) error
         tx.old tx.new) }
 {
-    let key = record_key(store, primary_key)?;
+    let key = record_key(store, front, primary_key)?;
     let value = tx.get(db, &key)?;
     let found = record_at(store, front, definition, entries, primary_key, key, value)?;
     Ok(found)
@@ -188,12 +189,13 @@ pub(crate) fn fetch_records<S: Snapshot>(
         tx.old tx.new) }
 {
     let front = records_place(store)?;
+    let shared = shared(store.alloc(), definition)?;
     let mut rows = Vec::new(store.alloc());
     for primary_key in primary_keys {
         let found = fetch_record(
             store,
             front.as_slice(),
-            definition,
+            &shared,
             tx,
             db,
             entries,

@@ -1,4 +1,5 @@
 -- What is read of an input whose bytes are known.
+use Rattle.std.specs.Prelude.{OnOk}
 use Rattle.std.proofs.Common.{◌≡◌, ◌⊎◌, inl, inr, ℕ, ◌≤◌, ◌+◌, Bool, true, false, nat_le, refl, ap, List, [], ◌++◌, length, take, Option, Some, None, option_map, IfSome, IfOk, IfErr, Result, Ok, Err, String, string_bytes, Global, ◌∙◌, sym, arith}
 use Rattle.std.proofs.lemmas.Bool.Decides.{nat_tests}
 use Rattle.std.proofs.lemmas.List.{length-take, take_all}
@@ -6,13 +7,14 @@ use Rattle.cluster_core.specs.declared.answers.Config.{Config}
 use Rattle.schedule.specs.declared.step.Step.{Step}
 use Rattle.schedule.specs.declared.transcript.Transcript.{Transcript}
 use Rattle.recordctl.specs.declared.fault.Fault.{Fault}
-use Rattle.recordctl.specs.declared.fault.Fault.TheVariants.{OutOfMemory, CannotRead, BadScript, BadConfig, BadArgument, Refused, RefusedSchema, RefusedQuery, SortNotServed}
+use Rattle.recordctl.specs.declared.fault.Fault.TheVariants.{OutOfMemory, CannotRead, BadScript, BadConfig, BadArgument, Refused, RefusedSchema, RefusedQuery, SortNotServed, GaveUp, RefusedCommand, Corrupt}
 use Rattle.json_forms.specs.Json.{value_in}
 use Rattle.script.specs.Script.{IsScript}
 use Rattle.planner.specs.Asked.{AskedPlan}
 use Rattle.explain.specs.Planning.{IsPlanAskedBy}
 use Rattle.command_line.specs.declared.request.PlanForm.{PlanForm}
 use Rattle.recordctl.specs.PlanLines.{IsShownPlan, explains_plan}
+use Rattle.recordctl.specs.Racing.{IsRaced, explains_raced}
 use Rattle.recordctl.specs.Run.{IsTranscriptOf, explains_run}
 
 -- no more than so many bytes are read
@@ -48,6 +50,9 @@ explained_moved a b e (Refused kind at) h = h
 explained_moved a b e (RefusedSchema why) h = h
 explained_moved a b e (RefusedQuery why) h = h
 explained_moved a b e SortNotServed h = h
+explained_moved a b e GaveUp h = h
+explained_moved a b e (RefusedCommand why) h = h
+explained_moved a b e Corrupt h = h
 
 -- what is said of the bytes that are read is so of the whole input
 pub transcript_of_front : (known : Option (List ℕ)) (bytes : List ℕ) (transcript : Transcript) → IfSome known (λ text. bytes ≡ take 4000001 text) → IsTranscriptOf bytes transcript → IfSome known (λ text. IsTranscriptOf text transcript)
@@ -78,6 +83,35 @@ pub no_plan_of_front : (known : Option (List ℕ)) (bytes : List ℕ) (r : Resul
 no_plan_of_front known bytes (Ok line) h is = tt
 no_plan_of_front None bytes (Err fault) h is = inr tt
 no_plan_of_front (Some text) bytes (Err fault) h is = inr (untold_moved bytes text (ap value_in h ∙ value_of_front text) fault is)
+
+raced_moved : (a b : List ℕ) → value_in a ≡ value_in b → IsRaced a → IsRaced b
+raced_moved a b e is = record { race = is.race; read = rw e at is.read; allowed = is.allowed }
+
+unraced_moved : (a b : List ℕ) → value_in a ≡ value_in b → (fault : Fault) → explains_raced a fault → explains_raced b fault
+unraced_moved a b e OutOfMemory h = tt
+unraced_moved a b e CannotRead h = h
+unraced_moved a b e (BadConfig why) h = (h.0, rw e at h.1, h.2)
+unraced_moved a b e (BadScript number) h = (h.0, rw e at h.1)
+unraced_moved a b e BadArgument h = h
+unraced_moved a b e (Refused kind at) h = h
+unraced_moved a b e (RefusedSchema why) h = h
+unraced_moved a b e (RefusedQuery why) h = h
+unraced_moved a b e SortNotServed h = h
+unraced_moved a b e GaveUp h = (h.0, rw e at h.1)
+unraced_moved a b e (RefusedCommand why) h = (h.0, rw e at h.1)
+unraced_moved a b e Corrupt h = (h.0, rw e at h.1)
+
+-- the same of a race
+pub raced_of_front : (known : Option (List ℕ)) (bytes : List ℕ) (r : Result (String Global) Fault) → IfSome known (λ text. bytes ≡ take 4000001 text) → OnOk r (IsRaced bytes) → OnOk r (IfSome known IsRaced)
+raced_of_front known bytes (Err fault) h is = tt
+raced_of_front None bytes (Ok lines) h is = tt
+raced_of_front (Some text) bytes (Ok lines) h is = raced_moved bytes text (ap value_in h ∙ value_of_front text) is
+
+pub unraced_of_front : (known : Option (List ℕ)) (bytes : List ℕ) (r : Result (String Global) Fault) → IfSome known (λ text. bytes ≡ take 4000001 text) → IfErr r (λ fault. explains_raced bytes fault)
+    → IfErr r (λ fault. (fault ≡ CannotRead) ⊎ IfSome known (λ text. explains_raced text fault))
+unraced_of_front known bytes (Ok lines) h is = tt
+unraced_of_front None bytes (Err fault) h is = inr tt
+unraced_of_front (Some text) bytes (Err fault) h is = inr (unraced_moved bytes text (ap value_in h ∙ value_of_front text) fault is)
 
 -- where nothing is read
 pub unread : (known : Option (List ℕ)) (fault : Fault) → (fault ≡ CannotRead) ⊎ (fault ≡ OutOfMemory) → (fault ≡ CannotRead) ⊎ IfSome known (λ text. explains_run text fault)

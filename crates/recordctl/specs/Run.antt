@@ -11,6 +11,7 @@ use Rattle.recordctl.specs.declared.fault.Fault.{Fault}
 use Rattle.recordctl.specs.declared.fault.Fault.TheVariants.{OutOfMemory, BadScript, BadConfig}
 use Rattle.recordctl.specs.declared.fault.Fault.TheVariants.{CannotRead, BadArgument, Refused}
 use Rattle.recordctl.specs.declared.fault.Fault.TheVariants.{RefusedSchema, RefusedQuery, SortNotServed}
+use Rattle.recordctl.specs.declared.fault.Fault.TheVariants.{GaveUp, RefusedCommand, Corrupt}
 
 -- a fault says why a text that was read isn't run: it is no script, or has a configuration that is refused; memory may
 -- be wanting for any
@@ -25,6 +26,9 @@ explains_run text (Refused kind at) = ⊥
 explains_run text (RefusedSchema why) = ⊥
 explains_run text (RefusedQuery why) = ⊥
 explains_run text SortNotServed = ⊥
+explains_run text GaveUp = ⊥
+explains_run text (RefusedCommand why) = ⊥
+explains_run text Corrupt = ⊥
 
 -- a transcript is that of a script's text: a right run of the script's steps over a database of its configuration
 pub record IsTranscriptOf (text : List ℕ) (transcript : Transcript) : Type 0 where

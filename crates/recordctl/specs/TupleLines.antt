@@ -8,6 +8,7 @@ use Rattle.recordctl.specs.declared.fault.Fault.{Fault}
 use Rattle.recordctl.specs.declared.fault.Fault.TheVariants.{CannotRead, BadScript, BadConfig}
 use Rattle.recordctl.specs.declared.fault.Fault.TheVariants.{BadArgument, Refused, OutOfMemory}
 use Rattle.recordctl.specs.declared.fault.Fault.TheVariants.{RefusedSchema, RefusedQuery, SortNotServed}
+use Rattle.recordctl.specs.declared.fault.Fault.TheVariants.{GaveUp, RefusedCommand, Corrupt}
 use Rattle.json_forms.specs.TupleJson.{tuple_of_text}
 
 -- the line of a text
@@ -39,6 +40,9 @@ explains_pack word (Refused kind at) = ⊥
 explains_pack word (RefusedSchema why) = ⊥
 explains_pack word (RefusedQuery why) = ⊥
 explains_pack word SortNotServed = ⊥
+explains_pack word GaveUp = ⊥
+explains_pack word (RefusedCommand why) = ⊥
+explains_pack word Corrupt = ⊥
 
 -- a fault says why a word isn't unpacked: no memory, digits that aren't hexadecimal or not in pairs, or bytes that are
 -- refused
@@ -51,4 +55,7 @@ explains_unpack word (BadConfig why) = ⊥
 explains_unpack word (RefusedSchema why) = ⊥
 explains_unpack word (RefusedQuery why) = ⊥
 explains_unpack word SortNotServed = ⊥
+explains_unpack word GaveUp = ⊥
+explains_unpack word (RefusedCommand why) = ⊥
+explains_unpack word Corrupt = ⊥
 explains_unpack word (Refused kind at) = MatchResult (decode_of word) (λ bytes. Refuses bytes at kind) (λ _. ⊥)

@@ -4,6 +4,7 @@ ghost use Rattle.recordctl.specs.declared.fault.Fault.TheVariants.{OutOfMemory};
 use cluster_core::ConfigError;
 use metadata::Refusal;
 use query::QueryError;
+use schedule::Refusal as CommandRefusal;
 use std::alloc::{AllocError, AllocFailed};
 use thiserror::Error;
 use tuple_codec::UnpackErrorKind;
@@ -36,6 +37,15 @@ pub enum Fault {
     /// Neither the primary key nor a readable index serves the query's sort.
     #[error("refused SortNotServed")]
     SortNotServed,
+    /// A client of a race gave up.
+    #[error("gave up")]
+    GaveUp,
+    /// A command of a race is refused.
+    #[error("refused {0:?}")]
+    RefusedCommand(CommandRefusal),
+    /// A command of a race is refused: a pair isn't one that a store has there.
+    #[error("refused Corrupt")]
+    Corrupt,
     /// Memory is wanting.
     #[error("out of memory")]
     OutOfMemory,

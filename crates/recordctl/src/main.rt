@@ -1,4 +1,5 @@
-//! The program `recordctl`: runs scripts over a record store, shows the plans of queries, and packs and unpacks tuples.
+//! The program `recordctl`: runs scripts and races over a record store, shows the plans of queries,
+//! and packs and unpacks tuples.
 #![tactic(auto)]
 
 ghost use Rattle.std.specs.Prelude.{◌≡◌, ◌≤◌};
@@ -9,16 +10,21 @@ mod fault;
 mod input;
 mod plans;
 mod printing;
+mod racing;
 mod run;
 mod tuples;
 
 use command_line::{CommandLineError, PlanForm, Request, request_of};
 use fault::Fault;
 use plans::print_plan;
+use racing::run_race;
 use run::{refuse, run};
 use std::fs::File;
 use std::io::{Read, Write};
 use std::process::ExitCode;
+use std::rt::Files;
+use std::sync::Wait;
+use std::thread::Threads;
 use std::{env, io};
 use tuples::{pack, unpack};
 
@@ -39,8 +45,8 @@ fn refuse_command_line<E: Write>(errors: &mut E, error: &CommandLineError) -> Ex
 }
 
 // Runs the script in a file.
-fn run_file<W: Write, E: Write>(
-    rt: &HostRuntime,
+fn run_file<H: Files + AllocGlobal, W: Write, E: Write>(
+    rt: &H,
     path: &str,
     output: &mut W,
     errors: &mut E,
@@ -54,8 +60,8 @@ fn run_file<W: Write, E: Write>(
 }
 
 // Prints in this form the plan that the text in a file asks for.
-fn explain_file<W: Write, E: Write>(
-    rt: &HostRuntime,
+fn explain_file<H: Files + AllocGlobal, W: Write, E: Write>(
+    rt: &H,
     form: PlanForm,
     path: &str,
     output: &mut W,
@@ -69,9 +75,24 @@ fn explain_file<W: Write, E: Write>(
     }
 }
 
+// Runs the race in a file.
+fn race_file<H: Files + AllocGlobal + Threads + Wait + Sync, W: Write, E: Write>(
+    rt: &H,
+    path: &str,
+    output: &mut W,
+    errors: &mut E,
+) -> ExitCode
+    ensures { exit_status result ≤ 1 }
+{
+    match File::open(rt, path) {
+        Ok(mut file) => run_race(rt, rt.alloc(), &mut file, output, errors),
+        Err(_) => refuse(errors, Fault::CannotRead),
+    }
+}
+
 // Does what the words of the command line ask for, where a text that isn't in a file is read from the input.
-fn perform<R: Read, W: Write, E: Write>(
-    rt: &HostRuntime,
+fn perform<H: Files + AllocGlobal + Threads + Wait + Sync, R: Read, W: Write, E: Write>(
+    rt: &H,
     words: &[String],
     input: &mut R,
     output: &mut W,
@@ -89,6 +110,8 @@ fn perform<R: Read, W: Write, E: Write>(
         Ok(Request::Explain(form, None)) => print_plan(alloc, form, input, output, errors),
         Ok(Request::Pack(word)) => pack(alloc, word.as_str(), output, errors),
         Ok(Request::Unpack(word)) => unpack(alloc, word.as_str(), output, errors),
+        Ok(Request::Race(Some(path))) => race_file(rt, path.as_str(), output, errors),
+        Ok(Request::Race(None)) => run_race(rt, alloc, input, output, errors),
         Err(error) => refuse_command_line(errors, &error),
     }
 }

@@ -36,8 +36,8 @@ impl From<io::Error> for PrintError {
     }
 }
 
-// The fault of a configuration that is refused.
-fn refused(refusal: ConfigError) -> Fault
+/// The fault of a configuration that is refused.
+pub fn refused(refusal: ConfigError) -> Fault
     ensures memory { refusal ≡ ConfigError.Memory → result ≡ Fault.OutOfMemory }
     ensures named { refusal ≢ ConfigError.Memory → result ≡ Fault.BadConfig refusal }
 {

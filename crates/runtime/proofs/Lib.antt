@@ -14,3 +14,4 @@ pub mod Reporting
 pub mod Attempts
 pub mod Serving
 pub mod Vaults
+pub mod Sendable

@@ -11,7 +11,7 @@ ghost use Rattle.runtime.specs.Lists.{IsOpenOver, cause_next, has_number, versio
 ghost use Rattle.runtime.specs.State.{knows};
 
 use crate::board::Board;
-use crate::entry::Note;
+use crate::entry::{Asked, Note};
 use crate::flight::{Flight, HoldError, Ruled, Ruling};
 use crate::front::{Front, Head};
 use crate::law::StateReader;
@@ -22,7 +22,6 @@ use kv_core::{CommitRequest, Mutations};
 use std::alloc::{AllocError, Global};
 use std::marker::Model;
 use std::mem::replace;
-use std::snapshot::Snapshot;
 use std::sync::Wait;
 use txn::{Commit, HoldError as TxnError};
 
@@ -190,7 +189,7 @@ impl Hold {
         let note = Note {
             client,
             number,
-            request: Snapshot::of(&request),
+            request: Asked::of(&request),
             trace,
         };
         prove!(self.front.len() <= u64::MAX);

@@ -140,6 +140,11 @@ pub noted_all : (own : OwnWrites) (mutations : List Mutation) → own.noted ≡ 
 noted_all own mutations count follow =
     (omega (arith, count), λ key before. follow key before ∙ ap (λ ms. value_after_all ms key before) (sym (ap (λ n. take n mutations) count ∙ take-length mutations)))
 
+-- own writes that have noted all mutations follow them
+pub noted_follow : (own : OwnWrites) (mutations : List Mutation) → IsNoted own mutations → own.noted ≡ length mutations → Follow own mutations
+noted_follow own mutations is count =
+    λ key before. is.1 key before ∙ ap (λ ms. value_after_all ms key before) (ap (λ n. take n mutations) count ∙ take-length mutations)
+
 -- a list from a place on
 pub rest_from : (n : ℕ) (mutations : List Mutation) → take (length mutations - n) (drop n mutations) ≡ drop n mutations
 rest_from n mutations = ap (λ k. take k (drop n mutations)) (sym (length-drop n mutations)) ∙ take-length (drop n mutations)

@@ -102,6 +102,9 @@ impl OwnWrites {
         ensures noted { IsNoted self.new mutations.now }
     {
         let from = self.noted;
+        if from == mutations.len() {
+            return Ok(());
+        }
         let own = mem::replace(self, OwnWrites::new(self.alloc));
         *self = own.with_all(&mutations[from..])?;
         self.noted = mutations.len();

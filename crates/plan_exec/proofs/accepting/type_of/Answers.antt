@@ -1,7 +1,6 @@
 use Rattle.std.proofs.Common.{◌≡◌, ◌∙◌, ap, sym, Some, true, false}
 use Rattle.std.specs.Option.{option_copied}
-use Rattle.metadata.specs.Schema.{Schema, find_type}
-use Rattle.metadata.specs.declared.definition.TypeDefinition.{TypeDefinition as TypeValue}
+use Rattle.metadata.specs.Schema.{find_type}
 use Rattle.planner.specs.View.{plan_of}
 use Rattle.plan_exec.specs.Accepting.{extends}
 use Rattle.plan_exec.proofs.Accepted.{type_found, type_other}

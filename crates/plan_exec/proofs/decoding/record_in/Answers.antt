@@ -1,7 +1,6 @@
-use Rattle.std.proofs.Common.{◌≡◌, ◌⊎◌, ◌∙◌, ◌++◌, All, List, ℕ, Option, Some, None, Result, Ok, Err, IfOk, IfSome, ap, sym, subst}
+use Rattle.std.proofs.Common.{◌≡◌, ◌∙◌, ◌++◌, List, ℕ, Option, Result, Ok, Err, IfOk, IfSome, ap, sym, subst}
 use Rattle.std.specs.Option.{IfNone}
 use Rattle.tuple_codec.specs.Item.{AreBytes}
-use Rattle.tuple_codec.specs.Subspace.{BeginsWith}
 use Rattle.metadata.specs.declared.definition.TypeDefinition.{TypeDefinition}
 use Rattle.metadata.specs.Record.{Record}
 use Rattle.metadata.specs.Stored.{IsOfNoRecord, IsStoredAs}
@@ -19,10 +18,10 @@ so prefix t pair rest value (Err e) same are begins some none = tt
 
 pub returns-in-Some : goal.returns-in-Some
 returns-in-Some c =
-    so c.args.store.now.prefix c.args.definition.now c.args.pair.now c.in-Some.primary_key.now c.as_slice-value.result.now c.decode.result c.as_slice-value.ensures c.bytes_known.ensures
-    (sym c.as_slice-key.ensures ∙ c.in-Some.ensures ∙ ap (λ k. k ++ c.in-Some.primary_key.now) c.requires) c.decode.ensures.found c.decode.ensures.none
+    so c.args.store.now.prefix c.args.definition.now.value c.args.pair.now c.in-Some.primary_key.now c.as_slice-value.result.now c.decode_shared.result c.as_slice-value.ensures c.bytes_known.ensures
+    (sym c.as_slice-key.ensures ∙ c.in-Some.ensures ∙ ap (λ k. k ++ c.in-Some.primary_key.now) c.requires) c.decode_shared.ensures.found c.decode_shared.ensures.none
 
 pub returns-in-None : goal.returns-in-None
 returns-in-None c =
-    read_elsewhere c.args.store.now.prefix c.args.definition.now c.args.pair.now
+    read_elsewhere c.args.store.now.prefix c.args.definition.now.value c.args.pair.now
     (λ begins. c.in-None.ensures (begins.0, c.as_slice-key.ensures ∙ begins.1 ∙ ap (λ k. k ++ begins.0) (sym c.requires)))

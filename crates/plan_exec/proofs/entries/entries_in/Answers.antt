@@ -1,8 +1,8 @@
-use Rattle.std.proofs.Common.{◌≡◌, ◌∙◌, ◌++◌, ◌∷◌, [], ◌+◌, Some, None, List, ap, sym, subst, drop}
+use Rattle.std.proofs.Common.{◌≡◌, ◌∙◌, ◌+◌, List, sym, subst, drop}
 use Rattle.plan_exec.specs.declared.entry.Entry.{Entry}
 use Rattle.plan_exec.specs.Reads.{entry_of}
 use Rattle.plan_exec.specs.Reads.{each_found}
-use Rattle.plan_exec.proofs.Decoded.{behind_these, damaged_here, made_more}
+use Rattle.plan_exec.proofs.Decoded.{behind_these, made_more}
 use Rattle.plan_exec.proofs.entries.entries_in.Goals as goal
 
 pub loop-pair-preserved : goal.loop-pair-preserved

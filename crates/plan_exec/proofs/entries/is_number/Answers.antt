@@ -1,7 +1,5 @@
-use Rattle.std.proofs.Common.{◌≡◌, ◌∙◌, ap, sym, bytes_eq, pos, ◌∷◌, []}
-use Rattle.metadata.specs.declared.cells.Cell.{Cell}
+use Rattle.std.proofs.Common.{◌≡◌, ◌∙◌, ap, sym, pos}
 use Rattle.metadata.specs.declared.cells.Cell.TheVariants.{Int}
-use Rattle.planner.specs.Pack.{pack}
 use Rattle.plan_exec.proofs.EntryNumbers.{number_pack, one_test, other_cell}
 use Rattle.plan_exec.proofs.entries.is_number.Goals as goal
 

@@ -9,8 +9,8 @@ use Rattle.planner.specs.Layout.{primary_cells}
 use Rattle.planner.specs.Meaning.{first_of_each, in_key_order}
 use Rattle.planner.specs.View.{node_of}
 use Rattle.plan_exec.specs.Errors.{no_memory}
-use Rattle.plan_exec.specs.Reads.{made_of, node_reading, nodes_reading}
-use Rattle.plan_exec.proofs.Composing.{found_made, stopped_behind, stopped_made}
+use Rattle.plan_exec.specs.Reads.{node_reading, nodes_reading}
+use Rattle.plan_exec.proofs.Composing.{stopped_behind, stopped_made}
 use Rattle.plan_exec.proofs.SingleReads.{exit_with}
 use Rattle.plan_exec.proofs.Views.{node_of-Scan, node_of-Fetch, node_of-Filter, node_of-Union, node_of-UnorderedUnion, node_of-Distinct}
 use Rattle.plan_exec.proofs.executing.+executing.Goals as goal

@@ -1,4 +1,4 @@
-use Rattle.std.proofs.Common.{◌∙◌, ◌∷◌, [], ◌++◌, ap, pos}
+use Rattle.std.proofs.Common.{◌∙◌, ◌∷◌, [], ◌++◌, pos}
 use Rattle.tuple_codec.specs.Item.{int}
 use Rattle.tuple_codec.specs.Spelling.{spelling}
 use Rattle.record_store.proofs.Keys.{record_key_is}

@@ -2,7 +2,7 @@ use Rattle.std.proofs.Common.{◌-◌, ◌∙◌, ap, drop, length, refl, take}
 use Rattle.kv_core.specs.Map.{value_after_all}
 use Rattle.txn.specs.Own.{state_of, under}
 use Rattle.txn.specs.Reads.{Follow}
-use Rattle.txn.proofs.OneMore.{caught_up, noted_all, rest_from}
+use Rattle.txn.proofs.OneMore.{caught_up, noted_all, noted_follow, rest_from}
 use Rattle.txn.proofs.own.OwnWrites.catch_up.Goals as goal
 
 follows : (c : goal.After-self-1) → Follow c.in_ok-self.field-0 c.args.mutations.now
@@ -16,3 +16,6 @@ returns-clause-ok c = follows c
 
 pub returns-clause-noted : goal.returns-clause-noted
 returns-clause-noted c = noted_all (record c.in_ok-self.field-0 { noted = length c.args.mutations.now }) c.args.mutations.now refl (follows c)
+
+pub returns-then-from-mutations-clause-ok : goal.returns-then-from-mutations-clause-ok
+returns-then-from-mutations-clause-ok c = noted_follow c.args.self.now c.args.mutations.now c.requires c.if-from-mutations.true

@@ -1,0 +1,221 @@
+// Clients of the running database on threads: loads beside a writer, and commits.
+use crate::commands::{create, load, save};
+use cluster_core::{Config, Splits};
+use runtime::{Client, Done, End, Waits, begin, open};
+use schedule::Reply;
+use std::alloc::Global;
+use std::io::ErrorKind;
+use std::rt::Clock;
+use std::sync::Wait;
+use std::thread::Threads;
+use std::time::Instant;
+use std::{io, thread};
+
+// For how long the threads work, in milliseconds.
+const SPAN: u128 = 2_000;
+
+// How many records there are, and how many loads or saves a transaction has.
+const RECORDS: u32 = 10_000;
+
+const COMMANDS: u32 = 100;
+
+// How many readers, and how many writers, there are in turn.
+const READERS: [u32; 3] = [1, 2, 4];
+
+const WRITERS: [u32; 2] = [1, 4];
+
+// What a client does over and over.
+#[derive(Drop)]
+enum Work {
+    // Loads records.
+    Loads,
+    // Saves so many records in a transaction, from the one of this number on.
+    Saves { first: u32, count: u32 },
+}
+
+// What a thread does.
+#[derive(Drop)]
+struct Job<E: End> {
+    client: Client<E>,
+    work: Work,
+}
+
+// The number of a record, which goes through all of them in a scattered order.
+fn scattered(number: u32) -> i64 {
+    i64::from(number.wrapping_mul(2_654_435_761) % RECORDS)
+}
+
+// Loads records in a transaction, and answers how many were found.
+fn loads<E: End>(alloc: Global, client: &mut Client<E>, turn: u32) -> Option<u32> {
+    let mut tx = begin(client).ok()?;
+    let mut found: u32 = 0;
+    for place in 0..COMMANDS {
+        let number = turn.wrapping_mul(COMMANDS).wrapping_add(place);
+        let command = load(alloc, scattered(number)).ok()?;
+        if let Ok(Reply::Found(_)) = tx.perform(&command) {
+            found = found.wrapping_add(1);
+        }
+    }
+    Some(found)
+}
+
+// Saves records in a transaction, and answers how many are committed.
+fn saves<E: End, R: Wait>(
+    rt: &R,
+    alloc: Global,
+    client: &mut Client<E>,
+    first: u32,
+    count: u32,
+) -> Option<u32> {
+    let mut tx = begin(client).ok()?;
+    for place in 0..count {
+        let number = i64::from(first.wrapping_add(place));
+        let command = save(alloc, number, number).ok()?;
+        tx.perform(&command).ok()?;
+    }
+    match tx.commit(rt) {
+        Ok(Done::Committed { .. }) => Some(count),
+        _ => None,
+    }
+}
+
+// One transaction of the work.
+fn turn<E: End, R: Wait>(rt: &R, alloc: Global, job: &mut Job<E>, number: u32) -> Option<u32> {
+    match &job.work {
+        Work::Loads => loads(alloc, &mut job.client, number),
+        Work::Saves { first, count } => {
+            let start = first.wrapping_add(number.wrapping_mul(*count) % RECORDS);
+            saves(rt, alloc, &mut job.client, start, *count)
+        }
+    }
+}
+
+// Works until the time is over, and answers how many loads or saves were done; none where one failed.
+fn worked<E: End, R: Wait + Clock>(rt: &R, alloc: Global, job: Job<E>) -> Option<u64> {
+    let mut job = job;
+    let begun = Instant::now(rt).ok()?;
+    let mut done: u64 = 0;
+    for number in 0..u32::MAX {
+        done = done.wrapping_add(u64::from(turn(rt, alloc, &mut job, number)?));
+        if begun.elapsed(rt).ok()?.as_millis() >= SPAN {
+            break;
+        }
+    }
+    Some(done)
+}
+
+// Makes the store and its records.
+fn filled<E: End, R: Wait>(rt: &R, alloc: Global, client: &mut Client<E>) -> Option<()> {
+    let mut tx = begin(client).ok()?;
+    tx.perform(&create(alloc).ok()?).ok()?;
+    tx.commit(rt).ok()?;
+    for number in 0..RECORDS / COMMANDS {
+        saves(rt, alloc, client, number.wrapping_mul(COMMANDS), COMMANDS)?;
+    }
+    Some(())
+}
+
+// So many clients of a database with a store and its records.
+fn opened<E: End, R: Wait>(rt: &R, alloc: Global, end: E, places: u32) -> Option<Vec<Client<E>>> {
+    let config = Config {
+        resolver_splits: Splits::new(Vec::new(alloc)),
+        storage_splits: Splits::new(Vec::new(alloc)),
+        logs: 1,
+        window: 1_000,
+        start: 0,
+        places: u64::from(places),
+    };
+    let mut clients = open(rt, alloc, end, &config).ok()?;
+    let mut client = clients.pop()?;
+    filled(rt, alloc, &mut client)?;
+    clients.push(client).ok()?;
+    Some(clients)
+}
+
+// What each client does: so many save, each records of its own, and the others load.
+fn jobs<E: End>(
+    alloc: Global,
+    clients: Vec<Client<E>>,
+    writers: u32,
+    count: u32,
+) -> Option<Vec<Job<E>>> {
+    let mut jobs = Vec::new(alloc);
+    let mut place: u32 = 0;
+    for client in clients {
+        let work = if place < writers {
+            let first = place.wrapping_mul(RECORDS);
+            Work::Saves { first, count }
+        } else {
+            Work::Loads
+        };
+        jobs.push(Job { client, work }).ok()?;
+        place = place.wrapping_add(1);
+    }
+    Some(jobs)
+}
+
+// How many loads or saves each of the clients does, those that save first.
+fn counts<R: Threads + Wait + Clock + Sync>(
+    rt: &R,
+    alloc: Global,
+    writers: u32,
+    readers: u32,
+    count: u32,
+) -> Option<Vec<Option<u64>>> {
+    let clients = opened(rt, alloc, Waits { rt }, writers.wrapping_add(readers))?;
+    let jobs = jobs(alloc, clients, writers, count)?;
+    thread::map_vec(rt, jobs, &|job| worked(rt, alloc, job)).ok()
+}
+
+// How many are done a second.
+fn rate(counts: &[Option<u64>]) -> io::Result<u64> {
+    let mut all: u64 = 0;
+    for count in counts {
+        let Some(count) = count else {
+            return Err(io::Error::from(ErrorKind::InvalidData));
+        };
+        all = all.wrapping_add(*count);
+    }
+    Ok(all / 2)
+}
+
+// The rates of so many clients that save and so many that load.
+fn rates<R: Threads + Wait + Clock + Sync>(
+    rt: &R,
+    alloc: Global,
+    writers: u32,
+    readers: u32,
+    count: u32,
+) -> io::Result<(u64, u64)> {
+    let Some(counts) = counts(rt, alloc, writers, readers, count) else {
+        return Err(io::Error::from(ErrorKind::OutOfMemory));
+    };
+    let Some((saves, loads)) = counts.as_slice().split_at_checked(writers as usize) else {
+        return Err(io::Error::from(ErrorKind::InvalidData));
+    };
+    Ok((rate(saves)?, rate(loads)?))
+}
+
+/// Prints how many loads reader threads make beside a writer.
+pub fn measure_loads<R: Threads + Wait + Clock + Print + Sync>(
+    rt: &R,
+    alloc: Global,
+) -> io::Result<()> {
+    for readers in READERS {
+        let (saves, loads) = rates(rt, alloc, 1, readers, COMMANDS)?;
+        println!(rt; "{readers} readers: {loads} loads a second, beside {saves} saves a second")?;
+    }
+    Ok(())
+}
+
+/// Prints how many commits of one save threads make.
+pub fn measure_commits<R: Threads + Wait + Clock + Print + Sync>(
+    rt: &R,
+    alloc: Global,
+) -> io::Result<()> {
+    for writers in WRITERS {
+        let (commits, _) = rates(rt, alloc, writers, 0, 1)?;
+        println!(rt; "{writers} clients: {commits} commits of one save a second")?;
+    }
+    Ok(())
+}

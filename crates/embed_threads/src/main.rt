@@ -1,0 +1,74 @@
+//! Sells books from a store that threads share: opens a running database, has two clerks sell copies
+//! of the same book beside each other, and reads how many are left.
+#![tactic(auto)]
+
+mod books;
+mod clerks;
+mod error;
+
+use clerks::{COPIES, TITLE, left, open_shop, sell_beside};
+use cluster_core::Config;
+use error::EmbedError;
+use runtime::{Waits, open};
+use std::alloc::Global;
+use std::io;
+use std::process::ExitCode;
+use std::sync::Wait;
+use std::thread::Threads;
+
+/// What the clerks sold, and how many copies are left.
+#[derive(Drop)]
+struct Day {
+    sold: i64,
+    also_sold: i64,
+    left: i64,
+}
+
+/// Opens the shop, and has two clerks sell there.
+fn trade<R: Threads + Wait + Sync>(rt: &R, alloc: Global) -> Result<Day, EmbedError> {
+    let mut clients = open(rt, alloc, Waits { rt }, &Config::single(alloc))?;
+    let mut one = clients.pop().ok_or(EmbedError::NoClient)?;
+    let mut other = clients.pop().ok_or(EmbedError::NoClient)?;
+    open_shop(rt, alloc, &mut one)?;
+    let (sold, also_sold) = sell_beside(rt, alloc, &mut one, &mut other)?;
+    let left = left(rt, alloc, &mut one)?;
+    Ok(Day {
+        sold,
+        also_sold,
+        left,
+    })
+}
+
+/// The lines that tell a day.
+fn lines(alloc: Global, day: &Day) -> Result<Vec<String>, EmbedError> {
+    let Day {
+        sold,
+        also_sold,
+        left,
+    } = day;
+    let mut lines = vec![in alloc; format!(in alloc; "{TITLE}: {COPIES} copies")?]?;
+    lines.push(format!(in alloc; "two clerks sold {sold} and {also_sold} of them")?)?;
+    lines.push(format!(in alloc; "{left} are left")?)?;
+    Ok(lines)
+}
+
+/// Does all of it, and answers the lines that tell it.
+fn demonstrate<R: Threads + Wait + Sync>(rt: &R, alloc: Global) -> Result<Vec<String>, EmbedError> {
+    let day = trade(rt, alloc)?;
+    lines(alloc, &day)
+}
+
+fn main(rt: HostRuntime) -> io::Result<ExitCode> {
+    match demonstrate(&rt, rt.alloc()) {
+        Ok(lines) => {
+            for line in lines {
+                rt.println(line)?;
+            }
+            Ok(ExitCode::SUCCESS)
+        }
+        Err(error) => {
+            rt.eprintln(error)?;
+            Ok(ExitCode::FAILURE)
+        }
+    }
+}

@@ -1,0 +1,7 @@
+use Rattle.std.proofs.Common.{◌≡◌}
+use Rattle.runtime.specs.Runs.{Continues}
+use Rattle.race.proofs.commands.InTurnBody.attempt.Given as goal
+
+abbrev pub invariant-loop-command : goal.invariant-loop-command
+invariant-loop-command g l =
+    (l.tx.client.ghost_name ≡ l.initial.tx.client.ghost_name) × Continues l.initial.tx.client.now l.tx.client.now

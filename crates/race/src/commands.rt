@@ -1,0 +1,64 @@
+// The commands of a race's transactions, and what performs them.
+ghost use Rattle.std.specs.Prelude.{◌≡◌};
+ghost use Rattle.runtime.specs.Runs.{Continues};
+
+use metadata::Cells;
+use runtime::{Body, BodyError, End, Txn};
+use schedule::{Command, Reply};
+use script::Race;
+use std::alloc::{AllocError, Global};
+use tuple_codec::Text;
+
+/// The command that saves a record.
+pub(crate) fn save(record_type: &Text, cells: &Cells) -> Result<Command, AllocError> {
+    Ok(Command::Save(record_type.copy()?, cells.copy()?))
+}
+
+/// The commands that make the store, and save the records that are there before the race.
+pub(crate) fn filling(alloc: Global, race: &Race) -> Result<Vec<Command>, AllocError> {
+    let mut commands = Vec::new(alloc);
+    commands.push(Command::Create(race.schema.copy()?))?;
+    for cells in race.before.as_slice() {
+        commands.push(save(&race.record_type, cells)?)?;
+    }
+    Ok(commands)
+}
+
+/// The commands that add the index, and mark it write-only.
+pub(crate) fn indexing(alloc: Global, race: &Race) -> Result<Vec<Command>, AllocError> {
+    let index = Command::Index(race.index.copy()?);
+    let mark = Command::WriteOnly(race.index.name.copy()?);
+    Ok(vec![in alloc; index, mark]?)
+}
+
+/// Performs a command that is to be accepted.
+fn accept<E: End>(tx: &mut Txn<'_, E>, command: &Command) -> Result<Reply, BodyError>
+    ensures same_reference { tx.new.client.ghost_name ≡ tx.old.client.ghost_name }
+    ensures continues { Continues tx.old.client.now tx.new.client.now }
+{
+    match tx.perform(command) {
+        Ok(Reply::Refused(why)) => Err(BodyError::Refused(why)),
+        Ok(Reply::Corrupt(key)) => Err(BodyError::Corrupt(key)),
+        Ok(reply) => Ok(reply),
+        Err(error) => Err(BodyError::Entry(error)),
+    }
+}
+
+/// Commands that a transaction performs in turn, each of which is to be accepted.
+#[derive(Drop)]
+pub(crate) struct InTurn<'a> {
+    pub(crate) commands: &'a [Command],
+}
+
+impl<E: End> Body<E> for InTurn<'_> {
+    type Answer = ();
+
+    ghost did = { λ body old result new after. Unit {0} };
+
+    fn attempt(&mut self, tx: &mut Txn<'_, E>) -> Result<(), BodyError> {
+        for command in self.commands {
+            accept(tx, command)?;
+        }
+        Ok(())
+    }
+}

@@ -1,0 +1,105 @@
+-- The locked state and a client may go to another thread, since nothing that they own is bound to one.
+use denote.RattleType.{RattleType}
+use denote.Param.Send.{IsSend, sendable, struct_send, recorded_send, view_send}
+use denote.Struct.Declared.{shape}
+use Rattle.std.proofs.Crossing.{crosses, Arc-send}
+use Rattle.std.proofs.alloc.Global.TheSendSync as heap
+use Rattle.kv_core.proofs.change.CommitRequest.TheSendSync as request
+use Rattle.cluster_core.proofs.answers.Splits.TheSendSync as splits
+use Rattle.cluster_core.proofs.kept.Cause.TheSendSync as cause
+use Rattle.cluster_core.proofs.log.Log.TheSendSync as log
+use Rattle.cluster_core.proofs.part.Part.TheSendSync as part
+use Rattle.cluster_core.proofs.tree.Tree.TheLaws.TheKnot as knot
+use Rattle.cluster_core.specs.contracts.segments.Segments as Segments
+use Rattle.cluster_core.specs.contracts.kept.Writers as Writers
+use Rattle.cluster_core.specs.contracts.resolver.Resolver as Resolver
+use Rattle.cluster_core.specs.contracts.pipeline.Pipeline as Pipeline
+use Rattle.runtime.proofs.board.Board.TheSendSync as board
+use Rattle.runtime.proofs.front.Head.TheSendSync as head
+use Rattle.runtime.proofs.front.Front.TheSendSync as front
+use Rattle.runtime.proofs.flight.Flight.TheSendSync as flight
+use Rattle.runtime.specs.contracts.hold.Hold as Hold
+use Rattle.runtime.specs.contracts.hold.Hold.TheInside as inside
+use Rattle.runtime.specs.contracts.client.Client as Client
+use Rattle.runtime.specs.contracts.client.Client.TheInside as of_client
+use Rattle.runtime.specs.contracts.turn.Owned as Owned
+use Rattle.runtime.specs.declared.turn.End.{Ghosts}
+use Rattle.runtime.proofs.vault.Vault.TheSendSync as vault
+use Rattle.runtime.proofs.work.Work.TheSendSync as work
+use Rattle.runtime.proofs.published.Published.TheSendSync as published
+use Rattle.runtime.specs.contracts.published.Published as Published
+use Rattle.runtime.specs.contracts.published.View as View
+use Rattle.runtime.specs.contracts.law.Lawful as Lawful
+use Rattle.runtime.specs.contracts.law.LawfulProtocolPublishedView.TheImpl as lawful
+use Rattle.left_right.specs.contracts.reader.Reader as Reader
+use Rattle.std.specs.contracts.alloc.Global as Heap
+use Rattle.std.specs.contracts.impls.GlobalAllocator.TheImpl as allocator
+use Rattle.left_right.proofs.reader.Reader.TheSendSync as reader
+use Rattle.atomic_table.proofs.shared.Seat.TheSendSync as seat
+use Rattle.std.proofs.option.Option.TheSendSync as option
+
+segments_send : IsSend Segments.the_row
+segments_send = search (knot.crosses, sendable, crosses) depth 20
+
+writers_send : IsSend Writers.the_row
+writers_send = search (segments_send, sendable, crosses) depth 20
+
+resolver_send : IsSend Resolver.the_row
+resolver_send = search (part.the_send, writers_send, cause.the_send, sendable, crosses) depth 20
+
+pipeline_send : IsSend Pipeline.the_row
+pipeline_send =
+    search (splits.the_send, request.the_field_send, resolver_send, log.the_send, sendable, crosses) depth 20
+
+pub hold_send : IsSend Hold.the_row
+hold_send =
+    view_send inside.the_row _ _ _ _
+    (recorded_send (inside.the_field).row _ _ (inside.the_type).to_one
+    (struct_send (shape inside.the_type) (
+      heap.the_field_send,
+      (
+        pipeline_send,
+        (
+          board.the_send,
+          (
+            head.the_send,
+            (
+              front.the_send,
+              (flight.the_field_send, (search (sendable, crosses) depth 20, tt)),
+            ),
+          ),
+        ),
+      ),
+    )))
+
+owned_field : (E : RattleType) → IsSend E → IsSend (Owned.the_field E).row
+owned_field E s = search (hold_send, sendable, crosses) depth 20
+
+owned_send : (E : RattleType) → IsSend E → IsSend (Owned.the_row E)
+owned_send E s = recorded_send (Owned.the_field E).row _ _ (Owned.the_type E).to_one (owned_field E s)
+
+reader_send :
+    IsSend (Reader.the_row Published.the_row View.the_row Lawful.the_row Heap.the_row lawful.ghosts allocator.ghosts)
+reader_send = search (reader.the_send, published.the_sync, sendable, crosses) depth 20
+
+pub client_send : (E : RattleType) (g : Ghosts E.Denot) → IsSend E → IsSend (Client.the_row E g)
+client_send E g s =
+    let owned : IsSend (Owned.the_row E) = owned_send E s in
+    view_send (of_client.the_row E g) _ _ _ _
+    (recorded_send ((of_client.the_field E g).row) _ _ (of_client.the_type E g).to_one
+    (struct_send (shape (of_client.the_type E g)) (
+      heap.the_field_send,
+      (
+        Arc-send _ (vault.the_send _ _ owned) (vault.the_sync _ _ owned),
+        (
+          seat.the_send _ _ (option.the_send _ owned),
+          (
+            option.the_field_send _ reader_send,
+            (
+              front.the_send,
+              (search (sendable, crosses), (search (sendable, crosses), (option.the_field_send _ work.the_send, tt))),
+            ),
+          ),
+        ),
+      ),
+    )))

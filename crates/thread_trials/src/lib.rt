@@ -1,0 +1,9 @@
+//! Tests of the running database's public calls: clients on threads beside one another.
+#![tactic(auto)]
+
+#[cfg(test)]
+mod beside;
+#[cfg(test)]
+mod in_turn;
+#[cfg(test)]
+mod transactions;
