@@ -2,10 +2,13 @@
 import os
 import re
 import sys
+from counts import repeats, wide_clause_lines, words_with_two_homes
 from sources import bodies, comments, data, files, line_at, lines_of, public_items, read, wide_lines
 
-sys.path.append(os.path.dirname(os.path.dirname(os.path.abspath(__file__))))
+TOOLS = os.path.dirname(os.path.dirname(os.path.abspath(__file__)))
+sys.path += [TOOLS, os.path.join(TOOLS, "wrong_bodies")]
 from crate_tree import CRATES, DRAWING, drawing, used_by
+from edits import BadEdit, Edit, texts_of
 
 README_LINES, README_COLUMNS = 80, 100
 FILE_LINES, BODY_LINES, COLUMNS = 400, 40, 120
@@ -17,6 +20,9 @@ PYTHON = "tools/**/*.py"
 DOCUMENTS = ("*.md", "docs/**/*.md", "crates/*/README.md")
 EDITS = ("crates/*/wrong-bodies/*.edit", "crates/*/must-fail/*.edit")
 OTHERS = ("crates.txt", "cases/**/*", "examples/**/*")
+
+# what stands counted of repeats, wide clauses and words with two homes
+KNOWN = "tools/house_rules/known.txt"
 
 # a block of code in a document
 CODE = re.compile(r"^```rust\n(.*?)^```$", re.M | re.S)
@@ -95,6 +101,46 @@ def crates_are_drawn(root):
     return len(used_by(text)), [] if is_fresh else stale
 
 
+def files_are_introduced(root):
+    """Each file of Rattle begins with a comment, which says what the file holds."""
+    paths = files(root, RATTLE)
+    return len(paths), [(path, "doesn't begin with a comment") for path in paths
+                        if not read(root, path).startswith("//")]
+
+
+def edits_apply(root):
+    """Each wrong body can be put into the sources: what it takes out stands there once."""
+    paths, faults, texts = files(root, *EDITS), [], {}
+    for path in paths:
+        crate = os.path.dirname(os.path.dirname(path))
+        if crate not in texts:
+            texts[crate] = texts_of(os.path.join(root, crate))
+        try:
+            Edit(path, read(root, path)).applied(texts[crate])
+        except BadEdit as why:
+            faults.append((path, str(why)))
+    return len(paths), faults
+
+
+def counted(root):
+    """What is counted, as lines of the record: the words with two homes, the repeats of files, their wide clauses."""
+    specs = [(path.split("/")[1], read(root, path)) for path in files(root, SPECS)]
+    homes = [f"home {word} {' '.join(crates)}" for word, crates in words_with_two_homes(specs).items()]
+    texts = {path: read(root, path) for path in files(root, RATTLE, SPECS, PROOFS)}
+    alike = [f"repeat {count} {' '.join(pair)}" for pair, count in repeats(texts).items()]
+    wide = [(path, wide_clause_lines(text)) for path, text in texts.items() if path.endswith(".rt")]
+    return sorted(homes + alike + [f"wide {count} {path}" for path, count in wide if count])
+
+
+def nothing_surprises(root):
+    """What is counted is what the record knows of: it is lowered as things get better, and never grows unseen."""
+    known = [it for path in files(root, KNOWN) for it in lines_of(read(root, path)) if not it.startswith("#")]
+    found = counted(root)
+    new = [(KNOWN, f"doesn't know '{it}'") for it in sorted(set(found) - set(known))]
+    gone = [(KNOWN, f"knows '{it}', which isn't so") for it in sorted(set(known) - set(found))]
+    return len(files(root, RATTLE, SPECS, PROOFS)), new + gone
+
+
 def nothing_is_cited(root):
     """No file leans on a text outside the repository, or on a mark that only such a text tells."""
     paths, faults = files(root, RATTLE, SPECS, PROOFS, PYTHON, *DOCUMENTS, *EDITS, *OTHERS), []
@@ -115,5 +161,8 @@ RULES = {
     "public items are documented": public_items_are_documented,
     "crates have a README.md": crates_have_readmes,
     "crates are drawn": crates_are_drawn,
+    "files are introduced": files_are_introduced,
+    "wrong bodies apply": edits_apply,
+    "nothing surprises": nothing_surprises,
     "nothing is cited": nothing_is_cited,
 }

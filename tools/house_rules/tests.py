@@ -9,10 +9,12 @@ from sources import bodies, data, is_documented, public_items, wide_lines
 
 HERE = os.path.dirname(os.path.abspath(__file__))
 SOURCE, SPEC, PROOF = "crates/low/src/lib.rt", "crates/low/specs/Low.antt", "crates/low/proofs/Low.antt"
-SHOWN = "crates/low/src/shown.rt"
+SHOWN, EDITED = "crates/low/src/shown.rt", "crates/low/src/edited.rt"
 # in two parts, so that these tests break no rule themselves
 PUBLISHED, LABEL = "pa" + "per", "D" + "12"
 CRATES = "# each crate\nlow:\n"
+EDIT, KNOWN = "crates/low/wrong-bodies/one.edit", "tools/house_rules/known.txt"
+SIX = "".join(f"    n{it};\n" for it in range(6))
 
 RIGHT = {
     "README.md": "# A store\n\nIt is small.\n\n```rust\n    n + 1\n```\n",
@@ -20,11 +22,20 @@ RIGHT = {
     "docs/crates.svg": drawing(CRATES),
     "crates/low/README.md": "# low\n",
     SOURCE: "/// The next number.\npub fn next(n: u64) -> u64\n    ensures { result ≡ n + 1 }\n{\n    n + 1\n}\n",
-    SHOWN: "fn shown(n: u64) -> u64\n    ensures { result ≡ n + 1 }\n{\n    n + 1\n}\n",
+    SHOWN: "// Shown.\nfn shown(n: u64) -> u64\n    ensures { result ≡ n + 1 }\n{\n    n + 1\n}\n",
     SPEC: "-- the next number\nabbrev pub next : ℕ → ℕ\nnext n = n + 1\n",
     PROOF: f"-- {'a wide line of a proof ' * 10}\n",
     "tools/one.py": '"""A tool."""\n',
+    EDITED: "// Edited.\nfn edited(n: u64) -> u64 {\n    n + 3\n}\n",
+    EDIT: "file: src/edited.rt\nold: n + 3\nnew: n\n",
 }
+
+
+
+def lines(count, word="a"):
+    """So many lines of which none repeats another."""
+    return "".join(f"        {word}({it});\n" for it in range(count))
+
 
 # For each rule, texts that break it, by the file that has them in the place of the right ones; None is no file.
 WRONG = {
@@ -33,7 +44,7 @@ WRONG = {
         ("README.md", "```rust\nn + 1\n```\n"), ("README.md", "```rust\n    n + 1\n\n    n + 2\n```\n"),
     ],
     "files are short": [(path, "\n" * 401) for path in (SOURCE, SPEC, PROOF, "tools/one.py")],
-    "bodies are short": [(SOURCE, "fn long()\n    ensures { a }\n{\n" + "    a();\n" * 39 + "}\n")],
+    "bodies are short": [(SOURCE, f"fn long()\n    ensures {{ a }}\n{{\n{lines(39)}}}\n")],
     "lines are narrow": [
         (SOURCE, f"// {'é' * 118}\n"), (SPEC, f"-- {'é' * 118}\n"), ("tools/one.py", f'"""{"a" * 118}"""\n'),
         (SOURCE, f'static TABLE: [u8; 2] = [1, 2];\nfn say() {{ print("{"a" * 60}"); print({"a" * 60}, "b") }}\n'),
@@ -46,9 +57,21 @@ WRONG = {
     "crates are drawn": [
         ("docs/crates.svg", None), ("docs/crates.svg", "<svg/>\n"), ("docs/crates.svg", drawing("high:\n")),
     ],
+    "files are introduced": [("crates/low/src/two.rt", "fn two() {}\n"), ("crates/low/src/two.rt", "")],
+    "wrong bodies apply": [
+        (EDIT, "file: src/edited.rt\nold: n + 2\nnew: n\n"), (EDIT, "file: src/edited.rt\nold: n\nnew: m\n"),
+        (EDIT, "file: src/edited.rt\nold: n + 3\n"), (EDIT, "file: src/two.rt\nold: n\nnew: m\n"),
+    ],
+    "nothing surprises": [
+        (KNOWN, "# what stands\nhome next high low\n"), ("crates/high/specs/High.antt", "pub next : ℕ\n"),
+        ("crates/high/specs/High.antt", "module _ (n : ℕ) where\n  abbrev pub next : ℕ\n  next = n\n"),
+        (SPEC, SIX + "-- between\n" + SIX), (PROOF, f"{SIX}mod Other\n{SIX}"),
+        (SHOWN, "// Shown.\nfn shown()\n    ensures { " + "a" * 90 + " }\n{}\n"),
+        (SHOWN, "// Shown.\n/// " + "a" * 97 + "\nfn shown() {}\n"),
+    ],
     "nothing is cited": [
         ("README.md", f"As the {PUBLISHED} has it.\n"), (SOURCE, f"// as in {LABEL}\n"), (PROOF, f"-- {LABEL}\n"),
-        ("crates/low/must-fail/one.edit", f"file: src/lib.rt\nold: a\nnew: a // the {PUBLISHED}\n"),
+        ("crates/low/must-fail/one.edit", f"file: src/edited.rt\nold: {{\nnew: {{ // the {PUBLISHED}\n"),
     ],
 }
 
@@ -57,11 +80,16 @@ ALSO_RIGHT = [
     ("README.md", "a" * 100 + "\n" + "line\n" * 79),
     ("README.md", "```rust\n{\n    n + 1\n}\n\n    ensures { result ≡ n + 1 }\n```\n\n    n + 2\n"),
     (SOURCE, "\n" * 400),
-    (SOURCE, "fn short()\n    ensures {\n" + "        a\n" * 50 + "    }\n{\n" + "    a();\n" * 38 + "}\n"),
+    (SOURCE, f"fn short()\n    ensures {{\n{lines(50)}    }}\n{{\n{lines(38, 'b')}}}\n"),
     (SOURCE, f'// {"é" * 117}\nfn say() {{ print("{"a" * 120}") }}\n'),
     (SOURCE, f'static TABLE: [(u8, &str); 1] = [\n    (1, "a", {"1 + " * 40} 1),\n];\n'),
     (SOURCE, "/// A type.\n#[derive(Clone)]\npub struct Low;\nimpl Next for Low {\n    pub fn next() {}\n}\n"),
     (SOURCE, "/// A type.\npub struct Low;\nimpl Low {\n    pub(crate) fn a() {}\n}\npub use low::a;\n"),
+    (SHOWN, "// Shown.\nfn shown()\n    ensures { " + "a" * 84 + " }\n{\n    f(" + "a" * 100 + ")\n}\n"),
+    (SPEC, SIX + "-- between\n" + SIX.replace("3", "9")),
+    (KNOWN, "# nothing\n"),
+    ("crates/high/specs/High.antt", "pub record High : Type 0 where\n  pub next : ℕ\n"),
+    (EDIT, "file: src/edited.rt\nold: n + 3\nnew: n + 2\nfile: src/edited.rt\nold: n + 2\nnew: n\n"),
     (SOURCE, f"const {LABEL}: u64 = 1;\n// a wallpa" + "pers' T\n"),
 ]
 
@@ -73,8 +101,16 @@ def write(root, path, text):
         file.write(text)
 
 
+def introduced(path, text):
+    """A text with a comment at its begin, where it is one of Rattle that has other lines than comments."""
+    if path != SOURCE or text is None or text.startswith("//"):
+        return text
+    return f"//{text}" if text.startswith("\n") else f"// Low.\n{text}"
+
+
 def broken(changes=()):
     """The rules that a repository breaks that has these texts in the place of the right ones."""
+    changes = [(path, introduced(path, text)) for path, text in changes]
     with tempfile.TemporaryDirectory() as root:
         for path, text in {**RIGHT, **dict(changes)}.items():
             if text is not None:

@@ -4,8 +4,9 @@ import hashlib
 import os
 import re
 import subprocess
+from bodies import UNREAD
 from definitions import Definitions, imports_in, is_named
-from told import told_by
+from told import told_by, without
 from trials import below
 
 FILE = os.path.join("tools", "wrong_bodies", "refused.txt")
@@ -18,6 +19,19 @@ HEAD = "# crates whose wrong bodies were refused: how many, and a sum of all on 
 def words_in(text):
     """The words of a text."""
     return set(re.findall(r"\w+", text))
+
+
+def uncommented(file, text):
+    """The text of a crate's file without its comments, a line a line: they change no check.
+
+    Of a file in the prover's language only comments are taken that begin a line.
+    """
+    if file.endswith(".rt"):
+        text = without(text, [it.span() for it in UNREAD.finditer(text) if it[0].startswith("/")])
+    elif not file.endswith(".antt"):
+        return text
+    lines = [line.rstrip() for line in text.split("\n")]
+    return "\n".join(line for line in lines if line and not (file.endswith(".antt") and line.lstrip().startswith("--")))
 
 
 def texts_below(folder, parts):
@@ -34,12 +48,12 @@ def texts_below(folder, parts):
 def rests_on(root, crates, name):
     """The texts on which it rests that a crate's edits are refused, by crate, file and definition.
 
-    Those are the crate's own, what the sources of the crates below it say, and the definitions that any of these texts
-    leads to. A function is proved from the contracts of what it calls, so of the crates below no body counts and no
-    proof.
+    Those are the crate's own without comments, what the sources of the crates below it say, and the definitions that
+    any of these texts leads to. A function is proved from the contracts of what it calls, so of the crates below no
+    body counts and no proof.
     """
     own = dict(texts_below(os.path.join(root, "crates", name), OWN))
-    texts = {(name, file, ""): text for file, text in own.items()}
+    texts = {(name, file, ""): uncommented(file, text) for file, text in own.items()}
     starts = {it[:3] for text in own.values() for it in imports_in(root, crates, text) if it[0] != name}
     words = set().union(*map(words_in, own.values()))
     for crate in below(crates, name):
