@@ -1,4 +1,4 @@
-// Commands on the type t of whole numbers k and v, whose key is k.
+// Commands on the type t of whole numbers k and v, whose key is k. Called by `threads`.
 use metadata::{Cell, Cells, Field, Fields, Kind, Names, SchemaRequest, TypeRequest};
 use schedule::Command;
 use std::alloc::{AllocError, Global};

@@ -1,4 +1,4 @@
-// Keys for the benchmarks.
+// Keys for the benchmarks. Called by `ranges`, `transactions` and `versions`.
 use kv_core::Bytes;
 use std::alloc::{AllocError, Global};
 

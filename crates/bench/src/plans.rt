@@ -1,4 +1,5 @@
-// Plans of queries over a type of 32 fields with 64 indexes of 8 columns each.
+// Plans of queries over a type of 32 fields with 64 indexes of 8 columns each. Called by `main` for
+// `bench plans`.
 use metadata::{
     Cell, Field, Fields, IndexKind, IndexRequest, Kind, MetadataError, Names, Schema, State,
     TypeRequest,

@@ -1,4 +1,5 @@
-// Lists of ranges: so many distinct ranges are added, and then asked for as often.
+// Lists of ranges: so many distinct ranges are added, and then asked for as often. Called by `main`
+// for `bench ranges`.
 use crate::keys::key;
 use kv_core::{KeyRange, RangeList};
 use std::alloc::{AllocError, Global};

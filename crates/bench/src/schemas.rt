@@ -1,4 +1,5 @@
-// Schemas of 32 types of 32 fields with 64 indexes: written and read; records of them, and their primary keys.
+// Schemas of 32 types of 32 fields with 64 indexes: written and read; records of them, and their
+// primary keys. Called by `main` for `bench schemas`.
 use metadata::{
     Cell, Cells, Field, Fields, IndexKind, IndexRequest, Kind, MetadataError, Names, Record,
     Schema, TypeRequest,

@@ -1,4 +1,5 @@
-// Clients of the running database on threads: loads beside a writer, and commits.
+// Clients of the running database on threads: loads beside a writer, and commits. Called by `main`
+// for `bench loads` and `bench commits`.
 use crate::commands::{create, load, save};
 use cluster_core::{Config, Splits};
 use runtime::{Client, Done, End, Waits, begin, open};

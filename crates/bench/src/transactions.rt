@@ -1,4 +1,5 @@
-// Transactions with many own writes: each set is followed by a get of an earlier key and a read of ten pairs.
+// Transactions with many own writes: each set is followed by a get of an earlier key and a read of
+// ten pairs. Called by `main` for `bench transactions`.
 ghost use Rattle.txn.specs.Refusing.{NeverRefuses};
 
 use crate::keys::key;

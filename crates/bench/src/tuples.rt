@@ -1,4 +1,4 @@
-// Packing and unpacking.
+// Packing and unpacking. Called by `main` for `bench tuples`.
 use std::alloc::Global;
 use std::io;
 use std::io::ErrorKind;

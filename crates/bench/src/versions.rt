@@ -1,4 +1,5 @@
 // Versions pulled by one storage server: ten sets each, over keys that are written again and again.
+// Called by `main` for `bench versions`.
 use crate::keys::key;
 use cluster_core::{Config, Splits, Tier};
 use kv_core::Mutation;

@@ -1,3 +1,5 @@
+// The configuration of a cluster, and the answers and refusals of its calls. Used by `config`,
+// `server`, `pipeline`, `tier` and `cluster`, and by whoever calls the last three.
 ghost use Rattle.std.specs.Prelude.{◌≡◌, IfOk, IsNone};
 ghost use Rattle.cluster_core.specs.Configuration.{config_refusal, single};
 ghost use Rattle.cluster_core.specs.declared.answers.ConfigError.TheVariants.{Memory as ConfigMemory};

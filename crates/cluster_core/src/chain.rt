@@ -1,3 +1,4 @@
+// The version chain of one key, for multi-version reads. Used by `chains`.
 ghost use Rattle.std.specs.Prelude.{◌≡◌, ◌∷◌, [], OnOk, OnErr, if◌then◌else◌, slice_get, take};
 ghost use Rattle.std.specs.Option.{option_copied};
 ghost use Rattle.cluster_core.specs.Chains.{IsFalling, later, links_of, needed, put};

@@ -1,3 +1,4 @@
+// The check of a configuration. Called by `pipeline` and `tier` as they are made.
 ghost use Rattle.std.specs.Prelude.{◌≡◌, ◌+◌, ◌≤◌, ◌&&◌, [], length, nat_le};
 ghost use Rattle.std.specs.List.{list_all};
 ghost use Rattle.kv_core.specs.Bytes.{key_lt, end_of_keys};

@@ -1,3 +1,5 @@
+// The conflict check of a resolver, over what it keeps of earlier requests. Used by `resolver`; a
+// cause also by `pipeline`, which reports it.
 ghost use Rattle.std.specs.Prelude.{◌≡◌, ◌+◌, ◌-◌, ◌<◌, ◌≤◌, ◌^◌, List, ℕ, zero, IsTrue, IfOk};
 ghost use Rattle.std.specs.Prelude.{OnOk, OnErr, false, length, Option, slice_get, Some};
 ghost use Rattle.kv_core.specs.Change.{write_range, write_ranges};

@@ -1,3 +1,4 @@
+// The log role. Used by `pipeline`, which keeps the requests themselves.
 ghost use Rattle.std.specs.Prelude.{◌≡◌, ◌<◌, ◌++◌, ◌∷◌, [], length, slice_index_or, true, OnOk, OnErr};
 
 use std::alloc::{AllocError, Global};

@@ -1,3 +1,5 @@
+// The commit pipeline of optimistic concurrency control. Used by `cluster`, by `txn`, which commits
+// to it, and by `runtime`, which keeps it behind a lock.
 ghost use Rattle.std.specs.Prelude.{◌≡◌, ◌⊎◌, ℕ, List, [], slice_index, ◌+◌, ◌-◌, ◌<◌, ◌≤◌, Some, None};
 ghost use Rattle.std.specs.Prelude.{IsNone, IfOk, IfErr, OnOk, OnErr, if◌then◌else◌, length, map};
 ghost use Rattle.std.specs.Prelude.{replicate, slice_get, true, nat_lt, All, ◌^◌, IsSome, IfSome, is_some};

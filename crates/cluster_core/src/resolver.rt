@@ -1,3 +1,4 @@
+// The resolver role, for a share of the keys. Used by `pipeline`.
 ghost use Rattle.std.specs.Prelude.{◌≡◌, ℕ, ◌+◌, ◌<◌, ◌^◌, length, slice_index_or};
 ghost use Rattle.std.specs.Prelude.{slice_set, None, OnOk, OnErr};
 ghost use Rattle.cluster_core.specs.Decision.{numbered};

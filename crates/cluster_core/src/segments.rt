@@ -1,3 +1,4 @@
+// The last writer of each key, by runs of keys. Used by `kept`; `tree` holds its runs.
 ghost use Rattle.std.specs.Prelude.{◌≡◌, ◌≤◌, ◌↔◌, ℕ, Option, List, [], IsTrue, IfOk, IfNone};
 ghost use Rattle.std.specs.Prelude.{IfSome, OnOk};
 ghost use Rattle.kv_core.specs.Bytes.{key_lt};

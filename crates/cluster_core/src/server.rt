@@ -1,3 +1,4 @@
+// The storage server role, for a share of the keys. Used by `tier`.
 ghost use Rattle.std.specs.Prelude.{◌≡◌, ◌+◌, ◌<◌, ◌≤◌, ◌^◌, ◌∷◌, IfOk, OnOk, OnErr, None, ℕ};
 ghost use Rattle.std.specs.Prelude.{All, IsTrue, ◌↔◌, if◌then◌else◌, length, map, take};
 ghost use Rattle.std.specs.List.{AllByRecursion, flat_map};

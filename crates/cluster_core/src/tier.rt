@@ -1,3 +1,5 @@
+// The storage servers together, which share out the keys. Used by `cluster`, by `txn`, which reads
+// from it, and by `runtime`, which publishes it to readers.
 ghost use Rattle.std.specs.Prelude.{◌≡◌, ℕ, ◌⊎◌, ◌+◌, ◌<◌, ◌^◌, ◌↔◌, Some, IsTrue, IsNone, IfOk};
 ghost use Rattle.std.specs.Prelude.{IfErr, OnOk, OnErr, All, length, map, slice_get, slice_set};
 ghost use Rattle.std.specs.List.{AllByRecursion};

@@ -1,4 +1,4 @@
-//! Segments in key order, in a balanced tree.
+//! Segments in key order, in a balanced tree. Used by `segments`.
 
 ghost use Rattle.std.specs.Prelude.{◌≡◌, ◌++◌, ◌∷◌, [], ℕ, nat_le, IsTrue, List, Some, None};
 ghost use Rattle.std.specs.Prelude.{IfNone, IfOk, IfSome, MatchOption};

@@ -1,3 +1,4 @@
+// The parser of the command line, by `clap`. Called by `recordctl`.
 use clap::error::ErrorKind;
 use clap::{Arg, ArgAction, ArgMatches, Command, Error};
 use std::alloc::{AllocError, Global};

@@ -1,3 +1,4 @@
+// The schema of a store of books. Called by `copies` and `queries`.
 ghost use Rattle.std.specs.Prelude.{◌≡◌, IfOk};
 ghost use Rattle.std.specs.List.{AllByRecursion};
 ghost use Rattle.metadata.specs.declared.index.IndexKind.TheVariants.{Value};

@@ -1,3 +1,4 @@
+// Transactions on the copies of a book. Called by `main`.
 ghost use Rattle.std.specs.Prelude.{◌≡◌, OnOk};
 ghost use Rattle.cluster_core.specs.Roles.{is_caught_up};
 

@@ -1,3 +1,4 @@
+// The errors of the program. Used by `main`, `copies` and `queries`.
 use cluster_core::ConfigError;
 use metadata::MetadataError;
 use plan_exec::ExecError;

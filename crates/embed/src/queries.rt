@@ -1,3 +1,4 @@
+// A query, planned and executed. Called by `main`.
 use crate::books::only;
 use crate::copies::PREFIX;
 use crate::error::EmbedError;

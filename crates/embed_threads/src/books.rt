@@ -1,3 +1,4 @@
+// The commands on a store of books. Called by `clerks`.
 use metadata::{Cell, Cells, Field, Fields, Kind, Names, SchemaRequest, TypeRequest};
 use schedule::Command;
 use std::alloc::{AllocError, Global};

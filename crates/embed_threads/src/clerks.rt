@@ -1,3 +1,4 @@
+// The transactions of the shop, and the threads on which clerks run them. Called by `main`.
 ghost use Rattle.std.specs.Prelude.{◌≡◌};
 ghost use Rattle.runtime.specs.Runs.{Continues};
 

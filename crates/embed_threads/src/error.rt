@@ -1,3 +1,4 @@
+// The errors of the program. Used by `main` and `clerks`.
 use runtime::{OpenError, RunError};
 use std::alloc::{AllocError, AllocFailed};
 use thiserror::Error;

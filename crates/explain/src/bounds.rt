@@ -1,4 +1,4 @@
-//! The bounds that the edges of a range set on a column.
+//! The bounds that the edges of a range set on a column. Used by `ranges` and `conditions`.
 ghost use Rattle.std.specs.Prelude.{◌≡◌, ◌≤◌, IfOk, length, map, option_map};
 ghost use Rattle.explain.specs.Told.{both, bounds_between, lower, one, shared, upper};
 ghost use Rattle.explain.specs.View.{bound_of, bounds_of};

@@ -1,4 +1,4 @@
-//! The words that tell what a range says of columns.
+//! The words that tell what a range says of columns. Called by `ranges`.
 ghost use Rattle.std.specs.Prelude.{◌≡◌, ◌++◌, codes, IfOk, OnOk, map, string_bytes};
 ghost use Rattle.serde_json.specs.Written.{compact_text};
 ghost use Rattle.json_forms.specs.CellJson.{cell_data};

@@ -1,4 +1,4 @@
-//! The edges of ranges of keys, read back into cells.
+//! The edges of ranges of keys, read back into cells. Used by `ranges` and `bounds`.
 ghost use Rattle.std.specs.Prelude.{◌≡◌, IfOk};
 ghost use Rattle.planner.specs.Pack.{unpack};
 ghost use Rattle.planner.specs.View.{range_of};

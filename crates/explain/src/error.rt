@@ -1,3 +1,4 @@
+// The refusals of what asks for a plan. Used by `planning`; `recordctl` prints them.
 ghost use Rattle.std.specs.Prelude.{◌≡◌};
 ghost use Rattle.explain.specs.declared.error.ExplainError.TheVariants.{OutOfMemory};
 

@@ -1,3 +1,4 @@
+// The JSON that asks for a plan. Called by `planning`.
 ghost use Rattle.std.specs.Prelude.{◌≡◌, Some, None, IfOk, IfErr};
 ghost use Rattle.serde_json.specs.View.{members_view, view};
 ghost use Rattle.explain.specs.File.{asked_of, given_states, request_in, request_of, state_in};

@@ -1,3 +1,4 @@
+// Plans as indented trees. Called by `recordctl` for `explain --tree`.
 ghost use Rattle.std.specs.Prelude.{◌≡◌, ◌++◌, codes, IfOk, OnOk, flat_map, map, string_bytes};
 ghost use Rattle.serde_json.specs.Written.{compact_text};
 ghost use Rattle.json_forms.specs.QueryJson.{filter_data};

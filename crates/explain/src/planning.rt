@@ -1,3 +1,4 @@
+// The plan that a text of JSON asks for, without a database. Called by `recordctl` for `explain`.
 ghost use Rattle.std.specs.Prelude.{◌≡◌, ◌≢◌, Some, None, Ok, Err, IfOk, IfErr, IsTrue};
 ghost use Rattle.std.specs.List.{list_all};
 ghost use Rattle.std.specs.Option.{option_copied};

@@ -1,4 +1,4 @@
-//! What ranges say of the columns that their keys go by.
+//! What ranges say of the columns that their keys go by. Called by `plan_tree`.
 ghost use Rattle.std.specs.Prelude.{◌≡◌, IfOk, option_map, string_bytes};
 ghost use Rattle.planner.specs.View.{range_of};
 ghost use Rattle.explain.specs.Shown.{range_words, told_text};

@@ -1,3 +1,4 @@
+// Entries of VALUE indexes. Used by `maintainer`.
 ghost use Rattle.std.specs.Prelude.{◌≡◌, IfOk, IsTrue};
 ghost use Rattle.kv_core.specs.Bytes.{end_of_keys, key_lt};
 ghost use Rattle.index_maint.specs.Entries.{entry_of, same_entry};

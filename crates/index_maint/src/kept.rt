@@ -1,4 +1,5 @@
-// What is written for an index by its kind and its state, and to build it.
+// What is written for an index by its kind and its state, and to build it. Called by `record_store`
+// where a record changes, and by `online_builder`.
 ghost use Rattle.std.specs.Prelude.{◌≡◌, ◌++◌, All, IfOk, IsTrue, OnOk, ℕ};
 ghost use Rattle.std.specs.Option.{option_copied};
 ghost use Rattle.kv_core.specs.Bytes.{end_of_keys, key_lt};

@@ -1,3 +1,5 @@
+// Laws of indexes over records: functions that do nothing, whose clauses are theorems. They are for
+// callers' proofs; no code calls them.
 ghost use Rattle.std.specs.Prelude.{◌≡◌, ◌<◌, ◌^◌, ◌∷◌, List, pos, ℕ};
 ghost use Rattle.tuple_codec.specs.Item.{Item, int};
 ghost use Rattle.tuple_codec.specs.Subspace.{BeginsWith, key_of};

@@ -1,3 +1,5 @@
+// The key prefixes of an index. Called by `entry` and `total`, and by `record_store`,
+// `online_builder` and `plan_exec`.
 ghost use Rattle.std.specs.Prelude.{◌≡◌, ◌∷◌, [], IfOk, IsTrue, pos};
 ghost use Rattle.tuple_codec.specs.Item.{int};
 ghost use Rattle.kv_core.specs.Bytes.{end_of_keys, key_lt};

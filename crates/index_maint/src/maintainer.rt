@@ -1,3 +1,4 @@
+// Index maintenance by kind, behind one trait. Called by `kept`.
 ghost use Rattle.std.specs.Prelude.{◌≡◌, ◌++◌, IfOk, IsTrue, OnOk, Some};
 ghost use Rattle.std.specs.Option.{option_copied, option_map};
 ghost use Rattle.kv_core.specs.Bytes.{end_of_keys, key_lt};

@@ -1,4 +1,5 @@
-// What records count in the totals of COUNT and SUM indexes, and what adds it there.
+// What records count in the totals of COUNT and SUM indexes, and what adds it there. Called by
+// `maintainer`; the key of a group also by `record_store`, which reads totals.
 ghost use Rattle.std.specs.Prelude.{◌≡◌, ◌++◌, All, IfOk, IsTrue, OnOk, Some};
 ghost use Rattle.std.specs.Option.{option_copied, option_map};
 ghost use Rattle.kv_core.specs.Addition.{bytes_of};

@@ -1,3 +1,5 @@
+// Cells from JSON and back. Called by `query_json` and `filter_json`, and by `script` for the cells
+// of commands and races.
 ghost use Rattle.std.specs.Prelude.{◌≡◌, ◌≤◌, Some, None, IfOk, IfErr};
 ghost use Rattle.serde_json.specs.Data.{depth};
 ghost use Rattle.serde_json.specs.View.{view};

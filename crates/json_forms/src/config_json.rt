@@ -1,3 +1,4 @@
+// Configurations of a cluster from JSON. Called by `script`.
 ghost use Rattle.std.specs.Prelude.{◌≡◌, Some, None, IfOk, IfErr};
 ghost use Rattle.serde_json.specs.View.{view};
 ghost use Rattle.json_forms.specs.Config.{config_in, number_at, splits_at, splits_in};

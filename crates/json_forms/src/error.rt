@@ -1,3 +1,5 @@
+// The errors of readers. Used by every reader here, and by `script`, `explain` and `recordctl`,
+// which pass them on.
 ghost use Rattle.std.specs.Prelude.{◌≡◌};
 ghost use Rattle.json_forms.specs.declared.error.PartError.TheVariants.{OutOfMemory};
 

@@ -1,3 +1,4 @@
+// Filters and cells as compact JSON. Called by `explain`.
 ghost use Rattle.std.specs.Prelude.{◌≡◌, ◌∷◌, [], IfOk, codes, map, string_bytes};
 ghost use Rattle.serde_json.specs.Data.{array, item, no_items, string};
 ghost use Rattle.serde_json.specs.View.{items_view, view};

@@ -1,3 +1,5 @@
+// What readers of JSON share: lists, texts, numbers, and the members of objects. Called by the
+// readers here, by `script` and by `explain`.
 ghost use Rattle.std.specs.Prelude.{◌≡◌, ◌↔◌, Some, None, IsTrue, IfOk, IfErr, map, string_bytes};
 ghost use Rattle.serde_json.specs.Find.{as_str, get};
 ghost use Rattle.serde_json.specs.View.{view, members_view};

@@ -1,3 +1,4 @@
+// Filters and queries from JSON. Called by `script` and `explain`.
 ghost use Rattle.std.specs.Prelude.{◌≡◌, Some, None, IfOk, IfErr, map, option_map};
 ghost use Rattle.serde_json.specs.Find.{as_bool};
 ghost use Rattle.serde_json.specs.View.{items_view, view};

@@ -1,3 +1,5 @@
+// The parser of texts of JSON. Called by `script` and `explain`; `recordctl` reads input up to its
+// limit.
 ghost use Rattle.std.specs.Prelude.{◌≡◌, Some, None, IfOk, IfErr};
 ghost use Rattle.serde_json.specs.View.{view};
 ghost use Rattle.json_forms.specs.Json.{value_in};

@@ -1,4 +1,4 @@
-// Cells and rows written as JSON, token by token.
+// Cells and rows written as JSON, token by token. Called by `script`.
 ghost use Rattle.std.specs.Prelude.{◌≡◌, [], All, IfOk, OnOk, string_bytes};
 ghost use Rattle.json.specs.Lex.{tokens};
 ghost use Rattle.metadata.specs.Cell.{IsCell};

@@ -1,3 +1,5 @@
+// Types, indexes and schemas from JSON. Called by `script` and `explain`; lists of names by
+// `query_json`.
 ghost use Rattle.std.specs.Prelude.{◌≡◌, Some, None, IfOk, IfErr};
 ghost use Rattle.serde_json.specs.View.{view};
 ghost use Rattle.json_forms.specs.SchemaJson.{field_in, fields_in, index_in, index_kind_in, index_keys};

@@ -1,3 +1,4 @@
+// Tuples from JSON and back. Called by `recordctl` for `pack` and `unpack`.
 ghost use Rattle.std.specs.Prelude.{◌≡◌, ◌+◌, ◌<◌, ◌≤◌, ◌^◌, ℕ, Some, None, IfOk, IfErr};
 ghost use Rattle.std.specs.Prelude.{length, slice_index, map, option_map, string_bytes};
 ghost use Rattle.serde_json.specs.Data.{depth, items_depth};

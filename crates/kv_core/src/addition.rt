@@ -1,3 +1,5 @@
+// Little-endian addition that wraps, as the mutation ADD does it. Called by `change` and `kv_map`,
+// by the storage servers of `cluster_core` and by the sums of `txn`.
 ghost use Rattle.std.specs.Prelude.{◌≡◌, ◌+◌, ◌<◌, List, ℕ, IfOk, length, slice_index};
 ghost use Rattle.std.specs.Option.{option_copied};
 ghost use Rattle.kv_core.specs.Addition.{added, bytes_of, number_of};

@@ -1,3 +1,5 @@
+// Byte strings in lexicographic order. Used by most modules here, and by every crate above that
+// reads or writes pairs.
 ghost use Rattle.std.specs.Prelude.{◌≡◌, List, ℕ, IfOk, Some, refl};
 ghost use Rattle.std.specs.Ordering.{eq_by_cmp};
 ghost use Rattle.std.specs.Cmp.{eq_by_cmp_equiv, partial_equiv_from_equiv, partial_order_from_agreeing_total};

@@ -1,3 +1,5 @@
+// Mutations, the commit request that has them, and the refusals of writes. Made by `txn` and by
+// what writes in its transactions; applied by `kv_map` and by the roles of `cluster_core`.
 ghost use Rattle.std.specs.Prelude.{◌≡◌, List, ℕ, IfOk, OnOk, OnErr, ◌++◌, ◌∷◌, [], IsTrue, ◌↔◌};
 ghost use Rattle.kv_core.specs.Map.{value_after, value_after_all};
 ghost use Rattle.kv_core.specs.declared.change.WriteError.TheVariants.{Memory};

@@ -1,3 +1,5 @@
+// Unions of ranges, as interval sets. Used by `range_index`, and by `txn` for the keys that a
+// transaction clears.
 ghost use Rattle.std.specs.Prelude.{◌≡◌, ◌||◌, [], List, ℕ, false, IsTrue, IfOk, OnOk, OnErr};
 ghost use Rattle.std.specs.BTreeMap.{IsOrdered};
 ghost use Rattle.std.specs.List.{list_any};

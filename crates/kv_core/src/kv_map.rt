@@ -1,3 +1,5 @@
+// The ordered key-value map. Used by `txn` for a transaction's own writes, and as a whole database
+// by tests and benchmarks.
 ghost use Rattle.std.specs.Prelude.{◌≡◌, List, ℕ, IfOk, OnOk, OnErr, take, reverse};
 ghost use Rattle.std.specs.Option.{option_copied};
 ghost use Rattle.std.specs.Map.{keys_of};

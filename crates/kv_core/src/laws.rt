@@ -1,3 +1,5 @@
+// Laws of ranges, maps, sums and sizes: functions that do nothing, whose clauses are theorems. They
+// are for callers' proofs; no code calls them.
 ghost use Rattle.kv_core.specs.MapLaws.{LimitsInBytes, PairsByKey, RefusalsBySize, SumsJoin, SumsWrap, ValuesByKey};
 ghost use Rattle.kv_core.specs.RangeLaws.{AddedCovers, AgreeByPairs, MeetsInAKey, PartsByKey};
 

@@ -1,3 +1,6 @@
+// Size limits. Held against mutations by `size` and `txn`, against the splits of a configuration by
+// `cluster_core`.
+
 /// The most bytes of a key, as in FoundationDB ("Known Limitations").
 pub const MAX_KEY_BYTES: usize = 10_000;
 

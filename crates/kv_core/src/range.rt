@@ -1,3 +1,5 @@
+// Half-open ranges of keys, which are read, cleared and checked for conflicts. Used by most modules
+// here and by the crates above.
 ghost use Rattle.std.specs.Prelude.{◌≡◌, IsTrue, IfOk, IfNone, IfSome, MatchBool, Some, not, false, refl};
 ghost use Rattle.std.specs.Ordering.{eq_by_cmp};
 ghost use Rattle.std.specs.Cmp.{eq_by_cmp_equiv, partial_equiv_from_equiv, partial_order_from_agreeing_total};

@@ -1,3 +1,4 @@
+// The search index beside a list of ranges. Used by `range_list`.
 ghost use Rattle.std.specs.Prelude.{◌≡◌, [], List, ℕ, IsTrue, IfOk, OnOk, OnErr, MatchBool};
 ghost use Rattle.std.specs.BTreeSet.{contains as has};
 ghost use Rattle.std.specs.List.{list_any};

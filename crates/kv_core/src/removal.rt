@@ -1,3 +1,4 @@
+// A helper of the ordered maps here. Called by `coverage` and `kv_map`.
 ghost use Rattle.std.specs.Prelude.{◌≡◌, List, ℕ, None, if◌then◌else◌};
 ghost use Rattle.std.specs.BTreeMap.{IsOrdered, get};
 ghost use Rattle.kv_core.specs.Bytes.{key_cmp, has_key};

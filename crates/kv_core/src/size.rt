@@ -1,3 +1,4 @@
+// The sizes of mutations, held against the limits. Called by `txn` before it takes a write.
 ghost use Rattle.std.specs.Prelude.{◌≡◌, ◌+◌, ◌≤◌, None, Some, IfOk, IfErr, length};
 ghost use Rattle.kv_core.specs.Limits.{pair_refusal, own_refusal, size_of, size_of_all, refusal_after};
 

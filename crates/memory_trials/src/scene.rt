@@ -1,4 +1,5 @@
-// The store that is asked, what the transaction writes before it asks, and the queries.
+// The store that is asked, what the transaction writes before it asks, and the queries. Called by
+// `main`.
 use kv_core::KvMap;
 use schedule::{Command, Step, perform};
 use script::script_of;

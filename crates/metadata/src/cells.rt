@@ -1,3 +1,5 @@
+// Cells, which are typed nullable values, with their kinds and packs. Used by most modules here and
+// by most crates above.
 ghost use Rattle.std.specs.Prelude.{◌≡◌, ◌++◌, List, All, IfOk, OnOk};
 ghost use Rattle.std.specs.List.{list_any};
 ghost use Rattle.tuple_codec.specs.Item.{AreBytes, IsTuple, nesting};

@@ -1,4 +1,4 @@
-// Which cells may be a group of an index.
+// Which cells may be a group of an index. Called by `record_store` where a total is read.
 ghost use Rattle.std.specs.Prelude.{◌≡◌};
 ghost use Rattle.metadata.specs.Group.{fits_field, fits_group, fits_places};
 

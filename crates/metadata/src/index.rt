@@ -1,3 +1,5 @@
+// Definitions of indexes, the requests that ask for them, and their states. Used by most modules
+// here, and by the crates above that keep, plan or read indexes.
 ghost use Rattle.std.specs.Prelude.{◌≡◌, IfOk};
 
 use crate::definition::{Names, Places};

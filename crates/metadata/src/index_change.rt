@@ -1,4 +1,5 @@
-// Indexes are added to a schema and dropped.
+// Indexes are added to a schema and dropped. Called by `schema` and `record_store`; `lawful` holds
+// what is read from bytes to the same limits.
 ghost use Rattle.std.specs.Prelude.{◌≡◌, ◌<◌, false, Ok, IfOk, IfErr, OnOk, OnErr};
 ghost use Rattle.std.specs.Prelude.{◌||◌, not, is_some, length, nat_le, nat_lt, map};
 ghost use Rattle.std.specs.Option.{option_copied, option_map_or};

@@ -1,4 +1,4 @@
-// The indexes that a schema's tuple tells.
+// The indexes that a schema's tuple tells. Called by `written`.
 ghost use Rattle.std.specs.Prelude.{◌≡◌, IfOk};
 ghost use Rattle.std.specs.Option.{option_map};
 ghost use Rattle.tuple_codec.specs.Elements.{item_in, items_in};

@@ -1,4 +1,5 @@
-// Whether the indexes that are read from bytes are those of a schema.
+// Whether the indexes that are read from bytes are those of a schema. Called by `written`; `group`
+// finds a type by its number here.
 ghost use Rattle.std.specs.Prelude.{◌≡◌, ◌&&◌, length, map, nat_eq, nat_lt, true};
 ghost use Rattle.std.specs.List.{list_all};
 ghost use Rattle.std.specs.Option.{option_copied, option_map_or};

@@ -1,3 +1,5 @@
+// The rules of names, and the places of fields by name. Called by `definition`, `schema`,
+// `index_change`, `lawful` and `same`.
 ghost use Rattle.std.specs.Prelude.{◌≡◌, Bool, IfOk, nat_eq};
 ghost use Rattle.std.specs.List.{list_any, list_all};
 ghost use Rattle.std.specs.Str.{bytes_eq};

@@ -1,4 +1,4 @@
-//! The order of cells.
+//! The order of cells. Called by `query`, `plan_exec` and `explain`.
 ghost use Rattle.std.specs.Prelude.{◌≡◌, ◌↔◌, ◌∷◌, ◌++◌, [], ℕ, List, Some, not, true, All};
 ghost use Rattle.std.specs.Ordering.{is_le, ordering_then};
 ghost use Rattle.tuple_codec.specs.Order.{bytes_cmp};

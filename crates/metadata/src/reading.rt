@@ -1,5 +1,6 @@
 // The types that a schema's tuple asks for. What is passed over here, as the numbers of types, is
-// compared with the schema's own written form.
+// compared with the schema's own written form. Called by `written`; parts of it by `index_reading`
+// and `same_form`.
 ghost use Rattle.std.specs.Prelude.{◌≡◌, IfOk, IfErr};
 ghost use Rattle.std.specs.Option.{option_copied, option_map};
 ghost use Rattle.tuple_codec.specs.Elements.{item_in, items_in};

@@ -1,3 +1,5 @@
+// The errors of calls on schemas and records. Used by `schema`, `index_change`, `record` and
+// `written`, and by whoever calls these.
 ghost use Rattle.std.specs.Prelude.{◌≡◌};
 ghost use Rattle.metadata.specs.declared.refusal.MetadataError.TheVariants.{Memory};
 

@@ -1,4 +1,4 @@
-// Whether two definitions of types are the same.
+// Whether two definitions of types are the same. Called by `record_store` where a record is saved.
 ghost use Rattle.std.specs.Prelude.{◌≡◌};
 ghost use Rattle.metadata.specs.Same.{all_same, equal_field, same_kind, same_type};
 

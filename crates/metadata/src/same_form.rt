@@ -1,4 +1,4 @@
-// Whether a tuple is the written form of a schema, told without writing it.
+// Whether a tuple is the written form of a schema, told without writing it. Called by `written`.
 ghost use Rattle.std.specs.Prelude.{◌≡◌, ℕ, length, map};
 ghost use Rattle.std.specs.Bool.{Decides};
 ghost use Rattle.tuple_codec.specs.Item.{Item};

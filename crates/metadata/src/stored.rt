@@ -1,4 +1,4 @@
-//! Records in the bytes that they are stored in.
+//! Records in the bytes that they are stored in. Called by `record_store` and `plan_exec`.
 ghost use Rattle.std.specs.Prelude.{◌≡◌, ℕ, List, IfOk, IfSome, MatchBool, Some};
 ghost use Rattle.std.specs.Option.{IfNone};
 ghost use Rattle.tuple_codec.specs.Spelling.{spelling};

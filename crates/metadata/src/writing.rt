@@ -1,4 +1,5 @@
-// The written form of a schema, as elements of a tuple.
+// The written form of a schema, as elements of a tuple. Called by `written`; the numbers of kinds
+// by `same_form`.
 ghost use Rattle.std.specs.Prelude.{◌≡◌, ◌<◌, map, IfOk};
 ghost use Rattle.tuple_codec.specs.Item.{nesting};
 ghost use Rattle.tuple_codec.specs.Elements.{item_in, items_in};

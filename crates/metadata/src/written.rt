@@ -1,4 +1,4 @@
-//! The one written form of a schema.
+//! The one written form of a schema. Called by `record_store` where a schema is read or written.
 ghost use Rattle.std.specs.Prelude.{◌≡◌, ℕ, List, Ok, IfOk, IfErr, IfSome, Some};
 ghost use Rattle.std.specs.Option.{option_map};
 ghost use Rattle.tuple_codec.specs.Spelling.{Spells};

@@ -1,3 +1,4 @@
+// The online build of an index. Called by `schedule` for the command `build`.
 ghost use Rattle.std.specs.Prelude.{◌≡◌, ◌≤◌, ◌∷◌, ◌++◌, [], IfErr, IfOk, IsTrue, OnOk};
 ghost use Rattle.kv_core.specs.Bytes.{next_key};
 ghost use Rattle.kv_core.specs.Map.{Map, after};

@@ -1,3 +1,5 @@
+// Laws of a build's progress: functions that do nothing, whose clauses are theorems. They are for
+// callers' proofs; no code calls them.
 ghost use Rattle.online_builder.specs.Advance.{GapsAreCounted, GapsAreCountedOnce, StepsAdvance};
 
 /// A set of positions has just one number of gaps.

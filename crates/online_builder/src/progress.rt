@@ -1,3 +1,4 @@
+// The answer of a step. Used by `builder` and `schedule`.
 use kv_core::KeyRange;
 
 /// What a step of a builder came to.

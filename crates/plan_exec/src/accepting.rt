@@ -1,4 +1,4 @@
-// Whether a store has the type of a plan and may read its indexes.
+// Whether a store has the type of a plan and may read its indexes. Called by `execution`.
 ghost use Rattle.std.specs.Prelude.{◌≡◌, IfOk, IfErr, IfNone, IfSome, map};
 ghost use Rattle.std.specs.List.{list_all, list_any, starts_with};
 ghost use Rattle.metadata.specs.Same.{equal_field, same_kind};

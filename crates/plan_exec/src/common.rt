@@ -1,4 +1,4 @@
-//! The keys that several lists have.
+//! The keys that several lists have. Called by `fetching`.
 ghost use Rattle.std.specs.Prelude.{◌≡◌, ◌+◌, ◌<◌, ◌++◌, IfOk, length, map, option_to_list};
 ghost use Rattle.planner.specs.Meaning.{common, in_key_order};
 ghost use Rattle.plan_exec.specs.Merging.{IsInKeyOrder, shared};

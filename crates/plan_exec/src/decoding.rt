@@ -1,4 +1,4 @@
-// What the pairs of records and of entries stand for.
+// What the pairs of records and of entries stand for. Called by `reading` and `entries`.
 ghost use Rattle.std.specs.Prelude.{◌≡◌, ◌++◌, IfOk, IfErr, MatchOption, Ok};
 ghost use Rattle.tuple_codec.specs.Item.{AreBytes};
 ghost use Rattle.tuple_codec.specs.Subspace.{BeginsWith};

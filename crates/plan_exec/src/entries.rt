@@ -1,4 +1,4 @@
-// What the pairs of an index's entries stand for.
+// What the pairs of an index's entries stand for. Called by `reading`.
 ghost use Rattle.std.specs.Prelude.{◌≡◌, ◌∷◌, [], IfOk, IfErr, MatchBool, Ok, bytes_eq, drop};
 ghost use Rattle.std.specs.Prelude.{if◌then◌else◌, length, not, pos, take, None, Some, ◌&&◌};
 ghost use Rattle.std.specs.List.{list_any};

@@ -1,3 +1,4 @@
+// Decoded entries of indexes. Used by `entries`, `reading` and `fetching`.
 use kv_core::Bytes;
 use metadata::{Cells, Kind};
 

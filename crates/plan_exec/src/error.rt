@@ -1,3 +1,4 @@
+// The errors of an execution. Used by most modules here, and by `schedule` and `embed`.
 ghost use Rattle.std.specs.Prelude.{◌≡◌};
 ghost use Rattle.plan_exec.specs.Errors.{no_memory, of_read};
 

@@ -1,4 +1,4 @@
-// How the steps of a plan are executed, from the last one to the first.
+// How the steps of a plan are executed, from the last one to the first. Called by `execution`.
 ghost use Rattle.std.specs.Prelude.{◌≡◌, IfOk, IfErr, filter, map};
 ghost use Rattle.query.specs.Truth.{is_true, selects};
 ghost use Rattle.query.specs.View.{filter_of};

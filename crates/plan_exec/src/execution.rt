@@ -1,4 +1,4 @@
-//! The call that executes a plan.
+//! The call that executes a plan. Called by `schedule` and `embed`.
 ghost use Rattle.std.specs.Prelude.{IfOk, IfErr};
 ghost use Rattle.plan_exec.specs.Executing.{IsExecuted, IsRefused};
 

@@ -1,4 +1,5 @@
-// How the records of a fetch are read: the entries of its scans, and then the records.
+// How the records of a fetch are read: the entries of its scans, and then the records. Called by
+// `executing`.
 ghost use Rattle.std.specs.Prelude.{◌≡◌, IfOk, IfErr, map};
 ghost use Rattle.planner.specs.Meaning.{common, in_key_order};
 ghost use Rattle.planner.specs.View.{index_scan_of, source_of};

@@ -1,3 +1,4 @@
+// The sort key of records and of primary keys. Used by `merging`.
 ghost use Rattle.std.specs.Prelude.{◌≡◌, List};
 ghost use Rattle.metadata.specs.declared.cells.Cell.{Cell as CellValue};
 ghost use Rattle.metadata.specs.Cell.{cell_at};

@@ -1,3 +1,5 @@
+// Laws of plans over the map of a store: functions that do nothing, whose clauses are theorems.
+// They are for callers' proofs; no code calls them.
 ghost use Rattle.plan_exec.specs.Laws.{PlannedAnswer, PlansAnswer, StatesAreTold, StoresAreExact, UsableAreScannable};
 
 /// The map that holds a store has exactly the records of each type of its schema, and exactly their

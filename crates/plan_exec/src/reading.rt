@@ -1,4 +1,5 @@
-// How the pairs of a range and the value of a key are read, and what they stand for.
+// How the pairs of a range and the value of a key are read, and what they stand for. Called by
+// `executing` and `fetching`.
 ghost use Rattle.std.specs.Prelude.{◌≡◌, ◌∷◌, ◌++◌, [], List, ℕ, IfOk, IfErr, IsTrue, Ok, OnErr};
 ghost use Rattle.std.specs.Prelude.{if◌then◌else◌, map, reverse};
 ghost use Rattle.std.specs.FinMap.{entries};

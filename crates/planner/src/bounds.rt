@@ -1,4 +1,4 @@
-//! The range of a scan by what a match says of its columns.
+//! The range of a scan by what a match says of its columns. Called by `nodes_of`.
 ghost use Rattle.std.specs.Prelude.{◌≡◌, ◌++◌, ◌∷◌, [], fold, map, IfOk, OnOk};
 ghost use Rattle.metadata.specs.Order.{open_pack};
 ghost use Rattle.planner.specs.Pack.{behind_all, pack, pack_cell};

@@ -1,4 +1,4 @@
-//! The conjuncts of a filter.
+//! The conjuncts of a filter. Called by `unions`.
 ghost use Rattle.std.specs.Prelude.{◌≡◌, ◌++◌, map, length, OnOk, IfOk};
 ghost use Rattle.std.specs.List.{enumerate_from};
 ghost use Rattle.query.specs.Filter.{conjuncts, conjuncts_of, filters_of};

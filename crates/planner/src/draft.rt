@@ -1,4 +1,5 @@
 //! The plan of a filter along one path, or along several indexes whose columns are all fixed.
+//! Called by `unions`.
 ghost use Rattle.std.specs.Prelude.{◌≡◌, ◌≤◌, length, ◌++◌, ◌∷◌, ◌==◌, false, not, [], map, filter, flat_map};
 ghost use Rattle.std.specs.Prelude.{if◌then◌else◌, IfOk, OnOk};
 ghost use Rattle.std.specs.List.{list_any};

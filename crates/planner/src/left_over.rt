@@ -1,4 +1,4 @@
-//! The conjuncts that no scan uses.
+//! The conjuncts that no scan uses. Called by `draft` and `serving`.
 ghost use Rattle.std.specs.Prelude.{◌≡◌, ◌++◌, ◌==◌, ◌||◌, map, IfOk, OnOk};
 ghost use Rattle.std.specs.List.{list_any};
 ghost use Rattle.planner.specs.Match.{used, others};

@@ -1,4 +1,5 @@
-//! The path of the longest match.
+//! The path of the longest match. Called by `serving`; its paths are used by `planning`, `unions`,
+//! `draft` and `nodes_of` too.
 ghost use Rattle.std.specs.Prelude.{◌≡◌, map, fold, option_map};
 ghost use Rattle.planner.specs.Match.{path_number};
 ghost use Rattle.planner.specs.Planned.{longest, longer_of};

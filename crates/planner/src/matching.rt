@@ -1,4 +1,5 @@
-//! How conjuncts match the columns of a path.
+//! How conjuncts match the columns of a path. Called by `serving`; its matches are used by most
+//! modules here.
 ghost use Rattle.std.specs.Prelude.{◌≡◌, ◌+◌, ◌∷◌, ◌++◌, [], map, option_map, IfOk, OnOk};
 ghost use Rattle.planner.specs.ByField.{IsByField};
 ghost use Rattle.planner.specs.Match.{name_at, first, said, fixing, bounding, matching, reach, is_longer};

@@ -1,4 +1,4 @@
-//! The nodes of a plan for the records along a path.
+//! The nodes of a plan for the records along a path. Called by `draft` and `serving`.
 ghost use Rattle.std.specs.Prelude.{◌≡◌, ◌++◌, map, IfOk, OnOk};
 ghost use Rattle.query.specs.View.{filter_of};
 ghost use Rattle.planner.specs.Planned.{index_scan, path_scan, residual};

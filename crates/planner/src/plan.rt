@@ -1,3 +1,5 @@
+// The plan tree. Built by `nodes_of`, `draft`, `serving` and `unions`, answered by `planner`;
+// printed by `explain`, executed by `plan_exec`, shared with clients by `schedule`.
 ghost use Rattle.std.specs.Prelude.{◌≡◌};
 ghost use Rattle.planner.specs.declared.plan.PlanError.TheVariants.{Memory};
 

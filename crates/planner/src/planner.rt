@@ -1,4 +1,4 @@
-//! The call that plans a query.
+//! The call that plans a query. Called by `plan_exec` and `explain`.
 ghost use Rattle.std.specs.Prelude.{◌≡◌, All, Some, None, IfOk, IfErr, IsTrue, IsFalse};
 ghost use Rattle.metadata.specs.Schema.{find_type};
 ghost use Rattle.query.specs.Checked.{refusal};

@@ -1,4 +1,5 @@
-//! The plan of a query.
+//! The indexes that a plan may use, and the longest match along them. Called by `planner` and
+//! `unions`.
 ghost use Rattle.std.specs.Prelude.{◌≡◌, ◌++◌, ◌==◌, ◌&&◌, false, None, Some, filter, map, option_map};
 ghost use Rattle.std.specs.Prelude.{[], ◌||◌, true, nat_lt, fold, IfOk, OnOk};
 ghost use Rattle.std.specs.Option.{option_map_or};

@@ -1,4 +1,5 @@
-//! The plan for a sort: the serving path of the longest match, and the other conjuncts.
+//! The plan for a sort: the serving path of the longest match, and the other conjuncts. Called by
+//! `unions`; the match of a path also by `draft` and `planning`.
 ghost use Rattle.std.specs.Prelude.{◌≡◌, ◌++◌, ◌∷◌, [], None, Some, filter, length, map, option_map, IfOk};
 ghost use Rattle.std.specs.Prelude.{OnOk, MatchOption};
 ghost use Rattle.planner.specs.ByField.{IsByField};

@@ -1,5 +1,5 @@
-//! The plan of a filter without a sort: a union for an `or` of two or more parts, else the plan
-//! of the longest match.
+//! The plan of a filter without a sort: a union for an `or` of two or more parts, else the plan of
+//! the longest match. Called by `planner`.
 ghost use Rattle.std.specs.Prelude.{◌≡◌, ◌++◌, length, nat_lt, [], map, option_map, IfOk, OnOk};
 ghost use Rattle.std.specs.List.{list_all, list_any};
 ghost use Rattle.query.specs.Filter.{conjuncts, conjuncts_of, filters_of, parts};

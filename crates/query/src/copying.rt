@@ -1,3 +1,4 @@
+// Copies of filters and queries. Called by `planner`, whose plans keep them.
 ghost use Rattle.std.specs.Prelude.{◌≡◌, ◌++◌, map, IfOk, OnOk};
 ghost use Rattle.query.specs.View.{filter_of, query_of};
 

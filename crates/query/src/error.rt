@@ -1,3 +1,4 @@
+// The refusals of a query's check. Used by `checking`, and by the crates above that pass them on.
 use thiserror::Error;
 
 /// Why a query is refused.

@@ -1,3 +1,4 @@
+// Predicates on one field. Called by `walk`.
 ghost use Rattle.std.specs.Prelude.{◌≡◌, unwrap_or};
 ghost use Rattle.std.specs.Option.{option_copied};
 ghost use Rattle.metadata.specs.declared.cells.Cell.TheVariants.{Null};

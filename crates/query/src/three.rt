@@ -1,3 +1,4 @@
+// The connectives of three-valued logic. Called by `walk`.
 ghost use Rattle.std.specs.Prelude.{◌≡◌};
 ghost use Rattle.query.specs.Truth.{opposite, both, either};
 

@@ -1,3 +1,4 @@
+// The query that a race ends with, and whether its index counts all. Called by `telling`.
 ghost use Rattle.std.specs.Prelude.{◌≡◌, IfOk};
 ghost use Rattle.std.specs.Option.{option_copied};
 ghost use Rattle.std.specs.Str.{bytes_eq};

@@ -1,4 +1,4 @@
-// The commands of a race's transactions, and what performs them.
+// The commands of a race's transactions, and what performs them. Called by `racing`.
 ghost use Rattle.std.specs.Prelude.{◌≡◌};
 ghost use Rattle.runtime.specs.Runs.{Continues};
 

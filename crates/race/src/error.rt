@@ -1,3 +1,4 @@
+// The errors of a race and of its threads. Used by `racing` and `telling`; `recordctl` prints them.
 ghost use Rattle.std.specs.Prelude.{◌≡◌, IfErr};
 ghost use Rattle.cluster_core.specs.declared.answers.Config.{Config};
 ghost use Rattle.race.specs.Racing.{explains_end, first_fault, rank};

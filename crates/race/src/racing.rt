@@ -1,3 +1,4 @@
+// The threads of a race, from its database to its end. Called by `recordctl`.
 ghost use Rattle.std.specs.Prelude.{◌≡◌, ◌<◌, OnOk, IfErr, IsNone};
 ghost use Rattle.race.specs.Racing.{explains_end, race_refusal};
 

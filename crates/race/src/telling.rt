@@ -1,4 +1,4 @@
-// What there is at the end of a race, in lines.
+// What there is at the end of a race, in lines. Called by `racing`.
 use crate::asking::{all_records, counts_all};
 use crate::error::Fault;
 use metadata::Cells;

@@ -1,3 +1,4 @@
+// The errors of reads. Used by `reading` and `decoding`; `record_store` passes them on.
 ghost use Rattle.std.specs.Prelude.{◌≡◌};
 ghost use Rattle.range_set.specs.Steps.{no_memory, of_read};
 

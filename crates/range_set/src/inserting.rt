@@ -1,3 +1,4 @@
+// The insertion of a range into a set. Called by `online_builder` where a range is built.
 ghost use Rattle.std.specs.Prelude.{◌≡◌, ◌⊎◌, IfErr, IfOk, IsNone, IsTrue, OnErr, OnOk, Some};
 ghost use Rattle.kv_core.specs.Limits.{write_refusal};
 ghost use Rattle.kv_core.specs.Map.{Map, after};

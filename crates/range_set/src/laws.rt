@@ -1,3 +1,5 @@
+// Laws of sets, gaps and reads: functions that do nothing, whose clauses are theorems. They are for
+// callers' proofs; no code calls them.
 ghost use Rattle.range_set.specs.Calls.{InsertMeets, ReadDecides};
 ghost use Rattle.range_set.specs.Gaps.{FirstGapIs, SameGap};
 ghost use Rattle.range_set.specs.Stored.{EmptySet, OneSet, SetsWithin};

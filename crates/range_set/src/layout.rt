@@ -1,4 +1,5 @@
-// The keys of a set of positions.
+// The keys of a set of positions. Called by `reading` and `inserting`; `upto_range` also by
+// `record_store`.
 ghost use Rattle.std.specs.Prelude.{◌≡◌, ◌∷◌, [], IfOk, IsTrue};
 ghost use Rattle.tuple_codec.specs.Item.{bytes};
 ghost use Rattle.kv_core.specs.Bytes.{end_of_keys, key_lt};

@@ -1,3 +1,5 @@
+// Membership, gaps and wholeness, read in a transaction. Called by `record_store` for what is
+// built, and by `online_builder` for what is to be.
 ghost use Rattle.std.specs.Prelude.{◌≡◌, IfErr, IfOk, IsTrue, OnOk};
 ghost use Rattle.kv_core.specs.Bytes.{end_of_keys, key_lt};
 ghost use Rattle.range_set.specs.Calls.{IsAnswered, IsRefused, IsTold, IsUntold, all_ranges, last_upto};

@@ -1,4 +1,4 @@
-// Indexes are added to a store.
+// Indexes are added to a store. Called by `schedule` for the command `index`.
 ghost use Rattle.std.specs.Prelude.{◌≡◌, ◌∷◌, Ok, Some, IfOk, IfErr, OnErr, OnOk};
 ghost use Rattle.kv_core.specs.declared.change.Mutation.TheVariants.{Set};
 ghost use Rattle.metadata.specs.Answers.{IsRefusedAs};

@@ -1,4 +1,4 @@
-// How the total of a group is read.
+// How the total of a group is read. Called by `schedule` for the command `aggregate`.
 ghost use Rattle.std.specs.Prelude.{◌≡◌, ◌==◌, ◌∷◌, [], length, true, None, Some, IfOk, IfErr, OnOk, if◌then◌else◌};
 ghost use Rattle.kv_core.specs.Addition.{number_of};
 ghost use Rattle.kv_core.specs.Range.{point};

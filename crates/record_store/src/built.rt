@@ -1,4 +1,5 @@
-// What a writer of a record reads of the built positions of write-only indexes.
+// What a writer of a record reads of the built positions of write-only indexes. Called by `save`,
+// `remove` and `following`.
 ghost use Rattle.std.specs.Prelude.{◌≡◌, ◌==◌, ◌&&◌, ◌∷◌, [], List, map, IfErr, IfOk};
 ghost use Rattle.std.specs.List.{Contains};
 ghost use Rattle.metadata.specs.Record.{key_items};

@@ -1,3 +1,5 @@
+// How a store is made. Called by `schedule` for the command `create` and by `embed`; what writes a
+// schema also by `adding`, `indexes` and `types`.
 ghost use Rattle.std.specs.Prelude.{◌≡◌, [], None, IfOk, IfErr, IsTrue, OnOk};
 ghost use Rattle.kv_core.specs.Bytes.{end_of_keys, key_lt};
 ghost use Rattle.record_store.specs.Calls.{schema_writes};

@@ -1,4 +1,5 @@
-// How the indexes of a store follow its records.
+// How the indexes of a store follow its records. Called by `save` and `remove`; the state of an
+// index also by other modules here and by `plan_exec`.
 ghost use Rattle.std.specs.Prelude.{◌≡◌, ◌==◌, ◌++◌, [], IfErr, IfOk, OnOk, find, get_or, map};
 ghost use Rattle.std.specs.Option.{option_copied};
 ghost use Rattle.record_store.specs.IndexWrites.{one_index_writes};

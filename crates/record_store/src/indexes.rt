@@ -1,4 +1,5 @@
-// The states of a store's indexes; its indexes are dropped.
+// The states of a store's indexes; its indexes are dropped. Called by `schedule` for the commands
+// `state` and `drop`, by `plan_exec`, and by `adding` and `marks`.
 ghost use Rattle.std.specs.Prelude.{◌≡◌, ◌++◌, ◌∷◌, [], ℕ, List, Ok, Err, Option, IfOk, IfErr, OnErr, OnOk};
 ghost use Rattle.kv_core.specs.Map.{Map};
 ghost use Rattle.metadata.specs.Schema.{find_index};

@@ -1,4 +1,4 @@
-// The keys and values of a store.
+// The keys and values of a store. Called by the modules here that read or write pairs.
 ghost use Rattle.std.specs.Prelude.{◌≡◌, ◌∷◌, [], All, IfOk, IsTrue, OnOk, pos};
 ghost use Rattle.tuple_codec.specs.Item.{int};
 ghost use Rattle.kv_core.specs.Bytes.{end_of_keys, key_lt};

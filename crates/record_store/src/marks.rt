@@ -1,4 +1,5 @@
-// Indexes are marked with other states.
+// Indexes are marked with other states. Called by `schedule` for the commands `disable`,
+// `write_only` and `readable`; `online_builder` finds its index here.
 ghost use Rattle.std.specs.Prelude.{◌≡◌, ℕ, Err, IfErr, IfOk, Ok, OnErr, OnOk};
 ghost use Rattle.kv_core.specs.Map.{Map};
 ghost use Rattle.metadata.specs.Schema.{find_index};

@@ -1,3 +1,5 @@
+// How a store is opened. Called by `schedule` for every command but `create`, and by `embed`; what
+// an opening reads, `create` reads too.
 ghost use Rattle.std.specs.Prelude.{◌≡◌, ◌∷◌, [], IfOk, IfErr, IsTrue};
 ghost use Rattle.std.specs.FinMap.{get as value_at};
 ghost use Rattle.kv_core.specs.Bytes.{end_of_keys, key_lt};

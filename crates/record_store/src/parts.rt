@@ -1,4 +1,4 @@
-// How the first records of a type at positions of a range are read.
+// How the first records of a type at positions of a range are read. Called by `online_builder`.
 ghost use Rattle.std.specs.Prelude.{◌≡◌, ◌≤◌, Some, IfErr, IfOk};
 ghost use Rattle.std.specs.List.{Contains};
 ghost use Rattle.std.specs.Option.{option_copied};

@@ -1,4 +1,4 @@
-// How the record of a primary key is read.
+// How the record of a primary key is read. Called by `load`, `save` and `remove`.
 ghost use Rattle.std.specs.Prelude.{◌≡◌, ◌∷◌, [], Some, IfOk, IfErr};
 ghost use Rattle.std.specs.FinMap.{get as value_at};
 ghost use Rattle.tuple_codec.specs.Spelling.{spelling};

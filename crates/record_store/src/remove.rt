@@ -1,3 +1,4 @@
+// How a record is removed. Called by `schedule` for the command `remove`.
 ghost use Rattle.std.specs.Prelude.{◌≡◌, ◌∷◌, [], None, Some, IfOk, IfErr, map};
 ghost use Rattle.kv_core.specs.Range.{point};
 ghost use Rattle.kv_core.specs.declared.change.Mutation.TheVariants.{ClearRange};

@@ -1,3 +1,5 @@
+// The scan of a type's records. No command asks for it: tests call it. Its decoding is used by
+// `adding` and `parts`, its list of records by `plan_exec` and `schedule`.
 ghost use Rattle.std.specs.Prelude.{◌≡◌, ◌++◌, IfOk, IfErr, MatchOption};
 ghost use Rattle.tuple_codec.specs.Subspace.{BeginsWith};
 ghost use Rattle.record_store.specs.Call.{IsAnswered, IsRefused};

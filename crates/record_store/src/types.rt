@@ -1,3 +1,4 @@
+// Types are added to a store. Called by `schedule` for the command `type`.
 ghost use Rattle.std.specs.Prelude.{◌≡◌, ℕ, Ok, Option, IfOk, IfErr, OnErr, OnOk};
 ghost use Rattle.kv_core.specs.Map.{Map};
 ghost use Rattle.metadata.specs.Answers.{IsRefusedAs};

@@ -1,3 +1,4 @@
+// The faults of all commands of the program. Used by every module here.
 ghost use Rattle.std.specs.Prelude.{◌≡◌};
 ghost use Rattle.recordctl.specs.declared.fault.Fault.TheVariants.{OutOfMemory};
 

@@ -1,3 +1,4 @@
+// The text of a file or of standard input. Called by `run`, `plans` and `racing`.
 ghost use Rattle.std.specs.Prelude.{◌≡◌, ◌⊎◌, take, IfOk, IfErr, IfSome};
 
 use crate::fault::Fault;

@@ -1,3 +1,4 @@
+// What ends a command that prints one text. Called by `plans`, `racing` and `tuples`.
 ghost use Rattle.std.specs.Prelude.{◌≡◌, ◌≤◌, OnOk, MatchResult, string_bytes};
 ghost use Rattle.std.specs.Io.KnownBytes.{Appends};
 ghost use Rattle.std.specs.Process.{exit_status};

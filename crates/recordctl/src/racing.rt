@@ -1,3 +1,4 @@
+// The command `race`. Called by `main`.
 ghost use Rattle.std.specs.Prelude.{◌≡◌, ◌≤◌, ◌⊎◌, OnOk, IfErr, IfSome};
 ghost use Rattle.std.specs.Process.{exit_status};
 ghost use Rattle.recordctl.specs.Racing.{IsRaced, explains_raced};

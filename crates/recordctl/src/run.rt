@@ -1,3 +1,5 @@
+// The command `run`. Called by `main`; what prints a fault also by `printing`, and the fault of a
+// configuration by `racing`.
 ghost use Rattle.std.specs.Prelude.{◌≡◌, ◌≢◌, ◌≤◌, ◌⊎◌, IfOk, IfErr, IfSome};
 ghost use Rattle.std.specs.Process.{exit_status};
 ghost use Rattle.recordctl.specs.Run.{IsRun, IsTranscriptOf, explains_run};

@@ -1,3 +1,4 @@
+// The commands `pack` and `unpack`. Called by `main`.
 ghost use Rattle.std.specs.Prelude.{◌≡◌, ◌≤◌, List, ℕ, Some, Ok, IfOk, IfErr};
 ghost use Rattle.std.specs.Prelude.{MatchOption, string_bytes};
 ghost use Rattle.std.specs.Io.KnownBytes.{Appends};

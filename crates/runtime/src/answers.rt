@@ -1,3 +1,5 @@
+// The answers and errors of the running database's calls. Used by `db`, `client`, `transactions`,
+// `running` and `building`, and by whoever calls these.
 ghost use Rattle.std.specs.Prelude.{◌≡◌};
 ghost use Rattle.runtime.specs.declared.answers.OpenError.TheVariants.{Memory as OpenMemory};
 ghost use Rattle.runtime.specs.Errors.{config_error, no_memory};

@@ -1,3 +1,4 @@
+// Publication to readers, by `left_right`. Used by `hold`.
 ghost use Rattle.std.specs.Prelude.{◌≡◌, ◌^◌, ◌<◌, [], ◌∷◌, ◌++◌, ◌⊎◌, Some, IfOk, IfErr, MatchResult};
 ghost use Rattle.cluster_core.specs.Configuration.{config_refusal};
 ghost use Rattle.left_right.specs.Sides.{view};

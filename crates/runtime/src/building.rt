@@ -1,3 +1,4 @@
+// The worker that builds an index beside other clients. Called by `race`.
 ghost use Rattle.std.specs.Prelude.{◌≡◌, ◌+◌, ◌<◌, ◌⊎◌, [], Some, Ok, true, IfOk, IfSome, MatchOption};
 ghost use Rattle.kv_core.specs.Range.{KeyRange};
 ghost use Rattle.runtime.specs.Builds.{Adds, Commits, HasWorked, IsBuilt, IsTurn};

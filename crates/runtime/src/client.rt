@@ -1,3 +1,5 @@
+// Clients, each with a reader of its own. Made by `db` for whoever opens a database; used by
+// `transactions`, `running` and `building`.
 ghost use Rattle.std.specs.Prelude.{◌≡◌, ℕ, ◌++◌, ◌∷◌, [], Some, None, IfOk, IfErr, IfSome, OnOk, OnErr, Ok};
 ghost use Rattle.std.specs.Prelude.{false, Err, ◌<◌, ◌^◌};
 ghost use Rattle.std.specs.Arc.{arc_value};

@@ -1,3 +1,4 @@
+// Reads of the published state, without locks. Called by `client`.
 ghost use Rattle.std.specs.Prelude.{◌≡◌, ◌++◌, ◌∷◌, [], IfSome, IfOk, IfErr, MatchResult};
 ghost use Rattle.left_right.specs.Sides.{view as knowledge};
 ghost use Rattle.runtime.specs.Lists.{IsOpenOver, version_of};

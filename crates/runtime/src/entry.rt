@@ -1,3 +1,4 @@
+// Entries of the history, as contracts see them. Used by `front`, `hold`, `flight` and `published`.
 ghost use Rattle.std.specs.Prelude.{◌≡◌};
 ghost use base.Fml.{ftrue};
 ghost use Rattle.std.specs.Coded.{codes};

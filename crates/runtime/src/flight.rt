@@ -1,3 +1,5 @@
+// How far the last submission has come, and what is reported of it. Used by `hold`, `turn` and
+// `client`.
 use crate::entry::Note;
 use crate::published::Step;
 use cluster_core::Reported;

@@ -1,3 +1,5 @@
+// The configuration that goes with a history, as a log of `logbook` that never changes. Used by
+// `front`.
 ghost use Rattle.std.specs.Prelude.{◌≡◌};
 
 use cluster_core::Config;

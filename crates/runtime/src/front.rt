@@ -1,3 +1,5 @@
+// The history of a database, and tokens of what was seen of it, by `logbook`. Used by most modules
+// here.
 ghost use Rattle.std.specs.Prelude.{◌≡◌, ◌↔◌, IsTrue, ◌-◌, ◌<◌, ◌≤◌, ◌^◌, ◌++◌, ◌∷◌, [], true, length};
 ghost use Rattle.std.specs.Prelude.{MatchBool};
 ghost use Rattle.std.specs.Bool.{OnTrue, OnFalse};

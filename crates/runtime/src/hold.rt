@@ -1,3 +1,4 @@
+// The commit side, behind the lock: one request at a time. Made by `db`, used by `turn`.
 ghost use Rattle.std.specs.Prelude.{◌≡◌, if◌then◌else◌, ◌+◌, ◌-◌, ◌^◌, ◌<◌, true, [], ◌∷◌, ◌++◌, length, slice_index};
 ghost use Rattle.std.specs.Prelude.{IfOk, IfErr, IsNone, MatchResult, OnOk, Some, Err, ◌⊎◌};
 ghost use Rattle.std.specs.Bool.{OnTrue};

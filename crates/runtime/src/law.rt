@@ -1,3 +1,5 @@
+// The invariant of the published state under `left_right`, and the types of its reader and writer.
+// Used by `board`, `hold`, `db`, `client` and `entering`.
 use crate::front::Front;
 use crate::published::{Published, Step, View};
 use atomic_table::{Join, Split};

@@ -1,3 +1,5 @@
+// The published state, and the operations on it. Used by `law`, `board`, `hold`, `flight` and
+// `entering`.
 ghost use Rattle.std.specs.Prelude.{◌≡◌, ◌⊎◌, [], Some, IfOk, IfErr};
 ghost use Rattle.cluster_core.specs.Configuration.{config_refusal};
 ghost use Rattle.runtime.specs.State.{IsFold};

@@ -1,3 +1,4 @@
+// Transactions that are tried again. Called by `race` and `embed_threads`.
 ghost use Rattle.std.specs.Prelude.{◌≡◌, IfOk, IfErr};
 ghost use Rattle.runtime.specs.Runs.{Continues, FailsSo, Follows, IsRun, TriesAndEnds, ended_by, failure_by};
 

@@ -1,3 +1,5 @@
+// The commands of a transaction, for contracts. Used by `work`, `entering`, `entry`, `hold` and
+// `turn`.
 ghost use Rattle.std.specs.Prelude.{◌≡◌, List, [], ◌∷◌, ◌++◌};
 ghost use base.Fml.{ftrue};
 ghost use Rattle.std.specs.Coded.{codes};

@@ -1,3 +1,5 @@
+// Open transactions, with a call for each command. Used by `running`, and by `race`,
+// `embed_threads` and `bench`.
 ghost use Rattle.std.specs.Prelude.{◌≡◌, ◌++◌, ◌∷◌, [], Some, false, Ok, IfOk, IfErr};
 ghost use Rattle.std.specs.Borrow.{sem, RestsIfErr};
 ghost use mathlib.Core.List.{IsPrefix};

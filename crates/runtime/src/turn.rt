@@ -1,3 +1,4 @@
+// One turn at the lock. Called by `client`. Also what closes a database, which `db` is given.
 ghost use Rattle.std.specs.Prelude.{◌≡◌, []};
 ghost use Rattle.runtime.specs.Lists.{IsOpenOver};
 ghost use Rattle.runtime.specs.Tells.{Tells, IsOf};

@@ -1,3 +1,4 @@
+// The lock, over a slot of `atomic_table`. Used by `db`, `client` and `turn`.
 ghost use Rattle.std.specs.Prelude.{◌≡◌, [], ◌∷◌, IfOk, None, MatchOption};
 
 use atomic_table::{Play, Seat, Split, Table, TableRule};

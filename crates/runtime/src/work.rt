@@ -1,3 +1,4 @@
+// The state of an open transaction. Used by `client`.
 ghost use Rattle.std.specs.Prelude.{◌≡◌, []};
 ghost use Rattle.runtime.specs.Lists.{IsOpenOver, version_of};
 

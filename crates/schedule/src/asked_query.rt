@@ -1,3 +1,5 @@
+// Shared queries, as commands have them. Used by `step`, `planning` and `executing`, by `runtime`,
+// and by `script` and `race`, which make them.
 ghost use Rattle.std.specs.Prelude.{◌≡◌, IfOk};
 ghost use Rattle.query.specs.View.{query_of};
 

@@ -1,4 +1,4 @@
-// The command that has a builder build a part of an index.
+// The command that has a builder build a part of an index. Called by `performing`.
 ghost use Rattle.std.specs.Prelude.{◌≡◌, IfOk, IfErr};
 ghost use Rattle.schedule.specs.declared.step.Command.{Command};
 ghost use Rattle.schedule.specs.Calls.{IsRefused};

@@ -1,3 +1,5 @@
+// The steps of clients: a transaction is begun, given commands, committed or abandoned. Called by
+// `running`.
 ghost use Rattle.std.specs.Prelude.{◌≡◌, ◌≤◌, IfOk};
 ghost use Rattle.schedule.specs.Past.{Past, is_accepted};
 ghost use Rattle.schedule.specs.Running.{IsPerformedBy, IsStepped, IsSteppedWith, IsSubmit, IsUnplanned, Stands};

@@ -1,3 +1,5 @@
+// The commands on types and records, and the opening of the store. Called by `performing`; the
+// opening also by the modules of the other commands.
 ghost use Rattle.std.specs.Prelude.{◌≡◌, Ok, IfOk, IfErr};
 ghost use Rattle.metadata.specs.Answers.{IsRefusedAs};
 ghost use Rattle.metadata.specs.Record.{record_of};

@@ -1,3 +1,5 @@
+// The state of a schedule: its cluster, and the transactions of its clients. Used by `starting`,
+// `running`, `clients`, `roles`, `settle` and `reporting`.
 ghost use Rattle.std.specs.Prelude.{◌≡◌, vec_len};
 ghost use Rattle.schedule.specs.declared.step.TheConstants.{CLIENTS};
 

@@ -1,4 +1,4 @@
-//! The commands that execute plans: that of a query, and one that is given.
+//! The commands that execute plans: that of a query, and one that is given. Called by `performing`.
 ghost use Rattle.std.specs.Prelude.{◌≡◌, IfOk, IfErr, map};
 ghost use Rattle.schedule.specs.declared.step.Command.{Command};
 ghost use Rattle.schedule.specs.Calls.{IsRefused};

@@ -1,4 +1,4 @@
-// The commands on indexes.
+// The commands on indexes. Called by `performing`.
 ghost use Rattle.std.specs.Prelude.{IfOk, IfErr};
 ghost use Rattle.schedule.specs.declared.step.Command.{Command};
 ghost use Rattle.schedule.specs.Calls.{IsRefused};

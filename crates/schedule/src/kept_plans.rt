@@ -1,4 +1,4 @@
-//! The plans that clients keep.
+//! The plans that clients keep. Used by `running` and `clients`.
 ghost use Rattle.std.specs.Prelude.{◌≡◌, ◌<◌, ◌≤◌, ◌∷◌, [], IfOk, IfSome, OnOk, None, Some, get_or, option_map};
 ghost use Rattle.std.specs.Prelude.{slice_set, vec_len};
 ghost use Rattle.schedule.specs.Past.{Past};

@@ -1,3 +1,4 @@
+// The dispatch of commands. Called by `clients` and, for transactions on threads, by `runtime`.
 ghost use Rattle.std.specs.Prelude.{◌≡◌, None, Some, IfOk, IfErr, OnErr};
 ghost use Rattle.schedule.specs.Performed.{IsPerformed, IsStopped};
 ghost use Rattle.schedule.specs.Calls.{IsRefused, read_reply, reply_of, write_reply};

@@ -1,4 +1,4 @@
-//! The command that plans a query.
+//! The command that plans a query. Called by `performing`.
 ghost use Rattle.std.specs.Prelude.{IfOk, IfErr};
 ghost use Rattle.record_store.specs.Calls.{index_states};
 ghost use Rattle.schedule.specs.declared.step.Command.{Command};

@@ -1,3 +1,5 @@
+// The refusals of steps and commands. Used by the modules here that reply, and by `runtime`, `race`
+// and `recordctl`; `script` prints their names.
 ghost use Rattle.std.specs.Prelude.{◌≡◌};
 ghost use Rattle.schedule.specs.Refusals.{name_of, of_query, of_schema};
 

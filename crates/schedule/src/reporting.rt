@@ -1,3 +1,4 @@
+// The steps that report a version, to its client or to nobody. Called by `running` and `settle`.
 ghost use Rattle.std.specs.Prelude.{◌≡◌, ◌++◌, ◌∷◌, [], IfOk, OnOk, if◌then◌else◌};
 ghost use Rattle.schedule.specs.Contract.{report_to, reports_reply};
 ghost use Rattle.schedule.specs.Running.{IsReported, IsStepped, IsTelling, entry_of};

@@ -1,3 +1,4 @@
+// The steps of single roles: of a resolver, a log or a storage server. Called by `running`.
 ghost use Rattle.std.specs.Prelude.{◌≡◌, IfOk};
 ghost use Rattle.schedule.specs.Running.{IsStepped, work_reply};
 

@@ -1,3 +1,4 @@
+// The loop over the steps of a schedule. Called by `run_schedule` in `lib`.
 ghost use Rattle.std.specs.Prelude.{◌≡◌, ◌⊎◌, Some, IfOk, IfErr, OnOk, IsNone};
 ghost use Rattle.cluster_core.specs.Configuration.{config_refusal};
 ghost use Rattle.cluster_core.specs.declared.answers.Config.{Config as Configuration};

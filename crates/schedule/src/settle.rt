@@ -1,3 +1,4 @@
+// The step that has all roles catch up. Called by `running`.
 ghost use Rattle.std.specs.Prelude.{◌≡◌, IfOk, length};
 ghost use Rattle.cluster_core.specs.Cluster.{may_pull};
 ghost use Rattle.schedule.specs.Past.{Past};

@@ -1,3 +1,5 @@
+// Shared plans. Used by `planning`, `reply`, `step`, `kept_plans` and `executing`, by `runtime`,
+// and by `script`, which prints them.
 ghost use Rattle.std.specs.Prelude.{◌≡◌, IfOk};
 
 use planner::Plan;

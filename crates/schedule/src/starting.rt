@@ -1,3 +1,5 @@
+// The start of a schedule, and facts on clusters for the proofs here. Called by `running`, `lib`,
+// `kept_plans`, `clients`, `roles` and `settle`.
 ghost use Rattle.std.specs.Prelude.{◌≡◌, ◌⊎◌, None, Some, IfOk, IfErr, OnOk, IsNone, replicate};
 ghost use Rattle.cluster_core.specs.Configuration.{config_refusal};
 ghost use Rattle.cluster_core.specs.History.{IsLegal};

@@ -1,3 +1,5 @@
+// The result of a schedule. Made by `run_schedule` in `lib`, with the commits that `clients` and
+// `reporting` list; read by `recordctl`.
 ghost use Rattle.std.specs.Prelude.{◌≡◌};
 
 use crate::reply::Reply;

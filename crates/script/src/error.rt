@@ -1,3 +1,5 @@
+// The errors of a script or a race that is read. Used by `script` and `race`; `recordctl` prints
+// them.
 ghost use Rattle.std.specs.Prelude.{◌≡◌};
 ghost use Rattle.script.specs.declared.error.ScriptError.TheVariants.{OutOfMemory};
 

@@ -1,3 +1,5 @@
+// The lines that replies are printed as. Called by `recordctl` for a script, and by the crate
+// `race`.
 use explain::explain;
 use json_forms::{cells_text, rows_text};
 use kv_core::{Bytes, KeyRange};

@@ -1,3 +1,4 @@
+// Races from JSON. Called by `recordctl`; the crate `race` runs them.
 ghost use Rattle.std.specs.Prelude.{◌≡◌, ◌<◌, Some, None, IfOk, IfErr};
 ghost use Rattle.serde_json.specs.View.{view};
 ghost use Rattle.json_forms.specs.CellJson.{rows_in};

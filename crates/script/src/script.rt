@@ -1,3 +1,4 @@
+// Scripts from JSON. Called by `recordctl`; the configuration also by `race`.
 ghost use Rattle.std.specs.Prelude.{◌≡◌, ◌<◌, ◌≤◌, Some, None, Err, length, map, IsUtf8, IfOk, IfErr};
 ghost use Rattle.serde_json.specs.View.{view};
 ghost use Rattle.json_forms.specs.Json.{each_in};

@@ -1,3 +1,4 @@
+// Steps and commands from JSON. Called by `script`; a builder's limit also by `race`.
 ghost use Rattle.std.specs.Prelude.{◌≡◌, Some, None, IfOk, IfErr, map};
 ghost use Rattle.serde_json.specs.View.{view};
 ghost use Rattle.json_forms.specs.QueryJson.{query_in};

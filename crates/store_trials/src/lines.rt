@@ -1,4 +1,4 @@
-// The lines of replies that no short script gets.
+// The lines of replies that no short script gets. Run as a test.
 use metadata::State;
 use schedule::{Refusal, Reply, Report, Reports};
 use script::make_line;

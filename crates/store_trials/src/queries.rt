@@ -1,4 +1,4 @@
-// Queries each of whose reads is refused in turn, in a transaction that has written.
+// Queries each of whose reads is refused in turn, in a transaction that has written. Run as a test.
 use crate::scene::command_of;
 use kv_core::KvMap;
 use schedule::perform;

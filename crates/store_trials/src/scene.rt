@@ -1,4 +1,5 @@
-// A map and a transaction over it, in which commands are performed and a store is used.
+// A map and a transaction over it, in which commands are performed and a store is used. Called by
+// `stores` and `queries`.
 use json_forms::rows_text;
 use kv_core::{Bytes, CommitRequest, WriteError};
 use metadata::Record;

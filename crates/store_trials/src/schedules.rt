@@ -1,4 +1,4 @@
-// Schedules run: what stands in the cluster afterwards, and what is committed.
+// Schedules run: what stands in the cluster afterwards, and what is committed. Run as tests.
 use cluster_core::Cluster;
 use schedule::{Transcript, run_schedule};
 use script::script_of;

@@ -1,4 +1,5 @@
-// Calls on stores, over pairs put there by hand, and commands performed there; what is told of bytes that no store has.
+// Calls on stores, over pairs put there by hand, and commands performed there; what is told of
+// bytes that no store has. Run as a test.
 use crate::scene::Step::{At, Counts, Create, New, Pair, Perform, Records, Save, Set, Written};
 use crate::scene::{REQUEST, Row, begun, take};
 use std::test::Fail;

@@ -1,4 +1,4 @@
-// The texts of errors.
+// The texts of errors. Run as a test.
 use cluster_core::{ConfigError, ReadError, Reported, SubmitError};
 use explain::ExplainError;
 use kv_core::{Bytes, WriteError};

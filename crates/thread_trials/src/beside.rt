@@ -1,4 +1,4 @@
-// A transaction on one thread beside a commit on another.
+// A transaction on one thread beside a commit on another. Run as tests.
 use crate::transactions::{alone, over, two_clients};
 use runtime::{Built, Client, End, Gate, Place, begin, build_worker};
 use std::alloc::Global;

@@ -1,4 +1,4 @@
-// Clients that take turns on one thread.
+// Clients that take turns on one thread. Run as tests.
 ghost use Rattle.std.specs.Prelude.{◌≡◌, IfSome};
 ghost use Rattle.thread_trials.specs.Turns.{AreOf};
 

@@ -1,4 +1,5 @@
-// Transactions written as scripts, and what is told of them in lines.
+// Transactions written as scripts, and what is told of them in lines. Called by `beside` and
+// `in_turn`.
 ghost use Rattle.std.specs.Prelude.{◌≡◌, IfSome, Ok, Some};
 ghost use Rattle.runtime.specs.Runs.{Continues};
 

@@ -1,4 +1,4 @@
-// Cells and schemas of texts of JSON.
+// Cells and schemas of texts of JSON. Called by `trials` and `store_trials`.
 use json_forms::{cells_of, schema_of};
 use metadata::{Cells, Schema, SchemaRequest};
 use serde_json::Value;

@@ -1,6 +1,6 @@
-// Ranges, pairs, mutations and requests of words, and how answers are compared. A range is `61-63`, or a key alone; a
-// mutation is `61=01`, `61+01` or the range that it clears. None of these functions promises anything: so a test that
-// calls many is proved over little.
+// Ranges, pairs, mutations and requests of words, and comparisons, for `trials`, `store_trials` and
+// `memory_trials`. A range is `61-63`, or a key; a mutation is `61=01`, `61+01` or the range that
+// it clears. Nothing is promised here: so a test that calls many functions is proved over little.
 use crate::words::{bytes_of, digits_of};
 use cluster_core::Reported;
 use kv_core::{CommitRequest, KeyRange, Mutation, Mutations, Pair, RangeList};

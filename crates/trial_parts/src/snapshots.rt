@@ -1,4 +1,5 @@
-// Snapshots of one map: one that counts its reads, and one that refuses one of them.
+// Snapshots of one map: one that counts its reads, and one that refuses one of them. Used by
+// `trials`, `store_trials` and `memory_trials`.
 ghost use Rattle.std.specs.Prelude.{◌≡◌};
 ghost use Rattle.std.proofs.Common.{inl};
 ghost use Rattle.cluster_core.specs.declared.answers.ReadError.TheVariants.{TooOld};

@@ -1,4 +1,5 @@
-// Bytes and texts, of the words that tables are written in and back.
+// Bytes and texts, of the words that tables are written in and back. Called by `parts`, `trials`
+// and `store_trials`.
 use kv_core::Bytes;
 use std::alloc::{AllocError, Global};
 use std::test::Fail;

@@ -1,4 +1,4 @@
-// Cells, their order and their copies, and copies of states.
+// Cells, their order and their copies, and copies of states. Run as tests.
 use metadata::{Cell, Cells, Kind, Places, State, States};
 use std::alloc::Global;
 use std::test::Fail;

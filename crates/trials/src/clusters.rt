@@ -1,4 +1,4 @@
-// Steps of the whole cluster and of its roles.
+// Steps of the whole cluster and of its roles. Run as a test.
 use crate::configs::{config_of, logs_and_window};
 use cluster_core::{Cluster, Work};
 use std::alloc::Global;

@@ -1,4 +1,5 @@
-// Commits by a pipeline, from the submission to the report, and what follows attempts.
+// Commits by a pipeline, from the submission to the report, and what follows attempts. Run as
+// tests.
 ghost use Rattle.cluster_core.specs.Roles.{is_caught_up};
 
 use crate::configs::{config_of, logs_and_window};

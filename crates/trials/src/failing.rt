@@ -1,4 +1,4 @@
-// Reads of a snapshot that refuses one of them, whatever was read before.
+// Reads of a snapshot that refuses one of them, whatever was read before. Run as a test.
 use kv_core::KvMap;
 use std::alloc::Global;
 use std::test::Fail;

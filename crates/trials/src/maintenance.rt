@@ -1,4 +1,4 @@
-// What keeping an index writes.
+// What keeping an index writes. Run as a test.
 use index_maint::{Maintainer, ValueIndex};
 use kv_core::Mutation;
 use metadata::{IndexDefinition, Record, Schema};

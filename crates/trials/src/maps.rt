@@ -1,4 +1,4 @@
-// Maps, mutations, their sums and their sizes.
+// Maps, mutations, their sums and their sizes. Run as a test; `transactions` compares values by it.
 use kv_core::{
     Bytes, KeyRange, KvMap, MAX_TRANSACTION_BYTES, Mutation, Mutations, add_le, total_size,
 };

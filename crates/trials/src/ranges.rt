@@ -1,4 +1,4 @@
-// Byte strings, ranges of keys, lists of ranges and what ranges cover.
+// Byte strings, ranges of keys, lists of ranges and what ranges cover. Run as a test.
 use kv_core::{Coverage, KeyRange, RangeList};
 use std::alloc::Global;
 use std::test::Fail;

@@ -1,4 +1,4 @@
-// Records read from bytes.
+// Records read from bytes. Run as a test.
 use metadata::{Record, Schema, TypeDefinition};
 use std::alloc::{AllocError, Global};
 use std::test::Fail;

@@ -1,4 +1,4 @@
-// Bytes that are nearly those of a schema.
+// Bytes that are nearly those of a schema. Run as a test.
 use metadata::{MetadataError, Refusal, Schema};
 use std::alloc::{AllocError, Global};
 use std::test::Fail;

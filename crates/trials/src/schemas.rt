@@ -1,4 +1,4 @@
-// Schemas as a caller makes, changes, asks, writes and reads them.
+// Schemas as a caller makes, changes, asks, writes and reads them. Run as a test.
 use json_forms::{index_of, type_of};
 use metadata::{IndexKind, IndexRequest, MetadataError, Schema};
 use serde_json::Value as Json;

@@ -1,4 +1,4 @@
-// Steps of transactions over one map.
+// Steps of transactions over one map. Run as a test.
 use crate::maps::has_value;
 use kv_core::{Bytes, KeyRange, KvMap, Mutation, Pair};
 use std::alloc::Global;

@@ -1,4 +1,4 @@
-// The order of tuples, keys under a prefix, and copies of texts and byte strings.
+// The order of tuples, keys under a prefix, and copies of texts and byte strings. Run as a test.
 use std::alloc::Global;
 use std::test::Fail;
 use trial_parts::{bytes_of, digits_of, same, tells, text_of};

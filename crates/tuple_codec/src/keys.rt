@@ -1,4 +1,5 @@
-// Keys under a prefix.
+// Keys under a prefix. Called by `record_store` and `range_set`; `strinc` by `planner` and
+// `explain`.
 ghost use Rattle.std.specs.Prelude.{◌≡◌, ◌↔◌, ◌++◌, ◌<◌, ◌^◌, ◌∷◌, List, ℕ, ℤ, [], All, IfOk, IfErr};
 ghost use Rattle.std.specs.Prelude.{Err, None, Some, option_map, true, MatchBool, MatchOption};
 ghost use Rattle.tuple_codec.specs.Item.{Item, int, magnitude, IsTuple, AreBytes};

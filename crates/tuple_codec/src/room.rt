@@ -1,4 +1,4 @@
-// How much room a pack wants.
+// How much room a pack wants. Called by `write`.
 use crate::{Element, Tuple};
 
 // The bytes of an element's pack, were nothing in it escaped, and a few more.

@@ -1,3 +1,4 @@
+// Stored pairs merged with own writes, for read-your-writes. Called by `read` and `transaction`.
 ghost use Rattle.std.specs.Prelude.{◌≡◌, ◌≤◌, ℕ, List, Option, IfOk, not};
 ghost use Rattle.std.specs.FinMap.{from_entries};
 ghost use Rattle.std.specs.List.{filter};

@@ -1,3 +1,5 @@
+// The write set of a transaction in key order, for read-your-writes. Used by `transaction`, `read`
+// and `merge`.
 ghost use Rattle.std.specs.Prelude.{◌≡◌, ℕ, List, Option, IfOk, OnOk, false};
 ghost use Rattle.kv_core.specs.Map.{value_after, value_after_all};
 ghost use Rattle.txn.specs.Reads.{Follow, IsNoted};

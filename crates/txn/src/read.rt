@@ -1,3 +1,5 @@
+// Range reads of a transaction, in rounds, and the ranges that they keep as read. Called by
+// `transaction`.
 ghost use Rattle.std.specs.Prelude.{◌≡◌, ◌⊎◌, ◌≤◌, ℕ, List, None, Some, IsTrue, IfOk};
 ghost use Rattle.std.specs.Prelude.{IfErr, OnOk, if◌then◌else◌, length, nat_lt, ◌&&◌};
 ghost use Rattle.kv_core.specs.Map.{Map};

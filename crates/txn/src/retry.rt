@@ -1,3 +1,5 @@
+// The decision of a retry loop. Called by `runtime` and `embed`; `race` and `embed_threads` set its
+// limits.
 ghost use Rattle.std.specs.Prelude.{◌≡◌, ◌<◌, ◌↔◌};
 ghost use Rattle.txn.specs.Attempts.{HasSucceeded, MayFollow, again_below, next_after};
 

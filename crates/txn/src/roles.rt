@@ -1,3 +1,5 @@
+// The steps by which the roles handle a request, for a pipeline and for a cluster. Called by
+// `commit`.
 ghost use Rattle.std.specs.Prelude.{◌≡◌, ◌⊎◌, ℕ, ◌+◌, ◌<◌, ◌≤◌, All, Some, if◌then◌else◌};
 ghost use Rattle.std.specs.Prelude.{IfOk, IfErr, IsNone, OnOk, OnErr, length};
 ghost use Rattle.cluster_core.specs.Cluster.{ClusterState, Did, with_pipeline};

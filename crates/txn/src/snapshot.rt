@@ -1,3 +1,5 @@
+// Snapshots: the trait of what a transaction reads from, met by storage servers and clusters.
+// Called by `read` and `transaction`; each call above that reads in a transaction is given one.
 ghost use Rattle.std.specs.Prelude.{◌≡◌, ◌⊎◌, ℕ, ◌≤◌, IfOk, IfErr, OnOk};
 ghost use Rattle.kv_core.specs.Map.{Map};
 ghost use Rattle.kv_core.specs.Range.{KeyRange as Range};

@@ -1,3 +1,4 @@
+// Pending additions to the value at a key, for read-your-writes. Used by `own` and `merge`.
 ghost use Rattle.std.specs.Prelude.{◌≡◌, ℕ, List, [], ◌∷◌, Option, Some, IfOk};
 ghost use Rattle.std.specs.Option.{option_copied};
 ghost use Rattle.kv_core.specs.Addition.{added};

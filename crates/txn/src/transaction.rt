@@ -1,3 +1,5 @@
+// Transactions with optimistic concurrency control. Used by `range_set`, `record_store`,
+// `online_builder`, `plan_exec`, `schedule`, `runtime` and `embed`.
 ghost use Rattle.std.specs.Prelude.{◌≡◌, ◌⊎◌, ℕ, ◌≤◌, [], ◌∷◌, List, IfOk, IfErr};
 ghost use Rattle.std.specs.Prelude.{OnOk, OnErr, IsTrue, IsNone, Some, vec_len};
 ghost use Rattle.std.specs.FinMap.{get as value_at};
