@@ -52,8 +52,8 @@ def rests_on(root, crates, name):
     any of these texts leads to. A function is proved from the contracts of what it calls, so of the crates below no
     body counts and no proof.
     """
-    own = dict(texts_below(os.path.join(root, "crates", name), OWN))
-    texts = {(name, file, ""): uncommented(file, text) for file, text in own.items()}
+    own = {file: uncommented(file, text) for file, text in texts_below(os.path.join(root, "crates", name), OWN)}
+    texts = {(name, file, ""): text for file, text in own.items()}
     starts = {it[:3] for text in own.values() for it in imports_in(root, crates, text) if it[0] != name}
     words = set().union(*map(words_in, own.values()))
     for crate in below(crates, name):
