@@ -4,6 +4,7 @@ ghost use Rattle.std.specs.Cmp.{eq_by_cmp_equiv, partial_equiv_from_equiv, parti
 ghost use Rattle.std.specs.Cmp.Lexicographic.{nat_list_cmp_total};
 ghost use Rattle.kv_core.specs.Bytes.{key_cmp, key_lt, key_le, end_of_keys, next_key};
 
+use crate::words::order_of;
 use smallvec::SmallVec;
 use std::alloc::{AllocError, Global};
 use std::cmp::Ordering;
@@ -21,9 +22,17 @@ const INLINE_BYTES: usize = 24;
 /// Byte strings are ordered by their first byte that differs, and a prefix comes before what it
 /// begins. They keep the allocator of their bytes, so that their methods take none. Short ones,
 /// as most keys are, lie in the value itself, so that to make or copy one takes no memory.
-#[derive(Debug, Drop)]
+#[derive(Debug)]
 pub struct Bytes {
     bytes: SmallVec<u8, INLINE_BYTES>,
+}
+
+// Written out, so that no proof has to tell short from long ones where a byte string is dropped.
+impl Drop for Bytes {
+    fn drop(self) {
+        let Bytes { bytes } = self;
+        drop(bytes);
+    }
 }
 
 impl Model for Bytes {
@@ -38,7 +47,7 @@ impl PartialEq for Bytes {
     ghost laws = { partial_equiv_from_equiv (eq_by_cmp_equiv nat_list_cmp_total) };
 
     fn eq(&self, other: &Bytes) -> bool {
-        self.compare(other).is_eq()
+        self.as_slice() == other.as_slice()
     }
 }
 
@@ -123,7 +132,7 @@ impl Bytes {
     pub fn compare(&self, other: &Bytes) -> Ordering
         ensures { result ≡ key_cmp self.now other.now }
     {
-        self.as_slice().cmp(other.as_slice())
+        order_of(self.as_slice(), other.as_slice())
     }
 
     /// Whether this byte string comes before another one.

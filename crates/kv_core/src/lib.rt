@@ -15,6 +15,7 @@ mod range_index;
 mod range_list;
 mod removal;
 mod size;
+mod words;
 
 pub use addition::add_le;
 pub use bytes::Bytes;
