@@ -6,6 +6,7 @@ mod addition;
 mod bytes;
 mod change;
 mod coverage;
+mod hashing;
 mod kv_map;
 mod laws;
 mod limits;
