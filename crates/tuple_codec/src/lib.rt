@@ -25,7 +25,7 @@ pub use unpacking::{
     bytes_are_spelled_or_refused, packs_are_ordered, spellings_are_unique, unpack,
 };
 use uuid::Uuid;
-pub use write::{pack, pack_element, pack_into};
+pub use write::{pack, pack_bytes, pack_element, pack_int, pack_into, pack_null, pack_text};
 
 /// A whole number of magnitude at most `2^64 - 1`.
 #[derive(Clone, Copy, PartialEq, Eq)]
