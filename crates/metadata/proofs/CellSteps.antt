@@ -31,10 +31,10 @@ spelling_more (one ∷ items) item =
     ap (λ bytes. item_spelling outer one ++ bytes) (spelling_more items item) ∙ sym (append_assoc (item_spelling outer one) (spelling items) (item_spelling outer item))
 
 -- the bytes packed so far are the spelling of the cells so far
-pub packed_more : (out more : List ℕ) (e : Element) (cells : List Cell) (i : ℕ) (cell : Cell) (before : List ℕ)
-    → i < length cells → cell ≡ get_or cells i cell → item_in e ≡ item_of cell → more ≡ out ++ item_spelling outer (item_in e)
+pub packed_more : (out more : List ℕ) (cells : List Cell) (i : ℕ) (cell : Cell) (before : List ℕ)
+    → i < length cells → cell ≡ get_or cells i cell → more ≡ out ++ item_spelling outer (item_of cell)
     → out ≡ before ++ spelling (items_of (take i cells)) → more ≡ before ++ spelling (items_of (take (i + 1) cells))
-packed_more out more e cells i cell before within is same packed so_far =
+packed_more out more cells i cell before within is packed so_far =
     let one = map_more item_of cells i cell within in
     let spelled = spelling_more (items_of (take i cells)) (item_of cell) in
     let grouped = append_assoc before (spelling (items_of (take i cells))) (item_spelling outer (item_of cell)) in

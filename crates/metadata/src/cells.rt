@@ -11,7 +11,9 @@ ghost use Rattle.metadata.specs.Cell.{cells_of, fits, is_null, item_of, items_of
 use crate::definition::Places;
 use std::alloc::{AllocError, Global};
 use std::marker::Model;
-use tuple_codec::{ByteString, Element, Text, Tuple, TupleInt, pack_element};
+use tuple_codec::{
+    ByteString, Element, Text, Tuple, TupleInt, pack_bytes, pack_int, pack_null, pack_text,
+};
 
 /// What a field holds.
 #[derive(Clone, Copy, Debug, PartialEq, Eq, Drop)]
@@ -88,6 +90,22 @@ impl Cell {
                 let _ = value.as_str();
             }
             Cell::Bytes(value) => bytes_known(value.as_slice()),
+        }
+    }
+
+    /// Appends the pack of the cell, as it stands in the pack of the tuple of cells. Where memory is
+    /// wanting some of its bytes may stand there.
+    pub fn push_pack(&self, out: &mut Vec<u8>) -> Result<(), AllocError>
+        ensures packed { OnOk result (out.new.items
+            ≡ out.old.items ++ item_spelling outer (item_of self.now)) }
+        ensures cell { IsCell self.now }
+    {
+        self.known();
+        match self {
+            Cell::Null => pack_null(out),
+            Cell::Int(value) => pack_int(TupleInt::from(*value), out),
+            Cell::Text(value) => pack_text(value.as_str(), out),
+            Cell::Bytes(value) => pack_bytes(value.as_slice(), out),
         }
     }
 
@@ -223,8 +241,8 @@ impl Cells {
             ≡ out.old.items ++ item_spelling outer (item_of (cell_at self.now place))) }
     {
         match self.cells.get(place) {
-            Some(cell) => pack_element(&cell.element()?, out),
-            None => pack_element(&Element::Null, out),
+            Some(cell) => cell.push_pack(out),
+            None => pack_null(out),
         }
     }
 
@@ -280,7 +298,7 @@ impl Cells {
         ensures cells { OnOk result (All IsCell self.now) }
     {
         for cell in &self.cells {
-            pack_element(&cell.element()?, out)?;
+            cell.push_pack(out)?;
         }
         Ok(())
     }

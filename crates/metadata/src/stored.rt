@@ -15,7 +15,7 @@ use crate::definition::TypeDefinition;
 use crate::record::{Record, check_in};
 use std::alloc::{AllocError, Global};
 use std::rc::Rc;
-use tuple_codec::{Element, TupleInt, UnpackFailure, pack_element, unpack};
+use tuple_codec::{TupleInt, UnpackFailure, pack_int, unpack};
 
 // The cells whose pack these bytes are.
 fn cells_in(alloc: Global, value: &[u8]) -> Result<Option<Cells>, AllocError>
@@ -40,9 +40,9 @@ fn is_key(
     ensures { let items = key_items definition.now.number (cells_at cells.now definition.now.key) in
         IfOk result (λ is. MatchBool is (key.now ≡ spelling items) (key.now ≡ spelling items → ⊥)) }
 {
-    let number = Element::Int(TupleInt::from(definition.number));
+    let number = TupleInt::from(definition.number);
     let mut packed = Vec::with_capacity(alloc, key.len())?;
-    pack_element(&number, &mut packed)?;
+    pack_int(number, &mut packed)?;
     cells.pack_at(&definition.key, &mut packed)?;
     Ok(packed.as_slice() == key)
 }
