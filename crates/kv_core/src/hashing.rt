@@ -1,3 +1,4 @@
+// The hash of byte strings. Used by `range_index`, whose set of points goes by it.
 ghost use Rattle.std.specs.Prelude.{[], ◌∷◌};
 ghost use Rattle.kv_core.specs.Hashing.{fed_alike};
 

@@ -1,3 +1,4 @@
+// The order of runs of bytes, eight at a time. Called by `bytes`.
 ghost use Rattle.std.specs.Prelude.{◌≡◌, ◌+◌, ◌≤◌, length, take, drop};
 ghost use Rattle.std.specs.Slice.Scan.{big_endian};
 ghost use Rattle.kv_core.specs.Bytes.{key_cmp};

@@ -10,7 +10,8 @@ use crate::number::NumberForm;
 
 // What stands behind a byte.
 fn behind_byte(byte: u8, key: &[u8]) -> Option<&[u8]>
-    ensures { MatchOption result (BeginsWith (byte ∷ []) key.now → ⊥) (λ rest. key.now ≡ byte ∷ rest.now) }
+    ensures { MatchOption result (BeginsWith (byte ∷ []) key.now → ⊥)
+        (λ rest. key.now ≡ byte ∷ rest.now) }
 {
     match key.split_first() {
         Some((first, rest)) => { if *first == byte { Some(rest) } else { None } }
