@@ -10,7 +10,7 @@ ghost use Rattle.schedule.specs.Calls.{IsRefused, removal_reply};
 
 use crate::reply::Reply;
 use metadata::{Cells, MetadataError, Record, Schema, SchemaRequest, TypeRequest};
-use record_store::{Store, StoreError};
+use record_store::{KnownSchema, Store, StoreError};
 use std::alloc::Global;
 use tuple_codec::Text;
 use txn::{Snapshot, Transaction};
@@ -23,13 +23,14 @@ pub(crate) fn open<S: Snapshot>(
     alloc: Global,
     tx: &mut Transaction,
     db: &S,
+    known: &mut KnownSchema,
 ) -> Result<Store, StoreError>
     ensures opened { IfOk result (λ store. IsOpened (S.map_at db.now) store tx.old tx.new) }
     ensures prefix { IfOk result (λ store. store.prefix ≡ store_prefix) }
     ensures refused { IfErr result (λ error.
         IsUnopened (S.map_at db.now) (S.may_refuse db.now) store_prefix error tx.old tx.new) }
 {
-    Store::open(alloc, &PREFIX, tx, db)
+    Store::open_knowing(alloc, &PREFIX, tx, db, known)
 }
 
 /// Makes a store of these types and indexes, where there is none.
@@ -55,6 +56,7 @@ pub(crate) fn add_type<S: Snapshot>(
     alloc: Global,
     tx: &mut Transaction,
     db: &S,
+    known: &mut KnownSchema,
     request: &TypeRequest,
 ) -> Result<Reply, StoreError>
     ensures performed { IfOk result (λ answer.
@@ -63,7 +65,7 @@ pub(crate) fn add_type<S: Snapshot>(
     ensures refused { IfErr result (λ error.
         IsRefused (S.map_at db.now) (S.may_refuse db.now) (Command.«Type» request.now) error tx.old tx.new) }
 {
-    let mut store = open(alloc, tx, db)?;
+    let mut store = open(alloc, tx, db, known)?;
     store.add_type(tx, request)?;
     Ok(Reply::Done)
 }
@@ -97,6 +99,7 @@ pub(crate) fn save<S: Snapshot>(
     alloc: Global,
     tx: &mut Transaction,
     db: &S,
+    known: &mut KnownSchema,
     type_name: &Text,
     cells: &Cells,
 ) -> Result<Reply, StoreError>
@@ -106,7 +109,7 @@ pub(crate) fn save<S: Snapshot>(
     ensures refused { IfErr result (λ error.
         IsRefused (S.map_at db.now) (S.may_refuse db.now) (Command.Save type_name.now cells.now) error tx.old tx.new) }
 {
-    let store = open(alloc, tx, db)?;
+    let store = open(alloc, tx, db, known)?;
     let new = record_asked(alloc, store.schema(), type_name, cells)?;
     let old = store.save(tx, db, &new)?;
     Ok(saved_reply(old))
@@ -127,6 +130,7 @@ pub(crate) fn load<S: Snapshot>(
     alloc: Global,
     tx: &mut Transaction,
     db: &S,
+    known: &mut KnownSchema,
     type_name: &Text,
     cells: &Cells,
 ) -> Result<Reply, StoreError>
@@ -136,7 +140,7 @@ pub(crate) fn load<S: Snapshot>(
     ensures refused { IfErr result (λ error.
         IsRefused (S.map_at db.now) (S.may_refuse db.now) (Command.Load type_name.now cells.now) error tx.old tx.new) }
 {
-    let store = open(alloc, tx, db)?;
+    let store = open(alloc, tx, db, known)?;
     let found = store.load(tx, db, type_name, cells)?;
     Ok(loaded_reply(found))
 }
@@ -157,6 +161,7 @@ pub(crate) fn remove<S: Snapshot>(
     alloc: Global,
     tx: &mut Transaction,
     db: &S,
+    known: &mut KnownSchema,
     type_name: &Text,
     cells: &Cells,
 ) -> Result<Reply, StoreError>
@@ -167,7 +172,7 @@ pub(crate) fn remove<S: Snapshot>(
         IsRefused (S.map_at db.now) (S.may_refuse db.now)
         (Command.Remove type_name.now cells.now) error tx.old tx.new) }
 {
-    let store = open(alloc, tx, db)?;
+    let store = open(alloc, tx, db, known)?;
     let was_there = store.remove(tx, db, type_name, cells)?;
     Ok(removed_reply(was_there))
 }
