@@ -1,11 +1,13 @@
+use Rattle.std.specs.Prelude.{map, refl}
 use Rattle.std.proofs.Common.{◌+◌, List, subst, sym}
 use Rattle.std.proofs.lemmas.List.{take_all}
 use Rattle.metadata.specs.Record.{Record}
 use Rattle.plan_exec.specs.Errors.{no_memory}
 use Rattle.plan_exec.specs.Executing.{HasFound}
-use Rattle.plan_exec.specs.Reads.{record_reading}
+use Rattle.plan_exec.specs.Reads.{in_turn, record_reading}
+use Rattle.plan_exec.proofs.Composing.{stopped_still}
 use Rattle.plan_exec.proofs.SingleReads.{exit_with}
-use Rattle.plan_exec.proofs.Turns.{firsts, found_all, found_next, stopped_next, stopped_pushing}
+use Rattle.plan_exec.proofs.Turns.{firsts, found_all, found_next, found_none, stopped_next, stopped_pushing}
 use Rattle.plan_exec.proofs.reading.fetch_records.Goals as goal
 
 pub returns-in_err-found-clause-stopped : goal.returns-in_err-found-clause-stopped
@@ -30,3 +32,16 @@ pub returns-clause-found : goal.returns-clause-found
 returns-clause-found g c =
     found_all (λ own pairs. record_reading c.args.store.now.prefix pairs c.args.definition.now c.args.entries.now (g.K.PrimaryKeyed.key own)) c.args.primary_keys.now c.loop-keyed.rows.items c.loop-keyed.keyed-index
     (take_all c.loop-keyed.keyed-index c.args.primary_keys.now c.loop-keyed-test.false) c.loop-keyed.invariant
+
+pub returns-in_err-front-clause-stopped : goal.returns-in_err-front-clause-stopped
+returns-in_err-front-clause-stopped g c =
+    exit_with c.from_residual.result no_memory _ c.from_residual.ensures
+    (stopped_still (λ pairs. in_turn (map (λ own. record_reading c.args.store.now.prefix pairs c.args.definition.now c.args.entries.now (g.K.PrimaryKeyed.key own)) c.args.primary_keys.now)) refl)
+
+pub returns-in_err-shared-clause-stopped : goal.returns-in_err-shared-clause-stopped
+returns-in_err-shared-clause-stopped g c =
+    exit_with c.from_residual-in_err-shared.result no_memory _ c.from_residual-in_err-shared.ensures
+    (stopped_still (λ pairs. in_turn (map (λ own. record_reading c.args.store.now.prefix pairs c.args.definition.now c.args.entries.now (g.K.PrimaryKeyed.key own)) c.args.primary_keys.now)) refl)
+
+pub loop-keyed-init : goal.loop-keyed-init
+loop-keyed-init g c = found_none (λ own pairs. record_reading c.args.store.now.prefix pairs c.args.definition.now c.args.entries.now (g.K.PrimaryKeyed.key own)) c.args.primary_keys.now c.new-rows.result.items c.new-rows.ensures.items refl
