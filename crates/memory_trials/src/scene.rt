@@ -67,7 +67,5 @@ pub(crate) fn stored(alloc: Global) -> Result<Failing, Fail> {
     let mut tx = Transaction::begin(alloc, 0);
     perform_all(alloc, &db, &mut tx, MADE)?;
     let request = tx.into_request();
-    Ok(Failing::new(
-        KvMap::new(alloc).with_all(request.mutations.as_slice())?,
-    ))
+    Ok(Failing::new(KvMap::new(alloc).with_all(request.mutations.as_slice())?))
 }
