@@ -40,7 +40,7 @@ use Rattle.atomic_table.proofs.shared.Seat.TheSendSync as seat
 use Rattle.std.proofs.option.Option.TheSendSync as option
 
 segments_send : IsSend Segments.the_row
-segments_send = search (knot.crosses, bytes.the_send, bytes.the_field_send, sendable, crosses) depth 20
+segments_send = search (knot.crosses, bytes.the_send, sendable, crosses) depth 20
 
 writers_send : IsSend Writers.the_row
 writers_send = search (segments_send, sendable, crosses) depth 20
