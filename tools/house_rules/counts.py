@@ -2,7 +2,7 @@
 import re
 from collections import defaultdict
 from itertools import combinations
-from sources import blanked, lines_of
+from sources import blanked, closing, lines_of
 
 REPEATED_LINES, CLAUSE_COLUMNS = 6, 100
 # a definition of a specification, at the begin of a line or in a module with parameters; fields of records are none
@@ -51,19 +51,12 @@ def repeats(texts):
 def clause_spans(text):
     """Where the clauses of a text of Rattle stand, from their word to their closing brace."""
     plain = blanked(text)
-    for it in CLAUSE.finditer(plain):
-        depth, end = 0, it.end() - 1
-        while end < len(plain):
-            depth += (plain[end] == "{") - (plain[end] == "}")
-            end += 1
-            if depth == 0:
-                break
-        yield it.start(), end
+    return [(it.start(), closing(plain, it.end() - 1)) for it in CLAUSE.finditer(plain)]
 
 
 def wide_clause_lines(text):
     """How many lines of clauses and of doc comments have more columns than a clause should."""
-    spans, at, count = list(clause_spans(text)), 0, 0
+    spans, at, count = clause_spans(text), 0, 0
     for line in lines_of(text):
         is_told = line.lstrip().startswith(("///", "//!"))
         inside = is_told or any(begin < at + len(line) and at < end for begin, end in spans)
