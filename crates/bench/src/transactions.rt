@@ -42,6 +42,13 @@ impl Snapshot for Stored {
         let pairs = self.map.range(range, limit, reverse)?;
         Ok(pairs)
     }
+
+    fn value(&self, key: &Bytes, _version: u64) -> Result<Option<Bytes>, ReadError> {
+        match self.map.get(key) {
+            Some(value) => Ok(Some(value.copy()?)),
+            None => Ok(None),
+        }
+    }
 }
 
 // A snapshot with as many pairs as will be set, with other keys.

@@ -2,12 +2,13 @@
 use Rattle.std.proofs.Common.{arith, ◌≡◌, ℕ, zero, suc, ◌+◌, ◌-◌, ◌%◌, ◌^◌, ◌<◌, ◌≤◌, Bool, true, false, nat_lt, Option, None, Some, List, [], ◌∷◌, ◌++◌, length-append, length, map, min, refl, sym, ap, subst, ◌∙◌}
 use Rattle.std.proofs.lemmas.List.{length-map, length-replicate, length-set, map-set}
 use Rattle.std.proofs.lemmas.Bool.{true≢false}
-use Rattle.std.specs.FinMap.{empty}
+use Rattle.std.specs.FinMap.{empty, get}
 use Rattle.std.specs.List.{AllByRecursion, slice_get, slice_index, slice_set}
 use Rattle.std.specs.Option.{is_some, option_map}
 use Rattle.std.proofs.lemmas.Option.{get_or_from_slice_get, slice_get-map}
-use Rattle.kv_core.specs.Range.{KeyRange}
-use Rattle.kv_core.specs.Read.{read_of}
+use Rattle.kv_core.proofs.Pairs.{first_value-point}
+use Rattle.kv_core.specs.Range.{KeyRange, point}
+use Rattle.kv_core.specs.Read.{first_value, read_of}
 use Rattle.kv_core.specs.declared.change.CommitRequest.{CommitRequest}
 use Rattle.kv_core.specs.declared.change.Mutation.{Mutation}
 use Rattle.cluster_core.specs.Cluster.{ClusterState, HasSameServers, database_at, maps_back, may_pull, pull, server_at, servers_at, tier_of}
@@ -35,6 +36,12 @@ read-cluster pipeline tier range version limit b is allowed =
     ap (λ t. read_of (whole_map t version) range limit b) is.servers
     ∙ read-database (cluster_of pipeline tier) range version limit b is.counts is.started
     (ap (λ t. refusal t range version) (sym is.servers) ∙ none_from (refusal tier range version) allowed)
+
+pub value-cluster : (pipeline : PipelineState) (tier : TierState) (key : List ℕ) (version : ℕ) → IsCluster pipeline tier →
+    is_some (refusal tier (point key) version) ≡ false → get (whole_map tier version) key ≡ get (database_at (cluster_of pipeline tier) version) key
+value-cluster pipeline tier key version is allowed =
+    sym (first_value-point (whole_map tier version) key) ∙ ap first_value (read-cluster pipeline tier (point key) version 1 false is allowed)
+    ∙ first_value-point (database_at (cluster_of pipeline tier) version) key
 
 lower : (m n : ℕ) (clocks : List ℕ) → m ≤ n → AllByRecursion (λ clock. clock ≤ m) clocks → AllByRecursion (λ clock. clock ≤ n) clocks
 lower m n [] h all = tt

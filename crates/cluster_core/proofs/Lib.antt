@@ -18,6 +18,7 @@ pub mod Configured
 pub mod OwnMaps
 pub mod JoinedPairs
 pub mod TierReads
+pub mod OwnerReads
 pub mod TierStarts
 pub mod PulledLogs
 pub mod PulledMaps

@@ -17,12 +17,12 @@ use Rattle.cluster_core.proofs.OwnMaps.{own-map_of}
 use Rattle.cluster_core.proofs.ServerSteps.{rest_falling}
 
 -- each server's map at a version has its own keys
-own_at : (version window : ℕ) (servers : List Server) → AllByRecursion (IsServer window) servers →
+pub own_at : (version window : ℕ) (servers : List Server) → AllByRecursion (IsServer window) servers →
     AllByRecursion (λ s. part (owner_of s) (map_of (server_state s) version) ≡ map_of (server_state s) version) servers
 own_at version window [] kept = tt
 own_at version window (s ∷ servers) kept = (own-map_of (owner_of s) (server_state s).maps (s.version - version) kept.0.rest.own, own_at version window servers kept.1)
 
-falling_at : (window : ℕ) (servers : List Server) → AllByRecursion (IsServer window) servers → AllByRecursion (λ s. AreFalling s.chains.chains) servers
+pub falling_at : (window : ℕ) (servers : List Server) → AllByRecursion (IsServer window) servers → AllByRecursion (λ s. AreFalling s.chains.chains) servers
 falling_at window [] kept = tt
 falling_at window (s ∷ servers) kept = (rest_falling s kept.0.rest, falling_at window servers kept.1)
 

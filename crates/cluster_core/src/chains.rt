@@ -1,6 +1,7 @@
 // The multi-version map of a storage server. Used by `server`.
 ghost use Rattle.std.specs.Prelude.{◌≡◌, ◌∷◌, [], List, ℕ, IfOk, OnOk, OnErr, MatchOption};
 ghost use Rattle.std.specs.Prelude.{if◌then◌else◌, false};
+ghost use Rattle.std.specs.FinMap.{get};
 ghost use Rattle.std.specs.Map.{keys_of};
 ghost use Rattle.std.specs.Option.{option_copied};
 ghost use Rattle.std.specs.Ordering.{is_eq};
@@ -279,6 +280,14 @@ impl Chains {
                 Ok(pairs)
             }
         }
+    }
+
+    /// The value of a key at a version, or None where it has none.
+    pub(crate) fn value(&self, key: &Bytes, version: u64) -> Option<&Bytes>
+        requires { AreFalling self.now.chains }
+        ensures { option_copied result ≡ get (shown self.now.chains.entries version) key.now }
+    {
+        value_of(&self.chains, version, key)
     }
 
     /// The pairs of the range at a version: the first ones in the order of their keys, or with

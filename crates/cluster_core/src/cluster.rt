@@ -2,6 +2,8 @@
 // reads from it.
 ghost use Rattle.std.specs.Prelude.{◌≡◌, ◌⊎◌, ◌+◌, ◌<◌, ◌≤◌, Some, IsNone, IsTrue, IfOk};
 ghost use Rattle.std.specs.Prelude.{IfErr, OnOk, OnErr, if◌then◌else◌, length};
+ghost use Rattle.std.specs.FinMap.{get};
+ghost use Rattle.kv_core.specs.Range.{point};
 ghost use Rattle.kv_core.specs.Read.{read_of};
 ghost use Rattle.cluster_core.specs.Cluster.{Did, HasPulled, HasSameServers, HasWholeLog, IsAllPulled};
 ghost use Rattle.cluster_core.specs.Cluster.{IsBehind, IsSomeBehind};
@@ -16,7 +18,7 @@ ghost use Rattle.cluster_core.specs.Tier.{refusal};
 use crate::answers::{Config, ConfigError, ReadError, Reported, SubmitError, Work};
 use crate::pipeline::{Pipeline, Ticket};
 use crate::tier::Tier;
-use kv_core::{CommitRequest, KeyRange, Pair};
+use kv_core::{Bytes, CommitRequest, KeyRange, Pair};
 use std::alloc::{AllocError, Global};
 use std::marker::Model;
 
@@ -220,5 +222,17 @@ impl Cluster {
     {
         let pairs = self.tier.read(range, version, limit, reverse)?;
         Ok(pairs)
+    }
+
+    /// The value of a key in the database at a version, or None where it has none. It is refused as
+    /// `Tier::value` is.
+    pub fn value(&self, key: &Bytes, version: u64) -> Result<Option<Bytes>, ReadError>
+        ensures value { IfOk result (λ value. value ≡ get (database_at self.now version) key.now) }
+        ensures allowed { OnOk result (IsNone (refusal (tier_of self.now) (point key.now) version)) }
+        ensures refused { IfErr result (λ error.
+            (error ≡ ReadError.Memory) ⊎ (refusal (tier_of self.now) (point key.now) version ≡ Some error)) }
+    {
+        let value = self.tier.value(key, version)?;
+        Ok(value)
     }
 }

@@ -1,14 +1,16 @@
 // The storage server role, for a share of the keys. Used by `tier`.
-ghost use Rattle.std.specs.Prelude.{◌≡◌, ◌+◌, ◌<◌, ◌≤◌, ◌^◌, ◌∷◌, IfOk, OnOk, OnErr, None, ℕ};
+ghost use Rattle.std.specs.Prelude.{◌≡◌, ◌+◌, ◌<◌, ◌≤◌, ◌^◌, ◌∷◌, ◌++◌, IfOk, OnOk, OnErr, None, ℕ};
 ghost use Rattle.std.specs.Prelude.{All, IsTrue, ◌↔◌, if◌then◌else◌, length, map, take};
-ghost use Rattle.std.specs.List.{AllByRecursion, flat_map};
+ghost use Rattle.std.specs.FinMap.{get};
+ghost use Rattle.std.specs.List.{AllByRecursion, find, flat_map};
+ghost use Rattle.std.specs.Option.{option_copied};
 ghost use Rattle.std.specs.VecDeque.{deque_len, deque_capacity};
 ghost use Rattle.kv_core.specs.Change.{write_range};
 ghost use Rattle.kv_core.specs.Map.{after_all};
 ghost use Rattle.kv_core.specs.Range.{has_keys};
 ghost use Rattle.kv_core.specs.Read.{read_of};
 ghost use Rattle.cluster_core.specs.Chains.{AreBelow, AreFalling, Writes, shown};
-ghost use Rattle.cluster_core.specs.Decision.{cut};
+ghost use Rattle.cluster_core.specs.Decision.{cut, owns};
 ghost use Rattle.cluster_core.specs.Server.{IsAtRest, IsServer, IsStaged, first_server, next_map};
 ghost use Rattle.cluster_core.specs.Server.{owner_of, pairs_at, server_state, turned};
 ghost use Rattle.cluster_core.specs.Tier.{absorb, absorb_each, first_refusal, map_of, part};
@@ -196,21 +198,42 @@ impl Server {
         Ok(())
     }
 
-    /// Why the server refuses a read of the range at a version, or None where it doesn't, or owns
-    /// no key of the range.
-    fn refusal(&self, window: u64, range: &KeyRange, version: u64) -> Option<ReadError>
-        ensures { result ≡ (if has_keys (cut (owner_of self.now) range.now)
-            then refusal_of window (server_state self.now) version else None) }
+    /// Why the server refuses to read its keys at a version, or None where it doesn't.
+    pub(crate) fn refusal_at(&self, window: u64, version: u64) -> Option<ReadError>
+        ensures { result ≡ refusal_of window (server_state self.now) version }
     {
-        if !self.part.meets(range) {
-            None
-        } else if self.version < version {
+        if self.version < version {
             Some(ReadError::FutureVersion)
         } else if window < self.version - version {
             Some(ReadError::TooOld)
         } else {
             None
         }
+    }
+
+    /// Why the server refuses a read of the range at a version, or None where it doesn't, or owns
+    /// no key of the range.
+    fn refusal(&self, window: u64, range: &KeyRange, version: u64) -> Option<ReadError>
+        ensures { result ≡ (if has_keys (cut (owner_of self.now) range.now)
+            then refusal_of window (server_state self.now) version else None) }
+    {
+        if self.part.meets(range) {
+            self.refusal_at(window, version)
+        } else {
+            None
+        }
+    }
+
+    /// The value of a key in the map at a version, or None where it has none.
+    pub(crate) fn value(&self, key: &Bytes, version: u64) -> Option<&Bytes>
+        requires { AreFalling self.now.chains.chains }
+        ensures { option_copied result ≡ get (map_of (server_state self.now) version) key.now }
+    {
+        let back = self.version.saturating_sub(version);
+        if (self.recent.len() as u64) < back {
+            return None;
+        }
+        self.chains.value(key, self.version - back)
     }
 
     /// The pairs of the range in the map at a version, as `Chains::read` gives them.
@@ -268,6 +291,13 @@ pub(crate) fn pull_each(
     Ok(())
 }
 
+/// The first of the servers that owns the key.
+pub(crate) fn owner_among<'a>(servers: &'a [Server], key: &Bytes) -> Option<&'a Server>
+    ensures { option_copied result ≡ find (λ server. owns (owner_of server) key.now) servers.now }
+{
+    servers.iter().find(|server| server.part.owns(key))
+}
+
 /// Why the first of the servers that owns a key of the range and refuses to read it at a version
 /// does so, or None where none refuses.
 pub(crate) fn refusal_among(
@@ -285,6 +315,18 @@ pub(crate) fn refusal_among(
         }
     }
     None
+}
+
+/// The pairs, and more behind them. Where there are none the others' own list is given.
+fn joined(pairs: Vec<Pair>, more: Vec<Pair>) -> Result<Vec<Pair>, AllocError>
+    ensures { IfOk result (λ all. all.items ≡ pairs.items ++ more.items) }
+{
+    if pairs.is_empty() {
+        return Ok(more);
+    }
+    let (mut all, mut more) = (pairs, more);
+    all.append(&mut more)?;
+    Ok(all)
 }
 
 /// The pairs of the range at a version of one server after another, or with `reverse` from the
@@ -306,8 +348,8 @@ pub(crate) fn read_each(
     for passed in 0..count {
         let place = if reverse { count - 1 - passed } else { passed };
         let left = limit.saturating_sub(pairs.len());
-        let mut more = servers[place].read(range, version, left, reverse)?;
-        pairs.append(&mut more)?;
+        let more = servers[place].read(range, version, left, reverse)?;
+        pairs = joined(pairs, more)?;
     }
     Ok(pairs)
 }

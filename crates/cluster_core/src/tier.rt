@@ -2,7 +2,9 @@
 // from it, and by `runtime`, which publishes it to readers.
 ghost use Rattle.std.specs.Prelude.{◌≡◌, ℕ, ◌⊎◌, ◌+◌, ◌<◌, ◌^◌, ◌↔◌, Some, IsTrue, IsNone, IfOk};
 ghost use Rattle.std.specs.Prelude.{IfErr, OnOk, OnErr, All, length, map, slice_get, slice_set};
+ghost use Rattle.std.specs.FinMap.{get};
 ghost use Rattle.std.specs.List.{AllByRecursion};
+ghost use Rattle.kv_core.specs.Range.{point};
 ghost use Rattle.kv_core.specs.Read.{read_of};
 ghost use Rattle.cluster_core.specs.Configuration.{config_refusal, first_tier};
 ghost use Rattle.cluster_core.specs.Decision.{Owned, owners};
@@ -12,7 +14,7 @@ ghost use Rattle.cluster_core.specs.Tier.{ServerState, absorb, absorb_all, refus
 use crate::answers::{Config, ConfigError, ReadError, Splits};
 use crate::config::refusal_of;
 use crate::part::Part;
-use crate::server::{Server, have_next, pull_each, read_each, refusal_among};
+use crate::server::{Server, have_next, owner_among, pull_each, read_each, refusal_among};
 use kv_core::{Bytes, KeyRange, Mutation, Pair};
 use std::alloc::{AllocError, Global};
 use std::marker::Model;
@@ -163,5 +165,27 @@ impl Tier {
         }
         let pairs = read_each(self.alloc, servers, range, version, limit, reverse)?;
         Ok(pairs)
+    }
+
+    /// The value of a key at a version, or None where it has none. Only the value is copied.
+    ///
+    /// It is refused as a read of the key's point is: as the server that owns the key can tell it
+    /// or not, and else with `Memory` where memory runs out.
+    pub fn value(&self, key: &Bytes, version: u64) -> Result<Option<Bytes>, ReadError>
+        ensures value { IfOk result (λ value. value ≡ get (whole_map self.now version) key.now) }
+        ensures allowed { OnOk result (IsNone (refusal self.now (point key.now) version)) }
+        ensures refused { IfErr result (λ error.
+            (error ≡ ReadError.Memory) ⊎ (refusal self.now (point key.now) version ≡ Some error)) }
+    {
+        let Some(server) = owner_among(self.servers.as_slice(), key) else {
+            return Ok(None);
+        };
+        if let Some(error) = server.refusal_at(self.window, version) {
+            return Err(error);
+        }
+        match server.value(key, version) {
+            Some(value) => Ok(Some(value.copy()?)),
+            None => Ok(None),
+        }
     }
 }

@@ -7,7 +7,10 @@ use Rattle.std.specs.BTreeSet.{BTreeSet, contains as has}
 use Rattle.std.specs.List.{list_any}
 use Rattle.std.specs.Bool.{MatchBool}
 use Rattle.std.specs.Ordering.{is_eq}
-use Rattle.kv_core.specs.Bytes.{key_cmp, next_key}
+use Rattle.std.specs.Result.{OnErr}
+use Rattle.std.specs.declared.result.Result.{Result}
+use Rattle.std.specs.declared.result.Result.TheVariants.{Ok, Err}
+use Rattle.kv_core.specs.Bytes.{has_key, key_cmp, next_key}
 use Rattle.kv_core.specs.Range.{KeyRange, any_meets, contains, covers, is_same_range, meets, point, range_cmp}
 use Rattle.kv_core.specs.RangeIndex.{IsIndex}
 use Rattle.kv_core.proofs.Lists.{same_truth}
@@ -79,8 +82,8 @@ more_covered false false true = refl
 more_covered false false false = refl
 
 -- a key noted, whose point goes to the end of the list
-pub point_more : (points more : BTreeSet (List ℕ)) (known : BTreeSet KeyRange) (own : List KeyRange) (range : KeyRange) (key put : List ℕ) → range ≡ point key → put ≡ key →
-    ((q : List ℕ) → has key_cmp more q ≡ cond (is_eq (key_cmp put q)) true (has key_cmp points q)) →
+pub point_more : (points more : List (List ℕ)) (known : BTreeSet KeyRange) (own : List KeyRange) (range : KeyRange) (key put : List ℕ) → range ≡ point key → put ≡ key →
+    ((q : List ℕ) → has_key more q ≡ cond (is_eq (key_cmp put q)) true (has_key points q)) →
     (rs : List KeyRange) → IsIndex points known own rs → IsIndex more known own (rs ++ range ∷ [])
 point_more points more known own range key put at is put_in rs index = record {
   has_points = λ q.
@@ -95,17 +98,17 @@ point_more points more known own range key put at is put_in rs index = record {
       ∙ sym (list_any-append (is_same_range q) rs (range ∷ []));
   covers_keys = λ q.
       ap (λ b. covers own q || b) (noted q)
-      ∙ more_points (covers own q) (is_eq (key_cmp key q)) (has key_cmp points q)
+      ∙ more_points (covers own q) (is_eq (key_cmp key q)) (has_key points q)
       ∙ (λ i. index.covers_keys q i || (sym (contains-point-is key q) i || false))
       ∙ ap (λ r. covers rs q || (contains r q || false)) (sym at)
       ∙ sym (list_any-append (λ r. contains r q) rs (range ∷ []));
 }
   where
-    noted : (q : List ℕ) → has key_cmp more q ≡ cond (is_eq (key_cmp key q)) true (has key_cmp points q)
-    noted q = put_in q ∙ ap (λ k. cond (is_eq (key_cmp k q)) true (has key_cmp points q)) is
+    noted : (q : List ℕ) → has_key more q ≡ cond (is_eq (key_cmp key q)) true (has_key points q)
+    noted q = put_in q ∙ ap (λ k. cond (is_eq (key_cmp k q)) true (has_key points q)) is
 
 -- another range put into the set, and its keys covered, where it goes to the end of the list
-pub wide_more : (points : BTreeSet (List ℕ)) (known more : BTreeSet KeyRange) (own owned : List KeyRange) (range put : KeyRange) → (range ≡ point range.begin → ⊥) → put ≡ range →
+pub wide_more : (points : List (List ℕ)) (known more : BTreeSet KeyRange) (own owned : List KeyRange) (range put : KeyRange) → (range ≡ point range.begin → ⊥) → put ≡ range →
     ((q : KeyRange) → has range_cmp more q ≡ cond (is_eq (range_cmp put q)) true (has range_cmp known q)) →
     ((k : List ℕ) → covers owned k ≡ (covers own k || contains range k)) →
     (rs : List KeyRange) → IsIndex points known own rs → IsIndex points more owned (rs ++ range ∷ [])
@@ -118,14 +121,14 @@ wide_more points known more own owned range put wide is put_in covered rs index 
       put_in q ∙ (λ i. cond (tied_ranges put q i) true (index.has_ranges q other i)) ∙ ap (λ r. cond (is_same_range q r) true (list_any (is_same_range q) rs)) is
       ∙ turned (is_same_range q range) (list_any (is_same_range q) rs) ∙ sym (list_any-append (is_same_range q) rs (range ∷ []));
   covers_keys = λ q.
-      ap (λ b. b || has key_cmp points q) (covered q)
-      ∙ more_covered (covers own q) (contains range q) (has key_cmp points q)
+      ap (λ b. b || has_key points q) (covered q)
+      ∙ more_covered (covers own q) (contains range q) (has_key points q)
       ∙ ap (λ b. b || (contains range q || false)) (index.covers_keys q)
       ∙ sym (list_any-append (λ r. contains r q) rs (range ∷ []));
 }
 
 -- a range put into the set, which had not had it, and taken out again
-pub wide_back : (points : BTreeSet (List ℕ)) (known more less : BTreeSet KeyRange) (own owned : List KeyRange) (range put : KeyRange) → put ≡ range → owned ≡ own → has range_cmp known put ≡ false →
+pub wide_back : (points : List (List ℕ)) (known more less : BTreeSet KeyRange) (own owned : List KeyRange) (range put : KeyRange) → put ≡ range → owned ≡ own → has range_cmp known put ≡ false →
     ((q : KeyRange) → has range_cmp more q ≡ cond (is_eq (range_cmp put q)) true (has range_cmp known q)) →
     ((q : KeyRange) → has range_cmp less q ≡ cond (is_eq (range_cmp range q)) false (has range_cmp more q)) →
     (rs : List KeyRange) → IsIndex points known own rs → IsIndex points less owned rs
@@ -139,15 +142,24 @@ wide_back points known more less own owned range put is same_own new put_in take
             ∙ sym (ap (has range_cmp known) (is_same_range-equal q range (sym (tied_ranges range q) ∙ same) ∙ sym is) ∙ new) ∙ index.has_ranges q wide
         | inr other ↦ ap (λ b. cond b false (cond b true (has range_cmp known q))) other ∙ index.has_ranges q wide
       ];
-  covers_keys = λ k. ap (λ o. covers o k || has key_cmp points k) same_own ∙ index.covers_keys k;
+  covers_keys = λ k. ap (λ o. covers o k || has_key points k) same_own ∙ index.covers_keys k;
 }
 
 -- what is known of an equal list
-pub index_at : (points : BTreeSet (List ℕ)) (known : BTreeSet KeyRange) (own rs ss : List KeyRange) → ss ≡ rs → IsIndex points known own rs → IsIndex points known own ss
+pub index_at : (points : List (List ℕ)) (known : BTreeSet KeyRange) (own rs ss : List KeyRange) → ss ≡ rs → IsIndex points known own rs → IsIndex points known own ss
 index_at points known own rs ss e = subst (IsIndex points known own) (sym e)
 
+-- what holds in any case holds of an error
+pub on_err : {T E P : Type 0} (r : Result T E) → P → OnErr r P
+on_err (Ok x) p = tt
+on_err (Err e) p = p
+
+-- keys that are the same are those of the same list
+pub index_same : (points more : List (List ℕ)) (known : BTreeSet KeyRange) (own : List KeyRange) → more ≡ points → (rs : List KeyRange) → IsIndex points known own rs → IsIndex more known own rs
+index_same points more known own e rs = subst (λ ks. IsIndex ks known own rs) (sym e)
+
 -- what is known of no range
-pub index_none : (points : BTreeSet (List ℕ)) (known : BTreeSet KeyRange) (own : List KeyRange) → points.keys ≡ [] → known.keys ≡ [] → own ≡ [] → IsIndex points known own []
+pub index_none : (points : List (List ℕ)) (known : BTreeSet KeyRange) (own : List KeyRange) → points ≡ [] → known.keys ≡ [] → own ≡ [] → IsIndex points known own []
 index_none points known own e p q = record {
   has_points = λ k. ap (list_any (λ own. is_eq (key_cmp k own))) e;
   has_ranges = λ r wide. ap (list_any (λ k. is_eq (range_cmp r k))) p;
@@ -155,21 +167,21 @@ index_none points known own e p q = record {
 }
 
 -- a range that meets what is covered meets one of the list
-pub meets_covered : (range : KeyRange) (points : BTreeSet (List ℕ)) (known : BTreeSet KeyRange) (own rs : List KeyRange) → IsIndex points known own rs → any_meets range own ≡ true → true ≡ any_meets range rs
+pub meets_covered : (range : KeyRange) (points : List (List ℕ)) (known : BTreeSet KeyRange) (own rs : List KeyRange) → IsIndex points known own rs → any_meets range own ≡ true → true ≡ any_meets range rs
 meets_covered range points known own rs index h =
     let k = any_meets-gives range own h in
     sym (any_meets-from range rs k.0 k.1 (sym (index.covers_keys k.0) ∙ or_left _ _ k.2))
 
 -- another one meets one of the list exactly where a key noted lies in it
-pub meets_points : (range : KeyRange) (points : BTreeSet (List ℕ)) (known : BTreeSet KeyRange) (own rs : List KeyRange) (found : Bool) → IsIndex points known own rs → any_meets range own ≡ false →
-    MatchBool found ((key : List ℕ) × (contains range key ≡ true) × (has key_cmp points key ≡ true))
-    ((key : List ℕ) → contains range key ≡ true → has key_cmp points key ≡ true → ⊥) → found ≡ any_meets range rs
+pub meets_points : (range : KeyRange) (points : List (List ℕ)) (known : BTreeSet KeyRange) (own rs : List KeyRange) (found : Bool) → IsIndex points known own rs → any_meets range own ≡ false →
+    MatchBool found ((key : List ℕ) × (contains range key ≡ true) × (has_key points key ≡ true))
+    ((key : List ℕ) → contains range key ≡ true → has_key points key ≡ true → ⊥) → found ≡ any_meets range rs
 meets_points range points known own rs true index apart some =
-    sym (any_meets-from range rs some.0 some.1 (sym (index.covers_keys some.0) ∙ or_right (covers own some.0) (has key_cmp points some.0) some.2))
+    sym (any_meets-from range rs some.0 some.1 (sym (index.covers_keys some.0) ∙ or_right (covers own some.0) (has_key points some.0) some.2))
 meets_points range points known own rs false index apart none =
     sym (false_from_ne_true (any_meets range rs) (λ h.
     let k = any_meets-gives range rs h in
-    elim (or_cases (covers own k.0) (has key_cmp points k.0) (index.covers_keys k.0 ∙ k.2)) [
+    elim (or_cases (covers own k.0) (has_key points k.0) (index.covers_keys k.0 ∙ k.2)) [
       | inl covered ↦ false≢true (sym apart ∙ any_meets-from range own k.0 k.1 covered)
       | inr noted ↦ none k.0 k.1 noted
     ]))

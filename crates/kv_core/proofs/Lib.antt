@@ -1,5 +1,6 @@
 pub mod Lists
 pub mod Order
+pub mod Spelling
 pub mod Changes
 pub mod Pairs
 pub mod Parts

@@ -1,17 +1,14 @@
--- When a range is the point of its begin, where its end is the begin followed by a zero byte; the keys between two bounds.
-use Rattle.std.proofs.Common.{◌≡◌, ℕ, Bool, true, false, List, [], ◌∷◌, ◌++◌, length, All, refl, sym, ap, subst, ◌∙◌, arith, length-append}
-use Rattle.std.proofs.lemmas.List.Elements.{All-head}
-use Rattle.std.proofs.lemmas.Bool.{and_from, and_parts, false≢true}
+-- When a range is the point of its begin, where its end is the begin followed by a zero byte; keys that lie in a range.
+use Rattle.std.proofs.Common.{◌≡◌, ℕ, Bool, true, false, List, [], ◌∷◌, ◌++◌, length, inl, inr, sym, ap, ◌∙◌, arith, length-append}
+use Rattle.std.proofs.lemmas.Bool.{or_cases, or_left, or_right, true≢false}
+use Rattle.std.proofs.lemmas.Cmp.{nat_list_cmp_total, tied_itself}
 use Rattle.std.proofs.lemmas.List.{same_from_push}
-use Rattle.std.specs.BTreeSet.{BTreeSet, IsKeyInRange, contains as has}
 use Rattle.std.specs.Bool.{MatchBool}
-use Rattle.std.specs.declared.ops.Bound.TheVariants.{Excluded, Included}
-use Rattle.std.specs.declared.cmp.Ordering.{Ordering}
-use Rattle.std.specs.declared.cmp.Ordering.TheVariants.{Less, Equal, Greater}
-use Rattle.std.specs.Ordering.{is_gt, is_lt}
-use Rattle.kv_core.specs.Bytes.{key_cmp, key_le, key_lt}
+use Rattle.std.specs.Ordering.{is_eq}
+use Rattle.kv_core.specs.Bytes.{has_key, key_cmp}
 use Rattle.kv_core.specs.Range.{KeyRange, contains, point}
-use Rattle.kv_core.proofs.Order.{le_from, le_gives, lt_is_gt}
+use Rattle.kv_core.proofs.Order.{tied_keys}
+use Rattle.kv_core.proofs.Pairs.{contains-point-is}
 
 pub point_split : (range : KeyRange) (front : List ℕ) (last : ℕ) → range.end ≡ front ++ last ∷ [] → last ≡ 0 → front ≡ range.begin → range ≡ point range.begin
 point_split range front last e zero same = λ i. record { begin = range.begin; end = (e ∙ (λ j. same j ++ zero j ∷ [])) i }
@@ -32,27 +29,46 @@ pub point_or_not : (range : KeyRange) (front begin : List ℕ) (last : ℕ) (sam
 point_or_not range front begin last true e zero is same = point_split range front last e zero (same ∙ is)
 point_or_not range front begin last false e zero is other = λ point_is. other ((parts_of_point range front last e point_is).0 ∙ sym is)
 
--- ---- the keys between two bounds are those of a range
+-- ---- keys that are gone over to find one that lies in a range
 
-less : (o : Ordering) → is_lt o ≡ true → o ≡ Less
-less Less e = refl
-less Equal e = absurd (false≢true e)
-less Greater e = absurd (false≢true e)
+-- what is left has the keys that lie in the range, and only keys that there were
+pub record AreLeft (range : KeyRange) (keys rest : List (List ℕ)) : Type 0 where
+  pub inside : (q : List ℕ) → contains range q ≡ true → has_key keys q ≡ true → has_key rest q ≡ true
+  pub known : (q : List ℕ) → has_key rest q ≡ true → has_key keys q ≡ true
 
-pub inside : (range : KeyRange) (b e k : List ℕ) → b ≡ range.begin → e ≡ range.end → is_gt (key_cmp b k) ≡ false → key_cmp k e ≡ Less → contains range k ≡ true
-inside range b e k p q low high =
-    and_from (key_le range.begin k) (key_lt k range.end) (le_from range.begin k (lt_is_gt range.begin k ∙ ap (λ x. is_gt (key_cmp x k)) (sym p) ∙ low)) (ap is_lt (ap (key_cmp k) (sym q) ∙ high))
+pub left_first : (range : KeyRange) (keys rest : List (List ℕ)) → rest ≡ keys → AreLeft range keys rest
+left_first range keys rest e = record {
+  inside = λ q i h. ap (λ ks. has_key ks q) e ∙ h;
+  known = λ q h. sym (ap (λ ks. has_key ks q) e) ∙ h;
+}
 
-pub begun : (range : KeyRange) (b k : List ℕ) → b ≡ range.begin → contains range k ≡ true → is_gt (key_cmp b k) ≡ false
-begun range b k p h =
-    ap (λ x. is_gt (key_cmp x k)) p ∙ sym (lt_is_gt range.begin k) ∙ le_gives range.begin k (and_parts (key_le range.begin k) (key_lt k range.end) h).0
+-- a key that lies outside is passed over
+pub left_turn : (range : KeyRange) (keys rest next : List (List ℕ)) (k : List ℕ) → rest ≡ k ∷ next → contains range k ≡ false → AreLeft range keys rest → AreLeft range keys next
+left_turn range keys rest next k e out left = record {
+  inside = λ q i h. elim (or_cases (is_eq (key_cmp q k)) (has_key next q) (sym (ap (λ ks. has_key ks q) e) ∙ left.inside q i h)) [
+    | inl same ↦ absurd (true≢false (sym i ∙ ap (contains range) (tied_keys q k same) ∙ out))
+    | inr later ↦ later
+  ];
+  known = λ q h. left.known q (ap (λ ks. has_key ks q) e ∙ or_right (is_eq (key_cmp q k)) (has_key next q) h);
+}
 
-pub unended : (range : KeyRange) (e k : List ℕ) → e ≡ range.end → contains range k ≡ true → key_cmp k e ≡ Less
-unended range e k q h = ap (key_cmp k) q ∙ less (key_cmp k range.end) (and_parts (key_le range.begin k) (key_lt k range.end) h).1
+ties_itself : (k : List ℕ) → is_eq (key_cmp k k) ≡ true
+ties_itself k = ap is_eq (tied_itself nat_list_cmp_total k)
 
--- the first of the keys between the ends of a range lies in it
-pub first_inside : (range : KeyRange) (points : BTreeSet (List ℕ)) (b e : List ℕ) (keys rest : List (List ℕ)) (k : List ℕ) → b ≡ range.begin → e ≡ range.end → All (IsKeyInRange key_cmp (Included b) (Excluded e) points) keys
-    → keys ≡ k ∷ rest → (contains range k ≡ true) × (has key_cmp points k ≡ true)
-first_inside range points b e keys rest k p q all is =
-    let first = All-head (IsKeyInRange key_cmp (Included b) (Excluded e) points) k rest (subst (All (IsKeyInRange key_cmp (Included b) (Excluded e) points)) is all) in
-    (inside range b e k p q first.0.0 first.0.1, first.1)
+-- one that lies inside is found
+pub left_found : (range : KeyRange) (keys rest next : List (List ℕ)) (k : List ℕ) → rest ≡ k ∷ next → contains range k ≡ true → AreLeft range keys rest
+    → (key : List ℕ) × (contains range key ≡ true) × (has_key keys key ≡ true)
+left_found range keys rest next k e inside left =
+    (k, inside, left.known k (ap (λ ks. has_key ks k) e ∙ or_left (is_eq (key_cmp k k)) (has_key next k) (ties_itself k)))
+
+pub left_none : (range : KeyRange) (keys rest : List (List ℕ)) → rest ≡ [] → AreLeft range keys rest → (key : List ℕ) → contains range key ≡ true → has_key keys key ≡ true → ⊥
+left_none range keys rest e left = λ q i h. true≢false (sym (left.inside q i h) ∙ ap (λ ks. has_key ks q) e)
+
+-- of a point only the begin can be found
+pub point_found : (range : KeyRange) (keys : List (List ℕ)) (b : List ℕ) (found : Bool) → range ≡ point range.begin → b ≡ range.begin → found ≡ has_key keys b
+    → MatchBool found ((key : List ℕ) × (contains range key ≡ true) × (has_key keys key ≡ true)) ((key : List ℕ) → contains range key ≡ true → has_key keys key ≡ true → ⊥)
+point_found range keys b true is at e =
+    (range.begin, ap (λ r. contains r range.begin) is ∙ contains-point-is range.begin range.begin ∙ ties_itself range.begin, sym (e ∙ ap (has_key keys) at))
+point_found range keys b false is at e = λ q i h.
+    let same = tied_keys range.begin q (sym (contains-point-is range.begin q) ∙ sym (ap (λ r. contains r q) is) ∙ i) in
+    true≢false (sym h ∙ ap (has_key keys) (sym (at ∙ same)) ∙ sym e)

@@ -1,4 +1,5 @@
 pub mod Bytes
+pub mod Hashing
 pub mod Range
 pub mod Coverage
 pub mod RangeIndex

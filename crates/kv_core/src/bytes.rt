@@ -6,6 +6,8 @@ ghost use Rattle.std.specs.Cmp.{eq_by_cmp_equiv, partial_equiv_from_equiv, parti
 ghost use Rattle.std.specs.Cmp.Lexicographic.{nat_list_cmp_total};
 ghost use Rattle.kv_core.specs.Bytes.{key_cmp, key_lt, key_le, end_of_keys, next_key};
 
+use crate::words::order_of;
+use smallvec::SmallVec;
 use std::alloc::{AllocError, Global};
 use std::cmp::Ordering;
 use std::fmt;
@@ -14,13 +16,25 @@ use std::marker::Model;
 /// Where the keys end: every key comes before this byte string.
 const END_OF_KEYS: [u8; 1] = [0xff];
 
+/// How long a byte string may be that lies in the value itself.
+const INLINE_BYTES: usize = 24;
+
 /// A byte string: a key, a value, or an end of a range.
 ///
 /// Byte strings are ordered by their first byte that differs, and a prefix comes before what it
-/// begins. They keep the allocator of their bytes, so that their methods take none.
-#[derive(Debug, Drop)]
+/// begins. They keep the allocator of their bytes, so that their methods take none. Short ones,
+/// as most keys are, lie in the value itself, so that to make or copy one takes no memory.
+#[derive(Debug)]
 pub struct Bytes {
-    bytes: Vec<u8>,
+    bytes: SmallVec<u8, INLINE_BYTES>,
+}
+
+// Written out, so that no proof has to tell short from long ones where a byte string is dropped.
+impl Drop for Bytes {
+    fn drop(self) {
+        let Bytes { bytes } = self;
+        drop(bytes);
+    }
 }
 
 impl Model for Bytes {
@@ -35,7 +49,7 @@ impl PartialEq for Bytes {
     ghost laws = { partial_equiv_from_equiv (eq_by_cmp_equiv nat_list_cmp_total) };
 
     fn eq(&self, other: &Bytes) -> bool {
-        self.compare(other).is_eq()
+        self.as_slice() == other.as_slice()
     }
 }
 
@@ -90,7 +104,23 @@ impl Bytes {
     pub fn new(bytes: Vec<u8>) -> Bytes
         ensures { result ≡ bytes.items }
     {
-        Bytes { bytes }
+        if bytes.len() <= INLINE_BYTES {
+            // A copy in the value itself can't fail, and gives the allocation back.
+            if let Ok(short) = SmallVec::from_slice(*bytes.allocator(), bytes.as_slice()) {
+                return Bytes { bytes: short };
+            }
+        }
+        Bytes {
+            bytes: SmallVec::from_vec(bytes),
+        }
+    }
+
+    /// A copy of these bytes, which takes memory only where they are many.
+    pub fn from_slice(alloc: Global, bytes: &[u8]) -> Result<Bytes, AllocError>
+        ensures { IfOk result (λ copy. copy ≡ bytes.now) }
+    {
+        let bytes = SmallVec::from_slice(alloc, bytes)?;
+        Ok(Bytes { bytes })
     }
 
     /// The bytes, in order.
@@ -104,7 +134,7 @@ impl Bytes {
     pub fn compare(&self, other: &Bytes) -> Ordering
         ensures { result ≡ key_cmp self.now other.now }
     {
-        self.as_slice().cmp(other.as_slice())
+        order_of(self.as_slice(), other.as_slice())
     }
 
     /// Whether this byte string comes before another one.
@@ -139,8 +169,7 @@ impl Bytes {
     pub fn copy(&self) -> Result<Bytes, AllocError>
         ensures { IfOk result (λ copy. copy ≡ self.now) }
     {
-        let bytes = self.bytes.clone()?;
-        Ok(Bytes::new(bytes))
+        Bytes::from_slice(self.allocator(), self.as_slice())
     }
 
     /// The first byte string after this one, which is this one followed by a zero byte, unless
@@ -148,9 +177,11 @@ impl Bytes {
     pub fn next(&self) -> Result<Bytes, AllocError>
         ensures { IfOk result (λ next. next ≡ next_key self.now) }
     {
-        let mut bytes = self.bytes.clone()?;
+        let own = self.as_slice();
+        let mut bytes = SmallVec::with_capacity(self.allocator(), own.len() + 1)?;
+        bytes.extend_from_slice(own)?;
         bytes.push(0)?;
-        Ok(Bytes::new(bytes))
+        Ok(Bytes { bytes })
     }
 
     /// The allocator of the bytes.

@@ -6,6 +6,7 @@ mod addition;
 mod bytes;
 mod change;
 mod coverage;
+mod hashing;
 mod kv_map;
 mod laws;
 mod limits;
@@ -15,6 +16,7 @@ mod range_index;
 mod range_list;
 mod removal;
 mod size;
+mod words;
 
 pub use addition::add_le;
 pub use bytes::Bytes;

@@ -170,7 +170,10 @@ impl KeyRange {
         ensures { result ≡ range_cmp self.now other.now }
     {
         let by_begin = self.begin.compare(&other.begin);
-        by_begin.then(self.end.compare(&other.end))
+        if by_begin.is_ne() {
+            return by_begin;
+        }
+        self.end.compare(&other.end)
     }
 
     /// Whether the range has its begin alone: whether it is the point of a key.
@@ -217,7 +220,7 @@ impl KeyRange {
     pub fn is_same(&self, other: &KeyRange) -> bool
         ensures { result ≡ is_same_range self.now other.now }
     {
-        self.begin.compare(&other.begin).is_eq() && self.end.compare(&other.end).is_eq()
+        self.begin == other.begin && self.end == other.end
     }
 
     /// An equal range, unless memory runs out.

@@ -1,8 +1,7 @@
 // The search index beside a list of ranges. Used by `range_list`.
 ghost use Rattle.std.specs.Prelude.{◌≡◌, [], List, ℕ, IsTrue, IfOk, OnOk, OnErr, MatchBool};
-ghost use Rattle.std.specs.BTreeSet.{contains as has};
 ghost use Rattle.std.specs.List.{list_any};
-ghost use Rattle.kv_core.specs.Bytes.{key_cmp};
+ghost use Rattle.kv_core.specs.Bytes.{has_key};
 ghost use Rattle.kv_core.specs.Range.{KeyRange as Range, any_meets, contains, is_same_range, point};
 ghost use Rattle.kv_core.specs.RangeIndex.{IsIndexOf, IsKept, IsMore};
 
@@ -10,31 +9,36 @@ use crate::bytes::Bytes;
 use crate::coverage::Coverage;
 use crate::range::KeyRange;
 use std::alloc::{AllocError, Global};
-use std::collections::BTreeSet;
+use std::collections::{BTreeSet, HashSet};
 
 /// What is known of a list of ranges: the keys whose points are in it, its other ranges in their
 /// order, and the keys that these cover.
 ///
-/// Most ranges that a transaction reads are points, which are looked for by their key alone.
+/// Most ranges that a transaction reads are points, which are noted and looked for by their key's
+/// hash alone. So to ask which keys lie in another range takes going over the points.
 #[derive(Debug, Drop)]
 pub(crate) struct RangeIndex {
-    points: BTreeSet<Bytes>,
+    points: HashSet<Bytes>,
     known: BTreeSet<KeyRange>,
     coverage: Coverage,
 }
 
 /// Whether one of the keys lies in the range.
-fn has_between(points: &BTreeSet<Bytes>, range: &KeyRange) -> bool
+fn has_between(points: &HashSet<Bytes>, range: &KeyRange) -> bool
     ensures { MatchBool result
-        ((key : List ℕ) × IsTrue (contains range.now key) × IsTrue (has key_cmp points.now key))
+        ((key : List ℕ) × IsTrue (contains range.now key) × IsTrue (has_key points.now.keys key))
         ((key : List ℕ) → IsTrue (contains range.now key)
-        → IsTrue (has key_cmp points.now key) → ⊥) }
+        → IsTrue (has_key points.now.keys key) → ⊥) }
 {
-    let mut between = points.range(range.begin()..range.end());
-    match between.next() {
-        Some(_) => true,
-        None => false,
+    if range.is_point() {
+        return points.contains(range.begin());
     }
+    for key in points {
+        if range.contains(key) {
+            return true;
+        }
+    }
+    false
 }
 
 impl RangeIndex {
@@ -43,7 +47,7 @@ impl RangeIndex {
         ensures { IsIndexOf result [] }
     {
         RangeIndex {
-            points: BTreeSet::new(alloc),
+            points: HashSet::new(alloc),
             known: BTreeSet::new(alloc),
             coverage: Coverage::new(alloc),
         }

@@ -11,8 +11,9 @@ use std::marker::Model;
 
 /// Ranges of keys, in the order in which they were added.
 ///
-/// Beside the list stands what is known of its ranges, so that to add a range, or to ask for one or
-/// for its keys, takes time that grows as the logarithm of the list.
+/// Beside the list stands what is known of its ranges, so that to add a range or to ask for one
+/// takes time that grows as the logarithm of the list at most, and to ask for the keys of a range
+/// that has more than one goes over the points at most.
 #[derive(Debug, Drop)]
 pub struct RangeList {
     ranges: Vec<KeyRange>,

@@ -7,7 +7,7 @@ use Rattle.tuple_codec.specs.Elements.{item_in, items_in}
 use Rattle.tuple_codec.specs.declared.Element.{Element}
 use Rattle.metadata.specs.declared.cells.Cell.{Cell}
 use Rattle.tuple_codec.specs.Spelling.{item_spelling, outer, spelling}
-use Rattle.metadata.specs.Cell.{IsCell, cell_at, cells_at, item_of, items_of}
+use Rattle.metadata.specs.Cell.{IsCell, item_of, items_of}
 
 -- the elements pushed so far are the items of the cells so far
 pub elements_more : (es fs : List Element) (e : Element) (cells : List Cell) (i : ℕ) (cell : Cell) (before : List Item)
@@ -25,28 +25,17 @@ pub cells_more : (cells : List Cell) (i : ℕ) (cell : Cell)
 cells_more cells i cell within is known so_far = All-more IsCell cells i cell within so_far (subst IsCell is known)
 
 -- the spelling of items and one more
-spelling_more : (items : List Item) (item : Item) → spelling (items ++ item ∷ []) ≡ spelling items ++ item_spelling outer item
+pub spelling_more : (items : List Item) (item : Item) → spelling (items ++ item ∷ []) ≡ spelling items ++ item_spelling outer item
 spelling_more [] item = append-nil (item_spelling outer item)
 spelling_more (one ∷ items) item =
     ap (λ bytes. item_spelling outer one ++ bytes) (spelling_more items item) ∙ sym (append_assoc (item_spelling outer one) (spelling items) (item_spelling outer item))
 
 -- the bytes packed so far are the spelling of the cells so far
-pub packed_more : (out more : List ℕ) (e : Element) (cells : List Cell) (i : ℕ) (cell : Cell) (before : List ℕ)
-    → i < length cells → cell ≡ get_or cells i cell → item_in e ≡ item_of cell → more ≡ out ++ item_spelling outer (item_in e)
+pub packed_more : (out more : List ℕ) (cells : List Cell) (i : ℕ) (cell : Cell) (before : List ℕ)
+    → i < length cells → cell ≡ get_or cells i cell → more ≡ out ++ item_spelling outer (item_of cell)
     → out ≡ before ++ spelling (items_of (take i cells)) → more ≡ before ++ spelling (items_of (take (i + 1) cells))
-packed_more out more e cells i cell before within is same packed so_far =
+packed_more out more cells i cell before within is packed so_far =
     let one = map_more item_of cells i cell within in
     let spelled = spelling_more (items_of (take i cells)) (item_of cell) in
     let grouped = append_assoc before (spelling (items_of (take i cells))) (item_spelling outer (item_of cell)) in
-    cc
-
--- the bytes packed so far are the spelling of the cells at the places so far
-pub packed_at_more : (out more : List ℕ) (cells : List Cell) (places : List ℕ) (i place : ℕ) (before : List ℕ)
-    → i < length places → place ≡ get_or places i 0 → more ≡ out ++ item_spelling outer (item_of (cell_at cells place))
-    → out ≡ before ++ spelling (items_of (cells_at cells (take i places))) → more ≡ before ++ spelling (items_of (cells_at cells (take (i + 1) places)))
-packed_at_more out more cells places i place before within is packed so_far =
-    let one = map_more (cell_at cells) places i 0 within in
-    let spread = map_push item_of (cells_at cells (take i places)) (cell_at cells (get_or places i 0)) in
-    let spelled = spelling_more (items_of (cells_at cells (take i places))) (item_of (cell_at cells place)) in
-    let grouped = append_assoc before (spelling (items_of (cells_at cells (take i places)))) (item_spelling outer (item_of (cell_at cells place))) in
     cc

@@ -1,5 +1,6 @@
 pub mod CellItems
 pub mod StoredCells
+pub mod Unpacks
 pub mod StoredOnce
 pub mod StoredApart
 pub mod ToldForm
@@ -11,6 +12,7 @@ mod CellKinds
 mod CellSteps
 mod Examples
 mod Lists
+mod Strips
 mod MadeSchemas
 pub mod OneSchema
 mod ReadBack

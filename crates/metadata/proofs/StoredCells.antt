@@ -24,7 +24,7 @@ pub one_value : (value : List ℕ) (a b : List Cell) → AreStoredAs value a →
 one_value value a b first second = items_of-injective a b (one_tuple (items_of a) (items_of b) value (value_spells value a first) (value_spells value b second))
 
 -- a cell is that of its item alone
-cell_again : (one : Item) (cell : Cell) → IsItem one → cell_of one ≡ Some cell → (one ≡ item_of cell) × IsCell cell
+pub cell_again : (one : Item) (cell : Cell) → IsItem one → cell_of one ≡ Some cell → (one ≡ item_of cell) × IsCell cell
 cell_again item.null cell is found = let same : Null ≡ cell = cc in subst (λ c. (item.null ≡ item_of c) × IsCell c) same (refl, tt)
 cell_again (item.int value) cell is found = by_test (is_word value) refl found
   where

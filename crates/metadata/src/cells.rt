@@ -1,17 +1,23 @@
 // Cells, which are typed nullable values, with their kinds and packs. Used by most modules here and
 // by most crates above.
-ghost use Rattle.std.specs.Prelude.{◌≡◌, ◌++◌, List, All, IfOk, OnOk};
+ghost use Rattle.std.specs.Prelude.{◌≡◌, ◌++◌, List, All, IfOk, IfSome, MatchOption, OnOk};
+ghost use Rattle.std.specs.Option.{IfNone};
 ghost use Rattle.std.specs.List.{list_any};
 ghost use Rattle.tuple_codec.specs.Item.{AreBytes, IsTuple, nesting};
 ghost use Rattle.tuple_codec.specs.Elements.{item_in, items_in};
 ghost use Rattle.tuple_codec.specs.Spelling.{item_spelling, outer, spelling};
+ghost use Rattle.tuple_codec.specs.Subspace.{BeginsWith};
 ghost use Rattle.metadata.specs.Cell.{IsCell, all_fit, cell_at, cell_of, cells_at};
 ghost use Rattle.metadata.specs.Cell.{cells_of, fits, is_null, item_of, items_of};
+ghost use Rattle.metadata.specs.Stored.{AreStoredAs, IsOfNoCells};
 
 use crate::definition::Places;
 use std::alloc::{AllocError, Global};
 use std::marker::Model;
-use tuple_codec::{ByteString, Element, Text, Tuple, TupleInt, pack_element};
+use tuple_codec::{
+    ByteString, Element, Text, Tuple, TupleInt, pack_bytes, pack_int, pack_null, pack_text,
+    strip_bytes, strip_int, strip_null, strip_text, unpack_first,
+};
 
 /// What a field holds.
 #[derive(Clone, Copy, Debug, PartialEq, Eq, Drop)]
@@ -88,6 +94,36 @@ impl Cell {
                 let _ = value.as_str();
             }
             Cell::Bytes(value) => bytes_known(value.as_slice()),
+        }
+    }
+
+    /// Appends the pack of the cell, as it stands in the pack of the tuple of cells. Where memory is
+    /// wanting some of its bytes may stand there.
+    pub fn push_pack(&self, out: &mut Vec<u8>) -> Result<(), AllocError>
+        ensures packed { OnOk result (out.new.items
+            ≡ out.old.items ++ item_spelling outer (item_of self.now)) }
+        ensures cell { IsCell self.now }
+    {
+        self.known();
+        match self {
+            Cell::Null => pack_null(out),
+            Cell::Int(value) => pack_int(TupleInt::from(*value), out),
+            Cell::Text(value) => pack_text(value.as_str(), out),
+            Cell::Bytes(value) => pack_bytes(value.as_slice(), out),
+        }
+    }
+
+    /// What stands behind the pack of the cell, where the bytes begin with it.
+    pub fn strip_pack<'a>(&self, bytes: &'a [u8]) -> Option<&'a [u8]>
+        ensures { MatchOption result
+            (BeginsWith (item_spelling outer (item_of self.now)) bytes.now → ⊥)
+            (λ rest. bytes.now ≡ item_spelling outer (item_of self.now) ++ rest.now) }
+    {
+        match self {
+            Cell::Null => strip_null(bytes),
+            Cell::Int(value) => strip_int(TupleInt::from(*value), bytes),
+            Cell::Text(value) => strip_text(value.as_str(), bytes),
+            Cell::Bytes(value) => strip_bytes(value.as_slice(), bytes),
         }
     }
 
@@ -217,26 +253,32 @@ impl Cells {
         found
     }
 
-    // Appends the pack of the cell at this place, null past the end.
-    fn pack_cell_at(&self, place: usize, out: &mut Vec<u8>) -> Result<(), AllocError>
-        ensures { OnOk result (out.new.items
-            ≡ out.old.items ++ item_spelling outer (item_of (cell_at self.now place))) }
+    // What stands behind the pack of the cell at this place, null past the end.
+    fn strip_cell_at<'a>(&self, place: usize, bytes: &'a [u8]) -> Option<&'a [u8]>
+        ensures { MatchOption result
+            (BeginsWith (item_spelling outer (item_of (cell_at self.now place))) bytes.now → ⊥)
+            (λ rest. bytes.now ≡ item_spelling outer (item_of (cell_at self.now place)) ++ rest.now) }
     {
         match self.cells.get(place) {
-            Some(cell) => pack_element(&cell.element()?, out),
-            None => pack_element(&Element::Null, out),
+            Some(cell) => cell.strip_pack(bytes),
+            None => strip_null(bytes),
         }
     }
 
-    // Appends the pack of the tuple of the cells at these places.
-    pub(crate) fn pack_at(&self, places: &Places, out: &mut Vec<u8>) -> Result<(), AllocError>
-        ensures { OnOk result (out.new.items
-            ≡ out.old.items ++ spelling (items_of (cells_at self.now places.now))) }
+    // What stands behind the pack of the tuple of the cells at these places.
+    pub(crate) fn strip_at<'a>(&self, places: &Places, bytes: &'a [u8]) -> Option<&'a [u8]>
+        ensures { MatchOption result
+            (BeginsWith (spelling (items_of (cells_at self.now places.now))) bytes.now → ⊥)
+            (λ rest. bytes.now ≡ spelling (items_of (cells_at self.now places.now)) ++ rest.now) }
     {
+        let mut rest = bytes;
         for place in places.as_slice() {
-            self.pack_cell_at(*place, out)?;
+            match self.strip_cell_at(*place, rest) {
+                Some(behind) => rest = behind,
+                None => return None,
+            }
         }
-        Ok(())
+        Some(rest)
     }
 
     /// The cells at these places, null past the end.
@@ -280,7 +322,7 @@ impl Cells {
         ensures cells { OnOk result (All IsCell self.now) }
     {
         for cell in &self.cells {
-            pack_element(&cell.element()?, out)?;
+            cell.push_pack(out)?;
         }
         Ok(())
     }
@@ -294,6 +336,38 @@ impl Cells {
         let mut elements = Vec::with_capacity(alloc, self.cells.len())?;
         self.push_elements(&mut elements)?;
         Ok(flat_tuple(elements))
+    }
+
+    /// The cells whose pack these bytes are, or None where they are that of no cells.
+    pub fn unpack(alloc: Global, bytes: &[u8]) -> Result<Option<Cells>, AllocError>
+        ensures found { IfOk result (λ found. IfSome found (AreStoredAs bytes.now)) }
+        ensures none { IfOk result (λ found. IfNone found (IsOfNoCells bytes.now)) }
+    {
+        Cells::unpack_about(alloc, 0, bytes)
+    }
+
+    // The same, where about so many cells are expected.
+    pub(crate) fn unpack_about(
+        alloc: Global,
+        count: usize,
+        bytes: &[u8],
+    ) -> Result<Option<Cells>, AllocError>
+        ensures found { IfOk result (λ found. IfSome found (AreStoredAs bytes.now)) }
+        ensures none { IfOk result (λ found. IfNone found (IsOfNoCells bytes.now)) }
+    {
+        let mut found = Vec::with_capacity(alloc, count)?;
+        let mut rest = bytes;
+        while !rest.is_empty() {
+            let Some((element, behind)) = unpack_first(alloc, rest)? else {
+                return Ok(None);
+            };
+            let Some(cell) = cell_in(element) else {
+                return Ok(None);
+            };
+            found.push(cell)?;
+            rest = behind;
+        }
+        Ok(Some(Cells { cells: found }))
     }
 
     /// The cells that a tuple is. None where an item isn't a cell: nested, a truth value, a UUID, a

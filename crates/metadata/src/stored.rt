@@ -4,7 +4,7 @@ ghost use Rattle.std.specs.Option.{IfNone};
 ghost use Rattle.tuple_codec.specs.Spelling.{spelling};
 ghost use Rattle.metadata.specs.Cell.{cells_at};
 ghost use Rattle.metadata.specs.Record.{Record as RecordValue, key_items, primary_key};
-ghost use Rattle.metadata.specs.Stored.{AreStoredAs, IsOfNoCells, IsOfNoRecord, IsStoredAs, IsTypeOf};
+ghost use Rattle.metadata.specs.Stored.{IsOfNoRecord, IsStoredAs, IsTypeOf};
 ghost use Rattle.metadata.specs.Lawful.{IsLawfulSchema};
 ghost use Rattle.metadata.specs.Records.{IsStorable};
 ghost use Rattle.metadata.specs.Schema.{Schema as SchemaValue, find_type};
@@ -15,36 +15,21 @@ use crate::definition::TypeDefinition;
 use crate::record::{Record, check_in};
 use std::alloc::{AllocError, Global};
 use std::rc::Rc;
-use tuple_codec::{Element, TupleInt, UnpackFailure, pack_element, unpack};
-
-// The cells whose pack these bytes are.
-fn cells_in(alloc: Global, value: &[u8]) -> Result<Option<Cells>, AllocError>
-    ensures found { IfOk result (λ found. IfSome found (AreStoredAs value.now)) }
-    ensures none { IfOk result (λ found. IfNone found (IsOfNoCells value.now)) }
-{
-    match unpack(alloc, value) {
-        Ok(tuple) => Cells::from_tuple(alloc, tuple),
-        Err(UnpackFailure::Memory) => Err(AllocError),
-        Err(UnpackFailure::Refused(_)) => Ok(None),
-    }
-}
+use tuple_codec::{TupleInt, strip_int};
 
 // Whether these bytes are the pack of the primary key of the type's number and the cells of its
 // key.
-fn is_key(
-    alloc: Global,
-    definition: &TypeDefinition,
-    cells: &Cells,
-    key: &[u8],
-) -> Result<bool, AllocError>
+fn is_key(definition: &TypeDefinition, cells: &Cells, key: &[u8]) -> bool
     ensures { let items = key_items definition.now.number (cells_at cells.now definition.now.key) in
-        IfOk result (λ is. MatchBool is (key.now ≡ spelling items) (key.now ≡ spelling items → ⊥)) }
+        MatchBool result (key.now ≡ spelling items) (key.now ≡ spelling items → ⊥) }
 {
-    let number = Element::Int(TupleInt::from(definition.number));
-    let mut packed = Vec::with_capacity(alloc, key.len())?;
-    pack_element(&number, &mut packed)?;
-    cells.pack_at(&definition.key, &mut packed)?;
-    Ok(packed.as_slice() == key)
+    let Some(behind) = strip_int(TupleInt::from(definition.number), key) else {
+        return false;
+    };
+    match cells.strip_at(&definition.key, behind) {
+        Some(rest) => rest.is_empty(),
+        None => false,
+    }
 }
 
 impl TypeDefinition {
@@ -60,14 +45,15 @@ impl TypeDefinition {
             IsStoredAs self.now primary_key.now value.now (record { definition = self.now; cells = cells }))) }
         ensures none { IfOk result (λ found. IfNone found (IsOfNoRecord self.now primary_key.now value.now)) }
     {
-        let Some(cells) = cells_in(alloc, value)? else {
+        let fields = self.fields.as_slice().len();
+        let Some(cells) = Cells::unpack_about(alloc, fields, value)? else {
             return Ok(None);
         };
         match check_in(self, &cells) {
             Ok(()) => {}
             Err(_) => return Ok(None),
         }
-        if !is_key(alloc, self, &cells, primary_key)? {
+        if !is_key(self, &cells, primary_key) {
             return Ok(None);
         }
         Ok(Some(cells))

@@ -38,7 +38,16 @@ module _ (prefix : List ℕ) (t : TypeDefinition) where
   abbrev of_common : List (List Entry) → Wanted
   of_common ess = record { entries = first_entries ess; keys = in_key_order (λ k. k) (common (map keys_of ess)) }
 
+  -- the readings by entries and by their primary keys
+  own_map : (entries own : List Entry) (pairs : List Pair) → map (λ (e : Entry). record_reading prefix pairs t entries e.primary_key) own ≡ map (record_reading prefix pairs t entries) (keys_of own)
+  own_map entries [] pairs = refl
+  own_map entries (e ∷ own) pairs = ap (λ rs. record_reading prefix pairs t entries e.primary_key ∷ rs) (own_map entries own pairs)
+
   module _ {maps : ℕ → Map} where
+    pub own_found : {old new : CommitRequest} {rows : List Record} (entries own : List Entry) → HasFound maps (λ pairs. in_turn (map (λ (e : Entry). record_reading prefix pairs t entries e.primary_key) own)) rows old new → HasFound maps (λ pairs. in_turn (map (record_reading prefix pairs t entries) (keys_of own))) rows old new
+    own_found {rows = rows} entries own found =
+        found_as (λ pairs. in_turn (map (λ (e : Entry). record_reading prefix pairs t entries e.primary_key) own)) (λ pairs. in_turn (map (record_reading prefix pairs t entries) (keys_of own))) rows rows (λ pairs. ap in_turn (own_map entries own pairs)) refl found
+
     pub one_wanted : {old new : CommitRequest} (s : plan.IndexScan) (es : List Entry) → HasFound maps (λ pairs. entries_reading prefix pairs t s) es old new → HasFound maps (λ pairs. source_reading prefix pairs t (plan.one s)) (record { entries = es; keys = keys_of es }) old new
     one_wanted s es found = found_made (λ pairs. entries_reading prefix pairs t s) of_one es found
 
@@ -56,6 +65,10 @@ module _ (prefix : List ℕ) (t : TypeDefinition) where
         (subst (λ es. HasFound maps (λ pairs. in_turn (map (record_reading prefix pairs t es) keys)) rows mid new) is_entries two))
 
   module _ {maps : ℕ → Map} {refuses : KeyRange → ℕ → ReadError → Type 0} where
+    pub own_stopped : {old new : CommitRequest} {e : ExecError} (entries own : List Entry) → HasStopped maps refuses (λ pairs. in_turn (map (λ (x : Entry). record_reading prefix pairs t entries x.primary_key) own)) e old new → HasStopped maps refuses (λ pairs. in_turn (map (record_reading prefix pairs t entries) (keys_of own))) e old new
+    own_stopped entries own stop =
+        stopped_as (λ pairs. in_turn (map (λ (x : Entry). record_reading prefix pairs t entries x.primary_key) own)) (λ pairs. in_turn (map (record_reading prefix pairs t entries) (keys_of own))) (λ pairs. ap in_turn (own_map entries own pairs)) stop
+
     pub one_stopped : {old new : CommitRequest} {e : ExecError} (s : plan.IndexScan) → HasStopped maps refuses (λ pairs. entries_reading prefix pairs t s) e old new → HasStopped maps refuses (λ pairs. fetch_reading prefix pairs t (plan.one s)) e old new
     one_stopped s stop =
         stopped_first (λ pairs. source_reading prefix pairs t (plan.one s)) (λ w pairs. in_turn (map (record_reading prefix pairs t w.entries) w.keys)) (stopped_made (λ pairs. entries_reading prefix pairs t s) of_one stop)

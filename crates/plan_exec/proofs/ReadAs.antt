@@ -16,8 +16,9 @@ use Rattle.metadata.specs.declared.definition.TypeDefinition.{TypeDefinition}
 use Rattle.metadata.specs.declared.refusal.Refusal.{Refusal}
 use Rattle.metadata.specs.Cell.{IsCell, cells_of, items_of}
 use Rattle.metadata.specs.Record.{Record, primary_key, record_in}
-use Rattle.metadata.specs.Stored.{AreStoredAs, IsOfNoRecord, IsStoredAs}
-use Rattle.metadata.proofs.StoredCells.{cells_found}
+use Rattle.metadata.specs.Stored.{AreStoredAs, IsOfNoCells, IsOfNoRecord, IsStoredAs}
+use Rattle.metadata.proofs.CellItems.{cells_of-items_of}
+use Rattle.metadata.proofs.StoredCells.{cells_found, value_spells}
 use Rattle.metadata.proofs.StoredOnce.{made_is}
 use Rattle.record_store.specs.Layout.{place}
 use Rattle.record_store.proofs.Keys.{record_key_is}
@@ -46,13 +47,14 @@ spelled_so bytes cells are is = by (tuple_at bytes) (λ read ok. subst (Answers 
     by (Ok read) spells of = record { tuple = read.0; spelled = spells read refl; is = of }
     by (Err fault) spells of = cc
 
--- bytes that spell no tuple are no cells
-pub none_unpacked : (bytes : List ℕ) → AreBytes bytes → ((tuple : List Item) → Spells tuple bytes → ⊥) → None ≡ unpack bytes
-none_unpacked bytes are never = by (unpack bytes) refl
+-- the cells that are found by what is stored are those that are unpacked
+pub as_unpacked : (bytes : List ℕ) → AreBytes bytes → (found : Option (List Cell)) → IfSome found (AreStoredAs bytes) → IfNone found (IsOfNoCells bytes) → found ≡ unpack bytes
+as_unpacked bytes are (Some cells) stored none = sym (cells_of-items_of cells stored.cells) ∙ unpacked bytes (items_of cells) (value_spells bytes cells stored)
+as_unpacked bytes are None stored none = by (unpack bytes) refl
   where
     by : (o : Option (List Cell)) → unpack bytes ≡ o → None ≡ o
     by None is = refl
-    by (Some cells) is = let w = spelled_so bytes cells are is in absurd (never w.tuple w.spelled)
+    by (Some cells) is = let w = spelled_so bytes cells are is in absurd (none cells (cells_found bytes w.tuple (Some cells) w.spelled (sym w.is)))
 
 -- ---- pairs as records
 

@@ -1,13 +1,14 @@
 -- Readings one after the other, one more at a time.
 use Rattle.std.specs.Prelude.{◌≡◌, ℕ, suc, ◌+◌, ◌<◌, List, [], ◌∷◌, ◌++◌, length, take, drop, map, get_or, Result, Ok, Err, refl}
 use Rattle.std.specs.Result.{result_map_both}
-use Rattle.std.proofs.Common.{ap, sym, ◌∙◌, append_assoc, append-nil, arith}
+use Rattle.std.proofs.Common.{ap, subst, sym, ◌∙◌, append_assoc, append-nil, arith}
 use Rattle.std.proofs.Math.Seq.{take-suc}
 use Rattle.std.proofs.lemmas.List.{map-append, take-append-drop}
 use Rattle.kv_core.specs.Map.{Map}
 use Rattle.kv_core.specs.Range.{KeyRange}
 use Rattle.kv_core.specs.declared.change.CommitRequest.{CommitRequest}
 use Rattle.cluster_core.specs.declared.answers.ReadError.{ReadError}
+use Rattle.txn.proofs.Running.{ran_still}
 use Rattle.metadata.specs.Layout.{Pair}
 use Rattle.plan_exec.specs.Errors.{no_memory}
 use Rattle.plan_exec.specs.Executing.{HasFound, HasStopped}
@@ -87,6 +88,10 @@ module _ {X A : Type 0} (f : X → List Pair → Reading A) (xs : List X) where
         (found_then (firsts i) (λ before pairs. made_of (λ more. before ++ more) (in_turn (f x pairs ∷ []))) front (front ++ a ∷ []) one
         (found_made (λ pairs. in_turn (f x pairs ∷ [])) (λ more. front ++ more) (a ∷ [])
         (found_as (λ pairs. made_of (λ b. b ∷ []) (f x pairs)) (λ pairs. in_turn (f x pairs ∷ [])) (a ∷ []) (a ∷ []) (λ pairs. one_turn (f x pairs)) refl (found_made (f x) (λ b. b ∷ []) a two))))
+
+    -- FOUND: none yet
+    pub found_none : {old new : CommitRequest} (rows : List A) → rows ≡ [] → new ≡ old → HasFound maps (firsts 0) rows old new
+    found_none {old = old} {new = new} rows none same = subst (λ rs. HasFound maps (firsts 0) rs old new) (sym none) (record { added = []; ran = ran_still same (λ m. (refl, refl)) })
 
     -- FOUND: all
     pub found_all : {old new : CommitRequest} (front : List A) (n : ℕ) → take n xs ≡ xs → HasFound maps (firsts n) front old new → HasFound maps all_turns front old new

@@ -14,7 +14,6 @@ use metadata::{Cells, Record, TypeDefinition};
 use record_store::Store;
 use std::alloc::{AllocError, Global};
 use std::rc::Rc;
-use tuple_codec::{UnpackFailure, unpack};
 
 // Does nothing: its clause tells what the type knows of the numbers.
 fn bytes_known(bytes: &[u8])
@@ -86,9 +85,6 @@ pub(crate) fn cells_in(alloc: Global, bytes: &[u8]) -> Result<Option<Cells>, All
     ensures { IfOk result (λ found. found ≡ unpack bytes.now) }
 {
     bytes_known(bytes);
-    match unpack(alloc, bytes) {
-        Ok(tuple) => Cells::from_tuple(alloc, tuple),
-        Err(UnpackFailure::Memory) => Err(AllocError),
-        Err(UnpackFailure::Refused(_)) => Ok(None),
-    }
+    let found = Cells::unpack(alloc, bytes)?;
+    Ok(found)
 }

@@ -89,14 +89,13 @@ fn fetch_one<S: Snapshot>(
         tx.old tx.new) }
 {
     let entries = index_entries(store, definition, tx, db, scan)?;
-    let keys = keys_of(store.alloc(), entries.as_slice())?;
     let rows = fetch_records(
         store,
         definition,
         tx,
         db,
         entries.as_slice(),
-        keys.as_slice(),
+        entries.as_slice(),
     )?;
     Ok(rows)
 }

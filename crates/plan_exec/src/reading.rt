@@ -18,7 +18,7 @@ ghost use Rattle.plan_exec.specs.Reads.{scan_range, scan_reading};
 
 use crate::decoding::{record_in, records_in, shared};
 use crate::entries::{entries_in, entry_form};
-use crate::entry::Entry;
+use crate::entry::{Entry, PrimaryKeyed};
 use crate::error::ExecError;
 use crate::keys::{entries_key, record_key, records_key, records_place, scan_range};
 use kv_core::{Bytes, Pair};
@@ -174,25 +174,25 @@ fn fetch_record<S: Snapshot>(
 }
 
 // Reads the records with primary keys, which the entries have.
-pub(crate) fn fetch_records<S: Snapshot>(
+pub(crate) fn fetch_records<S: Snapshot, K: PrimaryKeyed>(
     store: &Store,
     definition: &TypeDefinition,
     tx: &mut Transaction,
     db: &S,
     entries: &[Entry],
-    primary_keys: &[Cells],
+    primary_keys: &[K],
 ) -> Result<Vec<Record>, ExecError>
     ensures found { IfOk result (λ rows. HasFound (S.map_at db.now) (λ pairs. in_turn
-        (map (record_reading store.now.prefix pairs definition.now entries.now) primary_keys.now)) rows.items
-        tx.old tx.new) }
+        (map (λ own. record_reading store.now.prefix pairs definition.now entries.now (K.key own)) primary_keys.now))
+        rows.items tx.old tx.new) }
     ensures stopped { IfErr result (λ error. HasStopped (S.map_at db.now) (S.may_refuse db.now) (λ pairs. in_turn
-        (map (record_reading store.now.prefix pairs definition.now entries.now) primary_keys.now)) error
-        tx.old tx.new) }
+        (map (λ own. record_reading store.now.prefix pairs definition.now entries.now (K.key own)) primary_keys.now))
+        error tx.old tx.new) }
 {
     let front = records_place(store)?;
     let shared = shared(store.alloc(), definition)?;
     let mut rows = Vec::new(store.alloc());
-    for primary_key in primary_keys {
+    for keyed in primary_keys {
         let found = fetch_record(
             store,
             front.as_slice(),
@@ -200,7 +200,7 @@ pub(crate) fn fetch_records<S: Snapshot>(
             tx,
             db,
             entries,
-            primary_key,
+            keyed.primary_key(),
         )?;
         rows.push(found)?;
     }

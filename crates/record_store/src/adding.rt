@@ -18,7 +18,7 @@ use crate::error::StoreError;
 use crate::indexes::with_state;
 use crate::layout::{place, state_key, state_value, type_range};
 use crate::scan::records_in;
-use crate::store::Store;
+use crate::store::{Store, shared_schema};
 use kv_core::Mutation;
 use metadata::{IndexRequest, MetadataError, Record, Schema, State, TypeDefinition};
 use std::alloc::{AllocError, Global};
@@ -133,8 +133,9 @@ impl Store {
         let state = self.new_state(tx, db, definition)?;
         let mutations = self.addition(&next, index.number, state)?;
         let states = listed_as(self.alloc(), self.states.as_slice(), index.number, state)?;
+        let shared = shared_schema(self.alloc(), next)?;
         tx.write_all(mutations)?;
-        self.schema = next;
+        self.schema = shared;
         self.states = states;
         Ok(state)
     }

@@ -9,7 +9,7 @@ ghost use Rattle.record_store.specs.Reading.{IsThere};
 use crate::error::StoreError;
 use crate::layout::schema_key;
 use crate::opening::{read_schema, read_states};
-use crate::store::Store;
+use crate::store::{Store, shared_schema};
 use kv_core::{Bytes, Mutation};
 use metadata::Schema;
 use std::alloc::{AllocError, Global};
@@ -67,7 +67,8 @@ impl Store {
         let _states = read_states(alloc, prefix, tx, db)?;
         refuse_store(&written)?;
         let own_prefix = Vec::from_slice(alloc, prefix)?;
-        let own_schema = schema.copy()?;
+        let copy = schema.copy()?;
+        let own_schema = shared_schema(alloc, copy)?;
         let mutations = schema_mutations(alloc, prefix, schema)?;
         tx.write_all(mutations)?;
         Ok(Store {

@@ -21,7 +21,7 @@ ghost use Rattle.record_store.specs.Calls.{index_states, opened_without, state_n
 use crate::create::schema_mutations;
 use crate::error::StoreError;
 use crate::layout::{built_range, entries_range, state_key};
-use crate::store::Store;
+use crate::store::{Store, shared_schema};
 use kv_core::{KeyRange, Mutation};
 use metadata::{MetadataError, Refusal, Schema, State};
 use std::alloc::{AllocError, Global};
@@ -177,8 +177,9 @@ impl Store {
         let number = self.index_number(name)?;
         let next = self.schema_without(name, number)?;
         let mutations = self.drop_mutations(&next, number)?;
+        let shared = shared_schema(self.alloc(), next)?;
         tx.write_all(mutations)?;
-        self.schema = next;
+        self.schema = shared;
         self.states.retain(|listed| listed.0 != number);
         Ok(())
     }

@@ -11,6 +11,7 @@ mod create;
 mod error;
 mod following;
 mod indexes;
+mod known;
 mod layout;
 mod load;
 mod marks;
@@ -24,5 +25,6 @@ mod store;
 mod types;
 
 pub use error::StoreError;
+pub use known::KnownSchema;
 pub use scan::Records;
 pub use store::Store;

@@ -5,20 +5,20 @@ ghost use Rattle.std.specs.FinMap.{get as value_at};
 ghost use Rattle.kv_core.specs.Bytes.{end_of_keys, key_lt};
 ghost use Rattle.kv_core.specs.Map.{pairs_in};
 ghost use Rattle.kv_core.specs.Range.{point};
-ghost use Rattle.metadata.specs.Lawful.{IsLawfulSchema};
-ghost use Rattle.metadata.specs.Written.{schema_bytes};
 ghost use Rattle.record_store.specs.Layout.{schema_key, state_pair, states_range};
 ghost use Rattle.record_store.specs.Opening.{IsOpened, IsUnopened};
-ghost use Rattle.record_store.specs.Reading.{AreStates, HasNotRead, HaveNoStates, IsBadSchema, IsNoSchema};
+ghost use Rattle.record_store.specs.Reading.{AreStates, HasNotRead, HaveNoStates, IsNoSchema};
 ghost use Rattle.record_store.specs.Reading.{IsNoState, IsPairOfState, IsSchema, same_pair, state_told};
 ghost use Rattle.record_store.specs.Steps.{DidRead};
 
 use crate::error::StoreError;
+use crate::known::KnownSchema;
 use crate::layout::{schema_key, state_key, state_value, states_range};
 use crate::store::Store;
 use kv_core::{Bytes, Pair};
-use metadata::{IndexDefinition, MetadataError, Schema, State};
+use metadata::{IndexDefinition, Schema, State};
 use std::alloc::{AllocError, Global};
+use std::rc::Rc;
 use txn::{Snapshot, Transaction};
 
 // Reads the pair of the schema.
@@ -58,29 +58,20 @@ pub(crate) fn read_states<S: Snapshot>(
     Ok(states)
 }
 
-// The schema of these bytes.
-fn decode_schema(alloc: Global, prefix: &[u8], bytes: &Bytes) -> Result<Schema, StoreError>
-    requires { IsTrue (key_lt prefix.now end_of_keys) }
-    ensures made { IfOk result IsLawfulSchema }
-    ensures bytes { IfOk result (λ schema. bytes.now ≡ schema_bytes schema) }
-    ensures refused { IfErr result (IsBadSchema prefix.now bytes.now) }
-{
-    match Schema::decode(alloc, bytes.as_slice()) {
-        Ok(schema) => Ok(schema),
-        Err(MetadataError::Memory) => Err(StoreError::Memory),
-        Err(MetadataError::Refused(_)) => Err(StoreError::Corrupt(schema_key(alloc, prefix)?)),
-    }
-}
-
 // The schema that was read.
-fn schema_found(alloc: Global, prefix: &[u8], written: Option<Bytes>) -> Result<Schema, StoreError>
+fn schema_found(
+    alloc: Global,
+    prefix: &[u8],
+    known: &mut KnownSchema,
+    written: Option<Bytes>,
+) -> Result<Rc<Schema>, StoreError>
     requires { IsTrue (key_lt prefix.now end_of_keys) }
-    ensures found { IfOk result (IsSchema written) }
+    ensures found { IfOk result (λ schema. IsSchema written schema.value) }
     ensures refused { IfErr result (IsNoSchema prefix.now written) }
 {
     match written {
         None => Err(StoreError::NoStore),
-        Some(bytes) => decode_schema(alloc, prefix, &bytes),
+        Some(bytes) => known.schema_of(alloc, prefix, bytes),
     }
 }
 
@@ -181,9 +172,28 @@ impl Store {
         ensures refused { IfErr result (λ error.
             IsUnopened (S.map_at db.now) (S.may_refuse db.now) prefix.now error tx.old tx.new) }
     {
+        let mut known = KnownSchema::new();
+        Store::open_knowing(alloc, prefix, tx, db, &mut known)
+    }
+
+    /// The same, where a schema may be known that needn't be decoded again. The store's is known
+    /// then.
+    pub fn open_knowing<S: Snapshot>(
+        alloc: Global,
+        prefix: &[u8],
+        tx: &mut Transaction,
+        db: &S,
+        known: &mut KnownSchema,
+    ) -> Result<Store, StoreError>
+        requires { IsTrue (key_lt prefix.now end_of_keys) }
+        ensures opened { IfOk result (λ store. IsOpened (S.map_at db.now) store tx.old tx.new) }
+        ensures prefix { IfOk result (λ store. store.prefix ≡ prefix.now) }
+        ensures refused { IfErr result (λ error.
+            IsUnopened (S.map_at db.now) (S.may_refuse db.now) prefix.now error tx.old tx.new) }
+    {
         let written = read_schema(alloc, prefix, tx, db)?;
         let pairs = read_states(alloc, prefix, tx, db)?;
-        let schema = schema_found(alloc, prefix, written)?;
+        let schema = schema_found(alloc, prefix, known, written)?;
         let states = states_found(alloc, prefix, schema.indexes(), pairs.as_slice())?;
         let prefix = Vec::from_slice(alloc, prefix)?;
         Ok(Store {

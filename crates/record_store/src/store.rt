@@ -8,8 +8,9 @@ ghost use Rattle.record_store.specs.Steps.{unknown_type};
 
 use crate::error::StoreError;
 use metadata::{Refusal, Schema, State, TypeDefinition};
-use std::alloc::Global;
+use std::alloc::{AllocError, Global};
 use std::marker::Model;
+use std::rc::Rc;
 use tuple_codec::Text;
 
 /// A store that was opened in a transaction: the prefix of its keys, its schema, and the states of
@@ -19,7 +20,7 @@ use tuple_codec::Text;
 #[derive(Drop)]
 pub struct Store {
     pub(crate) prefix: Vec<u8>,
-    pub(crate) schema: Schema,
+    pub(crate) schema: Rc<Schema>,
     pub(crate) states: Vec<(u64, State)>,
 }
 
@@ -31,9 +32,17 @@ impl Model for Store {
 
     ghost Value = { Opened };
 
-    ghost view = { λ s. record { prefix = s.prefix.items; schema = s.schema; states = s.states.items } };
+    ghost view = { λ s. record { prefix = s.prefix.items; schema = s.schema.value; states = s.states.items } };
 
-    ghost invariant = { λ s. IsTrue (key_lt s.prefix.items end_of_keys) × IsLawfulSchema s.schema };
+    ghost invariant = { λ s. IsTrue (key_lt s.prefix.items end_of_keys) × IsLawfulSchema s.schema.value };
+}
+
+// The schema, to be shared.
+pub(crate) fn shared_schema(alloc: Global, schema: Schema) -> Result<Rc<Schema>, AllocError>
+    ensures { IfOk result (λ shared. shared.value ≡ schema) }
+{
+    let shared = Rc::new(alloc, schema)?;
+    Ok(shared)
 }
 
 impl Store {

@@ -10,7 +10,7 @@ ghost use Rattle.record_store.specs.Calls.{type_call};
 
 use crate::create::schema_mutations;
 use crate::error::StoreError;
-use crate::store::Store;
+use crate::store::{Store, shared_schema};
 use metadata::{MetadataError, Schema, TypeRequest};
 use txn::Transaction;
 
@@ -47,8 +47,9 @@ impl Store {
     {
         let next = self.with_type(request)?;
         let mutations = schema_mutations(self.alloc(), self.prefix(), &next)?;
+        let shared = shared_schema(self.alloc(), next)?;
         tx.write_all(mutations)?;
-        self.schema = next;
+        self.schema = shared;
         Ok(())
     }
 }

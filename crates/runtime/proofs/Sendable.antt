@@ -4,6 +4,7 @@ use denote.Param.Send.{IsSend, sendable, struct_send, recorded_send, view_send}
 use denote.Struct.Declared.{shape}
 use Rattle.std.proofs.Crossing.{crosses, Arc-send}
 use Rattle.std.proofs.alloc.Global.TheSendSync as heap
+use Rattle.kv_core.proofs.bytes.Bytes.TheSendSync as bytes
 use Rattle.kv_core.proofs.change.CommitRequest.TheSendSync as request
 use Rattle.cluster_core.proofs.answers.Splits.TheSendSync as splits
 use Rattle.cluster_core.proofs.kept.Cause.TheSendSync as cause
@@ -39,7 +40,7 @@ use Rattle.atomic_table.proofs.shared.Seat.TheSendSync as seat
 use Rattle.std.proofs.option.Option.TheSendSync as option
 
 segments_send : IsSend Segments.the_row
-segments_send = search (knot.crosses, sendable, crosses) depth 20
+segments_send = search (knot.crosses, bytes.the_send, sendable, crosses) depth 20
 
 writers_send : IsSend Writers.the_row
 writers_send = search (segments_send, sendable, crosses) depth 20

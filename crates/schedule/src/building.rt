@@ -9,7 +9,7 @@ use crate::commands::open;
 use crate::refusal::Refusal;
 use crate::reply::Reply;
 use online_builder::{Builder, Progress};
-use record_store::StoreError;
+use record_store::{KnownSchema, StoreError};
 use std::alloc::Global;
 use tuple_codec::Text;
 use txn::{Snapshot, Transaction};
@@ -29,6 +29,7 @@ pub(crate) fn build<S: Snapshot>(
     alloc: Global,
     tx: &mut Transaction,
     db: &S,
+    known: &mut KnownSchema,
     name: &Text,
     limit: u32,
 ) -> Result<Reply, StoreError>
@@ -41,7 +42,7 @@ pub(crate) fn build<S: Snapshot>(
     if limit == 0 {
         return Ok(Reply::Refused(Refusal::BadLimit));
     }
-    let store = open(alloc, tx, db)?;
+    let store = open(alloc, tx, db, known)?;
     let builder = Builder::new(name.copy()?, limit);
     let progress = builder.step(&store, tx, db)?;
     Ok(build_reply(progress))

@@ -6,13 +6,14 @@ ghost use Rattle.schedule.specs.Running.{IsPerformedBy, IsStepped, IsSteppedWith
 
 use crate::database::{Database, OpenTransaction, Unreported};
 use crate::kept_plans::KeptPlans;
-use crate::performing::perform;
+use crate::performing::perform_knowing;
 use crate::refusal::Refusal;
 use crate::reply::Reply;
 use crate::starting::laws_of;
 use crate::step::{CLIENTS, Command, Step};
 use crate::transcript::Commands;
 use cluster_core::{Cluster, SubmitError};
+use record_store::KnownSchema;
 use std::alloc::{AllocError, Global};
 use txn::Transaction;
 
@@ -30,10 +31,11 @@ impl OpenTransaction {
         alloc: Global,
         command: &Command,
         cluster: &Cluster,
+        known: &mut KnownSchema,
     ) -> Result<Reply, AllocError>
         ensures { IfOk result (λ reply. IsPerformedBy cluster.now command.now reply self.old self.new) }
     {
-        let reply = perform(alloc, command, &mut self.transaction, cluster)?;
+        let reply = perform_knowing(alloc, command, &mut self.transaction, cluster, known)?;
         if is_accepted(&reply) {
             let command = command.copy()?;
             self.commands.push(command)?;
@@ -67,6 +69,7 @@ impl Database {
         alloc: Global,
         client: u64,
         command: &Command,
+        known: &mut KnownSchema,
     ) -> Result<Reply, AllocError>
         ensures { IfOk result (λ reply. IsStepped (Step.Perform client command.now) reply self.old self.new) }
     {
@@ -76,7 +79,7 @@ impl Database {
         match &mut self.transactions[client as usize] {
             Some(transaction) => {
                 laws_of(&self.cluster);
-                let reply = transaction.perform(alloc, command, &self.cluster)?;
+                let reply = transaction.perform(alloc, command, &self.cluster, known)?;
                 Ok(reply)
             }
             None => Ok(Reply::Refused(Refusal::NoTransaction)),
@@ -102,6 +105,7 @@ impl Database {
         alloc: Global,
         kept: &KeptPlans,
         client: u64,
+        known: &mut KnownSchema,
     ) -> Result<Reply, AllocError>
         ensures { IfOk result (λ reply.
             IsSteppedWith kept.now.plans.items (Step.Execute client) reply self.old self.new) }
@@ -109,7 +113,7 @@ impl Database {
         match kept.plan_of(client) {
             Some(plan) => {
                 let command = Command::Execute(plan.copy()?);
-                let reply = self.perform(alloc, client, &command)?;
+                let reply = self.perform(alloc, client, &command, known)?;
                 Ok(reply)
             }
             None => Ok(self.without_plan(client)),

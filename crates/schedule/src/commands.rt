@@ -12,7 +12,7 @@ ghost use Rattle.schedule.specs.Calls.{IsRefused, removal_reply};
 
 use crate::reply::Reply;
 use metadata::{Cells, MetadataError, Record, Schema, SchemaRequest, TypeRequest};
-use record_store::{Store, StoreError};
+use record_store::{KnownSchema, Store, StoreError};
 use std::alloc::Global;
 use tuple_codec::Text;
 use txn::{Snapshot, Transaction};
@@ -25,13 +25,14 @@ pub(crate) fn open<S: Snapshot>(
     alloc: Global,
     tx: &mut Transaction,
     db: &S,
+    known: &mut KnownSchema,
 ) -> Result<Store, StoreError>
     ensures opened { IfOk result (λ store. IsOpened (S.map_at db.now) store tx.old tx.new) }
     ensures prefix { IfOk result (λ store. store.prefix ≡ store_prefix) }
     ensures refused { IfErr result (λ error.
         IsUnopened (S.map_at db.now) (S.may_refuse db.now) store_prefix error tx.old tx.new) }
 {
-    Store::open(alloc, &PREFIX, tx, db)
+    Store::open_knowing(alloc, &PREFIX, tx, db, known)
 }
 
 /// Makes a store of these types and indexes, where there is none.
@@ -57,6 +58,7 @@ pub(crate) fn add_type<S: Snapshot>(
     alloc: Global,
     tx: &mut Transaction,
     db: &S,
+    known: &mut KnownSchema,
     request: &TypeRequest,
 ) -> Result<Reply, StoreError>
     ensures performed { IfOk result (λ answer.
@@ -65,7 +67,7 @@ pub(crate) fn add_type<S: Snapshot>(
     ensures refused { IfErr result (λ error.
         IsRefused (S.map_at db.now) (S.may_refuse db.now) (Command.«Type» request.now) error tx.old tx.new) }
 {
-    let mut store = open(alloc, tx, db)?;
+    let mut store = open(alloc, tx, db, known)?;
     store.add_type(tx, request)?;
     Ok(Reply::Done)
 }
@@ -99,6 +101,7 @@ pub(crate) fn save<S: Snapshot>(
     alloc: Global,
     tx: &mut Transaction,
     db: &S,
+    known: &mut KnownSchema,
     type_name: &Text,
     cells: &Cells,
 ) -> Result<Reply, StoreError>
@@ -108,7 +111,7 @@ pub(crate) fn save<S: Snapshot>(
     ensures refused { IfErr result (λ error.
         IsRefused (S.map_at db.now) (S.may_refuse db.now) (Command.Save type_name.now cells.now) error tx.old tx.new) }
 {
-    let store = open(alloc, tx, db)?;
+    let store = open(alloc, tx, db, known)?;
     let new = record_asked(alloc, store.schema(), type_name, cells)?;
     let old = store.save(tx, db, &new)?;
     Ok(saved_reply(old))
@@ -129,6 +132,7 @@ pub(crate) fn load<S: Snapshot>(
     alloc: Global,
     tx: &mut Transaction,
     db: &S,
+    known: &mut KnownSchema,
     type_name: &Text,
     cells: &Cells,
 ) -> Result<Reply, StoreError>
@@ -138,7 +142,7 @@ pub(crate) fn load<S: Snapshot>(
     ensures refused { IfErr result (λ error.
         IsRefused (S.map_at db.now) (S.may_refuse db.now) (Command.Load type_name.now cells.now) error tx.old tx.new) }
 {
-    let store = open(alloc, tx, db)?;
+    let store = open(alloc, tx, db, known)?;
     let found = store.load(tx, db, type_name, cells)?;
     Ok(loaded_reply(found))
 }
@@ -159,6 +163,7 @@ pub(crate) fn remove<S: Snapshot>(
     alloc: Global,
     tx: &mut Transaction,
     db: &S,
+    known: &mut KnownSchema,
     type_name: &Text,
     cells: &Cells,
 ) -> Result<Reply, StoreError>
@@ -169,7 +174,7 @@ pub(crate) fn remove<S: Snapshot>(
         IsRefused (S.map_at db.now) (S.may_refuse db.now)
         (Command.Remove type_name.now cells.now) error tx.old tx.new) }
 {
-    let store = open(alloc, tx, db)?;
+    let store = open(alloc, tx, db, known)?;
     let was_there = store.remove(tx, db, type_name, cells)?;
     Ok(removed_reply(was_there))
 }

@@ -14,7 +14,7 @@ use metadata::Record;
 use plan_exec::{ExecError, plan_for_store};
 use planner::{Plan, PlanError};
 use query::Query;
-use record_store::{Records, Store, StoreError};
+use record_store::{KnownSchema, Records, Store, StoreError};
 use std::alloc::{AllocError, Global};
 use txn::{Snapshot, Transaction};
 
@@ -58,6 +58,7 @@ pub(crate) fn execute<S: Snapshot>(
     alloc: Global,
     tx: &mut Transaction,
     db: &S,
+    known: &mut KnownSchema,
     plan: &SharedPlan,
 ) -> Result<Reply, StoreError>
     ensures performed { IfOk result (λ answer.
@@ -68,7 +69,7 @@ pub(crate) fn execute<S: Snapshot>(
 {
     let plan = plan.plan();
     plan.query();
-    let store = open(alloc, tx, db)?;
+    let store = open(alloc, tx, db, known)?;
     let reply = execution(alloc, &store, tx, db, plan)?;
     Ok(reply)
 }
@@ -104,6 +105,7 @@ pub(crate) fn query<S: Snapshot>(
     alloc: Global,
     tx: &mut Transaction,
     db: &S,
+    known: &mut KnownSchema,
     asked: &AskedQuery,
 ) -> Result<Reply, StoreError>
     ensures performed { IfOk result (λ answer.
@@ -112,7 +114,7 @@ pub(crate) fn query<S: Snapshot>(
     ensures refused { IfErr result (λ error.
         IsRefused (S.map_at db.now) (S.may_refuse db.now) (Command.Query asked.now) error tx.old tx.new) }
 {
-    let store = open(alloc, tx, db)?;
+    let store = open(alloc, tx, db, known)?;
     let reply = query_reply(alloc, &store, tx, db, asked.query())?;
     Ok(reply)
 }

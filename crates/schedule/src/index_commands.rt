@@ -7,7 +7,7 @@ ghost use Rattle.schedule.specs.Performed.{IsPerformed};
 use crate::commands::open;
 use crate::reply::Reply;
 use metadata::{Cells, IndexRequest};
-use record_store::StoreError;
+use record_store::{KnownSchema, StoreError};
 use std::alloc::Global;
 use tuple_codec::Text;
 use txn::{Snapshot, Transaction};
@@ -17,6 +17,7 @@ pub(crate) fn add_index<S: Snapshot>(
     alloc: Global,
     tx: &mut Transaction,
     db: &S,
+    known: &mut KnownSchema,
     request: &IndexRequest,
 ) -> Result<Reply, StoreError>
     ensures performed { IfOk result (λ answer.
@@ -25,7 +26,7 @@ pub(crate) fn add_index<S: Snapshot>(
     ensures refused { IfErr result (λ error.
         IsRefused (S.map_at db.now) (S.may_refuse db.now) (Command.Index request.now) error tx.old tx.new) }
 {
-    let mut store = open(alloc, tx, db)?;
+    let mut store = open(alloc, tx, db, known)?;
     let state = store.add_index(tx, db, request)?;
     Ok(Reply::State(state))
 }
@@ -35,6 +36,7 @@ pub(crate) fn drop_index<S: Snapshot>(
     alloc: Global,
     tx: &mut Transaction,
     db: &S,
+    known: &mut KnownSchema,
     name: &Text,
 ) -> Result<Reply, StoreError>
     ensures performed { IfOk result (λ answer.
@@ -43,7 +45,7 @@ pub(crate) fn drop_index<S: Snapshot>(
     ensures refused { IfErr result (λ error.
         IsRefused (S.map_at db.now) (S.may_refuse db.now) (Command.Drop name.now) error tx.old tx.new) }
 {
-    let mut store = open(alloc, tx, db)?;
+    let mut store = open(alloc, tx, db, known)?;
     store.drop_index(tx, name)?;
     Ok(Reply::Done)
 }
@@ -53,6 +55,7 @@ pub(crate) fn disable_index<S: Snapshot>(
     alloc: Global,
     tx: &mut Transaction,
     db: &S,
+    known: &mut KnownSchema,
     name: &Text,
 ) -> Result<Reply, StoreError>
     ensures performed { IfOk result (λ answer.
@@ -61,7 +64,7 @@ pub(crate) fn disable_index<S: Snapshot>(
     ensures refused { IfErr result (λ error.
         IsRefused (S.map_at db.now) (S.may_refuse db.now) (Command.Disable name.now) error tx.old tx.new) }
 {
-    let mut store = open(alloc, tx, db)?;
+    let mut store = open(alloc, tx, db, known)?;
     store.mark_disabled(tx, name)?;
     Ok(Reply::Done)
 }
@@ -71,6 +74,7 @@ pub(crate) fn mark_write_only<S: Snapshot>(
     alloc: Global,
     tx: &mut Transaction,
     db: &S,
+    known: &mut KnownSchema,
     name: &Text,
 ) -> Result<Reply, StoreError>
     ensures performed { IfOk result (λ answer.
@@ -79,7 +83,7 @@ pub(crate) fn mark_write_only<S: Snapshot>(
     ensures refused { IfErr result (λ error.
         IsRefused (S.map_at db.now) (S.may_refuse db.now) (Command.WriteOnly name.now) error tx.old tx.new) }
 {
-    let mut store = open(alloc, tx, db)?;
+    let mut store = open(alloc, tx, db, known)?;
     store.mark_write_only(tx, name)?;
     Ok(Reply::Done)
 }
@@ -89,6 +93,7 @@ pub(crate) fn mark_readable<S: Snapshot>(
     alloc: Global,
     tx: &mut Transaction,
     db: &S,
+    known: &mut KnownSchema,
     name: &Text,
 ) -> Result<Reply, StoreError>
     ensures performed { IfOk result (λ answer.
@@ -97,7 +102,7 @@ pub(crate) fn mark_readable<S: Snapshot>(
     ensures refused { IfErr result (λ error.
         IsRefused (S.map_at db.now) (S.may_refuse db.now) (Command.Readable name.now) error tx.old tx.new) }
 {
-    let mut store = open(alloc, tx, db)?;
+    let mut store = open(alloc, tx, db, known)?;
     store.mark_readable(tx, db, name)?;
     Ok(Reply::Done)
 }
@@ -107,6 +112,7 @@ pub(crate) fn index_state<S: Snapshot>(
     alloc: Global,
     tx: &mut Transaction,
     db: &S,
+    known: &mut KnownSchema,
     name: &Text,
 ) -> Result<Reply, StoreError>
     ensures performed { IfOk result (λ answer.
@@ -115,7 +121,7 @@ pub(crate) fn index_state<S: Snapshot>(
     ensures refused { IfErr result (λ error.
         IsRefused (S.map_at db.now) (S.may_refuse db.now) (Command.State name.now) error tx.old tx.new) }
 {
-    let store = open(alloc, tx, db)?;
+    let store = open(alloc, tx, db, known)?;
     match store.state(name) {
         Ok(state) => Ok(Reply::State(state)),
         Err(refusal) => Err(StoreError::Refused(refusal)),
@@ -127,6 +133,7 @@ pub(crate) fn aggregate<S: Snapshot>(
     alloc: Global,
     tx: &mut Transaction,
     db: &S,
+    known: &mut KnownSchema,
     name: &Text,
     group: &Cells,
 ) -> Result<Reply, StoreError>
@@ -136,7 +143,7 @@ pub(crate) fn aggregate<S: Snapshot>(
     ensures refused { IfErr result (λ error.
         IsRefused (S.map_at db.now) (S.may_refuse db.now) (Command.Aggregate name.now group.now) error tx.old tx.new) }
 {
-    let store = open(alloc, tx, db)?;
+    let store = open(alloc, tx, db, known)?;
     let total = store.aggregate(tx, db, name, group)?;
     Ok(Reply::Total(total))
 }

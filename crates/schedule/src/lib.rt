@@ -29,7 +29,7 @@ mod transcript;
 
 pub use asked_query::AskedQuery;
 use cluster_core::Config;
-pub use performing::perform;
+pub use performing::{perform, perform_knowing};
 pub use refusal::Refusal;
 pub use reply::{Reply, Report, Reports, Rows};
 use running::start;

@@ -15,7 +15,7 @@ use crate::reply::Reply;
 use crate::step::Command;
 use cluster_core::ReadError;
 use kv_core::WriteError;
-use record_store::StoreError;
+use record_store::{KnownSchema, StoreError};
 use std::alloc::{AllocError, Global};
 use txn::{Snapshot, Transaction};
 
@@ -72,6 +72,7 @@ fn answer<S: Snapshot>(
     command: &Command,
     tx: &mut Transaction,
     db: &S,
+    known: &mut KnownSchema,
 ) -> Result<Reply, StoreError>
     ensures performed { IfOk result (λ answer.
         IsPerformed (S.map_at db.now) (λ range. S.may_refuse db.now range tx.old.read_version) command.now answer
@@ -81,21 +82,21 @@ fn answer<S: Snapshot>(
 {
     match command {
         Command::Create(request) => create(alloc, tx, db, request),
-        Command::Type(request) => add_type(alloc, tx, db, request),
-        Command::Save(type_name, cells) => save(alloc, tx, db, type_name, cells),
-        Command::Load(type_name, cells) => load(alloc, tx, db, type_name, cells),
-        Command::Remove(type_name, cells) => remove(alloc, tx, db, type_name, cells),
-        Command::Query(asked) => query(alloc, tx, db, asked),
-        Command::Plan(asked) => plan(alloc, tx, db, asked),
-        Command::Execute(plan) => execute(alloc, tx, db, plan),
-        Command::Index(request) => add_index(alloc, tx, db, request),
-        Command::Drop(name) => drop_index(alloc, tx, db, name),
-        Command::Disable(name) => disable_index(alloc, tx, db, name),
-        Command::WriteOnly(name) => mark_write_only(alloc, tx, db, name),
-        Command::Readable(name) => mark_readable(alloc, tx, db, name),
-        Command::Build(name, limit) => build(alloc, tx, db, name, *limit),
-        Command::State(name) => index_state(alloc, tx, db, name),
-        Command::Aggregate(name, group) => aggregate(alloc, tx, db, name, group),
+        Command::Type(request) => add_type(alloc, tx, db, known, request),
+        Command::Save(type_name, cells) => save(alloc, tx, db, known, type_name, cells),
+        Command::Load(type_name, cells) => load(alloc, tx, db, known, type_name, cells),
+        Command::Remove(type_name, cells) => remove(alloc, tx, db, known, type_name, cells),
+        Command::Query(asked) => query(alloc, tx, db, known, asked),
+        Command::Plan(asked) => plan(alloc, tx, db, known, asked),
+        Command::Execute(plan) => execute(alloc, tx, db, known, plan),
+        Command::Index(request) => add_index(alloc, tx, db, known, request),
+        Command::Drop(name) => drop_index(alloc, tx, db, known, name),
+        Command::Disable(name) => disable_index(alloc, tx, db, known, name),
+        Command::WriteOnly(name) => mark_write_only(alloc, tx, db, known, name),
+        Command::Readable(name) => mark_readable(alloc, tx, db, known, name),
+        Command::Build(name, limit) => build(alloc, tx, db, known, name, *limit),
+        Command::State(name) => index_state(alloc, tx, db, known, name),
+        Command::Aggregate(name, group) => aggregate(alloc, tx, db, known, name, group),
     }
 }
 
@@ -116,7 +117,25 @@ pub fn perform<S: Snapshot>(
         tx.old tx.new) }
     ensures stopped { OnErr result (IsStopped (S.map_at db.now) command.now tx.old tx.new) }
 {
-    match answer(alloc, command, tx, db) {
+    let mut known = KnownSchema::new();
+    perform_knowing(alloc, command, tx, db, &mut known)
+}
+
+/// The same, where the schema of the store may be known, which needn't be decoded again. It is known
+/// then.
+pub fn perform_knowing<S: Snapshot>(
+    alloc: Global,
+    command: &Command,
+    tx: &mut Transaction,
+    db: &S,
+    known: &mut KnownSchema,
+) -> Result<Reply, AllocError>
+    ensures performed { IfOk result (λ answer.
+        IsPerformed (S.map_at db.now) (λ range. S.may_refuse db.now range tx.old.read_version) command.now answer
+        tx.old tx.new) }
+    ensures stopped { OnErr result (IsStopped (S.map_at db.now) command.now tx.old tx.new) }
+{
+    match answer(alloc, command, tx, db, known) {
         Ok(reply) => Ok(reply),
         Err(error) => reply_of(error),
     }

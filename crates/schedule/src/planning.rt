@@ -13,7 +13,7 @@ use crate::reply::Reply;
 use crate::shared_plan::SharedPlan;
 use plan_exec::plan_for_store;
 use planner::PlanError;
-use record_store::{Store, StoreError};
+use record_store::{KnownSchema, Store, StoreError};
 use std::alloc::{AllocError, Global};
 use txn::{Snapshot, Transaction};
 
@@ -38,6 +38,7 @@ pub(crate) fn plan<S: Snapshot>(
     alloc: Global,
     tx: &mut Transaction,
     db: &S,
+    known: &mut KnownSchema,
     asked: &AskedQuery,
 ) -> Result<Reply, StoreError>
     ensures performed { IfOk result (λ answer.
@@ -46,7 +47,7 @@ pub(crate) fn plan<S: Snapshot>(
     ensures refused { IfErr result (λ error.
         IsRefused (S.map_at db.now) (S.may_refuse db.now) (Command.Plan asked.now) error tx.old tx.new) }
 {
-    let store = open(alloc, tx, db)?;
+    let store = open(alloc, tx, db, known)?;
     let reply = plan_reply(alloc, &store, asked)?;
     Ok(reply)
 }

@@ -12,18 +12,25 @@ use crate::reply::Reply;
 use crate::step::Step;
 use crate::transcript::ScheduleError;
 use cluster_core::{Config, ConfigError};
+use record_store::KnownSchema;
 use std::alloc::{AllocError, Global};
 
 impl Database {
     // Does one step.
-    fn step(&mut self, alloc: Global, kept: &KeptPlans, step: &Step) -> Result<Reply, AllocError>
+    fn step(
+        &mut self,
+        alloc: Global,
+        kept: &KeptPlans,
+        known: &mut KnownSchema,
+        step: &Step,
+    ) -> Result<Reply, AllocError>
         requires { (past : Past) × Stands past self.old }
         ensures { IfOk result (λ reply. IsSteppedWith kept.now.plans.items step.now reply self.old self.new) }
     {
         match step {
             Step::Begin(client) => Ok(self.begin(alloc, *client)),
-            Step::Perform(client, command) => self.perform(alloc, *client, command),
-            Step::Execute(client) => self.execute(alloc, kept, *client),
+            Step::Perform(client, command) => self.perform(alloc, *client, command, known),
+            Step::Execute(client) => self.execute(alloc, kept, *client, known),
             Step::Commit(client) => self.commit(*client),
             Step::Abandon(client) => Ok(self.abandon(*client)),
             Step::Resolve(resolver) => self.resolve(*resolver),
@@ -42,9 +49,10 @@ impl Database {
             (config : Configuration) → IsFirst config self.old → HasRun config steps.now replies.items self.new) }
     {
         let mut kept = KeptPlans::new(alloc)?;
+        let mut known = KnownSchema::new();
         let mut replies = Vec::new(alloc);
         for step in steps {
-            let reply = self.step(alloc, &kept, step)?;
+            let reply = self.step(alloc, &kept, &mut known, step)?;
             kept.keep(step, &reply)?;
             replies.push(reply)?;
         }

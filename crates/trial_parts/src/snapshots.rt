@@ -6,7 +6,7 @@ ghost use Rattle.cluster_core.specs.declared.answers.ReadError.TheVariants.{TooO
 ghost use Rattle.txn.specs.Refusing.{NeverRefuses};
 
 use cluster_core::ReadError;
-use kv_core::{KeyRange, KvMap, Pair};
+use kv_core::{Bytes, KeyRange, KvMap, Pair};
 use std::alloc::Global;
 use std::cell::Cell;
 use txn::Snapshot;
@@ -28,9 +28,14 @@ impl Counted {
         }
     }
 
-    /// How often it was read.
+    /// How often it was read, for pairs or for a value.
     pub fn reads(&self) -> u64 {
         self.reads.get()
+    }
+
+    // Counts a read.
+    fn count(&self) {
+        self.reads.set(self.reads.get().wrapping_add(1));
     }
 }
 
@@ -50,13 +55,22 @@ impl Snapshot for Counted {
         limit: usize,
         reverse: bool,
     ) -> Result<Vec<Pair>, ReadError> {
-        self.reads.set(self.reads.get().wrapping_add(1));
+        self.count();
         let pairs = self.map.range(range, limit, reverse)?;
         Ok(pairs)
     }
+
+    fn value(&self, key: &Bytes, _version: u64) -> Result<Option<Bytes>, ReadError> {
+        self.count();
+        match self.map.get(key) {
+            Some(value) => Ok(Some(value.copy()?)),
+            None => Ok(None),
+        }
+    }
 }
 
-/// One map that stands at each version. So many reads are answered, and the next one is refused.
+/// One map that stands at each version. So many reads, for pairs or for a value, are answered, and
+/// the next one is refused.
 #[derive(Drop)]
 pub struct Failing {
     map: KvMap,
@@ -81,6 +95,13 @@ impl Failing {
     pub fn left(&self) -> u64 {
         self.answered.get()
     }
+
+    // Counts a read, and tells whether it is the one to be refused.
+    fn refuses(&self) -> bool {
+        let answered = self.answered.get();
+        self.answered.set(answered.wrapping_sub(1));
+        answered == 0
+    }
 }
 
 impl Snapshot for Failing {
@@ -99,12 +120,20 @@ impl Snapshot for Failing {
         limit: usize,
         reverse: bool,
     ) -> Result<Vec<Pair>, ReadError> {
-        let answered = self.answered.get();
-        self.answered.set(answered.wrapping_sub(1));
-        if answered == 0 {
+        if self.refuses() {
             return Err(ReadError::TooOld);
         }
         let pairs = self.map.range(range, limit, reverse)?;
         Ok(pairs)
+    }
+
+    fn value(&self, key: &Bytes, _version: u64) -> Result<Option<Bytes>, ReadError> {
+        if self.refuses() {
+            return Err(ReadError::TooOld);
+        }
+        match self.map.get(key) {
+            Some(value) => Ok(Some(value.copy()?)),
+            None => Ok(None),
+        }
     }
 }

@@ -10,9 +10,12 @@ ghost use Rattle.tuple_codec.specs.Reading.{signed};
 
 mod keys;
 mod nest;
+mod number;
 mod order;
+mod plain;
 mod read;
 mod room;
+mod strip;
 mod unpacking;
 mod write;
 
@@ -20,12 +23,13 @@ pub use keys::{integers_do_not_begin_each_other, keys_are_tuples, prefixes_are_r
 pub use order::compare;
 use std::alloc::{AllocError, Global};
 use std::marker::Model;
+pub use strip::{strip_bytes, strip_int, strip_null, strip_text};
 use thiserror::Error;
 pub use unpacking::{
-    bytes_are_spelled_or_refused, packs_are_ordered, spellings_are_unique, unpack,
+    bytes_are_spelled_or_refused, packs_are_ordered, spellings_are_unique, unpack, unpack_first,
 };
 use uuid::Uuid;
-pub use write::{pack, pack_element, pack_into};
+pub use write::{pack, pack_bytes, pack_element, pack_int, pack_into, pack_null, pack_text};
 
 /// A whole number of magnitude at most `2^64 - 1`.
 #[derive(Clone, Copy, PartialEq, Eq)]

@@ -1,5 +1,5 @@
 -- The read ranges that are kept decide what was read.
-use Rattle.std.proofs.Common.{◌≡◌, ℕ, ◌≤◌, Bool, true, false, cond, ◌&&◌, List, [], ◌∷◌, ◌++◌, length, Option, sym, ap, subst, ◌∙◌, inl, inr}
+use Rattle.std.proofs.Common.{◌≡◌, ℕ, ◌≤◌, Bool, true, cond, ◌&&◌, List, [], ◌∷◌, ◌++◌, length, Option, sym, ap, subst, ◌∙◌, inl, inr}
 use Rattle.std.proofs.lemmas.Bool.{and_parts, or_cases, or_left, or_right, cases_Bool}
 use Rattle.std.proofs.lemmas.List.Folds.{list_any-append}
 use Rattle.std.specs.List.{list_any}
@@ -11,11 +11,11 @@ use Rattle.kv_core.specs.Map.{Map, Agree, after_all, value_after_all}
 use Rattle.kv_core.specs.declared.change.Mutation.{Mutation}
 use Rattle.txn.specs.declared.own.OwnWrites.{OwnWrites}
 use Rattle.txn.specs.Own.{IsUnder, state_of}
-use Rattle.kv_core.specs.Read.{read_of, range_read, first_value, last_key}
+use Rattle.kv_core.specs.Read.{read_of, range_read, last_key}
 use Rattle.kv_core.specs.declared.change.CommitRequest.{CommitRequest}
 use Rattle.kv_core.proofs.Order.{tied_keys, contains-point}
 use Rattle.kv_core.proofs.Changes.{same-after_all, get-after_all-value}
-use Rattle.kv_core.proofs.Pairs.{last_inside, read_of-same, first_value-point}
+use Rattle.kv_core.proofs.Pairs.{last_inside, read_of-same}
 use Rattle.txn.specs.Reads.{seen, has_read, Follow, PointDecides, RangeDecides}
 
 -- a range that equals one of the list is covered by it
@@ -47,23 +47,16 @@ range_decides tx range limit reversed m n some agree =
 
 -- what is seen at a key, from what the snapshot has there
 pub seen_at : (tx : CommitRequest) (base m : Map) (key : List ℕ) → Agree (has_read (point key) tx).reads base m →
-    value_after_all tx.mutations key (first_value (read_of base (point key) 1 false)) ≡ get (seen tx m) key
-seen_at tx base m key agree =
-    ap (value_after_all tx.mutations key) (first_value-point base key) ∙ sym (get-after_all-value tx.mutations base key) ∙ point_decides tx key base m agree
+    value_after_all tx.mutations key (get base key) ≡ get (seen tx m) key
+seen_at tx base m key agree = sym (get-after_all-value tx.mutations base key) ∙ point_decides tx key base m agree
 
 -- the value that a transaction answers, step by step, is what it sees over every map that agrees on the ranges kept
-pub get_answer : (maps : ℕ → Map) (request tx : CommitRequest) (key : List ℕ) (range : KeyRange) (found : List (List ℕ × List ℕ)) (only value : Option (List ℕ)) (kept : List KeyRange) →
-    request ≡ tx → range ≡ point key → found ≡ read_of (maps request.read_version) range 1 false → only ≡ first_value found →
-    value ≡ value_after_all request.mutations key only → kept ≡ with_range range request.reads →
+pub get_answer : (maps : ℕ → Map) (tx : CommitRequest) (key : List ℕ) (range : KeyRange) (stored value : Option (List ℕ)) (kept : List KeyRange) →
+    range ≡ point key → stored ≡ get (maps tx.read_version) key → value ≡ value_after_all tx.mutations key stored → kept ≡ with_range range tx.reads →
     (m : Map) → Agree kept (maps tx.read_version) m → value ≡ get (seen tx m) key
-get_answer maps request tx key range found only value kept same is_point is_found is_only is_value is_kept m agree =
-    let begin : only ≡ first_value (read_of (maps request.read_version) (point key) 1 false) =
-    is_only ∙ ap first_value (is_found ∙ ap (λ r. read_of (maps request.read_version) r 1 false) is_point) in
-    let kept' : kept ≡ with_range (point key) request.reads = is_kept ∙ ap (λ r. with_range r request.reads) is_point in
-    let agree' : Agree (with_range (point key) request.reads) (maps request.read_version) m =
-    subst (λ (t : CommitRequest). Agree (with_range (point key) request.reads) (maps t.read_version) m) (sym same) (subst (λ rs. Agree rs (maps tx.read_version) m) kept' agree) in
-    subst (λ (t : CommitRequest). value ≡ get (seen t m) key) same
-    (is_value ∙ ap (value_after_all request.mutations key) begin ∙ seen_at request (maps request.read_version) m key agree')
+get_answer maps tx key range stored value kept is_point is_stored is_value is_kept m agree =
+    is_value ∙ ap (value_after_all tx.mutations key) is_stored
+    ∙ seen_at tx (maps tx.read_version) m key (subst (λ rs. Agree rs (maps tx.read_version) m) (is_kept ∙ ap (λ r. with_range r tx.reads) is_point) agree)
 
 -- the pairs that a transaction answers, step by step, are those that it sees over every map that agrees on the ranges kept
 pub range_answer : (maps : ℕ → Map) (request tx : CommitRequest) (range read : KeyRange) (limit : ℕ) (b : Bool) (pairs : List (List ℕ × List ℕ)) (kept : List KeyRange) →

@@ -1,8 +1,10 @@
 // Snapshots: the trait of what a transaction reads from, met by storage servers and clusters.
 // Called by `read` and `transaction`; each call above that reads in a transaction is given one.
-ghost use Rattle.std.specs.Prelude.{◌≡◌, ◌⊎◌, ℕ, ◌≤◌, IfOk, IfErr, OnOk};
+ghost use Rattle.std.specs.Prelude.{◌≡◌, ◌⊎◌, ℕ, ◌≤◌, IfOk, IfErr, OnOk, IsTrue};
+ghost use Rattle.std.specs.FinMap.{get};
+ghost use Rattle.kv_core.specs.Bytes.{key_lt, end_of_keys};
 ghost use Rattle.kv_core.specs.Map.{Map};
-ghost use Rattle.kv_core.specs.Range.{KeyRange as Range};
+ghost use Rattle.kv_core.specs.Range.{KeyRange as Range, point};
 ghost use Rattle.kv_core.specs.Read.{read_of};
 ghost use Rattle.cluster_core.specs.Cluster.{database_at, tier_of};
 ghost use Rattle.cluster_core.specs.Tier.{whole_map};
@@ -12,7 +14,7 @@ ghost use Rattle.txn.specs.Narrowing.{cluster-narrows, tier-narrows};
 ghost use Rattle.txn.specs.Refusing.{MayRefuse, MustRefuse};
 
 use cluster_core::{Cluster, ReadError, Tier};
-use kv_core::{KeyRange, Pair};
+use kv_core::{Bytes, KeyRange, Pair};
 
 /// A database that can be read at versions.
 pub trait Snapshot {
@@ -45,6 +47,16 @@ pub trait Snapshot {
         ensures refused { IfErr result (λ error.
             (error ≡ ReadError.Memory) ⊎ may_refuse self.now range.now version error) };
 
+    /// The value at a key at the version, or None where there is none. Only the value is copied.
+    ///
+    /// It is refused as a read of the key's point is.
+    fn value(&self, key: &Bytes, version: u64) -> Result<Option<Bytes>, ReadError>
+        requires { IsTrue (key_lt key.now end_of_keys) }
+        ensures value { IfOk result (λ value. value ≡ get (map_at self.now version) key.now) }
+        ensures allowed { OnOk result (must_refuse self.now (point key.now) version → ⊥) }
+        ensures refused { IfErr result (λ error.
+            (error ≡ ReadError.Memory) ⊎ may_refuse self.now (point key.now) version error) };
+
     /// With what a part of a range may be refused the whole may be too, unless it always is.
     ghost narrows: { (snapshot : Self) (whole part : Range) (version : ℕ) (error : Refused) →
         IsPart part whole → may_refuse snapshot part version error →
@@ -70,6 +82,10 @@ impl Snapshot for Tier {
     ) -> Result<Vec<Pair>, ReadError> {
         Tier::read(self, range, version, limit, reverse)
     }
+
+    fn value(&self, key: &Bytes, version: u64) -> Result<Option<Bytes>, ReadError> {
+        Tier::value(self, key, version)
+    }
 }
 
 /// The database, read from its servers.
@@ -90,5 +106,9 @@ impl Snapshot for Cluster {
         reverse: bool,
     ) -> Result<Vec<Pair>, ReadError> {
         Cluster::read(self, range, version, limit, reverse)
+    }
+
+    fn value(&self, key: &Bytes, version: u64) -> Result<Option<Bytes>, ReadError> {
+        Cluster::value(self, key, version)
     }
 }

@@ -1,13 +1,13 @@
 // Transactions with optimistic concurrency control. Used by `range_set`, `record_store`,
 // `online_builder`, `plan_exec`, `schedule`, `runtime` and `embed`.
 ghost use Rattle.std.specs.Prelude.{◌≡◌, ◌⊎◌, ℕ, ◌≤◌, [], ◌∷◌, List, IfOk, IfErr};
-ghost use Rattle.std.specs.Prelude.{OnOk, OnErr, IsTrue, IsNone, Some, vec_len};
+ghost use Rattle.std.specs.Prelude.{OnOk, OnErr, IsTrue, IsNone, Some};
 ghost use Rattle.std.specs.FinMap.{get as value_at};
 ghost use Rattle.kv_core.specs.Bytes.{key_lt, end_of_keys};
 ghost use Rattle.kv_core.specs.Range.{point};
-ghost use Rattle.kv_core.specs.Map.{Map, Agree, pairs_in};
+ghost use Rattle.kv_core.specs.Map.{Map, Agree, pairs_in, value_after_all};
 ghost use Rattle.kv_core.specs.Limits.{write_refusal, write_all_refusal};
-ghost use Rattle.kv_core.specs.Read.{read_of, range_read, first_value};
+ghost use Rattle.kv_core.specs.Read.{read_of, range_read};
 ghost use Rattle.txn.specs.Reads.{seen, has_read, with_mutation, with_mutations};
 
 use crate::own::OwnWrites;
@@ -18,7 +18,7 @@ use kv_core::{
     Bytes, CommitRequest, KeyRange, MAX_TRANSACTION_BYTES, Mutation, Mutations, Pair, RangeList,
     WriteError, total_size,
 };
-use std::alloc::Global;
+use std::alloc::{AllocError, Global};
 use std::marker::Model;
 
 /// A transaction: the version of the database that it reads, the ranges that it read, and its
@@ -45,18 +45,6 @@ impl Model for Transaction {
     ghost invariant = { λ a. IsTransaction a.request a.size a.own };
 }
 
-/// The value of the only pair.
-fn only_value(found: Vec<Pair>) -> Option<Bytes>
-    requires { vec_len found ≤ 1 }
-    ensures { result ≡ first_value found.items }
-{
-    let mut found = found;
-    match found.pop() {
-        Some(pair) => Some(pair.1),
-        None => None,
-    }
-}
-
 impl Transaction {
     /// A transaction that reads at a version and has done nothing yet, which takes no memory.
     pub fn begin(alloc: Global, read_version: u64) -> Transaction
@@ -71,6 +59,23 @@ impl Transaction {
             size: 0,
             own: OwnWrites::new(alloc),
         }
+    }
+
+    /// The value at a key as the transaction sees it, where the snapshot has this value or none.
+    /// Nothing is added to the ranges read.
+    fn seen_value(
+        &mut self,
+        key: &Bytes,
+        stored: Option<Bytes>,
+    ) -> Result<Option<Bytes>, AllocError>
+        ensures value { IfOk result (λ value. value ≡ value_after_all self.old.mutations key.now stored) }
+        ensures kept { self.new ≡ self.old }
+    {
+        if self.request.mutations.is_empty() {
+            return Ok(stored);
+        }
+        self.own.catch_up(self.request.mutations.as_slice())?;
+        self.own.value(key, stored)
     }
 
     /// The value at a key, or None where there is none, as the transaction sees it. `Bytes::is_key`
@@ -90,10 +95,9 @@ impl Transaction {
         ensures refused { IfErr result (λ error.
             (error ≡ ReadError.Memory) ⊎ S.may_refuse db.now (point key.now) self.old.read_version error) }
     {
+        let stored = db.value(key, self.request.read_version)?;
+        let value = self.seen_value(key, stored)?;
         let range = KeyRange::point(self.own.alloc, key)?;
-        let found = db.read(&range, self.request.read_version, 1, false)?;
-        self.own.catch_up(self.request.mutations.as_slice())?;
-        let value = self.own.value(key, only_value(found))?;
         self.request.reads.add(range)?;
         Ok(value)
     }

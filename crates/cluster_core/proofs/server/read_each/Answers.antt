@@ -15,7 +15,7 @@ loop-passed-preserved c =
       | then-reverse w ↦ w.place-is ∙ sym (ap (λ b. cond b (length servers - 1 - passed) passed) w.if-reverse.true)
       | else-reverse w ↦ w.place-is ∙ sym (ap (λ b. cond b (length servers - 1 - passed) passed) w.if-reverse.false)
     ] in
-    c.in_ok-append.ensures.items
+    c.in_ok-pairs.ensures
     ∙ read_more c.args.limit c.saturating_sub-left.result pairs (take passed (turned c.args.reverse servers)) c.index-servers-place.result so_far.items c.in_ok-more.more.items
     c.loop-passed.invariant (c.saturating_sub-left.ensures ∙ ap (λ n. c.args.limit - n) (c.len.ensures ∙ so_far.ok.0)) c.in_ok-more.ensures
     ∙ ap (λ done. take c.args.limit (flat_map pairs done))

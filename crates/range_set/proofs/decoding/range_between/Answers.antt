@@ -8,5 +8,5 @@ returns-in_ok-copy-in-None-clause-refused c = (
   c.in_ok-copy-in-None.ensures,
   no_stored c.args.begin c.args.end.now
       (ap (λ e. is_key_range (record { begin = c.args.begin; end = e })) (sym c.in_ok-copy-2.ensures)
-      ∙ ap (λ b. is_key_range (record { begin = b; end = c.in_ok-copy-2.field-0 })) (sym c.begin.view_is) ∙ c.in-None.ensures.none),
+      ∙ c.in-None.ensures.none),
 )

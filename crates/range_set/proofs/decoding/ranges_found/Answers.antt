@@ -12,7 +12,7 @@ loop-pair-preserved c = record {
       (ranges_more c.args.place.now c.loop-pair.pair-index c.args.pairs.now c.pair-item.result c.loop-pair.ranges.items c.in_ok-range.range c.loop-pair.end
       c.loop-pair-test.true c.pair-item.is c.loop-pair.invariant.pairs c.loop-pair.invariant.ends c.in_ok-range.ensures.found);
   ends =
-      c.in_ok-end.ensures ∙ c.end-in-loop-pair.ensures
+      c.in_ok-end.ensures ∙ c.end.ensures
       ∙ sym (ap (last_end []) c.in_ok-push.ensures.items ∙ last_end-more [] c.loop-pair.ranges.items c.in_ok-range.range);
 }
 

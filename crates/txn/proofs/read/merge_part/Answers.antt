@@ -7,15 +7,15 @@ use Rattle.txn.specs.Reading.{CoversTo, IsBehind, Tell}
 use Rattle.txn.proofs.Rounds.{fewer_left, gives_round, left_round, tell_near}
 use Rattle.txn.proofs.read.merge_part.Goals as goal
 
-abbrev wanted : (c : goal.After-drop-place-inside-2) → Bool
+abbrev wanted : (c : goal.After-drop-place-2) → Bool
 wanted c = nat_lt (length c.in_ok-pairs.pairs.items) c.args.limit && has_keys (far c.args.reverse c.in_ok-place.place c.args.range.now)
 
-rest_is : (c : goal.After-drop-place-inside-2) → c.still_wanted-rest.result ≡ cond (wanted c) (Some (far c.args.reverse c.in_ok-place.place c.args.range.now)) None
+rest_is : (c : goal.After-drop-place-2) → c.still_wanted-rest.result ≡ cond (wanted c) (Some (far c.args.reverse c.in_ok-place.place c.args.range.now)) None
 rest_is c =
     c.still_wanted-rest.ensures
     ∙ (λ i. cond (nat_lt (length (c.as_slice-2.ensures.value i)) c.args.limit && has_keys (c.in_ok-near.ensures.far i)) (Some (c.in_ok-near.ensures.far i)) None)
 
-wanting : (c : goal.After-drop-place-inside-2) → wanted c ≡ true → length c.in_ok-pairs.pairs.items < c.args.limit
+wanting : (c : goal.After-drop-place-2) → wanted c ≡ true → length c.in_ok-pairs.pairs.items < c.args.limit
 wanting c h = ltb-true (length c.in_ok-pairs.pairs.items) c.args.limit (and_parts (nat_lt (length c.in_ok-pairs.pairs.items) c.args.limit) (has_keys (far c.args.reverse c.in_ok-place.place c.args.range.now)) h).0
 
 done : (pairs : List (List ℕ × List ℕ)) (limit : ℕ) (keys : Bool) → (nat_lt (length pairs) limit && keys) ≡ false → (limit ≤ length pairs) ⊎ (keys ≡ false)

@@ -13,6 +13,6 @@ returns-then-reverse c =
 pub returns-in_ok-next : goal.returns-in_ok-next
 returns-in_ok-next c =
     let full : c.args.limit ≤ length c.args.pairs.now = omega (arith, c.if-pairs-limit.false) in
-    subst (λ r. IfOk c.upto-else-reverse.result (λ read. read ≡ r))
+    subst (λ r. IfOk c.upto.result (λ read. read ≡ r))
     (read_on c.args.range.now c.args.limit c.args.reverse c.args.pairs.now c.in_ok-next.field-0 c.if-reverse.false full
-    (c.in_ok-next.ensures ∙ ap next_key (c.last_key-last.ensures ∙ ap (λ k. Rattle.kv_core.specs.Read.last_key k c.args.pairs.now) c.begin.ensures.value)) (c.requires full)) c.upto-else-reverse.ensures
+    (c.in_ok-next.ensures ∙ ap next_key (c.last_key-last.ensures ∙ ap (λ k. Rattle.kv_core.specs.Read.last_key k c.args.pairs.now) c.begin.ensures.value)) (c.requires full)) c.upto.ensures

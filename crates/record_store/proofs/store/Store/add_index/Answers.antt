@@ -1,8 +1,12 @@
-use Rattle.std.proofs.Common.{◌∙◌, ap, sym}
+use Rattle.std.specs.Prelude.{Ok}
+use Rattle.std.proofs.Common.{◌∙◌, ap, refl, subst, sym}
+use Rattle.metadata.specs.Answers.{IsRefusedAs}
 use Rattle.metadata.specs.IndexChange.{new_index}
 use Rattle.record_store.specs.Call.{Opened}
 use Rattle.record_store.specs.Store.{listed_as}
-use Rattle.record_store.specs.Steps.{no_memory, of_write}
+use Rattle.record_store.specs.Calls.{index_service}
+use Rattle.record_store.specs.Steps.{no_memory, of_metadata, of_write}
+use Rattle.record_store.proofs.Answered.{refused_own}
 use Rattle.record_store.proofs.AddedCalls.{index_answered, index_limited, index_memory, index_unread, indexed_as, type_there}
 use Rattle.record_store.proofs.Openings.{exit_with}
 use Rattle.record_store.proofs.store.Store.add_index.Goals as goal
@@ -47,5 +51,17 @@ returns-clause-added g c =
 pub returns-clause-opened : goal.returns-clause-opened
 returns-clause-opened g c =
     indexed_as c.args.self.now c.args.request.now c.in_ok-index.index c.in_ok-state.state _ _ c.in_ok-states.states.items
-    (ap (λ s. new_index s c.args.request.now) (sym c.schema.ensures) ∙ c.in_ok-index.ensures.made) c.in_ok-next.ensures.added (ap (λ (o : Opened). o.prefix) c.self.view_is)
+    (ap (λ s. new_index s c.args.request.now) (sym c.schema.ensures) ∙ c.in_ok-index.ensures.made) (c.in_ok-next.ensures.added ∙ ap (λ made. Ok made) (sym c.in_ok-shared.ensures)) (ap (λ (o : Opened). o.prefix) c.self.view_is)
     (c.in_ok-states.ensures ∙ ap (listed_as c.in_ok-index.index.number c.in_ok-state.state) (c.as_slice.ensures.value ∙ ap (λ (o : Opened). o.states) c.self.view_is))
+
+pub returns-in_err-shared-clause-refused : goal.returns-in_err-shared-clause-refused
+returns-in_err-shared-clause-refused g c =
+    exit_with c.from_residual-in_err-shared.result no_memory _ c.from_residual-in_err-shared.ensures
+    (index_memory (g.S.Snapshot.map_at c.args.db.now) (g.S.Snapshot.may_refuse c.args.db.now) c.args.self.now c.args.request.now c.in_ok-index.index c.in_ok-definition.definition.now
+    (ap (λ s. new_index s c.args.request.now) (sym c.schema.ensures) ∙ c.in_ok-index.ensures.made) c.in_ok-definition.ensures.found c.in_ok-state.state c.in_ok-state.ensures.found)
+
+pub returns-in_err-index-clause-refused : goal.returns-in_err-index-clause-refused
+returns-in_err-index-clause-refused g c =
+    exit_with c.from_residual.result (of_metadata c.in_err-index.field-0.0) _ c.from_residual.ensures
+    (refused_own (g.S.Snapshot.map_at c.args.db.now) (g.S.Snapshot.may_refuse c.args.db.now) c.args.self.now (index_service c.args.self.now) (new_index c.args.self.now.schema c.args.request.now) c.in_err-index.field-0.0
+    (subst (λ schema. IsRefusedAs c.in_err-index.field-0.0 (new_index schema c.args.request.now)) c.schema.ensures c.in_err-index.ensures.refused) refl)

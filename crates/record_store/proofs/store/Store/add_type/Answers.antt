@@ -1,4 +1,5 @@
-use Rattle.std.proofs.Common.{◌∙◌, ◌==◌, ap, length}
+use Rattle.std.proofs.Common.{◌∙◌, ◌==◌, ap, length, subst, sym}
+use Rattle.record_store.specs.Call.{IsAnswered}
 use Rattle.txn.specs.Refusing.{NeverRefuses}
 use Rattle.record_store.specs.Calls.{done_with, schema_service, schema_writes, type_call}
 use Rattle.record_store.specs.Steps.{of_write}
@@ -20,11 +21,12 @@ returns-in_err-write_all-clause-refused c =
 
 pub returns-clause-added : goal.returns-clause-added
 returns-clause-added c = λ maps.
-    answered maps NeverRefuses c.args.self.now (type_call c.args.self.now c.args.request.now) (schema_service c.args.self.now c.in_ok-next.next) c.in_ok-next.next c.in_ok-mutations.mutations.items
+    subst (λ schema. IsAnswered maps c.args.self.now (type_call c.args.self.now c.args.request.now) schema c.args.tx.now c.write_all.new.self) (sym c.in_ok-shared.ensures)
+    (answered maps NeverRefuses c.args.self.now (type_call c.args.self.now c.args.request.now) (schema_service c.args.self.now c.in_ok-next.next) c.in_ok-next.next c.in_ok-mutations.mutations.items
     (ap (done_with (schema_service c.args.self.now)) c.in_ok-next.ensures.added) (ap (λ ms. length ms == 0) c.in_ok-mutations.ensures) (nothing_read maps c.args.self.now)
     c.in_ok-write_all.ensures.ok c.in_ok-write_all.ensures.allowed
     (λ m store holds same empty. type_served c.args.self.now c.in_ok-next.next c.args.request.now c.in_ok-mutations.mutations.items (c.in_ok-mutations.ensures ∙ ap (λ p. schema_writes p c.in_ok-next.next) c.prefix.ensures.prefix)
-    c.in_ok-next.ensures.lawful c.in_ok-next.ensures.added m store holds same)
+    c.in_ok-next.ensures.lawful c.in_ok-next.ensures.added m store holds same))
 
 pub returns-in_err-next-clause-refused : goal.returns-in_err-next-clause-refused
 returns-in_err-next-clause-refused c =
@@ -34,4 +36,9 @@ returns-in_err-next-clause-refused c =
 pub returns-in_err-mutations-clause-refused : goal.returns-in_err-mutations-clause-refused
 returns-in_err-mutations-clause-refused c =
     exit_with c.from_residual-in_err-mutations.result no_memory _ c.from_residual-in_err-mutations.ensures (λ maps.
+    memory_still maps NeverRefuses c.args.self.now (type_call c.args.self.now c.args.request.now) refl)
+
+pub returns-in_err-shared-clause-refused : goal.returns-in_err-shared-clause-refused
+returns-in_err-shared-clause-refused c =
+    exit_with c.from_residual-in_err-shared.result no_memory _ c.from_residual-in_err-shared.ensures (λ maps.
     memory_still maps NeverRefuses c.args.self.now (type_call c.args.self.now c.args.request.now) refl)

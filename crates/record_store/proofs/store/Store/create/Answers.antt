@@ -1,4 +1,4 @@
-use Rattle.std.proofs.Common.{[], subst, subst₂, sym}
+use Rattle.std.proofs.Common.{[], ◌∙◌, subst, subst₂, sym}
 use Rattle.record_store.specs.Opening.{IsCreated}
 use Rattle.record_store.specs.Steps.{of_write}
 use Rattle.record_store.proofs.Creating.{created_now, uncreated, uncreated_limit, uncreated_there}
@@ -32,14 +32,14 @@ returns-clause-made g c =
     record {
       created = made;
       prefix_is = c.in_ok-own_prefix.ensures.items;
-      schema_is = c.in_ok-own_schema.ensures;
+      schema_is = c.in_ok-own_schema.ensures ∙ c.in_ok-copy.ensures;
       readable = c.new.ensures.items;
     }
   where
-    made : IsCreated (g.S.Snapshot.map_at c.args.db.now) (record { prefix = c.in_ok-own_prefix.own_prefix.items; schema = c.in_ok-own_schema.own_schema; states = c.new.result.items }) c.args.tx.now c.write_all.new.self
+    made : IsCreated (g.S.Snapshot.map_at c.args.db.now) (record { prefix = c.in_ok-own_prefix.own_prefix.items; schema = c.in_ok-own_schema.own_schema.value; states = c.new.result.items }) c.args.tx.now c.write_all.new.self
     made =
-        subst (λ ss. IsCreated (g.S.Snapshot.map_at c.args.db.now) (record { prefix = c.in_ok-own_prefix.own_prefix.items; schema = c.in_ok-own_schema.own_schema; states = ss }) c.args.tx.now c.write_all.new.self) (sym c.new.ensures.items)
-        (subst₂ (λ p s. IsCreated (g.S.Snapshot.map_at c.args.db.now) (record { prefix = p; schema = s; states = [] }) c.args.tx.now c.write_all.new.self) (sym c.in_ok-own_prefix.ensures.items) (sym c.in_ok-own_schema.ensures)
+        subst (λ ss. IsCreated (g.S.Snapshot.map_at c.args.db.now) (record { prefix = c.in_ok-own_prefix.own_prefix.items; schema = c.in_ok-own_schema.own_schema.value; states = ss }) c.args.tx.now c.write_all.new.self) (sym c.new.ensures.items)
+        (subst₂ (λ p s. IsCreated (g.S.Snapshot.map_at c.args.db.now) (record { prefix = p; schema = s; states = [] }) c.args.tx.now c.write_all.new.self) (sym c.in_ok-own_prefix.ensures.items) (sym (c.in_ok-own_schema.ensures ∙ c.in_ok-copy.ensures))
         (created_now c.args.prefix.now c.args.schema.now c.in_ok-written.written c.in_ok-written.ensures.read c.in_ok-_states.ensures.read c.in_ok-mutations.mutations.items c.types-lawful.ensures.lawful
         c.in_ok-refuse_store.ensures.none c.in_ok-mutations.ensures c.in_ok-write_all.ensures.ok c.in_ok-write_all.ensures.allowed))
 
@@ -56,4 +56,9 @@ returns-in_err-own_schema-clause-refused g c =
 pub returns-in_err-mutations-clause-refused : goal.returns-in_err-mutations-clause-refused
 returns-in_err-mutations-clause-refused g c =
     exit_with c.from_residual-in_err-mutations.result no_memory _ c.from_residual-in_err-mutations.ensures
+    (uncreated_memory c.args.prefix.now c.args.schema.now c.in_ok-written.written c.in_ok-written.ensures.read c.in_ok-_states.ensures.read)
+
+pub returns-in_err-copy-clause-refused : goal.returns-in_err-copy-clause-refused
+returns-in_err-copy-clause-refused g c =
+    exit_with c.from_residual-in_err-copy.result no_memory _ c.from_residual-in_err-copy.ensures
     (uncreated_memory c.args.prefix.now c.args.schema.now c.in_ok-written.written c.in_ok-written.ensures.read c.in_ok-_states.ensures.read)

@@ -1,7 +1,7 @@
-use Rattle.std.proofs.Common.{rules, ◌∙◌, ◌==◌, ap, length, not, refl}
+use Rattle.std.proofs.Common.{rules, ◌∙◌, ◌==◌, ap, length, not, refl, subst, sym}
 use Rattle.std.proofs.lemmas.Fn.{filter_same}
 use Rattle.metadata.specs.Schema.{find_index}
-use Rattle.record_store.specs.Call.{Opened}
+use Rattle.record_store.specs.Call.{IsAnswered, Opened}
 use Rattle.record_store.specs.Store.{without_state}
 use Rattle.txn.specs.Refusing.{NeverRefuses}
 use Rattle.record_store.specs.Calls.{done_with, drop_call, drop_service, index_number}
@@ -22,16 +22,17 @@ returns-in_err-write_all-clause-refused c =
 
 pub returns-clause-dropped : goal.returns-clause-dropped
 returns-clause-dropped c = λ maps.
-    answered maps NeverRefuses c.args.self.now (drop_call c.args.self.now c.args.name.now) (drop_service c.args.self.now c.in_ok-number.number) c.in_ok-next.next c.in_ok-mutations.mutations.items
+    subst (λ schema. IsAnswered maps c.args.self.now (drop_call c.args.self.now c.args.name.now) schema c.args.tx.now c.write_all.new.self) (sym c.in_ok-shared.ensures)
+    (answered maps NeverRefuses c.args.self.now (drop_call c.args.self.now c.args.name.now) (drop_service c.args.self.now c.in_ok-number.number) c.in_ok-next.next c.in_ok-mutations.mutations.items
     (ap (done_with (drop_service c.args.self.now)) c.in_ok-number.ensures.found) (ap (λ ms. length ms == 0) c.in_ok-mutations.ensures) (nothing_read maps c.args.self.now)
     c.in_ok-write_all.ensures.ok c.in_ok-write_all.ensures.allowed
     (λ m store holds same empty. drop_served c.args.self.now c.in_ok-number.number c.in_ok-next.next c.in_ok-mutations.mutations.items c.in_ok-mutations.ensures c.in_ok-next.ensures.next
-    (named_there c.args.self.now.schema c.args.name.now c.in_ok-number.number c.in_ok-number.ensures.found) c.in_ok-next.ensures.lawful m store holds same)
+    (named_there c.args.self.now.schema c.args.name.now c.in_ok-number.number c.in_ok-number.ensures.found) c.in_ok-next.ensures.lawful m store holds same))
 
 pub returns-clause-opened : goal.returns-clause-opened
 returns-clause-opened c = λ number is.
-    left_is c.args.self.now c.self.inside.prefix.items c.in_ok-next.next c.retain.new.self.items c.in_ok-number.number number (index_number (find_index c.args.self.now.schema c.args.name.now))
-    (ap (λ (o : Opened). o.prefix) c.self.view_is) c.in_ok-next.ensures.next
+    left_is c.args.self.now c.self.inside.prefix.items c.in_ok-shared.shared.value c.retain.new.self.items c.in_ok-number.number number (index_number (find_index c.args.self.now.schema c.args.name.now))
+    (ap (λ (o : Opened). o.prefix) c.self.view_is) (c.in_ok-shared.ensures ∙ c.in_ok-next.ensures.next)
     (filter_same _ (λ listed. not (listed.0 == c.in_ok-number.number)) _ (λ x b f' k. search rules) _ _ c.retain.ensures.filtered ∙ ap (without_state c.in_ok-number.number) (ap (λ (o : Opened). o.states) c.self.view_is))
     c.in_ok-number.ensures.found is
 
@@ -49,3 +50,8 @@ pub returns-in_err-number-clause-refused : goal.returns-in_err-number-clause-ref
 returns-in_err-number-clause-refused c =
     exit_with c.from_residual.result (of_metadata c.in_err-number.field-0.0) _ c.from_residual.ensures (λ maps.
     refused_own maps NeverRefuses c.args.self.now (drop_service c.args.self.now) (index_number (find_index c.args.self.now.schema c.args.name.now)) c.in_err-number.field-0.0 c.in_err-number.ensures.refused refl)
+
+pub returns-in_err-shared-clause-refused : goal.returns-in_err-shared-clause-refused
+returns-in_err-shared-clause-refused c =
+    exit_with c.from_residual-in_err-shared.result no_memory _ c.from_residual-in_err-shared.ensures (λ maps.
+    memory_still maps NeverRefuses c.args.self.now (drop_call c.args.self.now c.args.name.now) refl)

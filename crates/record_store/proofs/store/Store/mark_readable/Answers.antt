@@ -55,7 +55,7 @@ returns-clause-marked g c =
 
 pub returns-clause-opened : goal.returns-clause-opened
 returns-clause-opened g c = λ number is.
-    readable_is c.args.self.now c.self.inside.prefix.items c.self.inside.schema c.retain.new.self.items c.in_ok-index.index.now.number number (index_number (find_index c.args.self.now.schema c.args.name.now))
+    readable_is c.args.self.now c.self.inside.prefix.items c.self.inside.schema.value c.retain.new.self.items c.in_ok-index.index.now.number number (index_number (find_index c.args.self.now.schema c.args.name.now))
     (ap (λ (o : Opened). o.prefix) c.self.view_is) (ap (λ (o : Opened). o.schema) c.self.view_is)
     (filter_same _ (λ listed. not (listed.0 == c.in_ok-index.index.now.number)) _ (λ x b f' k. search rules) _ _ c.retain.ensures.filtered ∙ ap (without_state c.in_ok-index.index.now.number) (ap (λ (o : Opened). o.states) c.self.view_is))
     (number_named c.args.self.now c.args.name.now c.in_ok-index.index.now c.in_ok-index.ensures.found) is

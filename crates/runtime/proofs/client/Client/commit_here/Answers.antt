@@ -1,4 +1,4 @@
-use Rattle.std.proofs.Common.{rules, ◌<◌, ◌^◌, ◌≡◌, ◌∙◌, sym, ap, subst, Some, [], true≢false}
+use Rattle.std.proofs.Common.{rules, ◌<◌, ◌^◌, ◌≡◌, ◌∙◌, sym, ap, append-nil, subst, Some, [], true≢false}
 use Rattle.std.specs.Prelude.{IfSome}
 use mathlib.Core.List.{IsPrefix}
 use Rattle.kv_core.specs.declared.change.CommitRequest.{CommitRequest}
@@ -37,3 +37,9 @@ returns-clause-read_only g c w is none =
     let over : IsBegun c.self.inside.me (Some w) = subst (IsBegun c.self.inside.me) (begun ∙ is) c.self.invariant.4 in
     let empty : c.into_request-request.result.mutations ≡ [] = ap (λ (q : CommitRequest). q.mutations) r ∙ nothing_written w.front.name.config w.front.list w.transaction w.trace.attempts over.2 none in
     absurd (true≢false (sym (c.if-is_empty.ensures.1 empty)))
+
+pub returns-then-is_empty-clause-list : goal.returns-then-is_empty-clause-list
+returns-then-is_empty-clause-list g c = subst (λ list. IsPrefix list c.self.inside.me.list) (ap (λ (k : Knows). k.list) c.self.view_is) ([], append-nil c.self.inside.me.list)
+
+pub returns-clause-list : goal.returns-clause-list
+returns-clause-list g c = subst (λ list. IsPrefix list c.learnt.result.list) (ap (λ (k : Knows). k.list) c.self.view_is) c.learnt.ensures.list
