@@ -7,7 +7,7 @@ use Rattle.kv_core.specs.declared.change.CommitRequest.{CommitRequest}
 use Rattle.cluster_core.specs.declared.answers.Config.{Config}
 use Rattle.cluster_core.specs.Configuration.{first_pipeline}
 use Rattle.cluster_core.specs.Decision.{Owned, owners}
-use Rattle.cluster_core.specs.Progress.{ResolverState, fresh, state_of}
+use Rattle.cluster_core.specs.Progress.{ResolverState, fresh, pipeline_state}
 use Rattle.cluster_core.specs.Roles.{PipelineState, append, report, resolve}
 use Rattle.cluster_core.proofs.Telling.{map-set_same}
 
@@ -53,26 +53,26 @@ map-add start f (x ∷ xs) = ap (λ ns. (start + f x) ∷ ns) (map-add start f x
 
 module _ (splits : List (List ℕ)) (window start : ℕ) (requests : List CommitRequest) (resolvers : List ResolverState) (logs : List (List Bool)) (reported : ℕ) where
   abbrev old : PipelineState
-  old = state_of splits window start requests resolvers logs reported
+  old = pipeline_state splits window start requests resolvers logs reported
 
   -- the pipeline after one more answer of a resolver
   pub state_resolved : (i : ℕ) (new d : ResolverState) → i < length resolvers → length new.causes ≡ length (get_or resolvers i d).causes + 1 →
-      state_of splits window start requests (set resolvers i new) logs reported ≡ resolve i (state_of splits window start requests resolvers logs reported)
+      pipeline_state splits window start requests (set resolvers i new) logs reported ≡ resolve i (pipeline_state splits window start requests resolvers logs reported)
   state_resolved i new d inside more = ap (λ clocks. record old { resolved = clocks }) (raised_clock start (λ r. length r.causes) resolvers i new d inside more)
 
   -- after a resolver kept something else
   pub state_kept : (i : ℕ) (new d : ResolverState) → i < length resolvers → length new.causes ≡ length (get_or resolvers i d).causes →
-      state_of splits window start requests (set resolvers i new) logs reported ≡ state_of splits window start requests resolvers logs reported
+      pipeline_state splits window start requests (set resolvers i new) logs reported ≡ pipeline_state splits window start requests resolvers logs reported
   state_kept i new d inside same = ap (λ clocks. record old { resolved = clocks }) (map-set_same (λ r. start + length r.causes) resolvers i new d (ap (λ n. start + n) same))
 
   -- after one more request in a log
   pub state_appended : (i : ℕ) (new d : List Bool) → i < length logs → length new ≡ length (get_or logs i d) + 1 →
-      state_of splits window start requests resolvers (set logs i new) reported ≡ append i (state_of splits window start requests resolvers logs reported)
+      pipeline_state splits window start requests resolvers (set logs i new) reported ≡ append i (pipeline_state splits window start requests resolvers logs reported)
   state_appended i new d inside more = ap (λ clocks. record old { logged = clocks }) (raised_clock start (λ passes. length passes) logs i new d inside more)
 
   -- after one more report
   pub state_reported : (after : List ResolverState) → map (λ r. length r.causes) after ≡ map (λ r. length r.causes) resolvers →
-      state_of splits window start requests after logs (reported + 1) ≡ report (state_of splits window start requests resolvers logs reported)
+      pipeline_state splits window start requests after logs (reported + 1) ≡ report (pipeline_state splits window start requests resolvers logs reported)
   state_reported after same =
       let clocks : map (λ r. start + length r.causes) after ≡ map (λ r. start + length r.causes) resolvers =
       map-add start (λ r. length r.causes) after ∙ ap (map (λ n. start + n)) same ∙ sym (map-add start (λ r. length r.causes) resolvers) in
@@ -80,7 +80,7 @@ module _ (splits : List (List ℕ)) (window start : ℕ) (requests : List Commit
       λ i. record old { resolved = clocks i; reported = next i }
 
 -- the pipeline at the start
-pub state_first : (config : Config) → state_of config.resolver_splits config.window config.start [] (map fresh (owners config.resolver_splits)) (replicate config.logs []) 0 ≡ first_pipeline config
+pub state_first : (config : Config) → pipeline_state config.resolver_splits config.window config.start [] (map fresh (owners config.resolver_splits)) (replicate config.logs []) 0 ≡ first_pipeline config
 state_first config =
     let at : config.start + 0 ≡ config.start = omega arith in
     λ i. record (first_pipeline config) { resolved = all (owners config.resolver_splits) i; logged = each config.logs i; reported = at i }

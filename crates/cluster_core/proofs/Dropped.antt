@@ -13,7 +13,7 @@ use Rattle.std.specs.declared.cmp.Ordering.{Ordering}
 use Rattle.std.specs.declared.cmp.Ordering.TheVariants.{Less, Equal, Greater}
 use Rattle.kv_core.specs.Bytes.{key_cmp, key_lt}
 use Rattle.cluster_core.specs.declared.segments.Segment.{Segment}
-use Rattle.cluster_core.specs.Segments.{Begins, Holds, IsCovered}
+use Rattle.cluster_core.specs.Segments.{Begins, IsCovered, SegmentHolds}
 use Rattle.cluster_core.specs.Tree.{InOrder}
 use Rattle.cluster_core.proofs.InOrder.{Key, Run, nothing_is, only_one}
 
@@ -66,7 +66,7 @@ retained es p q s order =
 
 -- what is held and covered where the segments before a place are dropped
 module _ (old new : Run) (least : ℕ) (dropped : (q : Key) (s : Segment) → Begins new q s ↔ (Begins old q s × (least ≤ s.place))) where
-  pub dropped_holds : (key : Key) (place : ℕ) → Holds new key place → Holds old key place
+  pub dropped_holds : (key : Key) (place : ℕ) → SegmentHolds new key place → SegmentHolds old key place
   dropped_holds key place h = record { begin = h.begin; segment = h.segment; stands = ((dropped h.begin h.segment).0 h.stands).0; from = h.from; before = h.before; placed = h.placed }
 
   pub dropped_kept : (key : Key) (place : ℕ) → least ≤ place → IsCovered old key place → IsCovered new key place

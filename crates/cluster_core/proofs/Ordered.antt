@@ -3,7 +3,7 @@ use Rattle.std.proofs.Common.{ℕ, ◌+◌, ◌≤◌, Bool, List, All, arith, l
 use Rattle.std.proofs.lemmas.List.{length-map}
 use Rattle.std.proofs.lemmas.List.Elements.{All-map, All-weaker}
 use Rattle.kv_core.specs.declared.change.CommitRequest.{CommitRequest}
-use Rattle.cluster_core.specs.Progress.{IsLog, IsPipeline, IsResolver, ResolverState, state_of}
+use Rattle.cluster_core.specs.Progress.{IsLog, IsPipeline, IsResolver, ResolverState, pipeline_state}
 use Rattle.cluster_core.specs.Roles.{AreInOrder}
 use Rattle.cluster_core.proofs.Standing.{some_resolver}
 
@@ -21,7 +21,7 @@ module _ (splits : List (List ℕ)) (window start : ℕ) (requests : List Commit
       (All-weaker (λ resolver. length passes ≤ length resolver.causes) (λ resolver. start + length passes ≤ start + length resolver.causes)
       (λ resolver behind. omega (arith, behind)) resolvers all)
 
-  pub in_order : AreInOrder (state_of splits window start requests resolvers logs reported)
+  pub in_order : AreInOrder (pipeline_state splits window start requests resolvers logs reported)
   in_order =
       let some = some_resolver _ _ _ _ _ _ _ was in
       let log = was.some_log in

@@ -4,7 +4,7 @@ use Rattle.std.proofs.lemmas.Bool.{cases_Bool, eqb-true, false≢true, leb-true,
 use Rattle.std.specs.List.{filter}
 use Rattle.kv_core.specs.declared.change.CommitRequest.{CommitRequest}
 use Rattle.cluster_core.specs.Kept.{KeepsRecent, PutsEach, WritersState, has_place, no_writers}
-use Rattle.cluster_core.specs.Segments.{Holds}
+use Rattle.cluster_core.specs.Segments.{SegmentHolds}
 use Rattle.cluster_core.proofs.InOrder.{Key, Run, nothing_is}
 
 -- what stands holds on an error too
@@ -54,7 +54,7 @@ recent_whole window upto ordered next dropped pending old requests new puts was 
 
 -- what is old was dropped, up to where the window begins
 pub recent_dropped : (window upto next ordered least : ℕ) (pending : List ℕ) (new : Run) → least ≡ upto - window → upto ≤ next → next ≤ upto + 1 →
-    ((key : Key) (place : ℕ) → Holds new key place → least ≤ place) →
+    ((key : Key) (place : ℕ) → SegmentHolds new key place → least ≤ place) →
     KeepsRecent window next (record { segments = new; ordered = ordered; pending = filter (nat_le least) pending; dropped = least })
 recent_dropped window upto next ordered least pending new is low high recent = record {
   held = recent;

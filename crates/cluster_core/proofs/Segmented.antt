@@ -9,7 +9,7 @@ use Rattle.kv_core.specs.Bytes.{key_cmp, key_le, key_lt}
 use Rattle.kv_core.specs.Range.{contains}
 use Rattle.kv_core.proofs.Order.{cases_key, clash, le_both, le_from_lt, le_gives, le_lt_trans, le_refl, le_trans, tied_keys}
 use Rattle.cluster_core.specs.declared.segments.Segment.{Segment}
-use Rattle.cluster_core.specs.Segments.{Begins, HaveKeys, Holds, IsCovered, IsNewestOver, IsOver}
+use Rattle.cluster_core.specs.Segments.{Begins, HaveKeys, IsCovered, IsNewestOver, IsOver, SegmentHolds}
 use Rattle.cluster_core.specs.Tree.{InOrder, IsLastUpto, between, later, newest_of}
 use Rattle.cluster_core.proofs.InOrder.{Key, Run, begins_here, begins_later, nothing_is, only_one}
 
@@ -34,7 +34,7 @@ pub floor_none : (es : Run) (key c : Key) (t : Segment) → ((q : Key) (s : Segm
 floor_none es key c t none over = clash key c (none c t over.stands) over.from
 
 -- a segment that has a key holds it
-pub over_holds : (es : Run) (key b : Key) (s : Segment) → IsOver es key b s → Holds es key s.place
+pub over_holds : (es : Run) (key b : Key) (s : Segment) → IsOver es key b s → SegmentHolds es key s.place
 over_holds es key b s over = record { begin = b; segment = s; stands = over.stands; from = over.from; before = over.before; placed = refl }
 
 -- the later of two places is one of them, and is not before either
@@ -125,7 +125,7 @@ newest_above p (e ∷ es) q s there passes = elim (cases_Bool (is_eq (key_cmp q 
 -- the newest place over a range: of the segments that begin in it, and of the one over its first key
 module _ (es : Run) (low high : Key) (begun : Option ℕ) (keys : HaveKeys es) (order : InOrder es) (some : key_lt low high ≡ true)
     (is : begun ≡ newest_of (between low high es)) where
-  begun_found : (place : ℕ) → begun ≡ Some place → (key : Key) × (contains (record { begin = low; end = high }) key ≡ true) × Holds es key place
+  begun_found : (place : ℕ) → begun ≡ Some place → (key : Key) × (contains (record { begin = low; end = high }) key ≡ true) × SegmentHolds es key place
   begun_found place there =
       let one = newest_one (λ q. key_lt low q && key_lt q high) es place order (sym is ∙ there) in
       let parts = and_parts (key_lt low one.0) (key_lt one.0 high) one.3 in (
@@ -161,9 +161,9 @@ module _ (es : Run) (low high : Key) (begun : Option ℕ) (keys : HaveKeys es) (
   pub newest_with : (b : Key) (s : Segment) (result : ℕ) → IsOver es low b s → Some result ≡ later begun (Some s.place) →
       IsNewestOver es (record { begin = low; end = high }) (Some result)
   newest_with b s result over latest = record {
-    found = λ place there. subst (λ p. (key : Key) × (contains (record { begin = low; end = high }) key ≡ true) × Holds es key p) (only_one there)
+    found = λ place there. subst (λ p. (key : Key) × (contains (record { begin = low; end = high }) key ≡ true) × SegmentHolds es key p) (only_one there)
         (elim (later_either begun s.place result latest) [
-          | inl here ↦ (low, and_from (key_le low low) (key_lt low high) (le_refl low) some, subst (Holds es low) (sym here) (over_holds es low b s over))
+          | inl here ↦ (low, and_from (key_le low low) (key_lt low high) (le_refl low) some, subst (SegmentHolds es low) (sym here) (over_holds es low b s over))
           | inr own ↦ begun_found result own
         ]);
     others = λ key place inside h. elim (covers key place inside h) [

@@ -11,7 +11,8 @@ use Rattle.kv_core.specs.declared.change.CommitRequest.{CommitRequest}
 use Rattle.cluster_core.specs.History.{Entry, IsLegal}
 use Rattle.cluster_core.specs.Decision.{Owned, owners, owners_from, agrees, newer_agreed, first_cause, cause, is_committed, committed, numbered, logged, log}
 use Rattle.cluster_core.specs.Laws.{ReadsBelow}
-use Rattle.cluster_core.specs.Progress.{ResolverState, IsResolver, IsLog, IsPipeline, answer_of, fresh, has_agreed, first_kept, state_of}
+use Rattle.cluster_core.specs.Progress.{ResolverState, IsResolver, IsLog, IsPipeline, answer_of, fresh, has_agreed}
+use Rattle.cluster_core.specs.Progress.{first_kept, pipeline_state}
 use Rattle.cluster_core.specs.Roles.{PipelineState, outcome, told, told_of}
 use Rattle.cluster_core.specs.Kept.{ReadsWithin}
 use Rattle.cluster_core.proofs.Bridge.{entry_here, entry_of, numbered_at, version_at}
@@ -238,12 +239,12 @@ module _ (splits : List (List ℕ)) (window start : ℕ) (requests : List Commit
 
   -- what is told is the outcome of the request that is reported next
   pub told_next : list_all (λ passes. nat_lt reported (length passes)) logs ≡ true →
-      told (first_kept reported resolvers) (start + reported + 1) ≡ outcome (state_of splits window start requests resolvers logs reported) (start + reported + 1)
+      told (first_kept reported resolvers) (start + reported + 1) ≡ outcome (pipeline_state splits window start requests resolvers logs reported) (start + reported + 1)
   told_next all =
       let here = entry_here start requests reported (past_requests all) in
       let number : start + reported + 1 ≡ here.0.version = sym (version_at start requests reported here.0 here.1) in
       let place : reported ≡ (start + reported + 1) - start - 1 = omega arith in
-      let p : PipelineState = state_of splits window start requests resolvers logs reported in
+      let p : PipelineState = pipeline_state splits window start requests resolvers logs reported in
       (λ i. told (first_is reported here.0 (omega arith) (past_logs all) here.1 i) (number i))
       ∙ ap (told_of p) (sym here.1)
       ∙ ap (λ n. told_of p (slice_get es n)) place

@@ -10,7 +10,7 @@ use Rattle.cluster_core.specs.History.{Entry}
 use Rattle.cluster_core.specs.Decision.{Cause, Owned, agrees, newer_agreed, numbered, owns}
 use Rattle.cluster_core.specs.Kept.{KnowsKeys, KnowsWriters, PutsEach, ReadsWithin, WritersState, agreed_at, has_place, least_of, no_writers, rise_between, writes_key}
 use Rattle.cluster_core.specs.Progress.{answer_of}
-use Rattle.cluster_core.specs.Segments.{Holds, IsCovered}
+use Rattle.cluster_core.specs.Segments.{IsCovered, SegmentHolds}
 use Rattle.cluster_core.proofs.Asked.{least_is_at}
 use Rattle.cluster_core.proofs.Bridge.{entry_here, version_at}
 use Rattle.cluster_core.proofs.Causes.{agrees-none}
@@ -50,7 +50,7 @@ module _ (owner : Owned) (start : ℕ) (requests : List CommitRequest) (least up
       }
 
   -- what is old was dropped
-  pub forgotten : (next : ℕ) → ((key : Key) (place : ℕ) → Holds new key place → Holds old key place) →
+  pub forgotten : (next : ℕ) → ((key : Key) (place : ℕ) → SegmentHolds new key place → SegmentHolds old key place) →
       ((key : Key) (place : ℕ) → least ≤ place → IsCovered old key place → IsCovered new key place) →
       KnowsWriters owner start requests least upto (record { segments = new; ordered = ordered; pending = filter (nat_le least) pending; dropped = next })
   forgotten next holds kept = record {

@@ -84,9 +84,9 @@ pub record IsPipeline (splits : List (List ℕ)) (window start : ℕ) (requests 
   pub told : reported ≤ length requests
 
 -- the pipeline as its callers see it, with a version in the place of each number of requests
-abbrev pub state_of :
+abbrev pub pipeline_state :
     List (List ℕ) → ℕ → ℕ → List CommitRequest → List ResolverState → List (List Bool) → ℕ → PipelineState
-state_of splits window start requests resolvers logs reported =
+pipeline_state splits window start requests resolvers logs reported =
     record {
       splits = splits;
       window = window;

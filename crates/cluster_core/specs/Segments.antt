@@ -17,7 +17,7 @@ HaveKeys segments =
     (begin : List ℕ) (segment : Segment) → Begins segments begin segment → IsTrue (key_lt begin segment.end)
 
 -- a segment with this place has the key
-pub record Holds (segments : List (List ℕ × Segment)) (key : List ℕ) (place : ℕ) : Type 0 where
+pub record SegmentHolds (segments : List (List ℕ × Segment)) (key : List ℕ) (place : ℕ) : Type 0 where
   pub begin : List ℕ
   pub segment : Segment
   pub stands : Begins segments begin segment
@@ -53,7 +53,7 @@ pub record IsPartFrom (segments : List (List ℕ × Segment)) (key : List ℕ) (
 -- the segments cut at a key: what has a key or covers one is as before, and over the keys from that one on is no
 -- segment that begins before it
 pub record IsCutAt (cut : List ℕ) (old new : List (List ℕ × Segment)) : Type 0 where
-  pub holds : (key : List ℕ) (place : ℕ) → Holds new key place → Holds old key place
+  pub holds : (key : List ℕ) (place : ℕ) → SegmentHolds new key place → SegmentHolds old key place
   pub kept : (key : List ℕ) (place : ℕ) → IsCovered old key place → IsCovered new key place
   pub begun :
       (key begin : List ℕ) (segment : Segment) → IsOver new key begin segment → IsTrue (key_le cut key) →
@@ -63,7 +63,8 @@ pub record IsCutAt (cut : List ℕ) (old new : List (List ℕ × Segment)) : Typ
 -- or else this one, where the key was written; and what was covered up to this place still is
 pub record Overlays (written : List ℕ → Bool) (place : ℕ) (old new : List (List ℕ × Segment)) : Type 0 where
   pub holds :
-      (key : List ℕ) (at : ℕ) → Holds new key at → Holds old key at ⊎ (IsTrue (written key) × (at ≡ place))
+      (key : List ℕ) (at : ℕ) → SegmentHolds new key at → SegmentHolds old key at
+      ⊎ (IsTrue (written key) × (at ≡ place))
   pub kept : (key : List ℕ) (at : ℕ) → at ≤ place → IsCovered old key at → IsCovered new key at
 
 -- the keys from one on and before another
@@ -73,7 +74,7 @@ from_to begin end = record { begin = begin; end = end }
 -- the newest place in a range: some key of the range is in a segment with it, and no key is covered by a later one
 pub record IsNewestOver (segments : List (List ℕ × Segment)) (range : KeyRange) (newest : Option ℕ) : Type 0 where
   pub found :
-      (place : ℕ) → newest ≡ Some place → (key : List ℕ) × IsTrue (contains range key) × Holds segments key place
+      (place : ℕ) → newest ≡ Some place → (key : List ℕ) × IsTrue (contains range key) × SegmentHolds segments key place
   pub others :
       (key : List ℕ) (place : ℕ) → IsTrue (contains range key) → IsCovered segments key place →
       (later : ℕ) × (newest ≡ Some later) × (place ≤ later)

@@ -13,7 +13,7 @@ ghost use Rattle.cluster_core.specs.Roles.{submitted, submit_refusal};
 ghost use Rattle.cluster_core.specs.Roles.{submit as with_submitted, may_resolve, resolve as with_resolved, may_append};
 ghost use Rattle.cluster_core.specs.Roles.{append as with_appended, may_report, report as with_reported, outcome};
 ghost use Rattle.cluster_core.specs.Progress.{IsResolver, counts_of, first_kept};
-ghost use Rattle.cluster_core.specs.Progress.{fresh, has_agreed, owners_of, state_of};
+ghost use Rattle.cluster_core.specs.Progress.{fresh, has_agreed, owners_of, pipeline_state};
 
 use crate::answers::{Config, ConfigError, Reported, Splits, SubmitError, Work};
 use crate::config::refusal_of;
@@ -67,12 +67,12 @@ pub struct Pipeline {
 
 impl Model for Pipeline {
     ghost use Rattle.cluster_core.specs.Roles.{PipelineState};
-    ghost use Rattle.cluster_core.specs.Progress.{IsPipeline, state_of};
+    ghost use Rattle.cluster_core.specs.Progress.{IsPipeline, pipeline_state};
 
     ghost Value = { PipelineState };
 
     ghost view = { λ a.
-        state_of a.splits a.window a.start a.requests.items a.resolvers.items a.logs.items a.reported };
+        pipeline_state a.splits a.window a.start a.requests.items a.resolvers.items a.logs.items a.reported };
 
     ghost invariant = { λ a.
         IsPipeline a.splits a.window a.start a.requests.items a.resolvers.items a.logs.items a.reported };
@@ -180,7 +180,7 @@ impl Pipeline {
     ) -> Result<Pipeline, AllocError>
         requires { 1 ≤ logs }
         ensures { IfOk result (λ pipeline.
-            pipeline ≡ state_of splits window start [] (map fresh (owners splits)) (replicate logs []) 0) }
+            pipeline ≡ pipeline_state splits window start [] (map fresh (owners splits)) (replicate logs []) 0) }
     {
         let resolvers = resolvers_between(alloc, splits.as_slice())?;
         let logs = empty_logs(alloc, logs)?;

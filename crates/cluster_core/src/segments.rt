@@ -3,7 +3,8 @@ ghost use Rattle.std.specs.Prelude.{◌≡◌, ◌≤◌, ◌↔◌, ℕ, Option
 ghost use Rattle.std.specs.Prelude.{IfSome, OnOk};
 ghost use Rattle.kv_core.specs.Bytes.{key_lt};
 ghost use Rattle.kv_core.specs.Range.{contains};
-ghost use Rattle.cluster_core.specs.Segments.{Begins, HaveKeys, Holds, IsCovered, IsNewestOver};
+ghost use Rattle.cluster_core.specs.Segments.{Begins, HaveKeys, IsCovered, IsNewestOver};
+ghost use Rattle.cluster_core.specs.Segments.{SegmentHolds};
 ghost use Rattle.cluster_core.specs.Segments.{IsOver, IsPartFrom, Overlays, from_to};
 ghost use Rattle.cluster_core.specs.Tree.{InOrder, at_key};
 
@@ -173,10 +174,11 @@ impl Segments {
 
     /// Drops what stands under a place before this one.
     pub fn drop_before(&mut self, least: usize)
-        ensures holds { (key : List ℕ) (place : ℕ) → Holds self.new key place → Holds self.old key place }
+        ensures holds { (key : List ℕ) (place : ℕ) → SegmentHolds self.new key place → SegmentHolds self.old key place }
         ensures kept { (key : List ℕ) (place : ℕ) → least ≤ place → IsCovered self.old key place →
             IsCovered self.new key place }
-        ensures recent { (key : List ℕ) (place : ℕ) → Holds self.new key place → least ≤ place }
+        ensures recent { (key : List ℕ) (place : ℕ) → SegmentHolds self.new key place →
+            least ≤ place }
     {
         drop_before(&mut self.segments, least);
     }

@@ -4,7 +4,7 @@ use Rattle.std.specs.List.{list_all}
 use Rattle.metadata.specs.Asked.{schema_asked}
 use Rattle.metadata.specs.Schema.{Schema, find_type}
 use Rattle.metadata.specs.declared.index.State.{State}
-use Rattle.query.specs.Checked.{refusal}
+use Rattle.query.specs.Checked.{query_refusal}
 use Rattle.query.specs.Query.{Query}
 use Rattle.planner.specs.Asked.{AskedPlan}
 use Rattle.planner.specs.Planned.{planned}
@@ -13,19 +13,20 @@ use Rattle.planner.specs.Rules.{usable}
 use Rattle.planner.specs.View.{plan_of}
 use Rattle.query.specs.View.{query_of}
 use Rattle.explain.specs.File.{Asked}
-use Rattle.explain.specs.Planning.{IsPlanOf, IsPlanUnder, asked_refusal, index_states, is_index, refusal_under}
+use Rattle.explain.specs.Planning.{IsPlanAsked, IsPlanUnder, asked_refusal, asked_states, is_state_of_index}
+use Rattle.explain.specs.Planning.{refusal_under}
 use Rattle.explain.specs.declared.error.ExplainError.{ExplainError}
 use Rattle.explain.specs.declared.error.ExplainError.TheVariants.{OutOfMemory}
 use Rattle.explain.specs.declared.file.NamedState.{NamedState}
 
 -- nothing is refused
-pub allowed_under : (schema : Schema) (states : List NamedState) (query : Query) → IsTrue (list_all (is_index schema) states) → refusal schema query ≡ None
-    → IsTrue (is_served schema (index_states states schema.indexes) query) → refusal_under schema states query ≡ None
+pub allowed_under : (schema : Schema) (states : List NamedState) (query : Query) → IsTrue (list_all (is_state_of_index schema) states) → query_refusal schema query ≡ None
+    → IsTrue (is_served schema (asked_states states schema.indexes) query) → refusal_under schema states query ≡ None
 allowed_under schema states query known checked served = rw (known, checked, served) refl
 
 -- the planner's plan from one state for each index
-pub planned_under : (schema : Schema) (states : List NamedState) (query : Query) (plan : AskedPlan) (made : List (ℕ × State)) → made ≡ index_states states schema.indexes
-    → IsTrue (list_all (is_index schema) states) → refusal schema query ≡ None → IsTrue (is_served schema made query) → find_type schema query.record_type ≡ Some (plan_of plan).definition → query_of plan.query ≡ query
+pub planned_under : (schema : Schema) (states : List NamedState) (query : Query) (plan : AskedPlan) (made : List (ℕ × State)) → made ≡ asked_states states schema.indexes
+    → IsTrue (list_all (is_state_of_index schema) states) → query_refusal schema query ≡ None → IsTrue (is_served schema made query) → find_type schema query.record_type ≡ Some (plan_of plan).definition → query_of plan.query ≡ query
     → planned (plan_of plan).definition (usable schema made (plan_of plan).definition) query ≡ Some (plan_of plan).root → IsPlanUnder schema states query plan
 planned_under schema states query plan made e known checked served typed asked is =
     record {
@@ -36,7 +37,7 @@ planned_under schema states query plan made e known checked served typed asked i
     }
 
 -- what is so under the schema that is asked for is so of what is asked
-pub planned_as_asked : {E : Type 0} (r : Result AskedPlan E) (asked : Asked) (schema : Schema) → schema_asked asked.schema ≡ Ok schema → IfOk r (IsPlanUnder schema asked.states asked.query) → IfOk r (IsPlanOf asked)
+pub planned_as_asked : {E : Type 0} (r : Result AskedPlan E) (asked : Asked) (schema : Schema) → schema_asked asked.schema ≡ Ok schema → IfOk r (IsPlanUnder schema asked.states asked.query) → IfOk r (IsPlanAsked asked)
 planned_as_asked (Ok plan) asked schema made under = record { schema = schema; made = made; under = under }
 planned_as_asked (Err error) asked schema made under = tt
 

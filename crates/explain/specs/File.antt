@@ -10,29 +10,29 @@ use Rattle.query.specs.Query.{Query}
 use Rattle.query.specs.View.{query_of}
 use Rattle.json_forms.specs.Json.{has_only, member_in, named, value_in}
 use Rattle.json_forms.specs.QueryJson.{query_in}
-use Rattle.json_forms.specs.SchemaJson.{schema_in}
+use Rattle.json_forms.specs.SchemaJson.{json_schema}
 use Rattle.explain.specs.declared.file.NamedState.{NamedState}
 use Rattle.explain.specs.declared.file.PlanRequest.{PlanRequest}
 
 -- the state of this name
-abbrev pub state_named : List ℕ → Option State
-state_named name =
+abbrev pub state_of_name : List ℕ → Option State
+state_of_name name =
     named ((codes "readable", Readable) ∷ (codes "write-only", WriteOnly) ∷ (codes "disabled", Disabled) ∷ []) name
 
 -- the state that a text names
-abbrev pub state_in : Data → Option State
-state_in d = option_and_then state_named (as_str d)
+abbrev pub named_state_in : Data → Option State
+named_state_in d = option_and_then state_of_name (as_str d)
 
 -- the states beside the names of indexes
-abbrev pub states_of : Members → Option (List NamedState)
-states_of no_members = Some []
-states_of (member name d ms) =
-    option_and_then (λ state. option_map (λ more. record { name = name; state = state } ∷ more) (states_of ms))
-    (state_in d)
+abbrev pub states_beside : Members → Option (List NamedState)
+states_beside no_members = Some []
+states_beside (member name d ms) =
+    option_and_then (λ state. option_map (λ more. record { name = name; state = state } ∷ more) (states_beside ms))
+    (named_state_in d)
 
 -- the states that an object gives
 abbrev pub given_states : Data → Option (List NamedState)
-given_states d = option_and_then states_of (as_object d)
+given_states d = option_and_then states_beside (as_object d)
 
 -- the states that a file gives, none where it has no object of them
 abbrev pub states_in : Data → Option (List NamedState)
@@ -45,22 +45,22 @@ pub record Asked : Type 0 where
   pub query : Query
 
 -- the program's value
-abbrev pub asked_of : PlanRequest → Asked
-asked_of r = record { schema = r.schema; states = r.states.items; query = query_of r.query }
+abbrev pub asked_plan : PlanRequest → Asked
+asked_plan r = record { schema = r.schema; states = r.states.items; query = query_of r.query }
 
 -- the keys that a file may have
 abbrev pub file_keys : List (List ℕ)
 file_keys = codes "schema" ∷ codes "states" ∷ codes "query" ∷ []
 
 -- what a value asks a plan for
-abbrev pub request_in : Data → Option Asked
-request_in file =
+abbrev pub plan_request_in : Data → Option Asked
+plan_request_in file =
     if has_only file_keys file then
     option_and_then (λ schema. option_and_then (λ states.
     option_map (λ query. record { schema = schema; states = states; query = query })
-    (member_in query_in (codes "query") file)) (states_in file)) (member_in schema_in (codes "schema") file)
+    (member_in query_in (codes "query") file)) (states_in file)) (member_in json_schema (codes "schema") file)
     else None
 
 -- what a text of JSON asks a plan for
-abbrev pub request_of : List ℕ → Option Asked
-request_of text = option_and_then request_in (value_in text)
+abbrev pub plan_request_of : List ℕ → Option Asked
+plan_request_of text = option_and_then plan_request_in (value_in text)

@@ -6,10 +6,10 @@ use Rattle.serde_json.specs.Written.{compact_text}
 use Rattle.json_forms.specs.QueryJson.{filter_data}
 use Rattle.planner.specs.Plan.{IndexScan, Source, one, intersection, Node, scan, fetch, filtered, union}
 use Rattle.planner.specs.Plan.{unordered_union, distinct, Nodes, no_nodes, node, Plan}
-use Rattle.planner.specs.Range.{KeyRange}
+use Rattle.planner.specs.Range.{PlanRange}
 
 -- the first key and the key behind the last one, in hexadecimal
-abbrev pub range_text : KeyRange → List ℕ
+abbrev pub range_text : PlanRange → List ℕ
 range_text range = encode_lower range.begin ++ codes ".." ++ encode_lower range.end
 
 -- what stands behind the range of a scan that gives the last key first
@@ -17,7 +17,7 @@ abbrev pub turned_text : Bool → List ℕ
 turned_text reverse = if reverse then codes ",reverse" else []
 
 -- a scan: what is scanned, its name, and the range
-abbrev pub scan_text : List ℕ → List ℕ → KeyRange → Bool → List ℕ
+abbrev pub scan_text : List ℕ → List ℕ → PlanRange → Bool → List ℕ
 scan_text opened name range reverse =
     opened ++ name ++ codes "," ++ (range_text range ++ turned_text reverse ++ codes ")")
 
@@ -25,8 +25,8 @@ abbrev pub index_scan_text : IndexScan → List ℕ
 index_scan_text s = scan_text (codes "IndexScan(") s.index.name s.range s.reverse
 
 -- texts between brackets, with a comma between each two
-abbrev pub listed : List ℕ → List (List ℕ) → List ℕ
-listed opened texts = opened ++ join_with_byte 44 texts ++ codes ")"
+abbrev pub bracketed : List ℕ → List (List ℕ) → List ℕ
+bracketed opened texts = opened ++ join_with_byte 44 texts ++ codes ")"
 
 -- what stands before the part at a place of a list
 abbrev pub comma_before : ℕ → List ℕ
@@ -36,7 +36,7 @@ comma_before (suc place) = codes ","
 -- where a fetch gets its primary keys from
 abbrev pub source_text : Source → List ℕ
 source_text (one s) = index_scan_text s
-source_text (intersection ss) = listed (codes "Intersection(") (map index_scan_text ss)
+source_text (intersection ss) = bracketed (codes "Intersection(") (map index_scan_text ss)
 
 abbrev mutual
   -- a step of a plan over the records of the type of this name
@@ -45,8 +45,8 @@ abbrev mutual
   node_text name (fetch s) = codes "Fetch(" ++ source_text s ++ codes ")"
   node_text name (filtered f n) =
       codes "Filter(" ++ compact_text (filter_data f) ++ codes "," ++ (node_text name n ++ codes ")")
-  node_text name (union ns) = listed (codes "Union(") (node_texts name ns)
-  node_text name (unordered_union ns) = listed (codes "UnorderedUnion(") (node_texts name ns)
+  node_text name (union ns) = bracketed (codes "Union(") (node_texts name ns)
+  node_text name (unordered_union ns) = bracketed (codes "UnorderedUnion(") (node_texts name ns)
   node_text name (distinct n) = codes "Distinct(" ++ (node_text name n ++ codes ")")
 
   pub node_texts : List ℕ → Nodes → List (List ℕ)

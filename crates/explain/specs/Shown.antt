@@ -9,8 +9,8 @@ use Rattle.metadata.specs.declared.cells.Cell.{Cell}
 use Rattle.metadata.specs.declared.cells.Cell.TheVariants.{Null}
 use Rattle.metadata.specs.declared.definition.TypeDefinition.{TypeDefinition}
 use Rattle.planner.specs.Match.{name_at}
-use Rattle.planner.specs.Range.{KeyRange, Bound, above, from, below, up_to, prefixed}
-use Rattle.explain.specs.Told.{Told, told}
+use Rattle.planner.specs.Range.{PlanRange, Bound, above, from, below, up_to, prefixed}
+use Rattle.explain.specs.Told.{Told, range_told}
 
 -- a column and a cell, with a word between them
 abbrev pub compared : List ℕ → List ℕ → Cell → List ℕ
@@ -53,7 +53,7 @@ abbrev pub told_text : TypeDefinition → List ℕ → Told → List ℕ
 told_text t columns told = and_all (conditions t columns told)
 
 -- what a range says of the columns at some places of a type, if that can be told
-abbrev pub range_words : TypeDefinition → List ℕ → KeyRange → Option (List ℕ)
+abbrev pub range_words : TypeDefinition → List ℕ → PlanRange → Option (List ℕ)
 range_words t columns range =
     if bytes_eq range.begin range.end then Some (codes "nothing")
-    else option_map (told_text t columns) (told range)
+    else option_map (told_text t columns) (range_told range)

@@ -8,7 +8,7 @@ use Rattle.tuple_codec.specs.Subspace.{strinc}
 use Rattle.metadata.specs.declared.cells.Cell.{Cell}
 use Rattle.metadata.specs.Order.{cell_cmp, is_string}
 use Rattle.planner.specs.Pack.{unpack}
-use Rattle.planner.specs.Range.{KeyRange, Bound, above, from, below, up_to, prefixed}
+use Rattle.planner.specs.Range.{PlanRange, Bound, above, from, below, up_to, prefixed}
 use Rattle.explain.specs.declared.edges.Edge.{Edge}
 use Rattle.explain.specs.declared.edges.Passed.{Passed}
 use Rattle.explain.specs.declared.edges.Passed.TheVariants.{Nothing, Null, All}
@@ -56,8 +56,8 @@ upper cells passed = None
 abbrev pub one : Option Bound → Option (List Bound)
 one bound = option_map (λ b. b ∷ []) bound
 
-abbrev pub both : Option Bound → Option Bound → Option (List Bound)
-both low high = option_and_then (λ l. option_map (λ h. l ∷ h ∷ []) high) low
+abbrev pub both_bounds : Option Bound → Option Bound → Option (List Bound)
+both_bounds low high = option_and_then (λ l. option_map (λ h. l ∷ h ∷ []) high) low
 
 -- the bounds that two edges set on a column: none, an upper one alone, where the first edge has passed null, a lower
 -- one alone, or both
@@ -65,7 +65,7 @@ abbrev pub bounds_between : List Cell → Passed → List Cell → Passed → Op
 bounds_between [] Nothing [] All = Some []
 bounds_between [] Null end to = one (upper end to)
 bounds_between begin since [] All = one (lower begin since)
-bounds_between begin since end to = both (lower begin since) (upper end to)
+bounds_between begin since end to = both_bounds (lower begin since) (upper end to)
 
 -- ---- ranges
 
@@ -79,27 +79,27 @@ abbrev pub is_same : Cell × Cell → Bool
 is_same p = is_eq (cell_cmp p.0 p.1)
 
 -- how many cells two lists have first alike
-abbrev pub shared : List Cell → List Cell → ℕ
-shared xs ys = length (take_while is_same (zip xs ys))
+abbrev pub shared_cells : List Cell → List Cell → ℕ
+shared_cells xs ys = length (take_while is_same (zip xs ys))
 
 -- what two edges tell: the cells that they share, and the bounds behind them
 abbrev pub told_between : Edge → Edge → Option Told
 told_between begin end =
-    let n = shared begin.cells end.cells in
+    let n = shared_cells begin.cells end.cells in
     option_map (λ bounds. record { fixed = take n begin.cells; bounds = bounds })
     (bounds_between (drop n begin.cells) begin.passed (drop n end.cells) end.passed)
 
 -- what the edges of a range tell
-abbrev pub told_by_edges : KeyRange → Option Told
+abbrev pub told_by_edges : PlanRange → Option Told
 told_by_edges range =
     option_and_then (λ begin. option_and_then (told_between begin) (edge_in range.end)) (edge_in range.begin)
 
 -- whether a range has all keys that begin as it does
-abbrev pub has_all : KeyRange → Bool
+abbrev pub has_all : PlanRange → Bool
 has_all range = option_map_or (bytes_eq range.end) (strinc range.begin) false
 
 -- the cells whose pack the beginning of a range is but for the closing 00, where the range has all keys that begin so
-abbrev pub open_cells : KeyRange → Option (List Cell)
+abbrev pub open_cells : PlanRange → Option (List Cell)
 open_cells range = if has_all range then unpack (range.begin ++ 0 ∷ []) else None
 
 -- what cells tell of which the last one is a text or a byte string that begins so
@@ -107,9 +107,9 @@ abbrev pub told_prefix : List Cell × Cell → Option Told
 told_prefix p = if is_string p.1 then Some (record { fixed = p.0; bounds = prefixed p.1 ∷ [] }) else None
 
 -- what a range tells that has all keys that begin as it does
-abbrev pub told_by_prefix : KeyRange → Option Told
+abbrev pub told_by_prefix : PlanRange → Option Told
 told_by_prefix range = option_and_then told_prefix (option_and_then parted (open_cells range))
 
 -- what is told of a range, if something can be
-abbrev pub told : KeyRange → Option Told
-told range = option_or (told_by_edges range) (told_by_prefix range)
+abbrev pub range_told : PlanRange → Option Told
+range_told range = option_or (told_by_edges range) (told_by_prefix range)

@@ -6,7 +6,7 @@ use Rattle.json_forms.specs.QueryJson.{filter_data}
 use Rattle.metadata.specs.declared.definition.TypeDefinition.{TypeDefinition}
 use Rattle.planner.specs.Plan.{Scan, IndexScan, Source, one, intersection, Node, scan, fetch, filtered, union}
 use Rattle.planner.specs.Plan.{unordered_union, distinct, Nodes, no_nodes, node, Plan}
-use Rattle.planner.specs.Range.{KeyRange}
+use Rattle.planner.specs.Range.{PlanRange}
 use Rattle.explain.specs.PlanText.{range_text}
 use Rattle.explain.specs.Shown.{range_words}
 
@@ -19,22 +19,22 @@ abbrev pub deeper : List ℕ → List ℕ
 deeper indent = indent ++ codes "  "
 
 -- what a range says of the columns at these places, where that can be told
-abbrev pub told_words : TypeDefinition → List ℕ → KeyRange → List ℕ
+abbrev pub told_words : TypeDefinition → List ℕ → PlanRange → List ℕ
 told_words t columns range = option_map_or (λ words. codes ": " ++ words) (range_words t columns range) []
 
 -- the same, and the bytes of the range
-abbrev pub shown_range : TypeDefinition → List ℕ → KeyRange → List ℕ
+abbrev pub shown_range : TypeDefinition → List ℕ → PlanRange → List ℕ
 shown_range t columns range =
     told_words t columns range ++ (codes " [" ++ range_text range ++ codes "]")
 
 -- what stands behind the range of a scan that gives the last key first
-abbrev pub turned : Bool → List ℕ
-turned reverse = if reverse then codes " reverse" else []
+abbrev pub turned_words : Bool → List ℕ
+turned_words reverse = if reverse then codes " reverse" else []
 
 -- a scan: what is scanned, its name, the range of keys that go by these columns, and whether the last key comes first
-abbrev pub shown_scan : List ℕ → List ℕ → TypeDefinition → List ℕ → KeyRange → Bool → List ℕ
+abbrev pub shown_scan : List ℕ → List ℕ → TypeDefinition → List ℕ → PlanRange → Bool → List ℕ
 shown_scan what name t columns range reverse =
-    what ++ name ++ (shown_range t columns range ++ turned reverse)
+    what ++ name ++ (shown_range t columns range ++ turned_words reverse)
 
 -- the line of a scan of the records, and of an index
 abbrev pub scan_line : TypeDefinition → List ℕ → Scan → List ℕ

@@ -1,7 +1,7 @@
 //! The bounds that the edges of a range set on a column. Used by `ranges` and `conditions`.
 ghost use Rattle.std.specs.Prelude.{◌≡◌, ◌≤◌, IfOk, length, map, option_map};
-ghost use Rattle.explain.specs.Told.{both, bounds_between, lower, one, shared, upper};
-ghost use Rattle.explain.specs.View.{bound_of, bounds_of};
+ghost use Rattle.explain.specs.Told.{both_bounds, bounds_between, lower, one, shared_cells, upper};
+ghost use Rattle.explain.specs.View.{bound_shown, bounds_shown};
 
 use crate::edges::Passed;
 use metadata::Cell;
@@ -19,7 +19,7 @@ pub(crate) enum Bound<'a> {
 
 // The bound that the first edge sets, from the column's cell there and what the edge passes.
 fn lower(cells: &[Cell], passed: Passed) -> Option<Bound<'_>>
-    ensures { option_map bound_of result ≡ lower cells.now passed }
+    ensures { option_map bound_shown result ≡ lower cells.now passed }
 {
     match (cells, passed) {
         ([cell], Passed::Nothing) => Some(Bound::From(cell)),
@@ -30,7 +30,7 @@ fn lower(cells: &[Cell], passed: Passed) -> Option<Bound<'_>>
 
 // The bound that the second edge sets.
 fn upper(cells: &[Cell], passed: Passed) -> Option<Bound<'_>>
-    ensures { option_map bound_of result ≡ upper cells.now passed }
+    ensures { option_map bound_shown result ≡ upper cells.now passed }
 {
     match (cells, passed) {
         ([cell], Passed::Nothing) => Some(Bound::Below(cell)),
@@ -41,7 +41,7 @@ fn upper(cells: &[Cell], passed: Passed) -> Option<Bound<'_>>
 
 // A list of one bound, if there is one.
 fn one<'a>(alloc: Global, bound: Option<Bound<'a>>) -> Result<Option<Vec<Bound<'a>>>, AllocError>
-    ensures { IfOk result (λ made. option_map bounds_of made ≡ one (option_map bound_of bound.entry)) }
+    ensures { IfOk result (λ made. option_map bounds_shown made ≡ one (option_map bound_shown bound.entry)) }
 {
     let Some(bound) = bound else {
         return Ok(None);
@@ -57,8 +57,8 @@ fn both<'a>(
     low: Option<Bound<'a>>,
     high: Option<Bound<'a>>,
 ) -> Result<Option<Vec<Bound<'a>>>, AllocError>
-    ensures { IfOk result (λ made. option_map bounds_of made
-        ≡ both (option_map bound_of low.entry) (option_map bound_of high.entry)) }
+    ensures { IfOk result (λ made. option_map bounds_shown made
+        ≡ both_bounds (option_map bound_shown low.entry) (option_map bound_shown high.entry)) }
 {
     let (Some(low), Some(high)) = (low, high) else {
         return Ok(None);
@@ -78,7 +78,7 @@ pub(crate) fn bounds_between<'a>(
     end: &'a [Cell],
     to: Passed,
 ) -> Result<Option<Vec<Bound<'a>>>, AllocError>
-    ensures { IfOk result (λ made. option_map bounds_of made ≡ bounds_between begin.now since end.now to) }
+    ensures { IfOk result (λ made. option_map bounds_shown made ≡ bounds_between begin.now since end.now to) }
 {
     match (begin, since, end, to) {
         ([], Passed::Nothing, [], Passed::All) => Ok(Some(Vec::new(alloc))),
@@ -90,7 +90,7 @@ pub(crate) fn bounds_between<'a>(
 
 /// How many cells two lists have first alike.
 pub(crate) fn shared(left: &[Cell], right: &[Cell]) -> usize
-    ensures count { result ≡ shared left.now right.now }
+    ensures count { result ≡ shared_cells left.now right.now }
     ensures in_left { result ≤ length left.now }
     ensures in_right { result ≤ length right.now }
 {

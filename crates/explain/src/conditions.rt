@@ -4,7 +4,7 @@ ghost use Rattle.serde_json.specs.Written.{compact_text};
 ghost use Rattle.json_forms.specs.CellJson.{cell_data};
 ghost use Rattle.planner.specs.Match.{name_at};
 ghost use Rattle.explain.specs.Shown.{and_all, bound_text, compared, equalities, equality, name_behind, told_text};
-ghost use Rattle.explain.specs.View.{bound_of};
+ghost use Rattle.explain.specs.View.{bound_shown};
 
 use crate::bounds::Bound;
 use json_forms::cell_text;
@@ -59,7 +59,7 @@ fn equality(alloc: Global, name: &str, cell: &Cell) -> Result<Text, AllocError>
 
 // A bound on a column.
 fn bound_text(alloc: Global, name: &str, bound: Bound) -> Result<Text, AllocError>
-    ensures { IfOk result (λ text. text ≡ bound_text name.now (bound_of bound.entry)) }
+    ensures { IfOk result (λ text. text ≡ bound_text name.now (bound_shown bound.entry)) }
 {
     match bound {
         Bound::Above(cell) => compared(alloc, name, " > ", cell),
@@ -99,7 +99,7 @@ fn push_bounds(
     bounds: &[Bound],
 ) -> Result<(), AllocError>
     ensures { OnOk result (conditions.new.items
-        ≡ conditions.old.items ++ map (bound_text name.now) (map bound_of bounds.now)) }
+        ≡ conditions.old.items ++ map (bound_text name.now) (map bound_shown bounds.now)) }
 {
     for bound in bounds {
         conditions.push(bound_text(alloc, name, *bound)?)?;
@@ -131,7 +131,7 @@ pub(crate) fn told_text(
     bounds: &[Bound],
 ) -> Result<String, AllocError>
     ensures { IfOk result (λ text. string_bytes text ≡ told_text definition.now columns.now
-        (record { fixed = fixed.now; bounds = map bound_of bounds.now })) }
+        (record { fixed = fixed.now; bounds = map bound_shown bounds.now })) }
 {
     let name = name_behind(definition, columns, fixed.len());
     let mut conditions = Vec::new(alloc);

@@ -1,8 +1,9 @@
 // The JSON that asks for a plan. Called by `planning`.
 ghost use Rattle.std.specs.Prelude.{◌≡◌, Some, None, IfOk, IfErr};
 ghost use Rattle.serde_json.specs.View.{members_view, view};
-ghost use Rattle.explain.specs.File.{asked_of, given_states, request_in, request_of, state_in};
-ghost use Rattle.explain.specs.File.{state_named, states_in, states_of};
+ghost use Rattle.explain.specs.File.{asked_plan, given_states, named_state_in, plan_request_in};
+ghost use Rattle.explain.specs.File.{plan_request_of};
+ghost use Rattle.explain.specs.File.{state_of_name, states_beside, states_in};
 
 use json_forms::{PartError, has_only, member, query_of, schema_of, str_of, value_of};
 use metadata::{SchemaRequest, State};
@@ -28,8 +29,9 @@ pub(crate) struct PlanRequest {
 
 // The state of this name.
 fn state_named(name: &str) -> Result<State, PartError>
-    ensures ok { IfOk result (λ read. state_named name.now ≡ Some read) }
-    ensures err { IfErr result (λ error. error ≡ PartError.BadForm → state_named name.now ≡ None) }
+    ensures ok { IfOk result (λ read. state_of_name name.now ≡ Some read) }
+    ensures err { IfErr result (λ error. error ≡ PartError.BadForm → state_of_name name.now
+        ≡ None) }
 {
     match name {
         "readable" => Ok(State::Readable),
@@ -41,17 +43,17 @@ fn state_named(name: &str) -> Result<State, PartError>
 
 // The state that a text names.
 fn state_of(value: &Value) -> Result<State, PartError>
-    ensures ok { IfOk result (λ read. state_in (view value.now) ≡ Some read) }
-    ensures err { IfErr result (λ error. error ≡ PartError.BadForm → state_in (view value.now) ≡ None) }
+    ensures ok { IfOk result (λ read. named_state_in (view value.now) ≡ Some read) }
+    ensures err { IfErr result (λ error. error ≡ PartError.BadForm → named_state_in (view value.now) ≡ None) }
 {
     state_named(str_of(value)?)
 }
 
 // The states beside the names of indexes.
 fn states_of(alloc: Global, members: &Map<String, Value>) -> Result<Vec<NamedState>, PartError>
-    ensures ok { IfOk result (λ read. states_of (members_view members.now.entries) ≡ Some read.items) }
+    ensures ok { IfOk result (λ read. states_beside (members_view members.now.entries) ≡ Some read.items) }
     ensures err { IfErr result (λ error. error ≡ PartError.BadForm →
-        states_of (members_view members.now.entries) ≡ None) }
+        states_beside (members_view members.now.entries) ≡ None) }
 {
     let mut states = Vec::new(alloc);
     for (name, value) in members.iter() {
@@ -89,8 +91,8 @@ const FILE_KEYS: [&str; 3] = ["schema", "states", "query"];
 
 // What a value asks a plan for.
 fn request_in(alloc: Global, file: &Value) -> Result<PlanRequest, PartError>
-    ensures ok { IfOk result (λ read. request_in (view file.now) ≡ Some (asked_of read)) }
-    ensures err { IfErr result (λ error. error ≡ PartError.BadForm → request_in (view file.now) ≡ None) }
+    ensures ok { IfOk result (λ read. plan_request_in (view file.now) ≡ Some (asked_plan read)) }
+    ensures err { IfErr result (λ error. error ≡ PartError.BadForm → plan_request_in (view file.now) ≡ None) }
 {
     if !has_only(file, &FILE_KEYS) {
         return Err(PartError::BadForm);
@@ -107,8 +109,9 @@ fn request_in(alloc: Global, file: &Value) -> Result<PlanRequest, PartError>
 
 /// What a text asks a plan for, or `BadForm` of another text.
 pub(crate) fn request_of(alloc: Global, text: &[u8]) -> Result<PlanRequest, PartError>
-    ensures ok { IfOk result (λ read. request_of text.now ≡ Some (asked_of read)) }
-    ensures err { IfErr result (λ error. error ≡ PartError.BadForm → request_of text.now ≡ None) }
+    ensures ok { IfOk result (λ read. plan_request_of text.now ≡ Some (asked_plan read)) }
+    ensures err { IfErr result (λ error. error ≡ PartError.BadForm → plan_request_of text.now
+        ≡ None) }
 {
     let file = value_of(alloc, text)?;
     request_in(alloc, &file)

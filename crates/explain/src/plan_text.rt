@@ -4,7 +4,8 @@ ghost use Rattle.std.specs.List.{join_with_byte};
 ghost use Rattle.hex.specs.Hex.{encode_lower};
 ghost use Rattle.planner.specs.Planned.{nodes_of};
 ghost use Rattle.planner.specs.View.{index_scan_of, node_of, plan_of, range_of, source_of};
-ghost use Rattle.explain.specs.PlanText.{comma_before, index_scan_text, listed, node_text, node_texts, plan_text};
+ghost use Rattle.explain.specs.PlanText.{bracketed, comma_before, index_scan_text, node_text};
+ghost use Rattle.explain.specs.PlanText.{node_texts, plan_text};
 ghost use Rattle.explain.specs.PlanText.{range_text, scan_text, source_text, turned_text};
 ghost use Rattle.query.specs.View.{filter_of};
 ghost use Rattle.std.specs.Prelude.{codes};
@@ -197,7 +198,7 @@ fn push_parts(
     parts: &[Node],
 ) -> Result<(), AllocError>
     ensures { OnOk result (string_bytes text.new ≡ string_bytes text.old
-        ++ listed opened.now (node_texts name.now (nodes_of (map node_of parts.now)))) }
+        ++ bracketed opened.now (node_texts name.now (nodes_of (map node_of parts.now)))) }
 {
     text.push_str(opened)?;
     push_nodes(alloc, text, name, parts)?;

@@ -7,7 +7,7 @@ ghost use Rattle.planner.specs.Planned.{nodes_of};
 ghost use Rattle.planner.specs.View.{index_scan_of, node_of, plan_of, range_of, scan_of, source_of};
 ghost use Rattle.explain.specs.Tree.{deeper, index_line, line, node_tree, nodes_tree, plan_tree};
 ghost use Rattle.explain.specs.PlanText.{range_text};
-ghost use Rattle.explain.specs.Tree.{scan_line, shown_range, source_tree, told_words, turned};
+ghost use Rattle.explain.specs.Tree.{scan_line, shown_range, source_tree, told_words, turned_words};
 
 use crate::plan_text::push_range;
 use crate::ranges::range_words;
@@ -91,7 +91,7 @@ fn push_scanned(
     reverse: bool,
 ) -> Result<(), AllocError>
     ensures { OnOk result (string_bytes text.new
-        ≡ string_bytes text.old ++ (what.now ++ name.now ++ (shown.now ++ turned reverse))) }
+        ≡ string_bytes text.old ++ (what.now ++ name.now ++ (shown.now ++ turned_words reverse))) }
 {
     text.push_str(what)?;
     text.push_str(name.as_str())?;

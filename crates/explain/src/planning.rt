@@ -4,11 +4,13 @@ ghost use Rattle.std.specs.List.{list_all};
 ghost use Rattle.std.specs.Option.{option_copied};
 ghost use Rattle.std.specs.Str.{bytes_eq};
 ghost use Rattle.metadata.specs.Asked.{schema_asked};
-ghost use Rattle.query.specs.Checked.{refusal};
+ghost use Rattle.query.specs.Checked.{query_refusal};
 ghost use Rattle.query.specs.View.{query_of};
-ghost use Rattle.explain.specs.File.{asked_of};
-ghost use Rattle.explain.specs.Planning.{IsPlanAskedBy, IsPlanOf, IsPlanUnder, asked_refusal, first_given, given_state};
-ghost use Rattle.explain.specs.Planning.{index_states, is_index, refusal_under, text_refusal};
+ghost use Rattle.explain.specs.File.{asked_plan};
+ghost use Rattle.explain.specs.Planning.{IsPlanAsked, IsPlanAskedBy, IsPlanUnder, asked_refusal};
+ghost use Rattle.explain.specs.Planning.{first_given, given_state};
+ghost use Rattle.explain.specs.Planning.{asked_states, is_state_of_index, refusal_under};
+ghost use Rattle.explain.specs.Planning.{text_refusal};
 
 use crate::error::ExplainError;
 use crate::file::{NamedState, PlanRequest, request_of};
@@ -49,7 +51,7 @@ fn index_states(
     states: &[NamedState],
     indexes: &[IndexDefinition],
 ) -> Result<Vec<(u64, State)>, AllocError>
-    ensures { IfOk result (λ made. made.items ≡ index_states states.now indexes.now) }
+    ensures { IfOk result (λ made. made.items ≡ asked_states states.now indexes.now) }
 {
     let mut made = Vec::new(alloc);
     for index in indexes {
@@ -60,7 +62,7 @@ fn index_states(
 
 // Whether each state is given for an index of the schema.
 fn are_indexes(schema: &Schema, states: &[NamedState]) -> bool
-    ensures { result ≡ list_all (is_index schema.now) states.now }
+    ensures { result ≡ list_all (is_state_of_index schema.now) states.now }
 {
     states
         .iter()
@@ -71,7 +73,7 @@ fn are_indexes(schema: &Schema, states: &[NamedState]) -> bool
 fn schema_made(alloc: Global, request: &PlanRequest) -> Result<Schema, ExplainError>
     ensures ok { IfOk result (λ schema. schema_asked request.now.schema ≡ Ok schema) }
     ensures err { IfErr result (λ error. error ≢ ExplainError.OutOfMemory →
-        asked_refusal (asked_of request.now) ≡ Some error) }
+        asked_refusal (asked_plan request.now) ≡ Some error) }
 {
     match Schema::of_request(alloc, &request.schema) {
         Ok(schema) => Ok(schema),
@@ -87,8 +89,8 @@ fn plan_checked(
     states: &[NamedState],
     query: &Query,
 ) -> Result<Plan, ExplainError>
-    requires known { IsTrue (list_all (is_index schema.now) states.now) }
-    requires checked { refusal schema.now (query_of query.now) ≡ None }
+    requires known { IsTrue (list_all (is_state_of_index schema.now) states.now) }
+    requires checked { query_refusal schema.now (query_of query.now) ≡ None }
     ensures ok { IfOk result (IsPlanUnder schema.now states.now (query_of query.now)) }
     ensures err { IfErr result (λ error. error ≢ ExplainError.OutOfMemory →
         refusal_under schema.now states.now (query_of query.now) ≡ Some error) }
@@ -123,9 +125,9 @@ fn plan_under(
 
 // The plan of what is asked.
 fn plan_requested(alloc: Global, request: &PlanRequest) -> Result<Plan, ExplainError>
-    ensures ok { IfOk result (IsPlanOf (asked_of request.now)) }
+    ensures ok { IfOk result (IsPlanAsked (asked_plan request.now)) }
     ensures err { IfErr result (λ error. error ≢ ExplainError.OutOfMemory →
-        asked_refusal (asked_of request.now) ≡ Some error) }
+        asked_refusal (asked_plan request.now) ≡ Some error) }
 {
     let schema = schema_made(alloc, request)?;
     plan_under(alloc, &schema, request.states.as_slice(), &request.query)

@@ -2,7 +2,8 @@
 ghost use Rattle.std.specs.Prelude.{◌≡◌, IfOk, option_map, string_bytes};
 ghost use Rattle.planner.specs.View.{range_of};
 ghost use Rattle.explain.specs.Shown.{range_words, told_text};
-ghost use Rattle.explain.specs.Told.{told, told_between, told_by_edges, told_by_prefix, told_prefix};
+ghost use Rattle.explain.specs.Told.{range_told, told_between, told_by_edges, told_by_prefix};
+ghost use Rattle.explain.specs.Told.{told_prefix};
 
 use crate::bounds::{Bound, bounds_between, shared};
 use crate::conditions::told_text;
@@ -113,7 +114,7 @@ fn words_told(
     range: &KeyRange,
 ) -> Result<Option<String>, AllocError>
     ensures { IfOk result (λ words. option_map string_bytes words
-        ≡ option_map (told_text definition.now columns.now) (told (range_of range.now))) }
+        ≡ option_map (told_text definition.now columns.now) (range_told (range_of range.now))) }
 {
     match words_by_edges(alloc, definition, columns, range)? {
         Some(words) => Ok(Some(words)),

@@ -18,22 +18,22 @@ use Rattle.metadata.specs.Cell.{cells_at, items_of}
 use Rattle.metadata.specs.Record.{Record, primary_key}
 use Rattle.metadata.specs.Records.{IsStorable}
 use Rattle.metadata.proofs.CellItems.{all-cells_at, are_items-items_of, items_of-injective}
-use Rattle.index_maint.specs.Entries.{Entry, entry_items, entry_of, same_entry}
+use Rattle.index_maint.specs.Entries.{IndexEntry, entry_items, entry_of, same_entry}
 use Rattle.index_maint.specs.Layout.{entries_prefix, entry_key}
 use Rattle.index_maint.proofs.Replaced.{tied_tuples, ties}
 
-are_items-append : (t u : List Item) → AreItems (item.items_of t) → AreItems (item.items_of u) → AreItems (item.items_of (t ++ u))
+are_items-append : (t u : List Item) → AreItems (item.items_from t) → AreItems (item.items_from u) → AreItems (item.items_from (t ++ u))
 are_items-append [] u h g = g
 are_items-append (x ∷ t) u h g = (h.0, are_items-append t u h.1 g)
 
 -- the tuple of a storable record's entry is one of items
-entry_are_items : (index : IndexDefinition) (r : Record) → IsStorable r → AreItems (item.items_of (entry_items (entry_of index r)))
+entry_are_items : (index : IndexDefinition) (r : Record) → IsStorable r → AreItems (item.items_from (entry_items (entry_of index r)))
 entry_are_items index r h =
     are_items-append (items_of (cells_at r.cells index.columns)) (primary_key r)
     (are_items-items_of (cells_at r.cells index.columns) (all-cells_at r.cells index.columns h.cells)) h.key.items
 
 -- packs of items are those of one list
-same_items : (t u : List Item) → AreItems (item.items_of t) → AreItems (item.items_of u) → spelling t ≡ spelling u → t ≡ u
+same_items : (t u : List Item) → AreItems (item.items_from t) → AreItems (item.items_from u) → spelling t ≡ spelling u → t ≡ u
 same_items t u h g same =
     tied_tuples t u (ap is_eq (sym (tuple_order t u h g) ∙ ap (key_cmp (spelling t)) (sym same) ∙ tied_itself nat_list_cmp_total (spelling t)))
 
@@ -59,7 +59,7 @@ entries_apart prefix number index r s h k same =
     (cancel (entries_prefix prefix number) (spelling (entry_items (entry_of index r))) (spelling (entry_items (entry_of index s))) same))
 
 -- a tuple of items ties with itself
-tuple_ties : (t : List Item) → AreItems (item.items_of t) → is_eq (tuple_cmp t t) ≡ true
+tuple_ties : (t : List Item) → AreItems (item.items_from t) → is_eq (tuple_cmp t t) ≡ true
 tuple_ties t h = ap is_eq (sym (tuple_order t t h h) ∙ tied_itself nat_list_cmp_total (spelling t))
 
 -- ONE KEY: entries with one key are the same
@@ -76,7 +76,7 @@ same_key prefix number index r s h k same =
     (ap (λ u. is_eq (tuple_cmp (primary_key r) u)) (sym (entries_apart prefix number index r s h k same)) ∙ ties r h)
 
 -- entries that are the same by the test are equal
-pub same_entry-equal : (a b : Entry) → same_entry a b ≡ true → a ≡ b
+pub same_entry-equal : (a b : IndexEntry) → same_entry a b ≡ true → a ≡ b
 same_entry-equal a b same =
     let parts = and_parts (is_eq (tuple_cmp (items_of a.columns) (items_of b.columns))) (is_eq (tuple_cmp a.key b.key)) same in
     let columns = items_of-injective a.columns b.columns (tied_tuples (items_of a.columns) (items_of b.columns) parts.0) in

@@ -12,7 +12,7 @@ use Rattle.kv_core.specs.Bytes.{key_cmp}
 use Rattle.kv_core.proofs.Order.{tied_keys}
 use Rattle.metadata.specs.declared.index.IndexDefinition.{IndexDefinition}
 use Rattle.metadata.specs.Record.{Record}
-use Rattle.index_maint.specs.Entries.{Entry, entries, entry_items}
+use Rattle.index_maint.specs.Entries.{IndexEntry, entry_items, index_entries}
 use Rattle.index_maint.specs.Layout.{entries_prefix, entry_pair, entry_pairs}
 
 abbrev Pair : Type 0
@@ -49,8 +49,8 @@ lookup-before key ps qs none = lookup-append key ps qs ∙ ap (λ o. option_or (
 -- entries have nothing at a key that isn't under their index's prefix
 pub entries-none : (prefix : List ℕ) (index : IndexDefinition) (key : List ℕ) (records : List Record) → (BeginsWith (entries_prefix prefix index.number) key → ⊥) →
     lookup (is_at (key_cmp key)) (entry_pairs prefix index records) ≡ None
-entries-none prefix index key records apart = lookup-none key (entry_pairs prefix index records) (each (entries index records))
+entries-none prefix index key records apart = lookup-none key (entry_pairs prefix index records) (each (index_entries index records))
   where
-    each : (left : List Entry) → AllByRecursion (λ p. key ≡ p.0 → ⊥) (map (entry_pair prefix index.number) left)
+    each : (left : List IndexEntry) → AllByRecursion (λ p. key ≡ p.0 → ⊥) (map (entry_pair prefix index.number) left)
     each [] = tt
     each (entry ∷ left) = (λ is. apart (spelling (entry_items entry), is), each left)

@@ -17,7 +17,7 @@ use Rattle.kv_core.proofs.Pairs.{contains-point-is}
 use Rattle.metadata.specs.declared.index.IndexDefinition.{IndexDefinition}
 use Rattle.metadata.specs.Record.{Record}
 use Rattle.metadata.specs.Records.{IsStorable, has_primary_key, without_record}
-use Rattle.index_maint.specs.Entries.{Entry, entry_items, entry_of, is_indexed, same_entry}
+use Rattle.index_maint.specs.Entries.{IndexEntry, entry_items, entry_of, is_indexed, same_entry}
 use Rattle.index_maint.specs.Layout.{entries_prefix, entry_key}
 use Rattle.index_maint.specs.Changes.{HasEntries, clear_entry, entry_changes, set_entry, value_changes}
 use Rattle.index_maint.specs.Laws.{IsIndexed, IsReplacement, OnlyChanges}
@@ -27,11 +27,11 @@ use Rattle.index_maint.proofs.Replaced.{HaveNot, found_storable, none_without}
 use Rattle.index_maint.proofs.ValueLaw.{alone_there, any_before, changed, entry_alone, has_entry, held_entries, holds_of, is_entry_key, there}
 
 -- the key is that of the entry, if there is one
-abbrev pub is_key_of : List ℕ → ℕ → List ℕ → Option Entry → Bool
+abbrev pub is_key_of : List ℕ → ℕ → List ℕ → Option IndexEntry → Bool
 is_key_of prefix number at None = false
 is_key_of prefix number at (Some entry) = is_entry_key prefix number at entry
 
-point_covers : (prefix : List ℕ) (number : ℕ) (at : List ℕ) (entry : Entry) → contains (point (entry_key prefix number entry)) at ≡ is_entry_key prefix number at entry
+point_covers : (prefix : List ℕ) (number : ℕ) (at : List ℕ) (entry : IndexEntry) → contains (point (entry_key prefix number entry)) at ≡ is_entry_key prefix number at entry
 point_covers prefix number at entry = contains-point-is (entry_key prefix number entry) at ∙ tied_swap (entry_key prefix number entry) at
 
 pub or_false : (b : Bool) → (b || false) ≡ b
@@ -39,7 +39,7 @@ or_false true = refl
 or_false false = refl
 
 -- COVERED: the changes cover the keys of the old entry and of the new one, where these aren't the same, and nothing else
-pub covered : (prefix : List ℕ) (number : ℕ) (at : List ℕ) (old new : Option Entry) → covers (write_ranges (entry_changes prefix number old new)) at ≡ true →
+pub covered : (prefix : List ℕ) (number : ℕ) (at : List ℕ) (old new : Option IndexEntry) → covers (write_ranges (entry_changes prefix number old new)) at ≡ true →
     (is_key_of prefix number at old || is_key_of prefix number at new) ≡ true
 covered prefix number at None None h = h
 covered prefix number at None (Some new) h = sym (ap (λ b. b || false) (point_covers prefix number at new) ∙ or_false (is_entry_key prefix number at new)) ∙ h
@@ -53,7 +53,7 @@ covered prefix number at (Some old) (Some new) h = by_same (same_entry old new) 
         sym ((λ i. point_covers prefix number at old i || (point_covers prefix number at new i || false)) ∙ ap (λ b. is_entry_key prefix number at old || b) (or_false (is_entry_key prefix number at new))) ∙ h
 
 -- the changes cover nothing where the entries are the same
-pub covered_other : (prefix : List ℕ) (number : ℕ) (at : List ℕ) (old new : Entry) → covers (write_ranges (entry_changes prefix number (Some old) (Some new))) at ≡ true → same_entry old new ≡ false
+pub covered_other : (prefix : List ℕ) (number : ℕ) (at : List ℕ) (old new : IndexEntry) → covers (write_ranges (entry_changes prefix number (Some old) (Some new))) at ≡ true → same_entry old new ≡ false
 covered_other prefix number at old new h = by_same (same_entry old new) h
   where
     by_same : (t : Bool) → covers (write_ranges (cond t [] (clear_entry prefix number old ∷ set_entry prefix number new ∷ []))) at ≡ true → t ≡ false

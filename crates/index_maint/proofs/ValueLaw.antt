@@ -21,7 +21,7 @@ use Rattle.kv_core.proofs.Stored.{get-stored, stored}
 use Rattle.metadata.specs.declared.index.IndexDefinition.{IndexDefinition}
 use Rattle.metadata.specs.Record.{Record, primary_key}
 use Rattle.metadata.specs.Records.{IsStorable, has_primary_key, of_type, without_record, with_record}
-use Rattle.index_maint.specs.Entries.{Entry, entry_items, entry_of, is_indexed, same_entry}
+use Rattle.index_maint.specs.Entries.{IndexEntry, entry_items, entry_of, is_indexed, same_entry}
 use Rattle.index_maint.specs.Layout.{entries_prefix, entry_key, entry_pair, entry_pairs}
 use Rattle.index_maint.specs.Changes.{HasEntries, clear_entry, entry_changes, set_entry, value_changes}
 use Rattle.index_maint.specs.Laws.{IsIndexed, IsOther, IsReplacement, replaced}
@@ -34,7 +34,7 @@ abbrev pub there : Bool → Option (List ℕ)
 there b = cond b (Some []) None
 
 -- the key is that of the entry
-abbrev pub is_entry_key : List ℕ → ℕ → List ℕ → Entry → Bool
+abbrev pub is_entry_key : List ℕ → ℕ → List ℕ → IndexEntry → Bool
 is_entry_key prefix number key entry = is_eq (key_cmp key (entry_key prefix number entry))
 
 -- the key is that of the record's entry
@@ -97,7 +97,7 @@ any_after p key old (Some new) records given =
 
 -- ---- what the writes make of a key
 
-pub cleared : (prefix : List ℕ) (number : ℕ) (key : List ℕ) (entry : Entry) (before : Option (List ℕ)) →
+pub cleared : (prefix : List ℕ) (number : ℕ) (key : List ℕ) (entry : IndexEntry) (before : Option (List ℕ)) →
     value_after (clear_entry prefix number entry) key before ≡ cond (is_entry_key prefix number key entry) None before
 cleared prefix number key entry before =
     ap (λ b. cond b None before) (contains-point-is (entry_key prefix number entry) key ∙ tied_swap (entry_key prefix number entry) key)
@@ -181,20 +181,20 @@ value_ignores_others prefix index key old new records m given before after has b
 abbrev IsElsewhere : List ℕ → IndexDefinition → List ℕ → Type 0
 IsElsewhere prefix index key = BeginsWith (entries_prefix prefix index.number) key → ⊥
 
-not_entry : (prefix : List ℕ) (index : IndexDefinition) (key : List ℕ) (entry : Entry) → IsElsewhere prefix index key → is_entry_key prefix index.number key entry ≡ false
+not_entry : (prefix : List ℕ) (index : IndexDefinition) (key : List ℕ) (entry : IndexEntry) → IsElsewhere prefix index key → is_entry_key prefix index.number key entry ≡ false
 not_entry prefix index key entry apart =
     false_from_ne_true (is_entry_key prefix index.number key entry) (λ same. apart (spelling (entry_items entry), tied_keys key (entry_key prefix index.number entry) same))
 
-not_cleared : (prefix : List ℕ) (index : IndexDefinition) (key : List ℕ) (entry : Entry) (before : Option (List ℕ)) → IsElsewhere prefix index key →
+not_cleared : (prefix : List ℕ) (index : IndexDefinition) (key : List ℕ) (entry : IndexEntry) (before : Option (List ℕ)) → IsElsewhere prefix index key →
     value_after (clear_entry prefix index.number entry) key before ≡ before
 not_cleared prefix index key entry before apart =
     cleared prefix index.number key entry before ∙ ap (λ b. cond b None before) (not_entry prefix index key entry apart)
 
-not_set : (prefix : List ℕ) (index : IndexDefinition) (key : List ℕ) (entry : Entry) (before : Option (List ℕ)) → IsElsewhere prefix index key →
+not_set : (prefix : List ℕ) (index : IndexDefinition) (key : List ℕ) (entry : IndexEntry) (before : Option (List ℕ)) → IsElsewhere prefix index key →
     value_after (set_entry prefix index.number entry) key before ≡ before
 not_set prefix index key entry before apart = ap (λ b. cond b (Some []) before) (not_entry prefix index key entry apart)
 
-unchanged : (prefix : List ℕ) (index : IndexDefinition) (old new : Option Entry) (key : List ℕ) (before : Option (List ℕ)) → IsElsewhere prefix index key →
+unchanged : (prefix : List ℕ) (index : IndexDefinition) (old new : Option IndexEntry) (key : List ℕ) (before : Option (List ℕ)) → IsElsewhere prefix index key →
     value_after_all (entry_changes prefix index.number old new) key before ≡ before
 unchanged prefix index None None key before apart = refl
 unchanged prefix index None (Some new) key before apart = not_set prefix index key new before apart

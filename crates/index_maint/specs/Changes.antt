@@ -8,7 +8,7 @@ use Rattle.kv_core.specs.declared.change.Mutation.{Mutation}
 use Rattle.kv_core.specs.declared.change.Mutation.TheVariants.{Set, ClearRange}
 use Rattle.metadata.specs.declared.index.IndexDefinition.{IndexDefinition}
 use Rattle.metadata.specs.Record.{Record}
-use Rattle.index_maint.specs.Entries.{Entry, entry_of, same_entry}
+use Rattle.index_maint.specs.Entries.{IndexEntry, entry_of, same_entry}
 use Rattle.index_maint.specs.Layout.{entries_prefix, entry_key, entry_pairs}
 
 -- the map of the pairs that stand for the entries of records
@@ -22,15 +22,15 @@ HasEntries prefix index records m =
     ≡ get (entries_map prefix index records) (entries_prefix prefix index.number ++ bytes)
 
 -- to take an entry out, and to put one in
-abbrev pub clear_entry : List ℕ → ℕ → Entry → Mutation
+abbrev pub clear_entry : List ℕ → ℕ → IndexEntry → Mutation
 clear_entry prefix number entry = ClearRange (point (entry_key prefix number entry))
 
-abbrev pub set_entry : List ℕ → ℕ → Entry → Mutation
+abbrev pub set_entry : List ℕ → ℕ → IndexEntry → Mutation
 set_entry prefix number entry = Set (entry_key prefix number entry) []
 
 -- what is written where one entry gives way to another: the old one is taken out before the new one is put in, and
 -- nothing is written where they are the same
-abbrev pub entry_changes : List ℕ → ℕ → Option Entry → Option Entry → List Mutation
+abbrev pub entry_changes : List ℕ → ℕ → Option IndexEntry → Option IndexEntry → List Mutation
 entry_changes prefix number None None = []
 entry_changes prefix number None (Some new) = set_entry prefix number new ∷ []
 entry_changes prefix number (Some old) None = clear_entry prefix number old ∷ []

@@ -3,8 +3,8 @@ use Rattle.std.specs.Prelude.{Bool, ◌&&◌}
 use Rattle.std.specs.Ordering.{is_eq}
 use Rattle.tuple_codec.specs.Order.{tuple_cmp}
 use Rattle.metadata.specs.Cell.{items_of}
-pub use Rattle.metadata.specs.Entries.{Entry, entries, entry_items, entry_of, is_indexed}
+pub use Rattle.metadata.specs.Entries.{IndexEntry, entry_items, entry_of, index_entries, is_indexed}
 
 -- two entries have the same columns and the same primary key
-abbrev pub same_entry : Entry → Entry → Bool
+abbrev pub same_entry : IndexEntry → IndexEntry → Bool
 same_entry a b = is_eq (tuple_cmp (items_of a.columns) (items_of b.columns)) && is_eq (tuple_cmp a.key b.key)

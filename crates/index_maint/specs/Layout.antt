@@ -2,10 +2,10 @@
 -- store's prefix.
 use Rattle.std.specs.Prelude.{ℕ, List, [], ◌∷◌, pos}
 use Rattle.tuple_codec.specs.Item.{int}
-use Rattle.tuple_codec.specs.Subspace.{key_of}
+use Rattle.tuple_codec.specs.Subspace.{subspace_key}
 pub use Rattle.metadata.specs.Layout.{entries_prefix, entry_key, entry_pair, entry_pairs}
 
 -- what the key of each built range of the index with this number begins with: the key (6, number) under the store's
 -- prefix
 abbrev pub built_place : List ℕ → ℕ → List ℕ
-built_place prefix number = key_of prefix (int (pos 6) ∷ int (pos number) ∷ [])
+built_place prefix number = subspace_key prefix (int (pos 6) ∷ int (pos number) ∷ [])

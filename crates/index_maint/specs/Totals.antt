@@ -9,7 +9,7 @@ use Rattle.std.specs.Option.{option_map}
 use Rattle.std.specs.Ordering.{is_eq}
 use Rattle.tuple_codec.specs.Order.{tuple_cmp}
 use Rattle.tuple_codec.specs.Spelling.{spelling}
-use Rattle.tuple_codec.specs.Subspace.{key_of}
+use Rattle.tuple_codec.specs.Subspace.{subspace_key}
 use Rattle.kv_core.specs.Addition.{bytes_of}
 use Rattle.kv_core.specs.Map.{Map}
 use Rattle.kv_core.specs.declared.change.Mutation.{Mutation}
@@ -69,7 +69,7 @@ as_signed n = cast_signed w64 n
 
 -- the key of a group's total
 abbrev pub group_key : List ℕ → ℕ → List Cell → List ℕ
-group_key prefix number group = key_of (entries_prefix prefix number) (items_of group)
+group_key prefix number group = subspace_key (entries_prefix prefix number) (items_of group)
 
 -- a total is stored in 8 bytes, the least significant one first; where none is stored it is 0
 abbrev pub IsTotal : Option (List ℕ) → ℕ → Type 0

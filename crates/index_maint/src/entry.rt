@@ -22,7 +22,7 @@ pub(crate) struct Entry {
 impl Model for Entry {
     ghost use Rattle.std.specs.Coded.{codes};
     ghost use Rattle.tuple_codec.specs.ItemCode.{item_code};
-    ghost use Rattle.index_maint.specs.Entries.{Entry as EntryValue};
+    ghost use Rattle.index_maint.specs.Entries.{IndexEntry as EntryValue};
 
     ghost Value = { EntryValue };
 

@@ -7,9 +7,9 @@ use Rattle.serde_json.proofs.Views.{view-Array}
 use Rattle.serde_json.specs.Data.{Data, depth, items_depth}
 use Rattle.serde_json.specs.View.{view, items_of, items_view}
 use Rattle.serde_json.specs.declared.value.Value.{Value, Array}
-use Rattle.json_forms.specs.Json.{items_in, each_in, all_in}
+use Rattle.json_forms.specs.Json.{json_values, each_in, all_in}
 
-pub items_in_items_of : (ds : List Data) → items_in (items_of ds) ≡ ds
+pub items_in_items_of : (ds : List Data) → json_values (items_of ds) ≡ ds
 items_in_items_of [] = refl
 items_in_items_of (d ∷ ds) = ap (λ more. d ∷ more) (items_in_items_of ds)
 

@@ -21,14 +21,14 @@ use Rattle.metadata.specs.declared.cells.Cell.{Cell}
 use Rattle.metadata.specs.declared.cells.Cell.TheVariants.{Null, Int, Text, Bytes}
 use Rattle.metadata.specs.Cell.{IsCell, is_word}
 use Rattle.json_forms.specs.CellJson.{IsTextOfCells, IsTextOfRows, cell_data, cell_in, cells_in, rows_in}
-use Rattle.json_forms.specs.Json.{each_in, items_in}
-use Rattle.json_forms.specs.RowText.{IsBegun, IsWritten, cell_json, items_of, row_json, rows_json}
+use Rattle.json_forms.specs.Json.{each_in, json_values}
+use Rattle.json_forms.specs.RowText.{AreTokensWritten, IsListBegun, cell_json, json_items, row_json, rows_json}
 use Rattle.json_forms.proofs.Hex.{hex_stands}
 
 -- ---- tokens
 
 -- the tokens of a list are those of its things, and the bracket that closes it
-items_tokens-items_of : {A : Type 0} (one : A → Json) (xs : List A) → items_tokens (items_of one xs) ≡ flat_map (λ x. json_tokens (one x)) xs ++ Token.end_array ∷ []
+items_tokens-items_of : {A : Type 0} (one : A → Json) (xs : List A) → items_tokens (json_items one xs) ≡ flat_map (λ x. json_tokens (one x)) xs ++ Token.end_array ∷ []
 items_tokens-items_of one [] = refl
 items_tokens-items_of one (x ∷ xs) =
     ap (λ ts. json_tokens (one x) ++ ts) (items_tokens-items_of one xs)
@@ -42,12 +42,12 @@ flat_map-more : {A B : Type 0} (f : A → List B) (xs : List A) (i : ℕ) (x : A
 flat_map-more f xs i x within is = ap (flat_map f) (take_more xs i x within ∙ ap (λ z. take i xs ++ z ∷ []) (sym is)) ∙ flat_map-push f (take i xs) x
 
 -- the bracket is written, and nothing behind it yet
-pub begun_none : {A : Type 0} (one : A → Json) (xs : List A) (old new : Written) → xs ≡ [] → new.tokens ≡ old.tokens ++ Token.begin_array ∷ [] → new.before ≡ old.before → IsBegun one xs old new
+pub begun_none : {A : Type 0} (one : A → Json) (xs : List A) (old new : Written) → xs ≡ [] → new.tokens ≡ old.tokens ++ Token.begin_array ∷ [] → new.before ≡ old.before → IsListBegun one xs old new
 begun_none one xs old new none e same = (e ∙ ap (λ ys. old.tokens ++ Token.begin_array ∷ flat_map (λ x. json_tokens (one x)) ys) (sym none), same)
 
 -- one thing more
 pub begun_more : {A : Type 0} (one : A → Json) (xs : List A) (i : ℕ) (x : A) (old mid new : Written) → i < length xs → x ≡ get_or xs i x →
-    IsBegun one (take i xs) old mid → IsWritten (one x) mid new → IsBegun one (take (i + 1) xs) old new
+    IsListBegun one (take i xs) old mid → AreTokensWritten (one x) mid new → IsListBegun one (take (i + 1) xs) old new
 begun_more one xs i x old mid new within is begun written = (
   written.0 ∙ ap (λ ts. ts ++ json_tokens (one x)) begun.0
       ∙ append_assoc old.tokens (Token.begin_array ∷ flat_map (λ x. json_tokens (one x)) (take i xs)) (json_tokens (one x))
@@ -60,7 +60,7 @@ pub known_more : {A : Type 0} (P : A → Type 0) (xs : List A) (i : ℕ) (x : A)
 known_more P xs i x within is known so_far = All-more P xs i x within so_far (subst P is known)
 
 -- the list is closed
-pub closed : {A : Type 0} (one : A → Json) (xs ys : List A) (old mid new : Written) → ys ≡ xs → IsBegun one ys old mid → new.tokens ≡ mid.tokens ++ Token.end_array ∷ [] → new.before ≡ mid.before → IsWritten (json.array (items_of one xs)) old new
+pub closed : {A : Type 0} (one : A → Json) (xs ys : List A) (old mid new : Written) → ys ≡ xs → IsListBegun one ys old mid → new.tokens ≡ mid.tokens ++ Token.end_array ∷ [] → new.before ≡ mid.before → AreTokensWritten (json.array (json_items one xs)) old new
 closed one xs ys old mid new all begun e same = (
   e ∙ ap (λ ts. ts ++ Token.end_array ∷ []) begun.0
       ∙ append_assoc old.tokens (Token.begin_array ∷ flat_map (λ x. json_tokens (one x)) ys) (Token.end_array ∷ [])
@@ -80,18 +80,18 @@ row_data : List Cell → Data
 row_data cells = array (data_of cell_data cells)
 
 module _ {A : Type 0} (P : A → Type 0) where
-  read_items : (written : A → Json) (meant : A → Data) → ((x : A) → P x → of_json (written x) ≡ Some (meant x)) → (xs : List A) → All P xs → of_items (items_of written xs) ≡ Some (data_of meant xs)
+  read_items : (written : A → Json) (meant : A → Data) → ((x : A) → P x → of_json (written x) ≡ Some (meant x)) → (xs : List A) → All P xs → of_items (json_items written xs) ≡ Some (data_of meant xs)
   unfolding data_of
   read_items written meant one [] are = refl
   read_items written meant one (x ∷ xs) are =
-      ap (option_and_then (λ d. option_map (item d) (of_items (items_of written xs)))) (one x (All-head P x xs are))
+      ap (option_and_then (λ d. option_map (item d) (of_items (json_items written xs)))) (one x (All-head P x xs are))
       ∙ ap (option_map (item (meant x))) (read_items written meant one xs (All-tail P x xs are))
 
-  each_stands : (stands : Data → Rattle.std.specs.Prelude.Option A) (meant : A → Data) → ((x : A) → P x → stands (meant x) ≡ Some x) → (xs : List A) → All P xs → each_in stands (items_in (data_of meant xs)) ≡ Some xs
+  each_stands : (stands : Data → Rattle.std.specs.Prelude.Option A) (meant : A → Data) → ((x : A) → P x → stands (meant x) ≡ Some x) → (xs : List A) → All P xs → each_in stands (json_values (data_of meant xs)) ≡ Some xs
   unfolding data_of
   each_stands stands meant one [] are = refl
   each_stands stands meant one (x ∷ xs) are =
-      ap (option_and_then (λ first. option_map (λ more. first ∷ more) (each_in stands (items_in (data_of meant xs))))) (one x (All-head P x xs are))
+      ap (option_and_then (λ first. option_map (λ more. first ∷ more) (each_in stands (json_values (data_of meant xs))))) (one x (All-head P x xs are))
       ∙ ap (option_map (λ more. x ∷ more)) (each_stands stands meant one xs (All-tail P x xs are))
 
 read_whole : (z : ℤ) → is_word z ≡ true → number_of (signed_decimal z) ≡ Some (of_integer z)
@@ -126,7 +126,7 @@ stands_row cells are = each_stands IsCell cell_in cell_data stands_cell cells ar
 
 -- ---- depth
 
-shallow_items : {A : Type 0} (one : A → Json) (n : ℕ) → ((x : A) → depth (one x) ≤ n) → (xs : List A) → items_depth (items_of one xs) ≤ n
+shallow_items : {A : Type 0} (one : A → Json) (n : ℕ) → ((x : A) → depth (one x) ≤ n) → (xs : List A) → items_depth (json_items one xs) ≤ n
 shallow_items one n each [] = omega arith
 shallow_items one n each (x ∷ xs) = let rest = shallow_items one n each xs in let first = each x in omega (arith, rest, first)
 

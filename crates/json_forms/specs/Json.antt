@@ -12,13 +12,13 @@ use Rattle.serde_json.specs.Find.{as_array, as_number, as_object, as_str, as_u64
 use Rattle.serde_json.specs.Read.{read}
 
 -- the values in a list
-abbrev pub items_in : Items → List Data
-items_in no_items = []
-items_in (item d ds) = d ∷ items_in ds
+abbrev pub json_values : Items → List Data
+json_values no_items = []
+json_values (item d ds) = d ∷ json_values ds
 
 -- the values in a value that is a list
 abbrev pub list_in : Data → Option (List Data)
-list_in d = option_map items_in (as_array d)
+list_in d = option_map json_values (as_array d)
 
 -- how many keys a value has that is an object
 abbrev pub key_count : Data → Option ℕ

@@ -12,7 +12,7 @@ use Rattle.query.specs.Filter.{Filter, compare, null_field, starts, all_of, some
 use Rattle.query.specs.Filter.{Filters, no_filters, filter}
 use Rattle.query.specs.Query.{Query}
 use Rattle.json_forms.specs.CellJson.{cell_data, cell_in}
-use Rattle.json_forms.specs.Json.{has_only, items_in, member_in, named}
+use Rattle.json_forms.specs.Json.{has_only, json_values, member_in, named}
 use Rattle.json_forms.specs.SchemaJson.{names_in}
 
 -- the operator of this name
@@ -55,7 +55,7 @@ abbrev mutual
   pub list_filter : Items → Option Filter
   list_filter no_items = None
   list_filter (item word ds) =
-      option_and_then (λ w. worded_filter w (filters_in ds) (only_filter ds) (items_in ds)) (as_str word)
+      option_and_then (λ w. worded_filter w (filters_in ds) (only_filter ds) (json_values ds)) (as_str word)
 
   -- the filters that values stand for
   pub filters_in : Items → Option Filters

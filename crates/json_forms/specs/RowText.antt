@@ -18,23 +18,23 @@ cell_json (Text s) = json.string s
 cell_json (Bytes b) = json.object (json.member (codes "hex") (json.string (encode_lower b)) json.no_members)
 
 -- the items that things are
-abbrev pub items_of : {A : Type 0} → (A → Json) → List A → Items
-items_of one [] = json.no_items
-items_of one (x ∷ xs) = json.item (one x) (items_of one xs)
+abbrev pub json_items : {A : Type 0} → (A → Json) → List A → Items
+json_items one [] = json.no_items
+json_items one (x ∷ xs) = json.item (one x) (json_items one xs)
 
 -- the JSON of a row
 abbrev pub row_json : List Cell → Json
-row_json cells = json.array (items_of cell_json cells)
+row_json cells = json.array (json_items cell_json cells)
 
 -- the JSON of rows
 abbrev pub rows_json : List (List Cell) → Json
-rows_json rows = json.array (items_of row_json rows)
+rows_json rows = json.array (json_items row_json rows)
 
 -- the tokens of a value stand behind what was written
-abbrev pub IsWritten : Json → Written → Written → Type 0
-IsWritten j old new = (new.tokens ≡ old.tokens ++ json_tokens j) × (new.before ≡ old.before)
+abbrev pub AreTokensWritten : Json → Written → Written → Type 0
+AreTokensWritten j old new = (new.tokens ≡ old.tokens ++ json_tokens j) × (new.before ≡ old.before)
 
 -- the tokens of things stand there, behind the bracket that opens their list
-abbrev pub IsBegun : {A : Type 0} → (A → Json) → List A → Written → Written → Type 0
-IsBegun one xs old new =
+abbrev pub IsListBegun : {A : Type 0} → (A → Json) → List A → Written → Written → Type 0
+IsListBegun one xs old new =
     (new.tokens ≡ old.tokens ++ token.begin_array ∷ flat_map (λ x. json_tokens (one x)) xs) × (new.before ≡ old.before)

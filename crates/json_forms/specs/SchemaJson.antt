@@ -18,19 +18,19 @@ abbrev pub kind_named : List ℕ → Option Kind
 kind_named name = named ((codes "int", Int) ∷ (codes "text", Text) ∷ (codes "bytes", Bytes) ∷ []) name
 
 -- the field that a name and the name of a kind stand for
-abbrev pub field_of : List Data → Option Field
-field_of (name ∷ kind ∷ []) =
+abbrev pub named_field : List Data → Option Field
+named_field (name ∷ kind ∷ []) =
     option_and_then (λ k. option_map (λ text. record { name = text; kind = k }) (as_str name))
     (option_and_then kind_named (as_str kind))
-field_of parts = None
+named_field parts = None
 
 -- the field that a list stands for
-abbrev pub field_in : Data → Option Field
-field_in d = option_and_then field_of (list_in d)
+abbrev pub json_field : Data → Option Field
+json_field d = option_and_then named_field (list_in d)
 
 -- the fields that a list stands for
 abbrev pub fields_in : Data → Option (List Field)
-fields_in d = all_in field_in d
+fields_in d = all_in json_field d
 
 -- the names in a list
 abbrev pub names_in : Data → Option (List (List ℕ))
@@ -71,8 +71,8 @@ summed_in Sum d = option_map (λ name. Some name) (member_in as_str (codes "summ
 
 -- the index of a kind that an object asks for: its name, the name of its type, those of its columns, and that of its
 -- summed field
-abbrev pub index_of : IndexKind → Data → Option IndexRequest
-index_of kind d =
+abbrev pub json_index_of_kind : IndexKind → Data → Option IndexRequest
+json_index_of_kind kind d =
     if has_only (index_keys kind) d then
     option_and_then (λ name. option_and_then (λ type_name. option_and_then (λ columns.
     option_map (λ summed.
@@ -82,28 +82,28 @@ index_of kind d =
     else None
 
 -- the index that an object asks for
-abbrev pub index_in : Data → Option IndexRequest
-index_in d = option_and_then (λ kind. index_of kind d) (member_in index_kind_in (codes "kind") d)
+abbrev pub json_index : Data → Option IndexRequest
+json_index d = option_and_then (λ kind. json_index_of_kind kind d) (member_in index_kind_in (codes "kind") d)
 
 -- the types and the indexes in a list
-abbrev pub types_in : Data → Option (List TypeRequest)
-types_in d = all_in type_in d
+abbrev pub json_types : Data → Option (List TypeRequest)
+json_types d = all_in type_in d
 
-abbrev pub indexes_in : Data → Option (List IndexRequest)
-indexes_in d = all_in index_in d
+abbrev pub json_indexes_listed : Data → Option (List IndexRequest)
+json_indexes_listed d = all_in json_index d
 
 -- the indexes of a schema, none where it has no list of them
-abbrev pub indexes_of : Data → Option (List IndexRequest)
-indexes_of d = option_map_or indexes_in (get (codes "indexes") d) (Some [])
+abbrev pub json_indexes : Data → Option (List IndexRequest)
+json_indexes d = option_map_or json_indexes_listed (get (codes "indexes") d) (Some [])
 
 -- the keys that a schema may have
 abbrev pub schema_keys : List (List ℕ)
 schema_keys = codes "types" ∷ codes "indexes" ∷ []
 
 -- the schema that an object asks for: a list of types, and perhaps one of indexes
-abbrev pub schema_in : Data → Option SchemaRequest
-schema_in d =
+abbrev pub json_schema : Data → Option SchemaRequest
+json_schema d =
     if has_only schema_keys d then
-    option_and_then (λ types. option_map (λ indexes. record { types = types; indexes = indexes }) (indexes_of d))
-    (member_in types_in (codes "types") d)
+    option_and_then (λ types. option_map (λ indexes. record { types = types; indexes = indexes }) (json_indexes d))
+    (member_in json_types (codes "types") d)
     else None

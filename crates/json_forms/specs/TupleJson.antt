@@ -11,8 +11,8 @@ use Rattle.serde_json.specs.Data.{Data}
 use Rattle.serde_json.specs.Data as json
 use Rattle.serde_json.specs.Find.{as_i64, as_str}
 use Rattle.serde_json.specs.Read.{read}
-use Rattle.tuple_codec.specs.Item.{Item, null, bytes, text, nested, int, bool, uuid, stamp, items_of, max_nesting}
-use Rattle.json_forms.specs.Json.{only_member, items_in, each_in, all_in, hex_in}
+use Rattle.tuple_codec.specs.Item.{Item, null, bytes, text, nested, int, bool, uuid, stamp, items_from, max_nesting}
+use Rattle.json_forms.specs.Json.{only_member, json_values, each_in, all_in, hex_in}
 
 -- the number that decimal digits write, up to 2^64 - 1
 abbrev pub number_in : List ℕ → Option ℕ
@@ -48,22 +48,22 @@ item_with list json.null = Some null
 item_with list (json.boolean b) = Some (bool b)
 item_with list (json.number n) = option_map int (as_i64 n)
 item_with list (json.string s) = Some (text s)
-item_with list (json.array ds) = list (items_in ds)
+item_with list (json.array ds) = list (json_values ds)
 item_with list (json.object ms) = object_in (json.object ms)
 
 -- the nested tuple that a list stands for where tuples may nest so many levels deep
 unfoldable pub nested_in : ℕ → List Data → Option Item
 nested_in zero ds = None
-nested_in (suc levels) ds = option_map (λ items. nested (items_of items)) (each_in (item_with (nested_in levels)) ds)
+nested_in (suc levels) ds = option_map (λ items. nested (items_from items)) (each_in (item_with (nested_in levels)) ds)
 
 -- the item that a value stands for where tuples may nest so many levels deep in it
-abbrev pub item_in : ℕ → Data → Option Item
-item_in levels d = item_with (nested_in levels) d
+abbrev pub json_item : ℕ → Data → Option Item
+json_item levels d = item_with (nested_in levels) d
 
 -- the tuple that a list stands for
-abbrev pub tuple_in : Data → Option (List Item)
-tuple_in d = all_in (item_in max_nesting) d
+abbrev pub json_tuple : Data → Option (List Item)
+json_tuple d = all_in (json_item max_nesting) d
 
 -- the tuple that a text of JSON stands for
 abbrev pub tuple_of_text : List ℕ → Option (List Item)
-tuple_of_text word = option_and_then tuple_in (read word)
+tuple_of_text word = option_and_then json_tuple (read word)

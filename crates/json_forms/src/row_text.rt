@@ -4,7 +4,7 @@ ghost use Rattle.json.specs.Lex.{tokens};
 ghost use Rattle.metadata.specs.Cell.{IsCell};
 ghost use Rattle.metadata.specs.declared.cells.Cell.TheVariants as cell;
 ghost use Rattle.json_forms.specs.CellJson.{IsTextOfCells, IsTextOfRows};
-ghost use Rattle.json_forms.specs.RowText.{IsWritten, cell_json, row_json, rows_json};
+ghost use Rattle.json_forms.specs.RowText.{AreTokensWritten, cell_json, row_json, rows_json};
 
 use json::Writer;
 use metadata::{Cell, Cells};
@@ -12,7 +12,7 @@ use std::alloc::{AllocError, Global};
 
 // Writes what stands for bytes: `{"hex":".."}`.
 fn write_bytes(alloc: Global, out: &mut Writer, bytes: &[u8]) -> Result<(), AllocError>
-    ensures { OnOk result (IsWritten (cell_json (cell.Bytes bytes.now)) out.old out.new) }
+    ensures { OnOk result (AreTokensWritten (cell_json (cell.Bytes bytes.now)) out.old out.new) }
 {
     let digits = hex::encode(alloc, bytes)?;
     out.begin_object()?;
@@ -23,7 +23,7 @@ fn write_bytes(alloc: Global, out: &mut Writer, bytes: &[u8]) -> Result<(), Allo
 
 // Writes a cell.
 fn write_cell(alloc: Global, out: &mut Writer, cell: &Cell) -> Result<(), AllocError>
-    ensures written { OnOk result (IsWritten (cell_json cell.now) out.old out.new) }
+    ensures written { OnOk result (AreTokensWritten (cell_json cell.now) out.old out.new) }
     ensures known { IsCell cell.now }
 {
     cell.known();
@@ -37,7 +37,7 @@ fn write_cell(alloc: Global, out: &mut Writer, cell: &Cell) -> Result<(), AllocE
 
 // Writes the list of cells.
 fn write_cells(alloc: Global, out: &mut Writer, cells: &Cells) -> Result<(), AllocError>
-    ensures written { OnOk result (IsWritten (row_json cells.now) out.old out.new) }
+    ensures written { OnOk result (AreTokensWritten (row_json cells.now) out.old out.new) }
     ensures known { OnOk result (All IsCell cells.now) }
 {
     out.begin_array()?;
@@ -49,7 +49,7 @@ fn write_cells(alloc: Global, out: &mut Writer, cells: &Cells) -> Result<(), All
 
 // Writes the list of rows.
 fn write_rows(alloc: Global, out: &mut Writer, rows: &[Cells]) -> Result<(), AllocError>
-    ensures written { OnOk result (IsWritten (rows_json rows.now) out.old out.new) }
+    ensures written { OnOk result (AreTokensWritten (rows_json rows.now) out.old out.new) }
     ensures known { OnOk result (All (All IsCell) rows.now) }
 {
     out.begin_array()?;

@@ -2,10 +2,13 @@
 // `query_json`.
 ghost use Rattle.std.specs.Prelude.{◌≡◌, Some, None, IfOk, IfErr};
 ghost use Rattle.serde_json.specs.View.{view};
-ghost use Rattle.json_forms.specs.SchemaJson.{field_in, fields_in, index_in, index_kind_in, index_keys};
+ghost use Rattle.json_forms.specs.SchemaJson.{json_field, fields_in, json_index, index_kind_in};
+ghost use Rattle.json_forms.specs.SchemaJson.{index_keys};
 ghost use Rattle.json_forms.specs.Json.{has_only};
-ghost use Rattle.json_forms.specs.SchemaJson.{index_kind_named, index_of, indexes_in, indexes_of};
-ghost use Rattle.json_forms.specs.SchemaJson.{kind_named, names_in, schema_in, summed_in, type_in, types_in};
+ghost use Rattle.json_forms.specs.SchemaJson.{index_kind_named, json_index_of_kind, json_indexes};
+ghost use Rattle.json_forms.specs.SchemaJson.{json_indexes_listed};
+ghost use Rattle.json_forms.specs.SchemaJson.{json_schema, json_types, kind_named, names_in};
+ghost use Rattle.json_forms.specs.SchemaJson.{summed_in, type_in};
 
 use crate::error::PartError;
 use crate::form::{has_only, list_of, member, str_of, text_of};
@@ -29,8 +32,8 @@ fn kind_of(name: &str) -> Result<Kind, PartError>
 
 // A field: its name and the name of its kind.
 fn field_of(alloc: Global, value: &Value) -> Result<Field, PartError>
-    ensures ok { IfOk result (λ read. field_in (view value.now) ≡ Some read) }
-    ensures err { IfErr result (λ error. error ≡ PartError.BadForm → field_in (view value.now) ≡ None) }
+    ensures ok { IfOk result (λ read. json_field (view value.now) ≡ Some read) }
+    ensures err { IfErr result (λ error. error ≡ PartError.BadForm → json_field (view value.now) ≡ None) }
 {
     let [name, kind] = list_of(value)? else {
         return Err(PartError::BadForm);
@@ -85,8 +88,8 @@ pub fn type_of(alloc: Global, value: &Value) -> Result<TypeRequest, PartError>
 
 // A list of types.
 fn types_of(alloc: Global, value: &Value) -> Result<Vec<TypeRequest>, PartError>
-    ensures ok { IfOk result (λ read. types_in (view value.now) ≡ Some read.items) }
-    ensures err { IfErr result (λ error. error ≡ PartError.BadForm → types_in (view value.now) ≡ None) }
+    ensures ok { IfOk result (λ read. json_types (view value.now) ≡ Some read.items) }
+    ensures err { IfErr result (λ error. error ≡ PartError.BadForm → json_types (view value.now) ≡ None) }
 {
     let mut types = Vec::new(alloc);
     for item in list_of(value)? {
@@ -144,8 +147,8 @@ fn summed_of(alloc: Global, kind: IndexKind, value: &Value) -> Result<Option<Tex
 
 // The index of a kind that an object asks for.
 fn index_of_kind(alloc: Global, kind: IndexKind, value: &Value) -> Result<IndexRequest, PartError>
-    ensures ok { IfOk result (λ read. index_of kind (view value.now) ≡ Some read) }
-    ensures err { IfErr result (λ error. error ≡ PartError.BadForm → index_of kind (view value.now) ≡ None) }
+    ensures ok { IfOk result (λ read. json_index_of_kind kind (view value.now) ≡ Some read) }
+    ensures err { IfErr result (λ error. error ≡ PartError.BadForm → json_index_of_kind kind (view value.now) ≡ None) }
 {
     if !has_index_keys(kind, value) {
         return Err(PartError::BadForm);
@@ -167,8 +170,8 @@ fn index_of_kind(alloc: Global, kind: IndexKind, value: &Value) -> Result<IndexR
 /// `summed` for a SUM: its name, its kind (`value`, `count` or `sum`), the name of its type, those
 /// of its columns, and that of its summed field. `BadForm` of another value.
 pub fn index_of(alloc: Global, value: &Value) -> Result<IndexRequest, PartError>
-    ensures ok { IfOk result (λ read. index_in (view value.now) ≡ Some read) }
-    ensures err { IfErr result (λ error. error ≡ PartError.BadForm → index_in (view value.now) ≡ None) }
+    ensures ok { IfOk result (λ read. json_index (view value.now) ≡ Some read) }
+    ensures err { IfErr result (λ error. error ≡ PartError.BadForm → json_index (view value.now) ≡ None) }
 {
     let kind = index_kind_in(member(value, "kind")?)?;
     index_of_kind(alloc, kind, value)
@@ -176,8 +179,8 @@ pub fn index_of(alloc: Global, value: &Value) -> Result<IndexRequest, PartError>
 
 // A list of indexes.
 fn indexes_in(alloc: Global, value: &Value) -> Result<Vec<IndexRequest>, PartError>
-    ensures ok { IfOk result (λ read. indexes_in (view value.now) ≡ Some read.items) }
-    ensures err { IfErr result (λ error. error ≡ PartError.BadForm → indexes_in (view value.now) ≡ None) }
+    ensures ok { IfOk result (λ read. json_indexes_listed (view value.now) ≡ Some read.items) }
+    ensures err { IfErr result (λ error. error ≡ PartError.BadForm → json_indexes_listed (view value.now) ≡ None) }
 {
     let mut indexes = Vec::new(alloc);
     for item in list_of(value)? {
@@ -188,8 +191,8 @@ fn indexes_in(alloc: Global, value: &Value) -> Result<Vec<IndexRequest>, PartErr
 
 // The indexes of a schema, none where it has no list of them.
 fn indexes_of(alloc: Global, value: &Value) -> Result<Vec<IndexRequest>, PartError>
-    ensures ok { IfOk result (λ read. indexes_of (view value.now) ≡ Some read.items) }
-    ensures err { IfErr result (λ error. error ≡ PartError.BadForm → indexes_of (view value.now) ≡ None) }
+    ensures ok { IfOk result (λ read. json_indexes (view value.now) ≡ Some read.items) }
+    ensures err { IfErr result (λ error. error ≡ PartError.BadForm → json_indexes (view value.now) ≡ None) }
 {
     match value.get("indexes") {
         Some(indexes) => indexes_in(alloc, indexes),
@@ -203,8 +206,8 @@ const SCHEMA_KEYS: [&str; 2] = ["types", "indexes"];
 /// The schema that an object asks for: at `types` a list of types, and perhaps one of indexes at
 /// `indexes`, with no other key. `BadForm` of another value.
 pub fn schema_of(alloc: Global, value: &Value) -> Result<SchemaRequest, PartError>
-    ensures ok { IfOk result (λ read. schema_in (view value.now) ≡ Some read) }
-    ensures err { IfErr result (λ error. error ≡ PartError.BadForm → schema_in (view value.now) ≡ None) }
+    ensures ok { IfOk result (λ read. json_schema (view value.now) ≡ Some read) }
+    ensures err { IfErr result (λ error. error ≡ PartError.BadForm → json_schema (view value.now) ≡ None) }
 {
     if !has_only(value, &SCHEMA_KEYS) {
         return Err(PartError::BadForm);

@@ -3,12 +3,13 @@ ghost use Rattle.std.specs.Prelude.{◌≡◌, ◌+◌, ◌<◌, ◌≤◌, ◌^
 ghost use Rattle.std.specs.Prelude.{length, slice_index, map, option_map, string_bytes};
 ghost use Rattle.serde_json.specs.Data.{depth, items_depth};
 ghost use Rattle.serde_json.specs.View.{view, items_view};
-ghost use Rattle.tuple_codec.specs.Item.{int, bytes, uuid, stamp, nested, items_of, item_depth, nesting, magnitude};
+ghost use Rattle.tuple_codec.specs.Item.{int, bytes, uuid, stamp, nested, items_from, item_depth};
+ghost use Rattle.tuple_codec.specs.Item.{nesting, magnitude};
 ghost use Rattle.tuple_codec.specs.Elements.{item_in as item_of, items_in};
 ghost use Rattle.uuid.specs.Text.{parsed};
 ghost use Rattle.json_forms.specs.Json.{each_in};
 ghost use Rattle.json_forms.specs.TupleJson.{int_in, stamp_in, of_text, object_in};
-ghost use Rattle.json_forms.specs.TupleJson.{item_in, nested_in, tuple_in, tuple_of_text};
+ghost use Rattle.json_forms.specs.TupleJson.{json_item, json_tuple, nested_in, tuple_of_text};
 
 use crate::error::PartError;
 use crate::form::{hex_of, labelled, list_of, only_member, str_of, text_of};
@@ -96,9 +97,10 @@ fn object_element(alloc: Global, value: &Value) -> Result<Element, PartError>
 #[cycle(read)]
 fn element_of(alloc: Global, value: &Value, levels: u8) -> Result<Element, PartError>
     requires { levels ≤ 16 }
-    ensures ok { IfOk result (λ element. item_in levels (view value.now) ≡ Some (item_of element)) }
+    ensures ok { IfOk result (λ element. json_item levels (view value.now)
+        ≡ Some (item_of element)) }
     ensures nests { IfOk result (λ element. item_depth (item_of element) ≤ levels) }
-    ensures err { IfErr result (λ error. error ≡ PartError.BadForm → item_in levels (view value.now) ≡ None) }
+    ensures err { IfErr result (λ error. error ≡ PartError.BadForm → json_item levels (view value.now) ≡ None) }
 {
     match value {
         Value::Null => Ok(Element::Null),
@@ -120,7 +122,7 @@ fn element_of(alloc: Global, value: &Value, levels: u8) -> Result<Element, PartE
 #[cycle(read)]
 fn nested_tuple(alloc: Global, items: &[Value], levels: u8) -> Result<Tuple, PartError>
     requires { levels ≤ 16 }
-    ensures ok { IfOk result (λ tuple. nested_in levels (map view items.now) ≡ Some (nested (items_of tuple))) }
+    ensures ok { IfOk result (λ tuple. nested_in levels (map view items.now) ≡ Some (nested (items_from tuple))) }
     ensures nests { IfOk result (λ tuple. nesting tuple < levels) }
     ensures err { IfErr result (λ error. error ≡ PartError.BadForm → nested_in levels (map view items.now) ≡ None) }
 {
@@ -138,10 +140,10 @@ fn nested_tuple(alloc: Global, items: &[Value], levels: u8) -> Result<Tuple, Par
 fn elements_of(alloc: Global, items: &[Value], levels: u8) -> Result<Vec<Element>, PartError>
     requires { levels ≤ 16 }
     ensures ok { IfOk result (λ elements.
-        each_in (item_in levels) (map view items.now) ≡ Some (items_in elements.items)) }
+        each_in (json_item levels) (map view items.now) ≡ Some (items_in elements.items)) }
     ensures nests { IfOk result (λ elements. nesting (items_in elements.items) ≤ levels) }
     ensures err { IfErr result (λ error.
-        error ≡ PartError.BadForm → each_in (item_in levels) (map view items.now) ≡ None) }
+        error ≡ PartError.BadForm → each_in (json_item levels) (map view items.now) ≡ None) }
 {
     let mut elements = Vec::new(alloc);
     for item in items {
@@ -154,8 +156,8 @@ fn elements_of(alloc: Global, items: &[Value], levels: u8) -> Result<Vec<Element
 /// with a sign, a text, a list, which nest 16 deep at most, or an object of one key: `hex` for
 /// bytes, `int` for a larger whole number, `uuid` or `stamp`. `BadForm` of another value.
 pub fn tuple_of(alloc: Global, value: &Value) -> Result<Tuple, PartError>
-    ensures ok { IfOk result (λ tuple. tuple_in (view value.now) ≡ Some tuple) }
-    ensures err { IfErr result (λ error. error ≡ PartError.BadForm → tuple_in (view value.now) ≡ None) }
+    ensures ok { IfOk result (λ tuple. json_tuple (view value.now) ≡ Some tuple) }
+    ensures err { IfErr result (λ error. error ≡ PartError.BadForm → json_tuple (view value.now) ≡ None) }
 {
     match Tuple::new(elements_of(alloc, list_of(value)?, MAX_NESTING)?) {
         Ok(tuple) => Ok(tuple),
@@ -165,7 +167,7 @@ pub fn tuple_of(alloc: Global, value: &Value) -> Result<Tuple, PartError>
 
 // What stands for bytes: `{"hex":".."}`.
 fn bytes_value(alloc: Global, content: &[u8]) -> Result<Value, AllocError>
-    ensures read { IfOk result (λ value. (levels : ℕ) → item_in levels (view value) ≡ Some (bytes content.now)) }
+    ensures read { IfOk result (λ value. (levels : ℕ) → json_item levels (view value) ≡ Some (bytes content.now)) }
     ensures depth { IfOk result (λ value. depth (view value) ≤ 1) }
 {
     labelled(alloc, "hex", hex::encode(alloc, content)?)
@@ -173,7 +175,7 @@ fn bytes_value(alloc: Global, content: &[u8]) -> Result<Value, AllocError>
 
 // What stands for a whole number: `{"int":".."}` where it is no number of 64 bits with a sign.
 fn int_value(alloc: Global, number: TupleInt) -> Result<Value, AllocError>
-    ensures read { IfOk result (λ value. (levels : ℕ) → item_in levels (view value) ≡ Some (int number)) }
+    ensures read { IfOk result (λ value. (levels : ℕ) → json_item levels (view value) ≡ Some (int number)) }
     ensures depth { IfOk result (λ value. depth (view value) ≤ 1) }
 {
     let whole = number.get();
@@ -185,7 +187,7 @@ fn int_value(alloc: Global, number: TupleInt) -> Result<Value, AllocError>
 
 // What stands for a UUID: `{"uuid":".."}`, hyphenated and in lower case.
 fn uuid_value(alloc: Global, number: &Uuid) -> Result<Value, AllocError>
-    ensures read { IfOk result (λ value. (levels : ℕ) → item_in levels (view value) ≡ Some (uuid number.now)) }
+    ensures read { IfOk result (λ value. (levels : ℕ) → json_item levels (view value) ≡ Some (uuid number.now)) }
     ensures depth { IfOk result (λ value. depth (view value) ≤ 1) }
 {
     let mut buffer = Uuid::encode_buffer();
@@ -208,7 +210,7 @@ fn stamp_known(stamp: &[u8; 12])
 
 // What stands for a versionstamp: `{"stamp":".."}`.
 fn stamp_value(alloc: Global, bytes: &[u8; 12]) -> Result<Value, AllocError>
-    ensures read { IfOk result (λ value. (levels : ℕ) → item_in levels (view value) ≡ Some (stamp bytes.now)) }
+    ensures read { IfOk result (λ value. (levels : ℕ) → json_item levels (view value) ≡ Some (stamp bytes.now)) }
     ensures depth { IfOk result (λ value. depth (view value) ≤ 1) }
 {
     stamp_known(bytes);
@@ -220,7 +222,8 @@ fn stamp_value(alloc: Global, bytes: &[u8; 12]) -> Result<Value, AllocError>
 fn element_value(alloc: Global, element: &Element, levels: u8) -> Result<Value, AllocError>
     requires small { levels ≤ 16 }
     requires nests { item_depth (item_of element.now) ≤ levels }
-    ensures read { IfOk result (λ value. item_in levels (view value) ≡ Some (item_of element.now)) }
+    ensures read { IfOk result (λ value. json_item levels (view value)
+        ≡ Some (item_of element.now)) }
     ensures depth { IfOk result (λ value. depth (view value) ≤ levels + 1) }
 {
     match element {
@@ -240,7 +243,7 @@ fn element_value(alloc: Global, element: &Element, levels: u8) -> Result<Value, 
 fn nested_value(alloc: Global, tuple: &Tuple, levels: u8) -> Result<Value, AllocError>
     requires small { levels ≤ 16 }
     requires nests { nesting tuple.now < levels }
-    ensures read { IfOk result (λ value. item_in levels (view value) ≡ Some (nested (items_of tuple.now))) }
+    ensures read { IfOk result (λ value. json_item levels (view value) ≡ Some (nested (items_from tuple.now))) }
     ensures depth { IfOk result (λ value. depth (view value) ≤ levels + 1) }
 {
     let values = element_values(alloc, tuple.elements(), levels - 1)?;
@@ -253,7 +256,7 @@ fn element_values(alloc: Global, elements: &[Element], levels: u8) -> Result<Vec
     requires small { levels ≤ 16 }
     requires nests { nesting (items_in elements.now) ≤ levels }
     ensures read { IfOk result (λ values.
-        each_in (item_in levels) (map view values.items) ≡ Some (items_in elements.now)) }
+        each_in (json_item levels) (map view values.items) ≡ Some (items_in elements.now)) }
     ensures depth { IfOk result (λ values. items_depth (items_view values.items) ≤ levels + 1) }
 {
     let mut values = Vec::new(alloc);
@@ -265,7 +268,7 @@ fn element_values(alloc: Global, elements: &[Element], levels: u8) -> Result<Vec
 
 // The list that stands for a tuple.
 fn tuple_value(alloc: Global, tuple: &Tuple) -> Result<Value, AllocError>
-    ensures read { IfOk result (λ value. tuple_in (view value) ≡ Some tuple.now) }
+    ensures read { IfOk result (λ value. json_tuple (view value) ≡ Some tuple.now) }
     ensures depth { IfOk result (λ value. depth (view value) ≤ 18) }
 {
     let values = element_values(alloc, tuple.elements(), MAX_NESTING)?;

@@ -66,7 +66,7 @@ is_item-item_of (Int (negsuc n)) h = let low = ltb-true n (2 ^ 63) h in omega ar
 is_item-item_of (Text value) h = h
 is_item-item_of (Bytes value) h = h
 
-pub are_items-items_of : (cells : List Cell) → All IsCell cells → AreItems (item.items_of (items_of cells))
+pub are_items-items_of : (cells : List Cell) → All IsCell cells → AreItems (item.items_from (items_of cells))
 are_items-items_of [] h = tt
 are_items-items_of (cell ∷ cells) h = (is_item-item_of cell (All-head IsCell cell cells h), are_items-items_of cells (All-tail IsCell cell cells h))
 

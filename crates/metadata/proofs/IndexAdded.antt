@@ -16,7 +16,7 @@ use Rattle.metadata.specs.declared.index.IndexDefinition.{IndexDefinition}
 use Rattle.metadata.specs.declared.index.IndexRequest.{IndexRequest}
 use Rattle.metadata.specs.declared.refusal.Refusal.{Refusal}
 use Rattle.metadata.specs.declared.refusal.Refusal.TheVariants.{BadName, NameTaken, UnknownField, WrongKind, BadSchema, TooMany}
-use Rattle.metadata.specs.Change.{first_refusal, has_twice, has_unknown, is_name, places_of}
+use Rattle.metadata.specs.Change.{first_test_refusal, has_twice, has_unknown, is_name, places_of}
 use Rattle.metadata.specs.IndexChange.{add_index, has_unknown_field, index_asked, index_over, is_int, is_shaped, name_refusal, over_refusal, place_summed, sums_other, with_index}
 use Rattle.metadata.specs.Lawful.{IsLawfulSchema, is_index, is_index_over, is_rising_upto}
 use Rattle.metadata.specs.Schema.{Schema, find_index, find_type, kind_at, place_of, type_at}
@@ -133,12 +133,12 @@ summed_int fields (Some place) is = turned (is_int (kind_at fields place)) is
 
 -- ---- tests that refuse nothing
 
-two_passed : (a b : Bool) → first_refusal ((a, BadName) ∷ (b, NameTaken) ∷ []) ≡ None → (a ≡ false) × (b ≡ false)
+two_passed : (a b : Bool) → first_test_refusal ((a, BadName) ∷ (b, NameTaken) ∷ []) ≡ None → (a ≡ false) × (b ≡ false)
 two_passed false false is = (refl, refl)
 two_passed true b is = absurd (true≢false (ap is_some is))
 two_passed false true is = absurd (true≢false (ap is_some is))
 
-four_passed : (a b c d : Bool) → first_refusal ((a, UnknownField) ∷ (b, WrongKind) ∷ (c, BadSchema) ∷ (d, TooMany) ∷ []) ≡ None → (a ≡ false) × (b ≡ false) × (c ≡ false) × (d ≡ false)
+four_passed : (a b c d : Bool) → first_test_refusal ((a, UnknownField) ∷ (b, WrongKind) ∷ (c, BadSchema) ∷ (d, TooMany) ∷ []) ≡ None → (a ≡ false) × (b ≡ false) × (c ≡ false) × (d ≡ false)
 four_passed false false false false is = (refl, refl, refl, refl)
 four_passed true b c d is = absurd (true≢false (ap is_some is))
 four_passed false true c d is = absurd (true≢false (ap is_some is))

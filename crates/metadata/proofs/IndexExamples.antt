@@ -11,7 +11,7 @@ use Rattle.metadata.specs.Schema.{Schema}
 use Rattle.metadata.specs.IndexChange.{add_index, drop_index}
 use Rattle.metadata.specs.Lawful.{has_good_indexes}
 use Rattle.metadata.specs.Written.{index_item, nested_item, number_item, written}
-use Rattle.metadata.specs.Reading.{schema_in}
+use Rattle.metadata.specs.Reading.{tuple_schema}
 use Rattle.tuple_codec.specs.Item as item
 
 -- "t", "k", "a", "s", "v", "w", "z"
@@ -116,5 +116,5 @@ above_last = refl
 w_written : index_item w_index ≡ nested_item (number_item 3 ∷ item.text w ∷ number_item 3 ∷ number_item 1 ∷ nested_item [] ∷ number_item 1 ∷ [])
 w_written = refl
 
-read_again : schema_in (written both) ≡ Some both
+read_again : tuple_schema (written both) ≡ Some both
 read_again = refl

@@ -5,7 +5,7 @@ use Rattle.std.specs.List.{AllByRecursion, list_all}
 use Rattle.std.specs.Option.{option_map, option_and_then, option_map_or}
 use Rattle.std.proofs.lemmas.Bool.{leb-true, ltb-true, lt-ltb, eqb-true, true≢false}
 use Rattle.std.proofs.lemmas.Option.{slice_get_within}
-use Rattle.tuple_codec.specs.Item.{AreItems, IsItem, items_of, listed}
+use Rattle.tuple_codec.specs.Item.{AreItems, IsItem, items_from, items_list}
 use Rattle.metadata.specs.declared.definition.Field.{Field}
 use Rattle.metadata.specs.declared.definition.TypeDefinition.{TypeDefinition}
 use Rattle.metadata.specs.declared.index.IndexDefinition.{IndexDefinition}
@@ -16,7 +16,7 @@ use Rattle.metadata.specs.IndexChange.{is_int, is_shaped}
 use Rattle.metadata.specs.Lawful.{is_index, is_index_over, is_rising_upto}
 use Rattle.metadata.specs.Schema.{kind_at, type_at}
 use Rattle.metadata.specs.Written.{index_item, index_kind_number, number_item, summed_item}
-use Rattle.metadata.specs.Reading.{all_read, index_kind_of, index_of, number_of, small_of, summed_of}
+use Rattle.metadata.specs.Reading.{all_read, index_kind_of, index_of, item_number, small_of, summed_of}
 use Rattle.metadata.proofs.ReadBack.{listed-items_of}
 use Rattle.metadata.proofs.WrittenItems.{both, utf8}
 
@@ -57,7 +57,7 @@ found_small (first ∷ types) number type small is = by_test (first.number == nu
 small_back : (n : ℕ) → n < 256 → small_of (number_item n) ≡ Some n
 small_back n low = ap (λ b. cond b (Some n) None) (lt-ltb n 256 low)
 
-pub places_are : (count : ℕ) (places : List ℕ) → count ≤ 32 → list_all (λ place. nat_lt place count) places ≡ true → AreItems (items_of (map number_item places))
+pub places_are : (count : ℕ) (places : List ℕ) → count ≤ 32 → list_all (λ place. nat_lt place count) places ≡ true → AreItems (items_from (map number_item places))
 places_are count [] few is = tt
 places_are count (place ∷ places) few is =
     let parts = both (nat_lt place count) (list_all (λ place. nat_lt place count) places) is in
@@ -100,7 +100,7 @@ kind_back Value = refl
 kind_back Count = refl
 kind_back Sum = refl
 
-number_back : (n : ℕ) → n < 2 ^ 64 → number_of (number_item n) ≡ Some n
+number_back : (n : ℕ) → n < 2 ^ 64 → item_number (number_item n) ≡ Some n
 number_back n low = ap (λ b. cond b (Some n) None) (lt-ltb n (2 ^ 64) low)
 
 -- what is known of a good index
@@ -143,13 +143,13 @@ index_back index g low =
     n : index.type_number < 2 ^ 64
     n = subst (λ m. m < 2 ^ 64) (sym g.numbered) g.small.number
 
-    columns_back : all_read small_of (listed (items_of (map number_item index.columns))) ≡ Some index.columns
+    columns_back : all_read small_of (items_list (items_from (map number_item index.columns))) ≡ Some index.columns
     columns_back = ap (all_read small_of) (listed-items_of (map number_item index.columns)) ∙ places_back (length g.type.fields) index.columns g.small.fields g.columns
 
 -- ---- all indexes
 
 pub indexes_are : (types : List TypeDefinition) (last : ℕ) (indexes : List IndexDefinition) → AllByRecursion IsSmall types → last ≤ 65535 → AllByRecursion (λ n. n ≤ last) (map (λ (index : IndexDefinition). index.number) indexes) →
-    list_all (is_index types) indexes ≡ true → AreItems (items_of (map index_item indexes))
+    list_all (is_index types) indexes ≡ true → AreItems (items_from (map index_item indexes))
 indexes_are types last [] small few upto is = tt
 indexes_are types last (index ∷ indexes) small few upto is =
     let parts = both (is_index types index) (list_all (is_index types) indexes) is in

@@ -7,18 +7,21 @@ use Rattle.std.specs.Result.{is_ok, result_ok}
 use Rattle.std.specs.Option.{option_map, option_and_then}
 use Rattle.std.proofs.lemmas.Bool.{leb-true, lt-ltb, ltb-false, true≢false}
 use Rattle.std.proofs.lemmas.List.{append_assoc, append-nil, length-append, map-append}
-use Rattle.tuple_codec.specs.Item.{Item, AreItems, IsTuple, listed, items_of}
+use Rattle.tuple_codec.specs.Item.{Item, AreItems, IsTuple, items_list, items_from}
 use Rattle.metadata.specs.declared.definition.TypeDefinition.{TypeDefinition}
 use Rattle.metadata.specs.declared.definition.TypeRequest.{TypeRequest}
 use Rattle.metadata.specs.declared.index.IndexDefinition.{IndexDefinition}
 use Rattle.metadata.specs.declared.refusal.Refusal.{Refusal}
 use Rattle.metadata.specs.declared.refusal.Refusal.TheVariants.{BadName, NameTaken, UnknownField, BadSchema, TooMany}
-use Rattle.metadata.specs.Change.{add_type, add_types, empty_schema, field_names, first_refusal, has_twice, has_unknown, is_name, places_of, same_field, schema_of, type_asked, type_refusal, types_alone, with_type}
+use Rattle.metadata.specs.Change.{add_type, add_types, empty_schema, field_names, first_test_refusal, has_twice}
+use Rattle.metadata.specs.Change.{has_unknown, is_name, places_of, same_field, schema_of, type_asked, type_refusal}
+use Rattle.metadata.specs.Change.{types_alone, with_type}
 use Rattle.metadata.specs.Schema.{Schema, find_type}
 use Rattle.metadata.specs.Written.{field_item, index_item, number_item, type_item, written}
 use Rattle.metadata.specs.Lawful.{IsLawfulSchema, has_good_indexes, is_index}
 use Rattle.metadata.proofs.IndexItems.{IsSmall, all_upto, indexes_are, indexes_back}
-use Rattle.metadata.specs.Reading.{all_read, asked_of, if_good, index_of, indexes_in, name_of, number_of, read_at, request_of, schema_in, types_in}
+use Rattle.metadata.specs.Reading.{all_read, asked_of, if_good, index_of, indexes_in, item_number, name_of, read_at}
+use Rattle.metadata.specs.Reading.{request_of, tuple_schema, types_in}
 use Rattle.metadata.proofs.AllRead.{all_read-more}
 use Rattle.metadata.proofs.ReadBack.{fields_back, listed-items_of, names_back, neither}
 use Rattle.metadata.proofs.TestedIndexes.{numbers, tested}
@@ -35,7 +38,7 @@ record Passed (schema : Schema) (request : TypeRequest) : Type 0 where
 no_refusal : (why : Refusal) → ◌≡◌ {A = Option Refusal} (Some why) None → ⊥
 no_refusal why is = true≢false (ap is_some is)
 
-all_passed : (a b c d e : Bool) → first_refusal ((a, BadName) ∷ (b, NameTaken) ∷ (c, UnknownField) ∷ (d, BadSchema) ∷ (e, TooMany) ∷ []) ≡ None → (a ≡ false) × (c ≡ false) × (e ≡ false)
+all_passed : (a b c d e : Bool) → first_test_refusal ((a, BadName) ∷ (b, NameTaken) ∷ (c, UnknownField) ∷ (d, BadSchema) ∷ (e, TooMany) ∷ []) ≡ None → (a ≡ false) × (c ≡ false) × (e ≡ false)
 all_passed false false false false false is = (refl, refl, refl)
 all_passed true b c d e is = absurd (no_refusal _ is)
 all_passed false true c d e is = absurd (no_refusal _ is)
@@ -67,7 +70,7 @@ request_back schema request p =
     let name = request.name in
     let places = map number_item (places_of request.fields request.key) in
     let fields = map field_item request.fields in
-    ap (λ items. asked_of name items (listed (items_of places))) (listed-items_of fields)
+    ap (λ items. asked_of name items (items_list (items_from places))) (listed-items_of fields)
     ∙ ap (λ items. asked_of name fields items) (listed-items_of places)
     ∙ ap (option_and_then (λ fields_read. option_map (λ key. record { name = name; fields = fields_read; key = key }) (all_read (name_of fields_read) places))) (fields_back request.fields)
     ∙ ap (option_map (λ key. record { name = name; fields = request.fields; key = key })) (names_back request.fields request.key p.fields p.known)
@@ -97,7 +100,7 @@ record Kept (schema : Schema) (requests : List TypeRequest) : Type 0 where
   alone : schema ≡ types_alone schema.types
   small : AllByRecursion IsSmall schema.types
   numbered : AreNumbered 0 schema.types
-  items : AreItems (items_of (map type_item schema.types))
+  items : AreItems (items_from (map type_item schema.types))
   few : length schema.types ≤ 32
   read : all_read request_of (map type_item schema.types) ≡ Some requests
 
@@ -113,7 +116,7 @@ kept_more schema before request k p =
       alone = ap (λ (s : Schema). record s { types = schema.types ++ type ∷ [] }) k.alone;
       small = all_more schema.types type k.small (let few = p.types in record { number = omega (arith, few); fields = p.fields });
       numbered = numbered_push 0 schema.types type k.numbered (omega arith);
-      items = subst (λ items. AreItems (items_of items)) (sym spread) (are_items-more (map type_item schema.types) (type_item type) k.items (is_item-type schema request p.names p.types p.fields));
+      items = subst (λ items. AreItems (items_from items)) (sym spread) (are_items-more (map type_item schema.types) (type_item type) k.items (is_item-type schema request p.names p.types p.fields));
       few = let p_few = p.types in omega (arith, length-append schema.types (type ∷ []));
       read = ap (all_read request_of) spread ∙ all_read-more request_of (map type_item schema.types) (type_item type) before request k.read (request_back schema request p);
     }
@@ -182,21 +185,21 @@ types_back schema requests made =
     ∙ ap (λ made_of. option_map (λ (s : Schema). s.types) (result_ok made_of)) made
 
 -- it is read again
-pub schema_in-written : (schema : Schema) → IsLawfulSchema schema → schema_in (written schema) ≡ Some schema
+pub schema_in-written : (schema : Schema) → IsLawfulSchema schema → tuple_schema (written schema) ≡ Some schema
 schema_in-written schema lawful =
     let k = kept (types_alone schema.types) lawful.requests lawful.types in
     let g = good_indexes schema lawful.indexes in
     let last = g.last in
     let low : nat_lt schema.last_index (2 ^ 64) ≡ true = lt-ltb schema.last_index (2 ^ 64) (omega (arith, last)) in
-    let back : all_read index_of (listed (items_of (map index_item schema.indexes))) ≡ Some schema.indexes =
+    let back : all_read index_of (items_list (items_from (map index_item schema.indexes))) ≡ Some schema.indexes =
     ap (all_read index_of) (listed-items_of (map index_item schema.indexes)) ∙ indexes_back schema.types schema.last_index schema.indexes k.small g.last g.numbers g.each in
     (λ i. option_and_then (λ types. option_and_then (λ last. option_and_then (λ indexes. if_good (record { types = types; last_index = last; indexes = indexes })) (back i)) (cond (low i) (Some schema.last_index) None)) (types_back schema lawful.requests lawful.types i))
     ∙ ap (λ b. cond b (Some schema) None) lawful.indexes
 
 -- what is read from a tuple, where its indexes are good, is a lawful schema
 pub read_lawful : (tuple : List Item) (alone schema : Schema) (last : ℕ) (indexes : List IndexDefinition) → schema ≡ record { types = alone.types; last_index = last; indexes = indexes } →
-    Some alone.types ≡ types_in tuple → (requests : List TypeRequest) × (schema_of requests ≡ Ok alone) → Some last ≡ read_at number_of tuple 2 → Some indexes ≡ indexes_in tuple → has_good_indexes schema ≡ true →
-    IsLawfulSchema schema × (schema_in tuple ≡ Some schema)
+    Some alone.types ≡ types_in tuple → (requests : List TypeRequest) × (schema_of requests ≡ Ok alone) → Some last ≡ read_at item_number tuple 2 → Some indexes ≡ indexes_in tuple → has_good_indexes schema ≡ true →
+    IsLawfulSchema schema × (tuple_schema tuple ≡ Some schema)
 read_lawful tuple alone schema last indexes is types made last_is indexes_are_read good = (
   record {
     requests = made.0;

@@ -11,7 +11,7 @@ use Rattle.metadata.specs.declared.refusal.MetadataError.TheVariants.{Memory, Re
 use Rattle.metadata.specs.Schema.{Schema}
 use Rattle.metadata.specs.Written.{IsNoSchema, IsNoTuple, schema_bytes, written}
 use Rattle.metadata.specs.Lawful.{IsLawfulSchema}
-use Rattle.metadata.specs.Reading.{IsUnread, schema_in}
+use Rattle.metadata.specs.Reading.{IsTupleUnread, tuple_schema}
 use Rattle.metadata.proofs.MadeSchemas.{is_tuple-written, schema_in-written}
 
 -- the bytes of a schema spell its written form
@@ -23,8 +23,8 @@ pub tuple_is : (schema : Schema) (bytes : List ℕ) (tuple : List Item) → IsLa
 tuple_is schema bytes tuple made same spelled = one_tuple tuple (written schema) bytes spelled (subst (Spells (written schema)) (sym same) (bytes_spell schema made))
 
 -- the schema is read from it
-pub schema_is : (schema : Schema) (bytes : List ℕ) (tuple : List Item) → IsLawfulSchema schema → bytes ≡ schema_bytes schema → Spells tuple bytes → schema_in tuple ≡ Some schema
-schema_is schema bytes tuple made same spelled = ap schema_in (tuple_is schema bytes tuple made same spelled) ∙ schema_in-written schema made
+pub schema_is : (schema : Schema) (bytes : List ℕ) (tuple : List Item) → IsLawfulSchema schema → bytes ≡ schema_bytes schema → Spells tuple bytes → tuple_schema tuple ≡ Some schema
+schema_is schema bytes tuple made same spelled = ap tuple_schema (tuple_is schema bytes tuple made same spelled) ∙ schema_in-written schema made
 
 some_same : (a b : Schema) → ◌≡◌ {A = Option Schema} (Some a) (Some b) → a ≡ b
 some_same a b is = ap (λ found. unwrap_or found a) is
@@ -38,11 +38,11 @@ pub none_spelled : (bytes : List ℕ) → ((tuple : List Item) → Spells tuple 
 none_spelled bytes none schema made same = none (written schema) (subst (Spells (written schema)) (sym same) (bytes_spell schema made))
 
 -- no schema has bytes of a tuple from which none is read
-pub none_read : (bytes : List ℕ) (tuple : List Item) → Spells tuple bytes → schema_in tuple ≡ None → (schema : Schema) → IsLawfulSchema schema → bytes ≡ schema_bytes schema → ⊥
+pub none_read : (bytes : List ℕ) (tuple : List Item) → Spells tuple bytes → tuple_schema tuple ≡ None → (schema : Schema) → IsLawfulSchema schema → bytes ≡ schema_bytes schema → ⊥
 none_read bytes tuple spelled none schema made same = true≢false (ap is_some (sym (schema_is schema bytes tuple made same spelled) ∙ none))
 
 -- no schema has bytes of a tuple from which a schema with another written form is read
-pub none_other : (bytes : List ℕ) (tuple : List Item) (read : Schema) → Spells tuple bytes → schema_in tuple ≡ Some read → (tuple ≡ written read → ⊥) → (schema : Schema) → IsLawfulSchema schema → bytes ≡ schema_bytes schema → ⊥
+pub none_other : (bytes : List ℕ) (tuple : List Item) (read : Schema) → Spells tuple bytes → tuple_schema tuple ≡ Some read → (tuple ≡ written read → ⊥) → (schema : Schema) → IsLawfulSchema schema → bytes ≡ schema_bytes schema → ⊥
 none_other bytes tuple read spelled is other schema made same =
     other (tuple_is schema bytes tuple made same spelled ∙ ap written (sym (some_same read schema (sym is ∙ schema_is schema bytes tuple made same spelled))))
 
@@ -55,7 +55,7 @@ pub refused_bytes : (error : MetadataError) (bytes : List ℕ) → IsNoTuple err
 refused_bytes Memory bytes is = tt
 refused_bytes (Refused refusal) bytes is = (is.0, none_spelled bytes is.1)
 
-pub refused_tuple : (error : MetadataError) (bytes : List ℕ) (tuple : List Item) → Spells tuple bytes → IsUnread error tuple → IsNoSchema error bytes
+pub refused_tuple : (error : MetadataError) (bytes : List ℕ) (tuple : List Item) → Spells tuple bytes → IsTupleUnread error tuple → IsNoSchema error bytes
 refused_tuple Memory bytes tuple spelled is = tt
 refused_tuple (Refused refusal) bytes tuple spelled is = (is.0, none_read bytes tuple spelled is.1)
 

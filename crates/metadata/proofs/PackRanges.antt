@@ -11,7 +11,7 @@ use Rattle.std.proofs.lemmas.List.{append-nil}
 use Rattle.std.proofs.lemmas.List.Elements.{All-tail}
 use Rattle.tuple_codec.specs.Order.{bytes_cmp}
 use Rattle.tuple_codec.specs.Spelling.{outer, spelling}
-use Rattle.tuple_codec.specs.Subspace.{IsWithin, key_of, range_end}
+use Rattle.tuple_codec.specs.Subspace.{IsWithin, range_end, subspace_key}
 use Rattle.tuple_codec.proofs.ByteOrder.{before_escape}
 use Rattle.tuple_codec.proofs.Prefixes.{cmp_behind}
 use Rattle.tuple_codec.proofs.TupleOrder.{begins}
@@ -99,9 +99,9 @@ between (b ∷ fixed) (a ∷ cells) are cells_are = by_first (cell_cmp a b) refl
 
 -- RANGES: the keys in the range of fixed cells are those of the cells that begin with them
 pub ranges : (prefix : List ℕ) (fixed cells : List Cell) → All IsCell fixed → All IsCell cells →
-    IsWithin (key_of prefix (items_of fixed)) (Some (range_end (key_of prefix (items_of fixed)))) (key_of prefix (items_of cells)) ↔ BeginWith fixed cells
+    IsWithin (subspace_key prefix (items_of fixed)) (Some (range_end (subspace_key prefix (items_of fixed)))) (subspace_key prefix (items_of cells)) ↔ BeginWith fixed cells
 ranges prefix fixed cells are cells_are =
     let same = between fixed cells are cells_are in
     let low = cmp_behind prefix (spelling (items_of cells)) (spelling (items_of fixed)) in
-    let high = ap (bytes_cmp (key_of prefix (items_of cells))) (append_assoc prefix (spelling (items_of fixed)) (255 ∷ [])) ∙ cmp_behind prefix (spelling (items_of cells)) (spelling (items_of fixed) ++ 255 ∷ []) in
+    let high = ap (bytes_cmp (subspace_key prefix (items_of cells))) (append_assoc prefix (spelling (items_of fixed)) (255 ∷ [])) ∙ cmp_behind prefix (spelling (items_of cells)) (spelling (items_of fixed) ++ 255 ∷ []) in
     (λ w. same.0 (λ before. w.0 (low ∙ before), sym high ∙ w.1), λ begin. let within = same.1 begin in (λ before. within.0 (sym low ∙ before), high ∙ within.1))

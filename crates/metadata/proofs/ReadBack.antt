@@ -8,7 +8,7 @@ use Rattle.std.proofs.lemmas.Bool.{lt-ltb, true≢false}
 use Rattle.std.proofs.lemmas.Slice.Eq.{bytes_eq-Decides}
 use Rattle.std.proofs.lemmas.List.Quantifiers.{position-Some}
 use Rattle.std.proofs.lemmas.Option.{slice_get-get_or}
-use Rattle.tuple_codec.specs.Item.{Item, listed, items_of}
+use Rattle.tuple_codec.specs.Item.{Item, items_list, items_from}
 use Rattle.tuple_codec.specs.Elements.{item_in}
 use Rattle.tuple_codec.specs.declared.Element.{Element}
 use Rattle.tuple_codec.specs.declared.Element.TheVariants as element
@@ -20,7 +20,7 @@ use Rattle.metadata.specs.Schema.{place_of}
 use Rattle.metadata.specs.Written.{field_item, kind_number, number_item}
 use Rattle.metadata.specs.Reading.{all_read, field_of, kind_of, name_of, small_of, tuple_of}
 
-pub listed-items_of : (items : List Item) → listed (items_of items) ≡ items
+pub listed-items_of : (items : List Item) → items_list (items_from items) ≡ items
 listed-items_of [] = refl
 listed-items_of (one ∷ items) = ap (λ rest. one ∷ rest) (listed-items_of items)
 

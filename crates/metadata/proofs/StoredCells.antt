@@ -39,7 +39,7 @@ cell_again (item.uuid value) cell is found = absurd (cc)
 cell_again (item.stamp value) cell is found = absurd (cc)
 
 -- so are cells of their tuple
-pub tuple_again : (tuple : List Item) (cells : List Cell) → AreItems (item.items_of tuple) → cells_of tuple ≡ Some cells → (tuple ≡ items_of cells) × All IsCell cells
+pub tuple_again : (tuple : List Item) (cells : List Cell) → AreItems (item.items_from tuple) → cells_of tuple ≡ Some cells → (tuple ≡ items_of cells) × All IsCell cells
 tuple_again [] cells are found = let none : [] ≡ cells = cc in subst (λ cs. ([] ≡ items_of cs) × All IsCell cs) none (refl, λ k d within. absurd (omega arith))
 tuple_again (one ∷ tuple) cells are found = by_cell (cell_of one) refl found (λ cs same. tuple_again tuple cs are.1 same)
   where

@@ -1,19 +1,19 @@
 -- Whether a tuple is the written form of a schema, told element by element.
 use Rattle.std.proofs.Common.{◌≡◌, Bool, List, Some, refl, sym, ap, ◌∙◌}
 use Rattle.std.specs.Bool.{Decides}
-use Rattle.tuple_codec.specs.Item.{Item, Items, items_of, listed, no_items}
+use Rattle.tuple_codec.specs.Item.{Item, Items, items_from, items_list, no_items}
 use Rattle.tuple_codec.specs.Item as item
 use Rattle.metadata.specs.Reading.{tuple_of}
 use Rattle.metadata.specs.Written.{nested_item}
 use Rattle.metadata.proofs.ReadBack.{listed-items_of}
 
-items_of-listed : (items : Items) → items_of (listed items) ≡ items
+items_of-listed : (items : Items) → items_from (items_list items) ≡ items
 items_of-listed no_items = refl
 items_of-listed (item.item one items) = ap (item.item one) (items_of-listed items)
 
 -- an item that is a nested tuple
 tuple_is : (one : Item) (parts : List Item) → tuple_of one ≡ Some parts → one ≡ nested_item parts
-tuple_is (item.nested items) parts is = let same : listed items ≡ parts = cc in sym (ap item.nested (items_of-listed items)) ∙ ap nested_item same
+tuple_is (item.nested items) parts is = let same : items_list items ≡ parts = cc in sym (ap item.nested (items_of-listed items)) ∙ ap nested_item same
 tuple_is item.null parts is = absurd (cc)
 tuple_is (item.bytes s) parts is = absurd (cc)
 tuple_is (item.text s) parts is = absurd (cc)

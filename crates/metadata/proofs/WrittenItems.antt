@@ -7,7 +7,7 @@ use Rattle.std.proofs.lemmas.Bool.{leb-true, true≢false}
 use Rattle.std.proofs.lemmas.Bool.Decides.{Decides-eqb}
 use Rattle.std.proofs.lemmas.List.Quantifiers.{position-Some}
 use Rattle.std.proofs.lemmas.Str.{IsUtf8-from_ascii}
-use Rattle.tuple_codec.specs.Item.{Item, AreItems, IsItem, items_of}
+use Rattle.tuple_codec.specs.Item.{Item, AreItems, IsItem, items_from}
 use Rattle.metadata.specs.declared.cells.Kind.{Kind}
 use Rattle.metadata.specs.declared.cells.Kind.TheVariants as kind
 use Rattle.metadata.specs.declared.definition.Field.{Field}
@@ -16,7 +16,7 @@ use Rattle.metadata.specs.Change.{field_names, is_name, is_name_byte, places_of,
 use Rattle.metadata.specs.Schema.{Schema, place_of}
 use Rattle.metadata.specs.Written.{field_item, kind_number, number_item, type_item}
 
-pub are_items-more : (items : List Item) (one : Item) → AreItems (items_of items) → IsItem one → AreItems (items_of (items ++ one ∷ []))
+pub are_items-more : (items : List Item) (one : Item) → AreItems (items_from items) → IsItem one → AreItems (items_from (items ++ one ∷ []))
 are_items-more [] one before is = (is, tt)
 are_items-more (first ∷ items) one before is = (before.0, are_items-more items one before.1 is)
 
@@ -55,20 +55,20 @@ kind_small kind.Int = omega arith
 kind_small kind.Text = omega arith
 kind_small kind.Bytes = omega arith
 
-fields_are : (fields : List Field) → list_all is_name (field_names fields) ≡ true → AreItems (items_of (map field_item fields))
+fields_are : (fields : List Field) → list_all is_name (field_names fields) ≡ true → AreItems (items_from (map field_item fields))
 fields_are [] is = tt
 fields_are (field ∷ fields) is =
     let named = both (is_name field.name) (list_all is_name (field_names fields)) is in
     ((utf8 field.name named.0, (kind_small field.kind, tt)), fields_are fields named.1)
 
-place_is : (fields : List Field) (name : List ℕ) (places : List ℕ) (place : Option ℕ) → length fields ≤ 32 → place_of fields name ≡ place → AreItems (items_of (map number_item places)) → AreItems (items_of (map number_item (cons_option place places)))
+place_is : (fields : List Field) (name : List ℕ) (places : List ℕ) (place : Option ℕ) → length fields ≤ 32 → place_of fields name ≡ place → AreItems (items_from (map number_item places)) → AreItems (items_from (map number_item (cons_option place places)))
 place_is fields name places None few is rest = rest
 place_is fields name places (Some place) few is rest =
     let found = position-Some (λ field. bytes_eq field.name name) fields place (record { name = []; kind = kind.Int }) is in
     let within = found.0 in
     (omega arith, rest)
 
-places_are : (fields : List Field) (names : List (List ℕ)) → length fields ≤ 32 → AreItems (items_of (map number_item (places_of fields names)))
+places_are : (fields : List Field) (names : List (List ℕ)) → length fields ≤ 32 → AreItems (items_from (map number_item (places_of fields names)))
 places_are fields [] few = tt
 places_are fields (name ∷ names) few = place_is fields name (places_of fields names) (place_of fields name) few refl (places_are fields names few)
 

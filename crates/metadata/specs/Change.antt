@@ -11,9 +11,9 @@ use Rattle.metadata.specs.declared.refusal.Refusal.TheVariants.{BadName, NameTak
 use Rattle.metadata.specs.Schema.{Schema, find_type, place_of}
 
 -- the refusal of the first test that holds
-abbrev pub first_refusal : List (Bool × Refusal) → Option Refusal
-first_refusal [] = None
-first_refusal (test ∷ tests) = if test.0 then Some test.1 else first_refusal tests
+abbrev pub first_test_refusal : List (Bool × Refusal) → Option Refusal
+first_test_refusal [] = None
+first_test_refusal (test ∷ tests) = if test.0 then Some test.1 else first_test_refusal tests
 
 -- a letter, a digit or an underscore
 abbrev pub is_name_byte : ℕ → Bool
@@ -57,7 +57,7 @@ type_asked schema request = record {
 
 -- why a type isn't added: the first of these
 abbrev pub type_refusal : Schema → TypeRequest → Option Refusal
-type_refusal schema request = first_refusal (
+type_refusal schema request = first_test_refusal (
     (not (list_all is_name (request.name ∷ field_names request.fields)), BadName)
     ∷ (is_some (find_type schema request.name) || has_twice same_field request.fields, NameTaken)
     ∷ (has_unknown request.fields request.key, UnknownField)

@@ -15,7 +15,7 @@ use Rattle.metadata.specs.declared.refusal.Refusal.{Refusal}
 use Rattle.metadata.specs.declared.refusal.Refusal.TheVariants.{BadName, NameTaken, UnknownType, UnknownIndex}
 use Rattle.metadata.specs.declared.refusal.Refusal.TheVariants.{UnknownField, WrongKind, BadSchema, TooMany}
 use Rattle.metadata.specs.Schema.{Schema, find_index, find_type, kind_at, place_of}
-use Rattle.metadata.specs.Change.{first_refusal, has_twice, has_unknown, is_name, places_of}
+use Rattle.metadata.specs.Change.{first_test_refusal, has_twice, has_unknown, is_name, places_of}
 
 -- a field of whole numbers
 abbrev pub is_int : Option Kind → Bool
@@ -56,11 +56,12 @@ index_asked schema type request = record {
 -- why an index isn't added for its name: the first of these
 abbrev pub name_refusal : Schema → IndexRequest → Option Refusal
 name_refusal schema request =
-    first_refusal ((not (is_name request.name), BadName) ∷ (is_some (find_index schema request.name), NameTaken) ∷ [])
+    first_test_refusal
+    ((not (is_name request.name), BadName) ∷ (is_some (find_index schema request.name), NameTaken) ∷ [])
 
 -- why an index isn't added over a type: the first of these
 abbrev pub over_refusal : Schema → TypeDefinition → IndexRequest → Option Refusal
-over_refusal schema type request = first_refusal (
+over_refusal schema type request = first_test_refusal (
     (has_unknown_field type.fields request, UnknownField)
     ∷ (sums_other type.fields (place_summed type.fields request.summed), WrongKind)
     ∷ (

@@ -2,12 +2,12 @@
 use Rattle.std.specs.Prelude.{ℕ, pos, List, [], ◌∷◌, map}
 use Rattle.tuple_codec.specs.Item.{Item, int}
 use Rattle.tuple_codec.specs.Spelling.{spelling}
-use Rattle.tuple_codec.specs.Subspace.{key_of}
+use Rattle.tuple_codec.specs.Subspace.{subspace_key}
 use Rattle.metadata.specs.declared.cells.Cell.{Cell}
 use Rattle.metadata.specs.declared.index.IndexDefinition.{IndexDefinition}
 use Rattle.metadata.specs.Cell.{items_of}
 use Rattle.metadata.specs.Record.{Record, primary_key}
-use Rattle.metadata.specs.Entries.{Entry, entries, entry_items}
+use Rattle.metadata.specs.Entries.{IndexEntry, entry_items, index_entries}
 
 -- a key of the database and its value
 abbrev pub Pair : Type 0
@@ -15,11 +15,11 @@ Pair = List ℕ × List ℕ
 
 -- what the keys of a place begin with: the store's prefix, and the pack of the place's number
 abbrev pub place : List ℕ → ℕ → List ℕ
-place prefix number = key_of prefix (int (pos number) ∷ [])
+place prefix number = subspace_key prefix (int (pos number) ∷ [])
 
 -- the key (1, primary key) of the record with this primary key
 abbrev pub record_key : List ℕ → List Item → List ℕ
-record_key prefix key = key_of prefix (int (pos 1) ∷ key)
+record_key prefix key = subspace_key prefix (int (pos 1) ∷ key)
 
 -- what the key of each record of the type with this number begins with: the key (1, number) under the store's prefix
 abbrev pub records_prefix : List ℕ → ℕ → List ℕ
@@ -35,16 +35,16 @@ record_pair prefix r = (record_key prefix (primary_key r), record_value r.cells)
 
 -- what the key of each entry of the index with this number begins with: the key (2, number) under the store's prefix
 abbrev pub entries_prefix : List ℕ → ℕ → List ℕ
-entries_prefix prefix number = key_of prefix (int (pos 2) ∷ int (pos number) ∷ [])
+entries_prefix prefix number = subspace_key prefix (int (pos 2) ∷ int (pos number) ∷ [])
 
 -- the key of an entry
-abbrev pub entry_key : List ℕ → ℕ → Entry → List ℕ
-entry_key prefix number entry = key_of (entries_prefix prefix number) (entry_items entry)
+abbrev pub entry_key : List ℕ → ℕ → IndexEntry → List ℕ
+entry_key prefix number entry = subspace_key (entries_prefix prefix number) (entry_items entry)
 
 -- the pair that stands for an entry, which has no bytes as its value
-abbrev pub entry_pair : List ℕ → ℕ → Entry → Pair
+abbrev pub entry_pair : List ℕ → ℕ → IndexEntry → Pair
 entry_pair prefix number entry = (entry_key prefix number entry, [])
 
 -- the pairs that stand for the entries of records
 abbrev pub entry_pairs : List ℕ → IndexDefinition → List Record → List Pair
-entry_pairs prefix index records = map (entry_pair prefix index.number) (entries index records)
+entry_pairs prefix index records = map (entry_pair prefix index.number) (index_entries index records)

@@ -3,7 +3,7 @@ use Rattle.std.specs.Prelude.{ℕ, ◌^◌, pos, List, [], ◌∷◌, Option, So
 use Rattle.std.specs.Prelude.{◌==◌, ◌≡◌, nat_lt, slice_get, if◌then◌else◌}
 use Rattle.std.specs.Result.{result_ok}
 use Rattle.std.specs.Option.{option_map, option_and_then}
-use Rattle.tuple_codec.specs.Item.{Item, int, text, nested, null, listed}
+use Rattle.tuple_codec.specs.Item.{Item, int, text, nested, null, items_list}
 use Rattle.metadata.specs.declared.cells.Kind.{Kind}
 use Rattle.metadata.specs.declared.cells.Kind.TheVariants as kind
 use Rattle.metadata.specs.declared.definition.Field.{Field}
@@ -31,7 +31,7 @@ text_of other = None
 
 -- the nested tuple that an item is
 abbrev pub tuple_of : Item → Option (List Item)
-tuple_of (nested items) = Some (listed items)
+tuple_of (nested items) = Some (items_list items)
 tuple_of other = None
 
 -- the kind number or place that an item is, which is below 256
@@ -87,9 +87,9 @@ abbrev pub index_kind_of : ℕ → Option IndexKind
 index_kind_of n = if n == 1 then Some Value else if n == 2 then Some Count else if n == 3 then Some Sum else None
 
 -- the number of 64 bits that an item is
-abbrev pub number_of : Item → Option ℕ
-number_of (int (pos n)) = if nat_lt n (2 ^ 64) then Some n else None
-number_of other = None
+abbrev pub item_number : Item → Option ℕ
+item_number (int (pos n)) = if nat_lt n (2 ^ 64) then Some n else None
+item_number other = None
 
 -- the place of the summed field, or that there is none, which an item is
 abbrev pub summed_of : Item → Option (Option ℕ)
@@ -107,9 +107,9 @@ index_in parts =
     option_and_then (λ name. option_and_then (λ kind. option_and_then (λ type_number. option_and_then (λ columns.
     option_map (λ summed.
     record { number = number; name = name; kind = kind; type_number = type_number; columns = columns; summed = summed })
-    (read_at summed_of parts 5)) (places_in parts 4)) (read_at number_of parts 3))
+    (read_at summed_of parts 5)) (places_in parts 4)) (read_at item_number parts 3))
     (option_and_then index_kind_of (read_at small_of parts 2))) (read_at text_of parts 1))
-    (read_at number_of parts 0)
+    (read_at item_number parts 0)
 
 abbrev pub index_of : Item → Option IndexDefinition
 index_of one = option_and_then index_in (tuple_of one)
@@ -129,13 +129,13 @@ abbrev pub if_good : Schema → Option Schema
 if_good schema = if has_good_indexes schema then Some schema else None
 
 -- the schema that a tuple tells
-abbrev pub schema_in : List Item → Option Schema
-schema_in items =
+abbrev pub tuple_schema : List Item → Option Schema
+tuple_schema items =
     option_and_then (λ types. option_and_then (λ last.
     option_and_then (λ indexes. if_good (record { types = types; last_index = last; indexes = indexes }))
-    (indexes_in items)) (read_at number_of items 2)) (types_in items)
+    (indexes_in items)) (read_at item_number items 2)) (types_in items)
 
 -- memory was wanting, or the tuple is refused as that of no schema
-abbrev pub IsUnread : MetadataError → List Item → Type 0
-IsUnread Memory items = Unit {0}
-IsUnread (Refused refusal) items = (refusal ≡ BadSchema) × (schema_in items ≡ None)
+abbrev pub IsTupleUnread : MetadataError → List Item → Type 0
+IsTupleUnread Memory items = Unit {0}
+IsTupleUnread (Refused refusal) items = (refusal ≡ BadSchema) × (tuple_schema items ≡ None)

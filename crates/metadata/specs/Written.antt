@@ -1,6 +1,6 @@
 -- The written form of a schema: a tuple, and the pack of it.
 use Rattle.std.specs.Prelude.{◌≡◌, ℕ, pos, Option, Some, None, List, [], ◌∷◌, map, length}
-use Rattle.tuple_codec.specs.Item.{Item, int, text, nested, null, items_of}
+use Rattle.tuple_codec.specs.Item.{Item, int, text, nested, null, items_from}
 use Rattle.tuple_codec.specs.Spelling.{Spells, spelling}
 use Rattle.metadata.specs.declared.cells.Kind.{Kind}
 use Rattle.metadata.specs.declared.cells.Kind.TheVariants as kind
@@ -21,7 +21,7 @@ number_item n = int (pos n)
 
 -- a tuple within the tuple
 abbrev pub nested_item : List Item → Item
-nested_item items = nested (items_of items)
+nested_item items = nested (items_from items)
 
 -- kinds are 1 whole number, 2 text, 3 bytes
 abbrev pub kind_number : Kind → ℕ

@@ -3,7 +3,7 @@ ghost use Rattle.std.specs.Prelude.{◌≡◌, IfOk};
 ghost use Rattle.std.specs.Option.{option_map};
 ghost use Rattle.tuple_codec.specs.Elements.{item_in, items_in};
 ghost use Rattle.metadata.specs.Reading.{all_read, index_in, index_kind_of, index_of, indexes_in};
-ghost use Rattle.metadata.specs.Reading.{number_of, places_in, read_at, small_of, summed_of};
+ghost use Rattle.metadata.specs.Reading.{item_number, places_in, read_at, small_of, summed_of};
 
 use crate::definition::Places;
 use crate::index::{IndexDefinition, IndexKind};
@@ -13,7 +13,7 @@ use tuple_codec::{Element, Tuple};
 
 // The number of 64 bits that an element is.
 fn number_of(element: &Element) -> Option<u64>
-    ensures { result ≡ number_of (item_in element.now) }
+    ensures { result ≡ item_number (item_in element.now) }
 {
     match element {
         Element::Int(value) => u64::try_from(value.get()).ok(),
@@ -23,7 +23,7 @@ fn number_of(element: &Element) -> Option<u64>
 
 // The number of 64 bits at a place of a tuple.
 pub(crate) fn number_at(tuple: &Tuple, place: usize) -> Option<u64>
-    ensures { result ≡ read_at number_of tuple.now place }
+    ensures { result ≡ read_at item_number tuple.now place }
 {
     number_of(tuple.elements().get(place)?)
 }

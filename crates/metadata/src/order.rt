@@ -3,7 +3,7 @@ ghost use Rattle.std.specs.Prelude.{◌≡◌, ◌↔◌, ◌∷◌, ◌++◌, [
 ghost use Rattle.std.specs.Ordering.{is_le, ordering_then};
 ghost use Rattle.tuple_codec.specs.Order.{bytes_cmp};
 ghost use Rattle.tuple_codec.specs.Spelling.{item_spelling, outer, spelling};
-ghost use Rattle.tuple_codec.specs.Subspace.{BeginsWith, IsWithin, key_of, range_end};
+ghost use Rattle.tuple_codec.specs.Subspace.{BeginsWith, IsWithin, range_end, subspace_key};
 ghost use Rattle.metadata.specs.declared.cells.Cell.{Cell as CellValue};
 ghost use Rattle.metadata.specs.Cell.{IsCell, is_null, item_of, items_of};
 ghost use Rattle.metadata.specs.Order.{BeginWith, BeginsAs, cell_cmp, cells_cmp};
@@ -74,8 +74,8 @@ pub fn cells_are_ordered_as_their_packs()
         → bytes_cmp (item_spelling outer (item_of a) ++ y) (item_spelling outer (item_of b) ++ z)
         ≡ ordering_then (cell_cmp a b) (bytes_cmp y z) }
     ensures ranges { (prefix : List ℕ) (fixed cells : List CellValue) → All IsCell fixed → All IsCell cells
-        → IsWithin (key_of prefix (items_of fixed)) (Some (range_end (key_of prefix (items_of fixed))))
-        (key_of prefix (items_of cells)) ↔ BeginWith fixed cells }
+        → IsWithin (subspace_key prefix (items_of fixed)) (Some (range_end (subspace_key prefix (items_of fixed))))
+        (subspace_key prefix (items_of cells)) ↔ BeginWith fixed cells }
     ensures low { (a : CellValue) (y : List ℕ) → IsCell a → is_tail (item_spelling outer (item_of a) ++ y) ≡ true }
     ensures null_first { (a : CellValue) (y : List ℕ) → IsCell a →
         is_le (bytes_cmp (1 ∷ []) (item_spelling outer (item_of a) ++ y)) ≡ not (is_null a) }

@@ -7,7 +7,7 @@ ghost use Rattle.metadata.specs.Change.{add_type, schema_of};
 ghost use Rattle.metadata.specs.IndexChange.{add_index, drop_index};
 ghost use Rattle.metadata.specs.declared.index.IndexRequest.{IndexRequest};
 ghost use Rattle.metadata.specs.Lawful.{IsLawfulSchema};
-ghost use Rattle.metadata.specs.Reading.{IsUnread, schema_in, types_in};
+ghost use Rattle.metadata.specs.Reading.{IsTupleUnread, tuple_schema, types_in};
 ghost use Rattle.metadata.specs.declared.definition.TypeRequest.{TypeRequest};
 ghost use Rattle.metadata.specs.Written.{IsNoSchema, IsNoTuple, schema_bytes, written};
 
@@ -51,8 +51,8 @@ fn types_in(alloc: Global, tuple: &Tuple) -> Result<Option<Schema>, AllocError>
 
 // The schema that a tuple tells, refused as `BadSchema` where there is none.
 fn schema_in(alloc: Global, tuple: &Tuple) -> Result<Schema, MetadataError>
-    ensures made { IfOk result (λ schema. IsLawfulSchema schema × (schema_in tuple.now ≡ Some schema)) }
-    ensures refused { IfErr result (λ error. IsUnread error tuple.now) }
+    ensures made { IfOk result (λ schema. IsLawfulSchema schema × (tuple_schema tuple.now ≡ Some schema)) }
+    ensures refused { IfErr result (λ error. IsTupleUnread error tuple.now) }
 {
     let Some(types_alone) = types_in(alloc, tuple)? else {
         return Err(MetadataError::Refused(Refusal::BadSchema));

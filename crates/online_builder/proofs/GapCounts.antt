@@ -6,7 +6,8 @@ use Rattle.std.proofs.lemmas.Bool.{and_from, false_from_ne_true, true≢false}
 use Rattle.kv_core.specs.Bytes.{end_of_keys, key_le, key_lt}
 use Rattle.kv_core.specs.Range.{KeyRange, contains}
 use Rattle.kv_core.proofs.Order.{cases_key, contains-begin, le_from, le_from_lt, le_gives, le_lt_trans, le_refl, lt_le_trans}
-use Rattle.range_set.specs.Gaps.{IsFirstGap, IsGap, SamePositions, first_gap, gap_begin, gap_end, has_position, least_of}
+use Rattle.range_set.specs.Gaps.{IsFirstGap, IsGap, SamePositions, first_gap, gap_begin, gap_end, has_position}
+use Rattle.range_set.specs.Gaps.{least_key}
 use Rattle.range_set.proofs.Gaps.{first_gap_is, same_gap}
 use Rattle.online_builder.specs.Advance.{HasGaps}
 
@@ -43,7 +44,7 @@ IsEnd key [] = ⊥
 IsEnd key (range ∷ ranges) = (key ≡ range.end) ⊎ IsEnd key ranges
 
 -- what holds of a key and of some keys holds of the least
-least_has : (P : List ℕ → Type 0) (least : List ℕ) (keys : List (List ℕ)) → P least → AllByRecursion P keys → P (least_of least keys)
+least_has : (P : List ℕ → Type 0) (least : List ℕ) (keys : List (List ℕ)) → P least → AllByRecursion P keys → P (least_key least keys)
 least_has P least [] own all = own
 least_has P least (key ∷ keys) own all = least_has P (if key_lt key least then key else least) keys (by_test (key_lt key least)) all.1
   where

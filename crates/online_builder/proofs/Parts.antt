@@ -13,7 +13,7 @@ use Rattle.index_maint.specs.Built.{position}
 use Rattle.index_maint.specs.Kept.{records_within}
 use Rattle.index_maint.specs.Parts.{IsFirstPart, end_behind, first_part}
 use Rattle.index_maint.proofs.FirstParts.{first_parts}
-use Rattle.online_builder.specs.Stepping.{last_end, part_made}
+use Rattle.online_builder.specs.Stepping.{last_position, part_made}
 
 -- where there are fewer records the part ends where the gap does
 few_end : (limit : ℕ) (records : List Record) (end : List ℕ) → length (take limit records) < limit → end_behind limit records end ≡ end
@@ -23,13 +23,13 @@ few_end (suc zero) (r ∷ records) end few = absurd (omega (arith, few))
 few_end (suc (suc limit)) (r ∷ records) end few = few_end (suc limit) records end (omega (arith, few))
 
 -- else behind the last of them
-many_end : (count : ℕ) (records : List Record) (first end : List ℕ) → suc count ≤ length (take (suc count) records) → last_end (take (suc count) records) first ≡ end_behind (suc count) records end
+many_end : (count : ℕ) (records : List Record) (first end : List ℕ) → suc count ≤ length (take (suc count) records) → last_position (take (suc count) records) first ≡ end_behind (suc count) records end
 many_end count [] first end many = absurd (omega (arith, many))
 many_end zero (r ∷ records) first end many = refl
 many_end (suc count) (r ∷ records) first end many = many_end count records (next_key (position r)) end (omega (arith, many))
 
 -- what the last record is tells that
-pub last_is : (records : List Record) (last : Record) (end : List ℕ) → Some last ≡ slice_get records (length records - 1) → last_end records end ≡ next_key (position last)
+pub last_is : (records : List Record) (last : Record) (end : List ℕ) → Some last ≡ slice_get records (length records - 1) → last_position records end ≡ next_key (position last)
 last_is [] last end is = absurd (cc)
 last_is (r ∷ []) last end is = let same : last ≡ r = cc in ap (λ one. next_key (position one)) (sym same)
 last_is (r ∷ s ∷ records) last end is =
@@ -58,7 +58,7 @@ part_is (suc count) gap index records rows least ordered storable keys is = ap (
     is_part : IsFirstPart (suc count) gap part index records
     is_part = first_parts (suc count) gap index records least ordered storable
 
-    by_test : (b : Bool) → nat_lt (length (take (suc count) within)) (suc count) ≡ b → cond b gap (part_before (last_end (take (suc count) within) gap.end) gap) ≡ part
+    by_test : (b : Bool) → nat_lt (length (take (suc count) within)) (suc count) ≡ b → cond b gap (part_before (last_position (take (suc count) within) gap.end) gap) ≡ part
     by_test true few = ap (λ end. record { begin = gap.begin; end = end }) (sym (few_end (suc count) within gap.end (ltb-true (length (take (suc count) within)) (suc count) few)))
     by_test false many =
         ap (λ end. part_before end gap) (many_end count within gap.end gap.end (ltb-false (length (take (suc count) within)) (suc count) many))

@@ -49,13 +49,14 @@ use Rattle.record_store.proofs.RecordCalls.{filled}
 use Rattle.record_store.proofs.Stopping.{begin_behind, begin_more, next_behind, next_more}
 use Rattle.online_builder.specs.declared.progress.Progress.{Progress}
 use Rattle.online_builder.specs.declared.progress.Progress.TheVariants.{Built, Finished}
-use Rattle.online_builder.specs.Stepping.{Plan, behind, part_made, progress_in, reading_by, step_call, step_service, step_writes, stepped}
+use Rattle.online_builder.specs.Stepping.{BuildTask, part_made, progress_in, reading_behind, reading_by, step_call}
+use Rattle.online_builder.specs.Stepping.{step_service, step_writes, stepped}
 use Rattle.online_builder.proofs.Parts.{part_is}
 
 -- ---- before the gap is found
 
 -- OWN REFUSAL: there is no such index, or it isn't write-only
-pub refused_named : (maps : ℕ → Map) (refuses : KeyRange → ℕ → ReadError → Type 0) {old new : CommitRequest} (opened : Opened) (plan : Plan) (error : StoreError) → write_only_named opened plan.name ≡ Err error → new ≡ old →
+pub refused_named : (maps : ℕ → Map) (refuses : KeyRange → ℕ → ReadError → Type 0) {old new : CommitRequest} (opened : Opened) (plan : BuildTask) (error : StoreError) → write_only_named opened plan.name ≡ Err error → new ≡ old →
     IsRefused maps refuses opened (step_call opened plan) error old new
 refused_named maps refuses {old = old} {new = new} opened plan error is same =
     subst (λ o. IsRefused maps refuses opened (done_or_refused (step_service opened plan.limit) o) error old new) (sym is) (inr refl, same)
@@ -81,7 +82,7 @@ damaged_gap place key m damage = by_told (ranges_in place (pairs_in m (whole_ran
     by_told None is = ap (option_and_then first_gap) is
     by_told (Some ranges) is = absurd (not_damaged place (pairs_in m (whole_range place)) key (ranges, ranges_told place (pairs_in m (whole_range place)) ranges is) damage)
 
-module _ (maps : ℕ → Map) (refuses : KeyRange → ℕ → ReadError → Type 0) (opened : Opened) (plan : Plan) (index : IndexDefinition) (named : write_only_named opened plan.name ≡ Ok index) where
+module _ (maps : ℕ → Map) (refuses : KeyRange → ℕ → ReadError → Type 0) (opened : Opened) (plan : BuildTask) (index : IndexDefinition) (named : write_only_named opened plan.name ≡ Ok index) where
   known : has_number opened.schema.indexes index.number ≡ true
   known = named_there opened.schema plan.name index.number (number_named opened plan.name index named)
 
@@ -127,8 +128,8 @@ module _ (maps : ℕ → Map) (refuses : KeyRange → ℕ → ReadError → Type
 
   -- UNFOUND: the built ranges weren't read
   first_unread : (refused : KeyRange → ReadError → Type 0) (error : StoreError) (added : List KeyRange) (m : Map) → IsUnread refused opened (all_built opened.prefix index.number) error added m → IsUnread refused opened service_here.reading error added m
-  first_unread refused Memory added m says = begin_more ((behind opened plan.limit index (gap_in place m)).added m) says
-  first_unread refused (Read error) added m says = (begin_more ((behind opened plan.limit index (gap_in place m)).added m) says.0, next_more ((behind opened plan.limit index (gap_in place m)).asked m) says.1)
+  first_unread refused Memory added m says = begin_more ((reading_behind opened plan.limit index (gap_in place m)).added m) says
+  first_unread refused (Read error) added m says = (begin_more ((reading_behind opened plan.limit index (gap_in place m)).added m) says.0, next_more ((reading_behind opened plan.limit index (gap_in place m)).asked m) says.1)
   first_unread refused (Corrupt key) added m says = by_damage says.1
     where
       by_damage : IsDamagedAt opened (all_built opened.prefix index.number) key m → IsUnread refused opened service_here.reading (Corrupt key) added m
@@ -144,15 +145,15 @@ module _ (maps : ℕ → Map) (refuses : KeyRange → ℕ → ReadError → Type
   first_unread refused WrongState added m says = absurd says
   first_unread refused NotBuilt added m says = absurd says
 
-  pub unfound : {old new : CommitRequest} (at : List ℕ) (error : RangeSetError) → at ≡ place → reads.IsRefused maps refuses at (all_ranges at) error old new → IsRefused maps refuses opened (step_call opened plan) (of_set error) old new
+  pub unfound : {old new : CommitRequest} (at : List ℕ) (error : RangeSetError) → at ≡ place → reads.IsSetRefused maps refuses at (all_ranges at) error old new → IsRefused maps refuses opened (step_call opened plan) (of_set error) old new
   unfound {old = old} {new = new} at error is unread =
-      let ranges = set_unread opened index.number known building error (subst (λ p. reads.IsRefused maps refuses p (all_ranges p) error old new) is unread) in
+      let ranges = set_unread opened index.number known building error (subst (λ p. reads.IsSetRefused maps refuses p (all_ranges p) error old new) is unread) in
       refused_unread maps refuses opened (step_call opened plan) service_here (of_set error) accepted
       (record { added = ranges.added; ran = ran_because ranges.ran (λ m says. first_unread (λ range. refuses range old.read_version) (of_set error) ranges.added m says) })
 
-  module _ {old mid : CommitRequest} (at : List ℕ) (gap : Option KeyRange) (is_place : at ≡ place) (answer : reads.IsAnswered maps at (all_ranges at) old mid (λ set. gap ≡ first_gap set)) (tells : IsGapIn maps at old mid gap) where
-    there : reads.IsAnswered maps place (all_ranges place) old mid (λ set. gap ≡ first_gap set)
-    there = subst (λ p. reads.IsAnswered maps p (all_ranges p) old mid (λ set. gap ≡ first_gap set)) is_place answer
+  module _ {old mid : CommitRequest} (at : List ℕ) (gap : Option KeyRange) (is_place : at ≡ place) (answer : reads.IsSetAnswered maps at (all_ranges at) old mid (λ set. gap ≡ first_gap set)) (tells : IsGapIn maps at old mid gap) where
+    there : reads.IsSetAnswered maps place (all_ranges place) old mid (λ set. gap ≡ first_gap set)
+    there = subst (λ p. reads.IsSetAnswered maps p (all_ranges p) old mid (λ set. gap ≡ first_gap set)) is_place answer
 
     found_ran : DidRead maps (there.added ∷ []) old mid (λ m. (there.added ∷ [] ≡ (all_built opened.prefix index.number).added m)
         × (IsSound opened (all_built opened.prefix index.number) m × AtStore opened m (λ store. gap ≡ gap_of store index.number)))

@@ -18,7 +18,7 @@ use Rattle.online_builder.specs.declared.progress.Progress.{Progress}
 use Rattle.online_builder.specs.declared.progress.Progress.TheVariants.{Built, Finished}
 
 -- what a builder builds: the index of this name, by at most so many records in a step
-pub record Plan : Type 0 where
+pub record BuildTask : Type 0 where
   pub name : List ℕ
   pub limit : ℕ
 
@@ -47,17 +47,17 @@ step_writes prefix limit index store (Some gap) =
     built_writes prefix index (first_part limit gap index store.records) store.records
 
 -- what it reads behind the built ranges by the first gap that they leave: the first records in it
-abbrev pub behind : Opened → ℕ → IndexDefinition → Option KeyRange → Reading
-behind opened limit index None = whole []
-behind opened limit index (Some gap) = limited_to limit (positions_range opened.prefix index.type_number gap)
+abbrev pub reading_behind : Opened → ℕ → IndexDefinition → Option KeyRange → Reading
+reading_behind opened limit index None = whole []
+reading_behind opened limit index (Some gap) = limited_to limit (positions_range opened.prefix index.type_number gap)
 
 -- all built ranges, and what is read behind them
 abbrev pub reading_by : Opened → ℕ → IndexDefinition → Option KeyRange → Reading
 reading_by opened limit index gap = record {
-  asked = λ m. built_range opened.prefix index.number ∷ (behind opened limit index gap).asked m;
-  added = λ m. built_range opened.prefix index.number ∷ (behind opened limit index gap).added m;
+  asked = λ m. built_range opened.prefix index.number ∷ (reading_behind opened limit index gap).asked m;
+  added = λ m. built_range opened.prefix index.number ∷ (reading_behind opened limit index gap).added m;
   set = Some index.number;
-  pairs = λ m. (behind opened limit index gap).pairs m;
+  pairs = λ m. (reading_behind opened limit index gap).pairs m;
 }
 
 -- what it reads of a map, by the gap that the map tells
@@ -80,16 +80,16 @@ step_service opened limit index = record {
   changes = has_built;
 }
 
-abbrev pub step_call : Opened → Plan → Call Progress
+abbrev pub step_call : Opened → BuildTask → Call Progress
 step_call opened plan = done_or_refused (step_service opened plan.limit) (write_only_named opened plan.name)
 
 -- ---- beneath the call
 
 -- the position behind the last of some records, or this end where there are none
-abbrev pub last_end : List Record → List ℕ → List ℕ
-last_end [] end = end
-last_end (r ∷ rows) end = last_end rows (next_key (position r))
+abbrev pub last_position : List Record → List ℕ → List ℕ
+last_position [] end = end
+last_position (r ∷ rows) end = last_position rows (next_key (position r))
 
 -- the part of a gap that is made by the records that were found in it: all of it where they are fewer than so many
 abbrev pub part_made : ℕ → List Record → KeyRange → KeyRange
-part_made limit rows gap = if nat_lt (length rows) limit then gap else part_before (last_end rows gap.end) gap
+part_made limit rows gap = if nat_lt (length rows) limit then gap else part_before (last_position rows gap.end) gap

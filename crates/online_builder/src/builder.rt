@@ -29,9 +29,9 @@ pub struct Builder {
 
 impl Model for Builder {
     ghost use Rattle.std.specs.Prelude.{◌≤◌};
-    ghost use Rattle.online_builder.specs.Stepping.{Plan};
+    ghost use Rattle.online_builder.specs.Stepping.{BuildTask};
 
-    ghost Value = { Plan };
+    ghost Value = { BuildTask };
 
     ghost view = { λ b. record { name = b.name; limit = b.limit } };
 

@@ -20,7 +20,7 @@ use Rattle.metadata.specs.declared.index.IndexKind.TheVariants.{Value}
 use Rattle.metadata.specs.declared.index.State.{State}
 use Rattle.metadata.specs.declared.index.State.TheVariants.{Readable}
 use Rattle.metadata.specs.Cell.{items_of}
-use Rattle.metadata.specs.Entries.{entries as entries_in, entry_items, entry_of}
+use Rattle.metadata.specs.Entries.{entry_items, entry_of, index_entries as entries_in}
 use Rattle.metadata.specs.Layout.{Pair, entries_prefix, entry_pair, entry_pairs, place, record_pair, records_prefix}
 use Rattle.metadata.specs.Record.{Record, key_cells, record_in}
 use Rattle.metadata.specs.Records.{IsStorable, of_type}

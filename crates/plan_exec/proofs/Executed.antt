@@ -26,7 +26,8 @@ use Rattle.planner.specs.View.{plan_of}
 use Rattle.planner.proofs.Lists.{member_contained}
 use Rattle.planner.proofs.Residual.{each_member}
 use Rattle.plan_exec.specs.Accepting.{Accepts, IsReadableAt}
-use Rattle.plan_exec.specs.Executing.{HasFound, HasNoMeaning, HasStopped, IsExecuted, IsRefused, IsStopped, damage_of, reads_of}
+use Rattle.plan_exec.specs.Executing.{HasFound, HasNoMeaning, HasStopped, IsExecuted, IsExecutionRefused}
+use Rattle.plan_exec.specs.Executing.{IsExecutionStopped, damage_of, reads_of}
 use Rattle.plan_exec.specs.Reads.{node_reading}
 use Rattle.plan_exec.specs.declared.error.ExecError.{ExecError}
 use Rattle.plan_exec.specs.declared.error.ExecError.TheVariants.{OtherSchema, IndexNotReadable, Read, Corrupt, Memory}
@@ -65,7 +66,7 @@ module _ (opened : Opened) (plan : AskedPlan) (t : TypeDefinition) (accepted : A
     ran = ran_because found.ran (λ m is. record { reads = is.0; meaning = has_meaning m rows is.1; answers = has_answer m rows (has_meaning m rows is.1) });
   }
 
-  no_meaning : (refuses : KeyRange → ReadError → Type 0) (m : Map) (ranges added : List KeyRange) (error : ExecError) → IsStopped refuses ranges (damage_of opened.prefix (entries m) t (plan_of plan).root) error added → HasNoMeaning opened plan t error m
+  no_meaning : (refuses : KeyRange → ReadError → Type 0) (m : Map) (ranges added : List KeyRange) (error : ExecError) → IsExecutionStopped refuses ranges (damage_of opened.prefix (entries m) t (plan_of plan).root) error added → HasNoMeaning opened plan t error m
   no_meaning refuses m ranges added (Corrupt key) stopped = (unmeant, λ store holds same. let (rows, is, allowed) = answered m store holds same in absurd (let none = sym unmeant ∙ is in cc))
     where
       unmeant : rows_of opened.prefix (entries m) t (plan_of plan) ≡ None
@@ -85,7 +86,7 @@ module _ (opened : Opened) (plan : AskedPlan) (t : TypeDefinition) (accepted : A
       ran = ran_because stop.ran (λ m says. record { stopped = says; damage = no_meaning _ m _ stop.added error says });
     }
 
-    pub refused : (error : ExecError) → HasStopped maps refuses (λ pairs. node_reading opened.prefix pairs t (plan_of plan).root) error old new → IsRefused maps refuses opened plan error old new
+    pub refused : (error : ExecError) → HasStopped maps refuses (λ pairs. node_reading opened.prefix pairs t (plan_of plan).root) error old new → IsExecutionRefused maps refuses opened plan error old new
     refused OtherSchema stop = absurd (stop.ran.over (maps old.read_version) (Agree-refl new.reads (maps old.read_version)))
     refused IndexNotReadable stop = absurd (stop.ran.over (maps old.read_version) (Agree-refl new.reads (maps old.read_version)))
     refused (Read reason) stop = unexecuted (Read reason) stop

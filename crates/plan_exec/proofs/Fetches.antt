@@ -11,11 +11,11 @@ use Rattle.metadata.specs.declared.cells.Cell.{Cell}
 use Rattle.metadata.specs.declared.definition.TypeDefinition.{TypeDefinition}
 use Rattle.metadata.specs.Record.{Record}
 use Rattle.metadata.specs.Layout.{Pair}
-use Rattle.planner.specs.Meaning.{common, in_key_order}
+use Rattle.planner.specs.Meaning.{in_key_order, keys_in_all}
 use Rattle.planner.specs.Plan as plan
 use Rattle.planner.specs.View.{index_scan_of}
 use Rattle.planner.specs.declared.plan.IndexScan.{IndexScan}
-use Rattle.plan_exec.specs.Errors.{no_memory}
+use Rattle.plan_exec.specs.Errors.{exec_memory}
 use Rattle.plan_exec.specs.Executing.{HasFound, HasStopped}
 use Rattle.plan_exec.specs.Reads.{Wanted, entries_reading, fetch_reading, first_entries, in_turn, keys_of, record_reading, source_reading}
 use Rattle.plan_exec.specs.declared.entry.Entry.{Entry}
@@ -36,7 +36,7 @@ module _ (prefix : List ℕ) (t : TypeDefinition) where
   of_one es = record { entries = es; keys = keys_of es }
 
   abbrev of_common : List (List Entry) → Wanted
-  of_common ess = record { entries = first_entries ess; keys = in_key_order (λ k. k) (common (map keys_of ess)) }
+  of_common ess = record { entries = first_entries ess; keys = in_key_order (λ k. k) (keys_in_all (map keys_of ess)) }
 
   -- the readings by entries and by their primary keys
   own_map : (entries own : List Entry) (pairs : List Pair) → map (λ (e : Entry). record_reading prefix pairs t entries e.primary_key) own ≡ map (record_reading prefix pairs t entries) (keys_of own)
@@ -52,7 +52,7 @@ module _ (prefix : List ℕ) (t : TypeDefinition) where
     one_wanted s es found = found_made (λ pairs. entries_reading prefix pairs t s) of_one es found
 
     pub common_wanted : {old new : CommitRequest} (scans : List IndexScan) (ess : List (List Entry)) → HasFound maps (λ pairs. in_turn (map (λ s. entries_reading prefix pairs t (index_scan_of s)) scans)) ess old new →
-        HasFound maps (λ pairs. source_reading prefix pairs t (plan.intersection (map index_scan_of scans))) (record { entries = first_entries ess; keys = in_key_order (λ k. k) (common (map keys_of ess)) }) old new
+        HasFound maps (λ pairs. source_reading prefix pairs t (plan.intersection (map index_scan_of scans))) (record { entries = first_entries ess; keys = in_key_order (λ k. k) (keys_in_all (map keys_of ess)) }) old new
     common_wanted scans ess found =
         found_made (λ pairs. in_turn (map (entries_reading prefix pairs t) (map index_scan_of scans))) of_common ess
         (found_as (λ pairs. in_turn (map (λ s. entries_reading prefix pairs t (index_scan_of s)) scans)) (λ pairs. in_turn (map (entries_reading prefix pairs t) (map index_scan_of scans))) ess ess (λ pairs. ap in_turn (scans_map scans pairs)) refl found)
@@ -80,7 +80,7 @@ module _ (prefix : List ℕ) (t : TypeDefinition) where
         (stopped_made (λ pairs. in_turn (map (entries_reading prefix pairs t) (map index_scan_of scans))) of_common
         (stopped_as (λ pairs. in_turn (map (λ s. entries_reading prefix pairs t (index_scan_of s)) scans)) (λ pairs. in_turn (map (entries_reading prefix pairs t) (map index_scan_of scans))) (λ pairs. ap in_turn (scans_map scans pairs)) stop))
 
-    pub fetch_memory : {old new : CommitRequest} (s : plan.Source) (w : Wanted) → HasFound maps (λ pairs. source_reading prefix pairs t s) w old new → HasStopped maps refuses (λ pairs. fetch_reading prefix pairs t s) no_memory old new
+    pub fetch_memory : {old new : CommitRequest} (s : plan.Source) (w : Wanted) → HasFound maps (λ pairs. source_reading prefix pairs t s) w old new → HasStopped maps refuses (λ pairs. fetch_reading prefix pairs t s) exec_memory old new
     fetch_memory s w one =
         stopped_first (λ pairs. source_reading prefix pairs t s) (λ x pairs. in_turn (map (record_reading prefix pairs t x.entries) x.keys)) (stopped_behind (λ pairs. source_reading prefix pairs t s) w one)
 

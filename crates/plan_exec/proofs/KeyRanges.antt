@@ -23,7 +23,7 @@ use Rattle.metadata.specs.declared.index.IndexDefinition.{IndexDefinition}
 use Rattle.metadata.specs.Cell.{items_of}
 use Rattle.record_store.proofs.Keys.{below_with, record_below}
 use Rattle.metadata.specs.Layout.{Pair, entries_prefix, record_key, records_prefix}
-use Rattle.planner.specs.Meaning.{pairs_in}
+use Rattle.planner.specs.Meaning.{pairs_scanned}
 use Rattle.planner.specs.Range as planned
 use Rattle.plan_exec.specs.Reads.{scan_range}
 
@@ -47,7 +47,7 @@ module _ (prefix : List ℕ) (below : key_lt prefix end_of_keys ≡ true) where
   key_below cells key is = ap (λ k. key_lt k end_of_keys) is ∙ record_below prefix (items_of cells) below
 
 -- the range that is read for a scan is a range of keys
-pub is_range : (key : List ℕ) (range : planned.KeyRange) → ((rest : List ℕ) → IsTrue (key_lt (key ++ rest) end_of_keys)) → is_key_range (scan_range key range) ≡ true
+pub is_range : (key : List ℕ) (range : planned.PlanRange) → ((rest : List ℕ) → IsTrue (key_lt (key ++ rest) end_of_keys)) → is_key_range (scan_range key range) ≡ true
 is_range key range below = by (key_lt (key ++ range.begin) (key ++ range.end)) refl
   where
     by : (b : Bool) → key_lt (key ++ range.begin) (key ++ range.end) ≡ b →
@@ -66,7 +66,7 @@ le_is a b = ap (λ o. not (is_lt o)) (nat_list_cmp_total.antisymm b a) ∙ by (b
     by Greater = refl
 
 -- the keys of the range that is read are those of the planner's range behind the key
-same_within : (key : List ℕ) (range : planned.KeyRange) (k : List ℕ) → contains (scan_range key range) k ≡ planned.is_within (planned.behind key range) k
+same_within : (key : List ℕ) (range : planned.PlanRange) (k : List ℕ) → contains (scan_range key range) k ≡ planned.range_has (planned.behind key range) k
 same_within key range k = by (key_lt (key ++ range.begin) (key ++ range.end)) refl ∙ ap (λ b. b && key_lt k (key ++ range.end)) (le_is (key ++ range.begin) k)
   where
     none : (b : Bool) → key_le (key ++ range.begin) k ≡ b → key_lt (key ++ range.begin) (key ++ range.end) ≡ false →
@@ -82,7 +82,7 @@ same_within key range k = by (key_lt (key ++ range.begin) (key ++ range.end)) re
     by false is = none (key_le (key ++ range.begin) k) refl is
 
 -- PAIRS: those of a map in the range that is read are those that the planner speaks of
-pub pairs_are : (m : Map) (key : List ℕ) (range : planned.KeyRange) → map.pairs_in m (scan_range key range) ≡ pairs_in (planned.behind key range) false (entries m)
+pub pairs_are : (m : Map) (key : List ℕ) (range : planned.PlanRange) → map.pairs_in m (scan_range key range) ≡ pairs_scanned (planned.behind key range) false (entries m)
 pairs_are m key range = entries-kept m (contains (scan_range key range)) ∙ (λ i. filter (λ (p : Pair). same_within key range p.0 i) (entries m))
 
 -- VALUE: what a map has at a key is what is found among its pairs

@@ -12,11 +12,14 @@ use Rattle.metadata.specs.Record.{Record}
 use Rattle.query.specs.Truth.{selects}
 use Rattle.metadata.specs.Cell.{items_of}
 use Rattle.metadata.specs.Layout.{Pair, entries_prefix, record_key}
-use Rattle.planner.specs.Layout.{entry_primary_key, primary_cells, record_of}
-use Rattle.planner.specs.Meaning.{all_rows, common, fetched, first_of_each, in_key_order, node_rows, of_each, pairs_in, scanned_keys, source_keys}
+use Rattle.planner.specs.Layout.{entry_primary_key, primary_cells, stored_record}
+use Rattle.planner.specs.Meaning.{all_rows, fetched, first_of_each, in_key_order, keys_in_all, node_rows, of_each}
+use Rattle.planner.specs.Meaning.{pairs_scanned, scanned_keys, source_keys}
 use Rattle.planner.specs.Plan.{IndexScan, Node, Nodes, Source, distinct, fetch, filtered, intersection, no_nodes, node, one, scan, union, unordered_union}
 use Rattle.planner.specs.Range as planned
-use Rattle.plan_exec.specs.Reads.{Reading, Wanted, and_then, behind, each_found, entries_reading, entry_of, fetch_reading, first_entries, in_front, in_turn, keys_of, made_of, node_reading, nodes_reading, or_damaged, record_found, record_reading, source_reading}
+use Rattle.plan_exec.specs.Reads.{PlanReading, Wanted, and_then, each_found, entries_reading, fetch_reading}
+use Rattle.plan_exec.specs.Reads.{first_entries, in_front, in_turn, keys_of, made_of, node_reading, nodes_reading}
+use Rattle.plan_exec.specs.Reads.{or_damaged, read_behind, record_found, record_reading, source_reading, stored_entry}
 use Rattle.plan_exec.specs.declared.entry.Entry.{Entry}
 
 -- ---- readings
@@ -34,10 +37,10 @@ made_ok : {A B : Type 0} (f : A → B) (r : Result A (List ℕ)) → result_ok (
 made_ok f (Ok a) = refl
 made_ok f (Err key) = refl
 
-then_ok : {A B : Type 0} (next : A → Reading B) (first : Reading A) → result_ok (and_then next first).found ≡ option_and_then (λ a. result_ok (next a).found) (result_ok first.found)
+then_ok : {A B : Type 0} (next : A → PlanReading B) (first : PlanReading A) → result_ok (and_then next first).found ≡ option_and_then (λ a. result_ok (next a).found) (result_ok first.found)
 then_ok {A = A} next first = by first.found
   where
-    by : (r : Result A (List ℕ)) → result_ok (behind first.ranges next r).found ≡ option_and_then (λ a. result_ok (next a).found) (result_ok r)
+    by : (r : Result A (List ℕ)) → result_ok (read_behind first.ranges next r).found ≡ option_and_then (λ a. result_ok (next a).found) (result_ok r)
     by (Ok a) = refl
     by (Err key) = refl
 
@@ -52,7 +55,7 @@ rows_more None rest = refl
 rows_more (Some a) None = refl
 rows_more (Some a) (Some more) = refl
 
-turn_ok : {X A : Type 0} (g : X → Reading A) (xs : List X) → result_ok (in_turn (map g xs)).found ≡ of_each (λ x. result_ok (g x).found) xs
+turn_ok : {X A : Type 0} (g : X → PlanReading A) (xs : List X) → result_ok (in_turn (map g xs)).found ≡ of_each (λ x. result_ok (g x).found) xs
 turn_ok g [] = refl
 turn_ok {A = A} g (x ∷ xs) =
     then_ok (λ a. made_of (λ more. a ∷ more) (in_turn (map g xs))) (g x)
@@ -92,7 +95,7 @@ twice g f (Some a) = refl
 -- ---- steps
 
 module _ (prefix : List ℕ) (pairs : List Pair) (t : TypeDefinition) where
-  entry_key : (i : IndexDefinition) (pair : Pair) → option_map (λ (e : Entry). e.primary_key) (entry_of prefix t i pair) ≡ entry_primary_key prefix t i pair
+  entry_key : (i : IndexDefinition) (pair : Pair) → option_map (λ (e : Entry). e.primary_key) (stored_entry prefix t i pair) ≡ entry_primary_key prefix t i pair
   entry_key i pair = by (entry_primary_key prefix t i pair)
     where
       by : (o : Option (List Cell)) → option_map (λ (e : Entry). e.primary_key) (option_map (λ key. record { key = pair.0; primary_key = key }) o) ≡ o
@@ -101,10 +104,10 @@ module _ (prefix : List ℕ) (pairs : List Pair) (t : TypeDefinition) where
 
   scanned_ok : (s : IndexScan) → option_map keys_of (result_ok (entries_reading prefix pairs t s).found) ≡ scanned_keys prefix pairs t s
   scanned_ok s =
-      let found = pairs_in (planned.behind (entries_prefix prefix s.index.number) s.range) s.reverse pairs in
-      ap (option_map keys_of) (each_ok (entry_of prefix t s.index) found)
-      ∙ map_each (λ (e : Entry). e.primary_key) (entry_of prefix t s.index) found
-      ∙ each_same (λ p. option_map (λ (e : Entry). e.primary_key) (entry_of prefix t s.index p)) (entry_primary_key prefix t s.index) (entry_key s.index) found
+      let found = pairs_scanned (planned.behind (entries_prefix prefix s.index.number) s.range) s.reverse pairs in
+      ap (option_map keys_of) (each_ok (stored_entry prefix t s.index) found)
+      ∙ map_each (λ (e : Entry). e.primary_key) (stored_entry prefix t s.index) found
+      ∙ each_same (λ p. option_map (λ (e : Entry). e.primary_key) (stored_entry prefix t s.index p)) (entry_primary_key prefix t s.index) (entry_key s.index) found
 
   source_ok : (s : Source) → option_map (λ (w : Wanted). w.keys) (result_ok (source_reading prefix pairs t s).found) ≡ source_keys prefix pairs t s
   source_ok (one s) =
@@ -112,10 +115,10 @@ module _ (prefix : List ℕ) (pairs : List Pair) (t : TypeDefinition) where
       ∙ twice (λ (w : Wanted). w.keys) (λ es. record { entries = es; keys = keys_of es }) (result_ok (entries_reading prefix pairs t s).found)
       ∙ scanned_ok s
   source_ok (intersection ss) =
-      ap (option_map (λ (w : Wanted). w.keys)) (made_ok (λ ess. record { entries = first_entries ess; keys = in_key_order (λ k. k) (common (map keys_of ess)) }) (in_turn (map (entries_reading prefix pairs t) ss)).found)
-      ∙ twice (λ (w : Wanted). w.keys) (λ ess. record { entries = first_entries ess; keys = in_key_order (λ k. k) (common (map keys_of ess)) }) (result_ok (in_turn (map (entries_reading prefix pairs t) ss)).found)
-      ∙ sym (twice (λ ks. in_key_order (λ k. k) (common ks)) (map keys_of) (result_ok (in_turn (map (entries_reading prefix pairs t) ss)).found))
-      ∙ ap (option_map (λ ks. in_key_order (λ k. k) (common ks)))
+      ap (option_map (λ (w : Wanted). w.keys)) (made_ok (λ ess. record { entries = first_entries ess; keys = in_key_order (λ k. k) (keys_in_all (map keys_of ess)) }) (in_turn (map (entries_reading prefix pairs t) ss)).found)
+      ∙ twice (λ (w : Wanted). w.keys) (λ ess. record { entries = first_entries ess; keys = in_key_order (λ k. k) (keys_in_all (map keys_of ess)) }) (result_ok (in_turn (map (entries_reading prefix pairs t) ss)).found)
+      ∙ sym (twice (λ ks. in_key_order (λ k. k) (keys_in_all ks)) (map keys_of) (result_ok (in_turn (map (entries_reading prefix pairs t) ss)).found))
+      ∙ ap (option_map (λ ks. in_key_order (λ k. k) (keys_in_all ks)))
       (ap (option_map (map keys_of)) (turn_ok (entries_reading prefix pairs t) ss) ∙ map_each keys_of (λ s. result_ok (entries_reading prefix pairs t s).found) ss ∙ each_same _ _ scanned_ok ss)
 
   record_ok : (entries : List Entry) (key : List Cell) → result_ok (record_reading prefix pairs t entries key).found ≡ fetched prefix pairs t key
@@ -125,9 +128,9 @@ module _ (prefix : List ℕ) (pairs : List Pair) (t : TypeDefinition) where
       whether None = refl
       whether (Some r) = refl
 
-      by : (o : Option (List ℕ)) → result_ok (record_found prefix t entries key o) ≡ option_and_then (λ value. record_of prefix t (record_key prefix (items_of key), value)) o
+      by : (o : Option (List ℕ)) → result_ok (record_found prefix t entries key o) ≡ option_and_then (λ value. stored_record prefix t (record_key prefix (items_of key), value)) o
       by None = refl
-      by (Some value) = whether (record_of prefix t (record_key prefix (items_of key), value))
+      by (Some value) = whether (stored_record prefix t (record_key prefix (items_of key), value))
 
   fetch_ok : (s : Source) → result_ok (fetch_reading prefix pairs t s).found ≡ option_and_then (of_each (fetched prefix pairs t)) (source_keys prefix pairs t s)
   fetch_ok s =
@@ -144,7 +147,7 @@ module _ (prefix : List ℕ) (pairs : List Pair) (t : TypeDefinition) where
   mutual
     -- MEANING: a step finds its rows
     pub node_ok : (n : Node) → result_ok (node_reading prefix pairs t n).found ≡ node_rows prefix pairs t n
-    node_ok (scan s) = each_ok (record_of prefix t) _
+    node_ok (scan s) = each_ok (stored_record prefix t) _
     node_ok (fetch s) = fetch_ok s
     node_ok (filtered f n) = made_ok (filter (selects f)) (node_reading prefix pairs t n).found ∙ ap (option_map (filter (selects f))) (node_ok n)
     node_ok (union ns) = made_ok (in_key_order primary_cells) (nodes_reading prefix pairs t ns).found ∙ ap (option_map (in_key_order primary_cells)) (nodes_ok ns)

@@ -23,7 +23,7 @@ use Rattle.metadata.proofs.StoredOnce.{made_is}
 use Rattle.record_store.specs.Layout.{place}
 use Rattle.record_store.proofs.Keys.{record_key_is}
 use Rattle.metadata.specs.Layout.{Pair, record_key}
-use Rattle.planner.specs.Layout.{keyed, record_of}
+use Rattle.planner.specs.Layout.{keyed, stored_record}
 use Rattle.planner.specs.Pack.{unpack}
 use Rattle.planner.proofs.CodecLaws.{reads_back}
 use Rattle.planner.proofs.Lists.{all_each}
@@ -65,7 +65,7 @@ pub record IsSplit (prefix : List ℕ) (t : TypeDefinition) (pair : Pair) (r : R
   pub made : record_in t cells ≡ Ok r
   pub key : pair.0 ≡ record_key prefix (primary_key r)
 
-pub split : (prefix : List ℕ) (t : TypeDefinition) (pair : Pair) (r : Record) → record_of prefix t pair ≡ Some r → IsSplit prefix t pair r
+pub split : (prefix : List ℕ) (t : TypeDefinition) (pair : Pair) (r : Record) → stored_record prefix t pair ≡ Some r → IsSplit prefix t pair r
 split prefix t pair r is = by_cells (unpack pair.1) refl is
   where
     by_key : (cells : List Cell) (one : Record) (b : Bool) → unpack pair.1 ≡ Some cells → record_in t cells ≡ Ok one → bytes_eq pair.0 (record_key prefix (primary_key one)) ≡ b → cond b (Some one) None ≡ Some r → IsSplit prefix t pair r
@@ -83,7 +83,7 @@ split prefix t pair r is = by_cells (unpack pair.1) refl is
     by_cells (Some cells) un e = by_made cells (record_in t cells) un refl e
 
 -- READ AS: a key and a value that are stored as a record are read as it
-pub read_as : (prefix : List ℕ) (t : TypeDefinition) (pair : Pair) (rest : List ℕ) (r : Record) → pair.0 ≡ place prefix 1 ++ rest → IsStoredAs t rest pair.1 r → record_of prefix t pair ≡ Some r
+pub read_as : (prefix : List ℕ) (t : TypeDefinition) (pair : Pair) (rest : List ℕ) (r : Record) → pair.0 ≡ place prefix 1 ++ rest → IsStoredAs t rest pair.1 r → stored_record prefix t pair ≡ Some r
 read_as prefix t pair rest r begins is =
     let un : unpack pair.1 ≡ Some r.cells = ap unpack is.has_value ∙ reads_back r.cells (all_each IsCell r.cells is.cells) in
     let key : pair.0 ≡ record_key prefix (primary_key r) = begins ∙ ap (λ k. place prefix 1 ++ k) is.has_key ∙ record_key_is prefix (primary_key r) in
@@ -92,7 +92,7 @@ read_as prefix t pair rest r begins is =
     ∙ ap (λ b. cond b (Some r) None) ((bytes_eq-Decides pair.0 (record_key prefix (primary_key r))).1 key)
 
 -- what is read as a record is stored as it
-stored_so : (prefix : List ℕ) (t : TypeDefinition) (pair : Pair) (rest : List ℕ) (r : Record) → AreBytes pair.1 → pair.0 ≡ place prefix 1 ++ rest → record_of prefix t pair ≡ Some r → IsStoredAs t rest pair.1 r
+stored_so : (prefix : List ℕ) (t : TypeDefinition) (pair : Pair) (rest : List ℕ) (r : Record) → AreBytes pair.1 → pair.0 ≡ place prefix 1 ++ rest → stored_record prefix t pair ≡ Some r → IsStoredAs t rest pair.1 r
 stored_so prefix t pair rest r are begins is =
     let s = split prefix t pair r is in
     let w = spelled_so pair.1 s.cells are s.unpacked in
@@ -106,23 +106,23 @@ stored_so prefix t pair rest r are begins is =
     }
 
 -- NONE: a key and a value that are those of no record are read as none
-pub read_as_none : (prefix : List ℕ) (t : TypeDefinition) (pair : Pair) (rest : List ℕ) → AreBytes pair.1 → pair.0 ≡ place prefix 1 ++ rest → IsOfNoRecord t rest pair.1 → None ≡ record_of prefix t pair
-read_as_none prefix t pair rest are begins none = by (record_of prefix t pair) refl
+pub read_as_none : (prefix : List ℕ) (t : TypeDefinition) (pair : Pair) (rest : List ℕ) → AreBytes pair.1 → pair.0 ≡ place prefix 1 ++ rest → IsOfNoRecord t rest pair.1 → None ≡ stored_record prefix t pair
+read_as_none prefix t pair rest are begins none = by (stored_record prefix t pair) refl
   where
-    by : (o : Option Record) → record_of prefix t pair ≡ o → None ≡ o
+    by : (o : Option Record) → stored_record prefix t pair ≡ o → None ≡ o
     by None is = refl
     by (Some r) is = absurd (none r (stored_so prefix t pair rest r are begins is))
 
 -- NONE: so are those whose key stands elsewhere
-pub read_elsewhere : (prefix : List ℕ) (t : TypeDefinition) (pair : Pair) → (BeginsWith (place prefix 1) pair.0 → ⊥) → None ≡ record_of prefix t pair
-read_elsewhere prefix t pair never = by (record_of prefix t pair) refl
+pub read_elsewhere : (prefix : List ℕ) (t : TypeDefinition) (pair : Pair) → (BeginsWith (place prefix 1) pair.0 → ⊥) → None ≡ stored_record prefix t pair
+read_elsewhere prefix t pair never = by (stored_record prefix t pair) refl
   where
-    by : (o : Option Record) → record_of prefix t pair ≡ o → None ≡ o
+    by : (o : Option Record) → stored_record prefix t pair ≡ o → None ≡ o
     by None is = refl
     by (Some r) is = let s = split prefix t pair r is in absurd (never (spelling (primary_key r), s.key ∙ sym (record_key_is prefix (primary_key r))))
 
 -- what the record codec says of a pair, as the planner's word
 pub decoded : (prefix : List ℕ) (t : TypeDefinition) (pair : Pair) (rest : List ℕ) (found : Option Record) → AreBytes pair.1 → pair.0 ≡ place prefix 1 ++ rest →
-    IfSome found (IsStoredAs t rest pair.1) → IfNone found (IsOfNoRecord t rest pair.1) → found ≡ record_of prefix t pair
+    IfSome found (IsStoredAs t rest pair.1) → IfNone found (IsOfNoRecord t rest pair.1) → found ≡ stored_record prefix t pair
 decoded prefix t pair rest None are begins some none = read_as_none prefix t pair rest are begins none
 decoded prefix t pair rest (Some r) are begins some none = sym (read_as prefix t pair rest r begins some)

@@ -10,7 +10,7 @@ use Rattle.std.specs.Ordering.{eq_by_cmp, is_eq, match_ordering}
 use Rattle.metadata.specs.declared.cells.Cell.{Cell}
 use Rattle.metadata.specs.Order.{cells_cmp}
 use Rattle.query.proofs.CellLaws.{cells_cmp-IsAntisymmetric}
-use Rattle.planner.specs.Meaning.{common, in_key_order, placed}
+use Rattle.planner.specs.Meaning.{in_key_order, keys_in_all, placed_by_key}
 use Rattle.planner.proofs.Ranges.{Each}
 use Rattle.planner.proofs.Residual.{here, each_where, member_where}
 use Rattle.planner.proofs.Lists.{pairwise_where}
@@ -93,7 +93,7 @@ right_empty keys xs (y ∷ ys) whole n e z w = absurd (omega (arith, e, eqb-true
 
 -- ---- keys that pass a test, in key order
 
-where_placed : (p : Key → Bool) (k : Key) (q : List Key) → IsRising itself q → filter p (placed itself k q) ≡ cond (p k) (placed itself k (filter p q)) (filter p q)
+where_placed : (p : Key → Bool) (k : Key) (q : List Key) → IsRising itself q → filter p (placed_by_key itself k q) ≡ cond (p k) (placed_by_key itself k (filter p q)) (filter p q)
 where_placed p k [] r = refl
 where_placed p k (y ∷ q) r = by (cells_cmp k y) refl (where_placed p k q r.1)
   where
@@ -103,30 +103,30 @@ where_placed p k (y ∷ q) r = by (cells_cmp k y) refl (where_placed p k q r.1)
     below_found : (o : IsBelow itself k y) → Each (IsBelow itself k) found
     below_found e = each_where (IsBelow itself k) p (y ∷ q) (e, below_all itself k y q e r.0)
 
-    stays : (t : Bool) → k ≡ y → p k ≡ t → found ≡ cond t (placed itself k found) found
+    stays : (t : Bool) → k ≡ y → p k ≡ t → found ≡ cond t (placed_by_key itself k found) found
     stays false same h = refl
     stays true same h =
         sym (placed_again itself k y found (pairwise_where (IsBelow itself) p (y ∷ q) r) (member_where p y (y ∷ q) here (ap p (sym same) ∙ h)) same)
 
-    later : (t u : Bool) (w : List Key) → IsBelow itself y k → w ≡ cond u (placed itself k (filter p q)) (filter p q) →
-        cond t (y ∷ w) w ≡ cond u (placed itself k (cond t (y ∷ filter p q) (filter p q))) (cond t (y ∷ filter p q) (filter p q))
+    later : (t u : Bool) (w : List Key) → IsBelow itself y k → w ≡ cond u (placed_by_key itself k (filter p q)) (filter p q) →
+        cond t (y ∷ w) w ≡ cond u (placed_by_key itself k (cond t (y ∷ filter p q) (filter p q))) (cond t (y ∷ filter p q) (filter p q))
     later true true w low e = ap (λ z. y ∷ z) e ∙ sym (below_stays itself k y (filter p q) low)
     later true false w low e = ap (λ z. y ∷ z) e
     later false u w low e = e
 
-    by : (o : Ordering) → cells_cmp k y ≡ o → filter p (placed itself k q) ≡ cond (p k) (placed itself k (filter p q)) (filter p q) →
-        filter p (match_ordering o (k ∷ y ∷ q) (y ∷ q) (y ∷ placed itself k q)) ≡ cond (p k) (placed itself k found) found
+    by : (o : Ordering) → cells_cmp k y ≡ o → filter p (placed_by_key itself k q) ≡ cond (p k) (placed_by_key itself k (filter p q)) (filter p q) →
+        filter p (match_ordering o (k ∷ y ∷ q) (y ∷ q) (y ∷ placed_by_key itself k q)) ≡ cond (p k) (placed_by_key itself k found) found
     by Less e more = ap (λ w. cond (p k) w found) (sym (first_placed itself k found (below_found e)))
     by Equal e more = stays (p k) (cells_cmp-IsAntisymmetric k y e) refl
-    by Greater e more = later (p y) (p k) (filter p (placed itself k q)) (turned_back k y e) more
+    by Greater e more = later (p y) (p k) (filter p (placed_by_key itself k q)) (turned_back k y e) more
 
 pub where_ordered : (p : Key → Bool) (keys : List Key) → in_key_order itself (filter p keys) ≡ filter p (in_key_order itself keys)
 where_ordered p [] = refl
 where_ordered p (k ∷ keys) = by (p k) (where_ordered p keys) ∙ sym (where_placed p k (in_key_order itself keys) (in_key_order_rising itself keys))
   where
     by : (t : Bool) → in_key_order itself (filter p keys) ≡ filter p (in_key_order itself keys) →
-        in_key_order itself (cond t (k ∷ filter p keys) (filter p keys)) ≡ cond t (placed itself k (filter p (in_key_order itself keys))) (filter p (in_key_order itself keys))
-    by true e = ap (placed itself k) e
+        in_key_order itself (cond t (k ∷ filter p keys) (filter p keys)) ≡ cond t (placed_by_key itself k (filter p (in_key_order itself keys))) (filter p (in_key_order itself keys))
+    by true e = ap (placed_by_key itself k) e
     by false e = e
 
 -- ---- a list in key order has the same keys
@@ -140,11 +140,11 @@ or_swapped true true c = refl
 or_swapped true false c = refl
 or_swapped false b c = refl
 
-has_placed : (k x : Key) (q : List Key) → has (placed itself x q) k ≡ has (x ∷ q) k
+has_placed : (k x : Key) (q : List Key) → has (placed_by_key itself x q) k ≡ has (x ∷ q) k
 has_placed k x [] = refl
 has_placed k x (y ∷ q) = by (cells_cmp x y) refl (has_placed k x q)
   where
-    by : (o : Ordering) → cells_cmp x y ≡ o → has (placed itself x q) k ≡ has (x ∷ q) k → has (match_ordering o (x ∷ y ∷ q) (y ∷ q) (y ∷ placed itself x q)) k ≡ has (x ∷ y ∷ q) k
+    by : (o : Ordering) → cells_cmp x y ≡ o → has (placed_by_key itself x q) k ≡ has (x ∷ q) k → has (match_ordering o (x ∷ y ∷ q) (y ∷ q) (y ∷ placed_by_key itself x q)) k ≡ has (x ∷ y ∷ q) k
     by Less e more = refl
     by Equal e more =
         or_again (eq_by_cmp cells_cmp k y) (has q k) ∙ ap (λ z. eq_by_cmp cells_cmp k z || has (y ∷ q) k) (sym (cells_cmp-IsAntisymmetric x y e))
@@ -177,9 +177,9 @@ one_list list lists (k ∷ keys) = by (has (in_key_order itself list) k) (all_ha
 module _ {R : Type 0} (items : R → List Key) where
   -- the keys so far that the other lists have are those of all
   pub first_list : (first : R) (lists rest : List R) (keys : List Key) → lists ≡ first ∷ rest → keys ≡ in_key_order itself (items first) →
-      filter (all_have (map items rest)) keys ≡ in_key_order itself (common (map items lists))
+      filter (all_have (map items rest)) keys ≡ in_key_order itself (keys_in_all (map items lists))
   first_list first lists rest keys e k =
-      ap (filter (all_have (map items rest))) k ∙ sym (where_ordered (all_have (map items rest)) (items first)) ∙ ap (λ l. in_key_order itself (common (map items l))) (sym e)
+      ap (filter (all_have (map items rest))) k ∙ sym (where_ordered (all_have (map items rest)) (items first)) ∙ ap (λ l. in_key_order itself (keys_in_all (map items l))) (sym e)
 
   pub next_list : (list : R) (rest rest' : List R) (keys keys' ordered whole : List Key) → rest ≡ list ∷ rest' → ordered ≡ in_key_order itself (items list) → keys' ≡ shared keys ordered →
       filter (all_have (map items rest)) keys ≡ whole → filter (all_have (map items rest')) keys' ≡ whole

@@ -17,7 +17,7 @@ use Rattle.metadata.specs.Layout.{Pair}
 use Rattle.planner.specs.Plan.{Node}
 use Rattle.planner.specs.Planned.{nodes_of}
 use Rattle.plan_exec.specs.Executing.{HasFound, HasStopped}
-use Rattle.plan_exec.specs.Reads.{Reading, behind, in_turn, made_of, node_reading, nodes_reading}
+use Rattle.plan_exec.specs.Reads.{PlanReading, in_turn, made_of, node_reading, nodes_reading, read_behind}
 use Rattle.plan_exec.specs.declared.error.ExecError.{ExecError}
 
 -- the lists one behind another
@@ -30,8 +30,8 @@ rows_then : (rows : List Record) (r : Result (List (List Record)) (List ℕ)) �
 rows_then rows (Ok more) = refl
 rows_then rows (Err key) = refl
 
-first_joined : (all : Reading (List Record)) (turns : Reading (List (List Record))) → all ≡ made_of joined turns → (ranges : List KeyRange) (res : Result (List Record) (List ℕ)) →
-    behind ranges (λ rows. made_of (λ more. rows ++ more) all) res ≡ made_of joined (behind ranges (λ rows. made_of (λ more. rows ∷ more) turns) res)
+first_joined : (all : PlanReading (List Record)) (turns : PlanReading (List (List Record))) → all ≡ made_of joined turns → (ranges : List KeyRange) (res : Result (List Record) (List ℕ)) →
+    read_behind ranges (λ rows. made_of (λ more. rows ++ more) all) res ≡ made_of joined (read_behind ranges (λ rows. made_of (λ more. rows ∷ more) turns) res)
 first_joined all turns same ranges (Ok rows) =
     (λ i. record { ranges = ranges ++ (same i).ranges; found = result_map_both (λ more. rows ++ more) (λ key. key) (same i).found })
     ∙ (λ i. record { ranges = ranges ++ turns.ranges; found = rows_then rows turns.found i })
@@ -50,7 +50,7 @@ joined_more [] rows = append-nil rows
 joined_more (first ∷ lists) rows = ap (λ more. first ++ more) (joined_more lists rows) ∙ sym (append_assoc first (joined lists) rows)
 
 module _ (prefix : List ℕ) (t : TypeDefinition) where
-  abbrev pub part_reading : step.Node → List Pair → Reading (List Record)
+  abbrev pub part_reading : step.Node → List Pair → PlanReading (List Record)
   part_reading part pairs = node_reading prefix pairs t (node_of part)
 
   parts_map : (parts : List step.Node) (pairs : List Pair) → map (node_reading prefix pairs t) (map node_of parts) ≡ map (λ part. part_reading part pairs) parts

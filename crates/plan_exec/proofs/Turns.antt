@@ -10,9 +10,9 @@ use Rattle.kv_core.specs.declared.change.CommitRequest.{CommitRequest}
 use Rattle.cluster_core.specs.declared.answers.ReadError.{ReadError}
 use Rattle.txn.proofs.Running.{ran_still}
 use Rattle.metadata.specs.Layout.{Pair}
-use Rattle.plan_exec.specs.Errors.{no_memory}
+use Rattle.plan_exec.specs.Errors.{exec_memory}
 use Rattle.plan_exec.specs.Executing.{HasFound, HasStopped}
-use Rattle.plan_exec.specs.Reads.{Reading, and_then, behind, found_at_once, in_turn, made_of}
+use Rattle.plan_exec.specs.Reads.{PlanReading, and_then, found_at_once, in_turn, made_of, read_behind}
 use Rattle.plan_exec.specs.declared.error.ExecError.{ExecError}
 use Rattle.plan_exec.proofs.Composing.{found_as, found_made, found_then, stopped_as, stopped_behind, stopped_first, stopped_made, stopped_second}
 
@@ -20,10 +20,10 @@ use Rattle.plan_exec.proofs.Composing.{found_as, found_made, found_then, stopped
 
 module _ {A : Type 0} where
   -- one reading alone
-  one_turn : (r : Reading A) → made_of (λ a. a ∷ []) r ≡ in_turn (r ∷ [])
+  one_turn : (r : PlanReading A) → made_of (λ a. a ∷ []) r ≡ in_turn (r ∷ [])
   one_turn r = by r.ranges r.found
     where
-      by : (ranges : List KeyRange) (res : Result A (List ℕ)) → record { ranges = ranges; found = result_map_both (λ a. a ∷ []) (λ key. key) res } ≡ behind ranges (λ a. made_of (λ more. a ∷ more) (found_at_once [])) res
+      by : (ranges : List KeyRange) (res : Result A (List ℕ)) → record { ranges = ranges; found = result_map_both (λ a. a ∷ []) (λ key. key) res } ≡ read_behind ranges (λ a. made_of (λ more. a ∷ more) (found_at_once [])) res
       by ranges (Ok a) = λ i. record { ranges = sym (append-nil ranges) i; found = Ok (a ∷ []) }
       by ranges (Err key) = refl
 
@@ -37,33 +37,33 @@ module _ {A : Type 0} where
   twice_made a front (Err key) = refl
 
   -- the first one, and others in two parts
-  append_more : (ranges : List KeyRange) (a : A) (second : Reading (List A)) (firsts : List KeyRange) (res : Result (List A) (List ℕ)) →
+  append_more : (ranges : List KeyRange) (a : A) (second : PlanReading (List A)) (firsts : List KeyRange) (res : Result (List A) (List ℕ)) →
       record {
-        ranges = ranges ++ (behind firsts (λ front. made_of (λ more. front ++ more) second) res).ranges;
-        found = result_map_both (λ more. a ∷ more) (λ key. key) (behind firsts (λ front. made_of (λ more. front ++ more) second) res).found;
-      } ≡ behind (ranges ++ firsts) (λ front. made_of (λ more. front ++ more) second) (result_map_both (λ more. a ∷ more) (λ key. key) res)
+        ranges = ranges ++ (read_behind firsts (λ front. made_of (λ more. front ++ more) second) res).ranges;
+        found = result_map_both (λ more. a ∷ more) (λ key. key) (read_behind firsts (λ front. made_of (λ more. front ++ more) second) res).found;
+      } ≡ read_behind (ranges ++ firsts) (λ front. made_of (λ more. front ++ more) second) (result_map_both (λ more. a ∷ more) (λ key. key) res)
   append_more ranges a second firsts (Ok front) = λ i. record { ranges = sym (append_assoc ranges firsts second.ranges) i; found = twice_made a front second.found i }
   append_more ranges a second firsts (Err key) = refl
 
-  first_append : (q : Reading A) (all second firsts : Reading (List A)) → all ≡ and_then (λ front. made_of (λ more. front ++ more) second) firsts → (ranges : List KeyRange) (res : Result A (List ℕ)) →
-      behind ranges (λ a. made_of (λ more. a ∷ more) all) res ≡ and_then (λ front. made_of (λ more. front ++ more) second) (behind ranges (λ a. made_of (λ more. a ∷ more) firsts) res)
+  first_append : (q : PlanReading A) (all second firsts : PlanReading (List A)) → all ≡ and_then (λ front. made_of (λ more. front ++ more) second) firsts → (ranges : List KeyRange) (res : Result A (List ℕ)) →
+      read_behind ranges (λ a. made_of (λ more. a ∷ more) all) res ≡ and_then (λ front. made_of (λ more. front ++ more) second) (read_behind ranges (λ a. made_of (λ more. a ∷ more) firsts) res)
   first_append q all second firsts same ranges (Ok a) =
       (λ i. record { ranges = ranges ++ (same i).ranges; found = result_map_both (λ more. a ∷ more) (λ key. key) (same i).found })
       ∙ append_more ranges a second firsts.ranges firsts.found
   first_append q all second firsts same ranges (Err key) = refl
 
-  pub turn_append : (xs ys : List (Reading A)) → in_turn (xs ++ ys) ≡ and_then (λ front. made_of (λ more. front ++ more) (in_turn ys)) (in_turn xs)
+  pub turn_append : (xs ys : List (PlanReading A)) → in_turn (xs ++ ys) ≡ and_then (λ front. made_of (λ more. front ++ more) (in_turn ys)) (in_turn xs)
   turn_append [] ys = λ i. record { ranges = (in_turn ys).ranges; found = same_made (in_turn ys).found i }
   turn_append (q ∷ xs) ys = first_append q (in_turn (xs ++ ys)) (in_turn ys) (in_turn xs) (turn_append xs ys) q.ranges q.found
 
 -- ---- loops
 
-module _ {X A : Type 0} (f : X → List Pair → Reading A) (xs : List X) where
+module _ {X A : Type 0} (f : X → List Pair → PlanReading A) (xs : List X) where
   -- the readings of the first ones, and of all
-  abbrev pub firsts : ℕ → List Pair → Reading (List A)
+  abbrev pub firsts : ℕ → List Pair → PlanReading (List A)
   firsts i pairs = in_turn (map (λ x. f x pairs) (take i xs))
 
-  abbrev pub all_turns : List Pair → Reading (List A)
+  abbrev pub all_turns : List Pair → PlanReading (List A)
   all_turns pairs = in_turn (map (λ x. f x pairs) xs)
 
   next_first : (i : ℕ) (x : X) → i < length xs → x ≡ get_or xs i x → (pairs : List Pair) →
@@ -114,5 +114,5 @@ module _ {X A : Type 0} (f : X → List Pair → Reading A) (xs : List X) where
         (stopped_as (λ pairs. made_of (λ b. b ∷ []) (f x pairs)) (λ pairs. in_turn (f x pairs ∷ [])) (λ pairs. one_turn (f x pairs)) (stopped_made (f x) (λ b. b ∷ []) stop)))))
 
     -- MEMORY: behind one more
-    pub stopped_pushing : {old mid new : CommitRequest} (i : ℕ) (x : X) (front : List A) (a : A) → i < length xs → x ≡ get_or xs i x → HasFound maps (firsts i) front old mid → HasFound maps (f x) a mid new → HasStopped maps refuses all_turns no_memory old new
+    pub stopped_pushing : {old mid new : CommitRequest} (i : ℕ) (x : X) (front : List A) (a : A) → i < length xs → x ≡ get_or xs i x → HasFound maps (firsts i) front old mid → HasFound maps (f x) a mid new → HasStopped maps refuses all_turns exec_memory old new
     stopped_pushing i x front a within is one two = stopped_among (i + 1) (stopped_behind (firsts (i + 1)) (front ++ a ∷ []) (found_next i x front a within is one two))

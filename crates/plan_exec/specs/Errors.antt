@@ -5,10 +5,10 @@ use Rattle.plan_exec.specs.declared.error.ExecError.{ExecError}
 use Rattle.plan_exec.specs.declared.error.ExecError.TheVariants.{Memory, Read}
 
 -- the error that want of memory is
-abbrev pub no_memory : ExecError
-no_memory = Memory
+abbrev pub exec_memory : ExecError
+exec_memory = Memory
 
 -- the error that a refused read is
-abbrev pub of_read : ReadError → ExecError
-of_read read.Memory = Memory
-of_read error = Read error
+abbrev pub exec_read : ReadError → ExecError
+exec_read read.Memory = Memory
+exec_read error = Read error

@@ -19,7 +19,7 @@ use Rattle.planner.specs.Meaning.{rows_of}
 use Rattle.planner.specs.Plan.{Node}
 use Rattle.planner.specs.View.{plan_of}
 use Rattle.plan_exec.specs.Accepting.{Accepts, IsNotAccepted}
-use Rattle.plan_exec.specs.Reads.{Reading, node_reading}
+use Rattle.plan_exec.specs.Reads.{PlanReading, node_reading}
 use Rattle.plan_exec.specs.declared.error.ExecError.{ExecError}
 use Rattle.plan_exec.specs.declared.error.ExecError.TheVariants.{OtherSchema, IndexNotReadable, Read, Corrupt, Memory}
 
@@ -49,12 +49,13 @@ pub record IsExecuted (maps : ℕ → Map) (opened : Opened) (plan : AskedPlan) 
 
 -- why reads stopped behind the ones that were added: memory is wanting, or the next read is refused so; or none is, and
 -- the first damaged pair has this key
-abbrev pub IsStopped :
+abbrev pub IsExecutionStopped :
     (KeyRange → ReadError → Type 0) → List KeyRange → Option (List ℕ) → ExecError → List KeyRange → Type 0
-IsStopped refuses reads damage Memory added = IsBeginning added reads
-IsStopped refuses reads damage (Read error) added = IsBeginning added reads × IsNextRefused refuses reads added error
-IsStopped refuses reads damage (Corrupt key) added = (added ≡ reads) × (damage ≡ Some key)
-IsStopped refuses reads damage error added = ⊥
+IsExecutionStopped refuses reads damage Memory added = IsBeginning added reads
+IsExecutionStopped refuses reads damage (Read error) added =
+    IsBeginning added reads × IsNextRefused refuses reads added error
+IsExecutionStopped refuses reads damage (Corrupt key) added = (added ≡ reads) × (damage ≡ Some key)
+IsExecutionStopped refuses reads damage error added = ⊥
 
 -- where a damaged pair is told, the plan has no meaning, and the map holds no store that was opened so
 abbrev pub HasNoMeaning : Opened → AskedPlan → TypeDefinition → ExecError → Map → Type 0
@@ -66,7 +67,7 @@ HasNoMeaning opened plan type error m = Unit {0}
 pub record HasNoRows (refuses : KeyRange → ReadError → Type 0) (opened : Opened) (plan : AskedPlan)
     (type : TypeDefinition) (error : ExecError) (added : List KeyRange) (m : Map) : Type 0 where
   pub stopped :
-      IsStopped refuses (reads_of opened.prefix (entries m) type (plan_of plan).root)
+      IsExecutionStopped refuses (reads_of opened.prefix (entries m) type (plan_of plan).root)
       (damage_of opened.prefix (entries m) type (plan_of plan).root) error added
   pub damage : HasNoMeaning opened plan type error m
 
@@ -80,16 +81,17 @@ pub record IsUnexecuted (maps : ℕ → Map) (refuses : KeyRange → ℕ → Rea
       DidRead maps added old new (HasNoRows (λ range. refuses range old.read_version) opened plan type error added)
 
 -- why a plan wasn't executed: the store doesn't accept it, and nothing was read; or it accepts it
-abbrev pub IsRefused :
+abbrev pub IsExecutionRefused :
     (ℕ → Map) → (KeyRange → ℕ → ReadError → Type 0) → Opened → AskedPlan → ExecError → CommitRequest →
     CommitRequest → Type 0
-IsRefused maps refuses opened plan OtherSchema old new = IsNotAccepted opened (plan_of plan) OtherSchema × (new ≡ old)
-IsRefused maps refuses opened plan IndexNotReadable old new =
+IsExecutionRefused maps refuses opened plan OtherSchema old new =
+    IsNotAccepted opened (plan_of plan) OtherSchema × (new ≡ old)
+IsExecutionRefused maps refuses opened plan IndexNotReadable old new =
     IsNotAccepted opened (plan_of plan) IndexNotReadable × (new ≡ old)
-IsRefused maps refuses opened plan error old new = IsUnexecuted maps refuses opened plan error old new
+IsExecutionRefused maps refuses opened plan error old new = IsUnexecuted maps refuses opened plan error old new
 
 -- beneath whole plans: a reading was done, and found this
-pub record HasFound {A : Type 0} (maps : ℕ → Map) (reading : List Pair → Reading A) (found : A)
+pub record HasFound {A : Type 0} (maps : ℕ → Map) (reading : List Pair → PlanReading A) (found : A)
     (old new : CommitRequest) : Type 0 where
   pub added : List KeyRange
   pub ran :
@@ -98,9 +100,9 @@ pub record HasFound {A : Type 0} (maps : ℕ → Map) (reading : List Pair → R
 
 -- so it wasn't done
 pub record HasStopped {A : Type 0} (maps : ℕ → Map) (refuses : KeyRange → ℕ → ReadError → Type 0)
-    (reading : List Pair → Reading A) (error : ExecError) (old new : CommitRequest) : Type 0 where
+    (reading : List Pair → PlanReading A) (error : ExecError) (old new : CommitRequest) : Type 0 where
   pub added : List KeyRange
   pub ran :
       DidRead maps added old new
-      (λ m. IsStopped (λ range. refuses range old.read_version) (reading (entries m)).ranges
+      (λ m. IsExecutionStopped (λ range. refuses range old.read_version) (reading (entries m)).ranges
       (result_err (reading (entries m)).found) error added)

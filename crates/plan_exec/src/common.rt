@@ -1,6 +1,6 @@
 //! The keys that several lists have. Called by `fetching`.
 ghost use Rattle.std.specs.Prelude.{◌≡◌, ◌+◌, ◌<◌, ◌++◌, IfOk, length, map, option_to_list};
-ghost use Rattle.planner.specs.Meaning.{common, in_key_order};
+ghost use Rattle.planner.specs.Meaning.{in_key_order, keys_in_all};
 ghost use Rattle.plan_exec.specs.Merging.{IsInKeyOrder, shared};
 
 use crate::merging::{compare_first_keys, in_key_order};
@@ -58,7 +58,7 @@ fn shared(alloc: Global, left: Vec<Cells>, right: Vec<Cells>) -> Result<Vec<Cell
 /// The keys that all lists have, in key order, each once.
 pub(crate) fn common(alloc: Global, lists: Vec<Vec<Cells>>) -> Result<Vec<Cells>, AllocError>
     ensures { IfOk result (λ keys. keys.items
-        ≡ in_key_order (λ key. key) (common (map (λ list. list.items) lists.items))) }
+        ≡ in_key_order (λ key. key) (keys_in_all (map (λ list. list.items) lists.items))) }
 {
     let mut lists = lists.into_iter();
     let Some(first) = lists.next() else {

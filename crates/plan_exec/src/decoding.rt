@@ -3,7 +3,7 @@ ghost use Rattle.std.specs.Prelude.{◌≡◌, ◌++◌, IfOk, IfErr, MatchOptio
 ghost use Rattle.tuple_codec.specs.Item.{AreBytes};
 ghost use Rattle.tuple_codec.specs.Subspace.{BeginsWith};
 ghost use Rattle.record_store.specs.Layout.{place};
-ghost use Rattle.planner.specs.Layout.{record_of};
+ghost use Rattle.planner.specs.Layout.{stored_record};
 ghost use Rattle.planner.specs.Pack.{unpack};
 ghost use Rattle.plan_exec.specs.Decoding.{IsDamage};
 ghost use Rattle.plan_exec.specs.Reads.{each_found};
@@ -46,7 +46,7 @@ pub(crate) fn record_in(
     pair: &Pair,
 ) -> Result<Option<Record>, AllocError>
     requires { front.now ≡ place store.now.prefix 1 }
-    ensures { IfOk result (λ found. found ≡ record_of store.now.prefix definition.now.value pair.now) }
+    ensures { IfOk result (λ found. found ≡ stored_record store.now.prefix definition.now.value pair.now) }
 {
     let key = pair.0.as_slice();
     let value = pair.1.as_slice();
@@ -66,8 +66,8 @@ pub(crate) fn records_in(
 ) -> Result<Vec<Record>, ExecError>
     requires { front.now ≡ place store.now.prefix 1 }
     ensures found { IfOk result (λ records.
-        each_found (record_of store.now.prefix definition.now) pairs.now ≡ Ok records.items) }
-    ensures damaged { IfErr result (IsDamage (each_found (record_of store.now.prefix definition.now) pairs.now)) }
+        each_found (stored_record store.now.prefix definition.now) pairs.now ≡ Ok records.items) }
+    ensures damaged { IfErr result (IsDamage (each_found (stored_record store.now.prefix definition.now) pairs.now)) }
 {
     let shared = shared(store.alloc(), definition)?;
     let mut records = Vec::with_capacity(store.alloc(), pairs.len())?;

@@ -8,7 +8,7 @@ ghost use Rattle.metadata.specs.Schema.{key_kinds, kind_at};
 ghost use Rattle.planner.specs.Layout.{column_kinds, entry_primary_key, is_entry, is_primary_key};
 ghost use Rattle.planner.specs.Pack.{pack};
 ghost use Rattle.plan_exec.specs.Decoding.{IsDamage, IsFormOf};
-ghost use Rattle.plan_exec.specs.Reads.{each_found, entry_of};
+ghost use Rattle.plan_exec.specs.Reads.{each_found, stored_entry};
 
 use crate::decoding::cells_in;
 use crate::entry::{Entry, EntryForm};
@@ -220,7 +220,7 @@ fn entry_in(
     pair: &Pair,
 ) -> Result<Option<Entry>, AllocError>
     requires { IsFormOf store.now.prefix definition.now index.now form.now }
-    ensures { IfOk result (λ entry. entry ≡ entry_of store.now.prefix definition.now index.now pair.now) }
+    ensures { IfOk result (λ entry. entry ≡ stored_entry store.now.prefix definition.now index.now pair.now) }
 {
     match primary_key_in(store, definition, index, form, pair)? {
         Some(primary_key) => {
@@ -241,9 +241,9 @@ pub(crate) fn entries_in(
 ) -> Result<Vec<Entry>, ExecError>
     requires { IsFormOf store.now.prefix definition.now index.now form.now }
     ensures found { IfOk result (λ entries.
-        each_found (entry_of store.now.prefix definition.now index.now) pairs.now ≡ Ok entries.items) }
+        each_found (stored_entry store.now.prefix definition.now index.now) pairs.now ≡ Ok entries.items) }
     ensures damaged { IfErr result (IsDamage
-        (each_found (entry_of store.now.prefix definition.now index.now) pairs.now)) }
+        (each_found (stored_entry store.now.prefix definition.now index.now) pairs.now)) }
 {
     let mut entries = Vec::new(store.alloc());
     for pair in pairs {

@@ -1,6 +1,6 @@
 // The errors of an execution. Used by most modules here, and by `schedule` and `embed`.
 ghost use Rattle.std.specs.Prelude.{◌≡◌};
-ghost use Rattle.plan_exec.specs.Errors.{no_memory, of_read};
+ghost use Rattle.plan_exec.specs.Errors.{exec_memory, exec_read};
 
 use cluster_core::ReadError;
 use kv_core::Bytes;
@@ -28,7 +28,7 @@ pub enum ExecError {
 }
 
 impl From<AllocError> for ExecError {
-    ghost from_gives = { λ _ made. made ≡ no_memory };
+    ghost from_gives = { λ _ made. made ≡ exec_memory };
 
     fn from(_error: AllocError) -> ExecError {
         ExecError::Memory
@@ -36,7 +36,7 @@ impl From<AllocError> for ExecError {
 }
 
 impl<T: Drop> From<AllocFailed<T>> for ExecError {
-    ghost from_gives = { λ _ made. made ≡ no_memory };
+    ghost from_gives = { λ _ made. made ≡ exec_memory };
 
     fn from(_error: AllocFailed<T>) -> ExecError {
         ExecError::Memory
@@ -44,7 +44,7 @@ impl<T: Drop> From<AllocFailed<T>> for ExecError {
 }
 
 impl From<ReadError> for ExecError {
-    ghost from_gives = { λ error made. made ≡ of_read error };
+    ghost from_gives = { λ error made. made ≡ exec_read error };
 
     fn from(error: ReadError) -> ExecError {
         match error {

@@ -1,6 +1,6 @@
 //! The call that executes a plan. Called by `schedule` and `embed`.
 ghost use Rattle.std.specs.Prelude.{IfOk, IfErr};
-ghost use Rattle.plan_exec.specs.Executing.{IsExecuted, IsRefused};
+ghost use Rattle.plan_exec.specs.Executing.{IsExecuted, IsExecutionRefused};
 
 use crate::accepting::accepted_type;
 use crate::error::ExecError;
@@ -35,7 +35,8 @@ pub fn execute<S: Snapshot>(
     ensures executed { IfOk result (λ rows.
         IsExecuted (S.map_at db.now) store.now plan.now rows tx.old tx.new) }
     ensures refused { IfErr result (λ error.
-        IsRefused (S.map_at db.now) (S.may_refuse db.now) store.now plan.now error tx.old tx.new) }
+        IsExecutionRefused (S.map_at db.now) (S.may_refuse db.now) store.now plan.now error tx.old
+        tx.new) }
 {
     plan.query();
     let definition = accepted_type(store, plan)?;

@@ -1,7 +1,7 @@
 // How the records of a fetch are read: the entries of its scans, and then the records. Called by
 // `executing`.
 ghost use Rattle.std.specs.Prelude.{◌≡◌, IfOk, IfErr, map};
-ghost use Rattle.planner.specs.Meaning.{common, in_key_order};
+ghost use Rattle.planner.specs.Meaning.{in_key_order, keys_in_all};
 ghost use Rattle.planner.specs.View.{index_scan_of, source_of};
 ghost use Rattle.plan_exec.specs.Executing.{HasFound, HasStopped};
 ghost use Rattle.plan_exec.specs.Reads.{entries_reading, fetch_reading, first_entries, in_turn, keys_of};
@@ -31,7 +31,8 @@ fn keys_of(alloc: Global, entries: &[Entry]) -> Result<Vec<Cells>, AllocError>
 // The primary keys that all lists of entries have, in key order.
 fn common_keys(alloc: Global, lists: &[Vec<Entry>]) -> Result<Vec<Cells>, AllocError>
     ensures { IfOk result (λ keys. keys.items
-        ≡ in_key_order (λ key. key) (common (map keys_of (map (λ list. list.items) lists.now)))) }
+        ≡ in_key_order (λ key. key) (keys_in_all (map keys_of
+        (map (λ list. list.items) lists.now)))) }
 {
     let mut keys = Vec::with_capacity(alloc, lists.len())?;
     for list in lists {

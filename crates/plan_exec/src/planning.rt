@@ -2,7 +2,7 @@
 ghost use Rattle.std.specs.Prelude.{◌≡◌, All, Some, None, IfOk, IfErr, IsTrue, IsFalse};
 ghost use Rattle.metadata.specs.Schema.{find_type};
 ghost use Rattle.record_store.specs.Calls.{index_states};
-ghost use Rattle.query.specs.Checked.{refusal};
+ghost use Rattle.query.specs.Checked.{query_refusal};
 ghost use Rattle.query.specs.View.{query_of};
 ghost use Rattle.planner.specs.Choice.{IsChosen};
 ghost use Rattle.planner.specs.Planned.{planned};
@@ -25,7 +25,7 @@ use std::alloc::Global;
 /// the query's type serves the sort, and else with `Memory` where memory runs out. Without a sort
 /// there is always a plan.
 pub fn plan_for_store(alloc: Global, store: &Store, query: &Query) -> Result<Plan, PlanError>
-    requires { refusal store.now.schema (query_of query.now) ≡ None }
+    requires { query_refusal store.now.schema (query_of query.now) ≡ None }
     ensures typed { IfOk result (λ p. find_type store.now.schema query.now.record_type
         ≡ Some (plan_of p).definition) }
     ensures is { IfOk result (λ p. planned (plan_of p).definition

@@ -8,7 +8,7 @@ ghost use Rattle.record_store.specs.Layout.{place};
 ghost use Rattle.record_store.specs.Steps.{DidRead};
 ghost use Rattle.metadata.specs.Cell.{items_of};
 ghost use Rattle.metadata.specs.Layout.{record_key as key_of_record};
-ghost use Rattle.planner.specs.Meaning.{pairs_in};
+ghost use Rattle.planner.specs.Meaning.{pairs_scanned};
 ghost use Rattle.planner.specs.Range.{behind};
 ghost use Rattle.planner.specs.View.{index_scan_of, range_of, scan_of};
 ghost use Rattle.plan_exec.specs.Decoding.{IsDamage, IsRefusedRead};
@@ -52,7 +52,8 @@ fn pairs_of<S: Snapshot>(
     requires { (rest : List ℕ) → IsTrue (key_lt (key.now ++ rest) end_of_keys) }
     ensures read { IfOk result (λ pairs.
         DidRead (S.map_at db.now) (scan_range key.now (range_of range.now) ∷ []) tx.old tx.new
-        (λ m. pairs.items ≡ pairs_in (behind key.now (range_of range.now)) reversed (entries m))) }
+        (λ m. pairs.items ≡ pairs_scanned (behind key.now (range_of range.now)) reversed
+        (entries m))) }
     ensures kept { OnErr result (tx.new ≡ tx.old) }
     ensures refused { IfErr result (IsRefusedRead (S.may_refuse db.now)
         (scan_range key.now (range_of range.now)) tx.old.read_version) }

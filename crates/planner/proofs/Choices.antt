@@ -17,8 +17,9 @@ use Rattle.tuple_codec.specs.Order.{bytes_cmp}
 use Rattle.planner.specs.Pack.{pack, pack_cell}
 use Rattle.query.specs.Filter.{Filter, compare, null_field, starts, all_of, some_of, negation, Filters, no_filters, filter as part, parts, conjuncts, conjuncts_of, nodes}
 use Rattle.query.specs.Query.{Query}
-use Rattle.planner.specs.Range.{Bound, above, from, below, up_to, prefixed, begin_of, later, bounded}
-use Rattle.planner.specs.Match.{Path, primary, along, path_number, Conjunct, numbered, Match, match_of, name_at, columns, used, reach, is_longer, serves, paths, others}
+use Rattle.planner.specs.Range.{Bound, above, from, below, up_to, prefixed, begin_of, later_key, bounded}
+use Rattle.planner.specs.Match.{Path, primary, along, path_number, Conjunct, numbered_filters, Match, match_of, name_at}
+use Rattle.planner.specs.Match.{columns, used, match_reach, is_longer, serves, paths, others}
 use Rattle.planner.specs.Plan.{Node, fetch, intersection, union, unordered_union, distinct}
 use Rattle.planner.specs.Scanned.{PathScan, along_index, scans_of, scans_of_all, is_primary, is_full, scans_all}
 use Rattle.planner.specs.Planned.{matched_range, index_scan, path_scan, residual, Matched, longer_of, longest, matched_paths, sorted_plan, fixes_all, joining, Draft, other_than, index_draft, path_draft, single_plan, nodes_of, union_of, is_empty, union_plan, only_union_plan, part_plans, unsorted_plan, planned}
@@ -55,13 +56,13 @@ module _ (t : TypeDefinition) (indexes : List IndexDefinition) where
       by false e = e
 
   -- there is a plan exactly without a sort, or where a path serves it
-  pub planned_served : (q : Query) → is_some (planned t indexes q) ≡ (is_empty q.sort || list_any (serves t (numbered (conjuncts q.filter)) q.sort) (paths indexes))
+  pub planned_served : (q : Query) → is_some (planned t indexes q) ≡ (is_empty q.sort || list_any (serves t (numbered_filters (conjuncts q.filter)) q.sort) (paths indexes))
   planned_served q = by (is_empty q.sort)
     where
       cs : List Conjunct
-      cs = numbered (conjuncts q.filter)
+      cs = numbered_filters (conjuncts q.filter)
 
-      by : (b : Bool) → is_some (if b then Some (unsorted_plan t indexes q.filter).root else sorted_plan t indexes (numbered (conjuncts q.filter)) q.sort q.reverse) ≡ (b || list_any (serves t (numbered (conjuncts q.filter)) q.sort) (paths indexes))
+      by : (b : Bool) → is_some (if b then Some (unsorted_plan t indexes q.filter).root else sorted_plan t indexes (numbered_filters (conjuncts q.filter)) q.sort q.reverse) ≡ (b || list_any (serves t (numbered_filters (conjuncts q.filter)) q.sort) (paths indexes))
       by true = refl
       by false = some_longest cs (λ p. residual (others (used p.1) cs) (path_scan p.0 p.1 q.reverse)) (serves t cs q.sort) (paths indexes)
 
@@ -70,10 +71,10 @@ module _ (t : TypeDefinition) (indexes : List IndexDefinition) where
   sorted_scans q root e h = by (filter (serves t cs q.sort) (paths indexes)) refl (sym (ap (λ b. if b then Some (unsorted_plan t indexes q.filter).root else sorted_plan t indexes cs q.sort q.reverse) e) ∙ h)
     where
       cs : List Conjunct
-      cs = numbered (conjuncts q.filter)
+      cs = numbered_filters (conjuncts q.filter)
 
-      by : (ps : List Path) → filter (serves t (numbered (conjuncts q.filter)) q.sort) (paths indexes) ≡ ps →
-          option_map (λ p. residual (others (used p.1) cs) (path_scan p.0 p.1 q.reverse)) (longest (matched_paths t (numbered (conjuncts q.filter)) ps)) ≡ Some root → ScansServing t indexes q root
+      by : (ps : List Path) → filter (serves t (numbered_filters (conjuncts q.filter)) q.sort) (paths indexes) ≡ ps →
+          option_map (λ p. residual (others (used p.1) cs) (path_scan p.0 p.1 q.reverse)) (longest (matched_paths t (numbered_filters (conjuncts q.filter)) ps)) ≡ Some root → ScansServing t indexes q root
       by [] same k = absurd (none-some root k)
       by (p ∷ ps) same k =
           let b : Matched = fold longer_of (p, match_of t cs p) (matched_paths t cs ps) in
@@ -153,7 +154,7 @@ module _ (t : TypeDefinition) (indexes : List IndexDefinition) where
   draft_scans cs (along i) m = index_draft_scans cs i m (if fixes_all i m then joining t (other_than i indexes) (others (used m) cs) else [])
 
   -- a single plan first scans the path of the longest match; what joins it is no full scan
-  single_scans : (f : Filter) → (l : ScansLongest t indexes f (single_plan t indexes (numbered (conjuncts f))).root) × (list_any is_full l.joined ≡ false)
+  single_scans : (f : Filter) → (l : ScansLongest t indexes f (single_plan t indexes (numbered_filters (conjuncts f))).root) × (list_any is_full l.joined ≡ false)
   single_scans f =
       let b : Matched = fold longer_of (primary, match_of t cs primary) (matched_paths t cs (map along indexes)) in
       let l : (b.1 ≡ match_of t cs b.0) × IsLongest t cs (paths indexes) b.0 = longest_path t cs primary (map along indexes) in
@@ -168,11 +169,11 @@ module _ (t : TypeDefinition) (indexes : List IndexDefinition) where
       )
     where
       cs : List Conjunct
-      cs = numbered (conjuncts f)
+      cs = numbered_filters (conjuncts f)
 
 -- ---- a full scan begins at no bytes, where no match does
 
-later_left : (a b : List ℕ) → IsNonEmpty a → IsNonEmpty (later a b)
+later_left : (a b : List ℕ) → IsNonEmpty a → IsNonEmpty (later_key a b)
 later_left [] b h = absurd h
 later_left (x ∷ a) [] h = tt
 later_left (x ∷ a) (y ∷ b) h = by (is_lt (bytes_cmp (y ∷ b) (x ∷ a)))
@@ -181,7 +182,7 @@ later_left (x ∷ a) (y ∷ b) h = by (is_lt (bytes_cmp (y ∷ b) (x ∷ a)))
     by true = tt
     by false = tt
 
-later_right : (a b : List ℕ) → IsNonEmpty b → IsNonEmpty (later a b)
+later_right : (a b : List ℕ) → IsNonEmpty b → IsNonEmpty (later_key a b)
 later_right a [] h = absurd h
 later_right [] (y ∷ b) h = tt
 later_right (x ∷ a) (y ∷ b) h = by (is_lt (bytes_cmp (y ∷ b) (x ∷ a)))
@@ -190,9 +191,9 @@ later_right (x ∷ a) (y ∷ b) h = by (is_lt (bytes_cmp (y ∷ b) (x ∷ a)))
     by true = tt
     by false = tt
 
-latest_nonempty : (a : List ℕ) (xs : List (List ℕ)) → IsNonEmpty a → IsNonEmpty (fold later a xs)
+latest_nonempty : (a : List ℕ) (xs : List (List ℕ)) → IsNonEmpty a → IsNonEmpty (fold later_key a xs)
 latest_nonempty a [] h = h
-latest_nonempty a (x ∷ xs) h = latest_nonempty (later a x) xs (later_left a x h)
+latest_nonempty a (x ∷ xs) h = latest_nonempty (later_key a x) xs (later_left a x h)
 
 module _ (IsStored : Cell → Type 0) (laws : PackLaws IsStored) (null_stored : IsStored Null) where
   begin_nonempty : (b : Bound) → IsUsable IsStored b → IsNonEmpty (begin_of b)
@@ -215,12 +216,12 @@ module _ (IsStored : Cell → Type 0) (laws : PackLaws IsStored) (null_stored : 
   no_columns : (fs : List (ℕ × Cell)) (bs : List (ℕ × Bound)) → Each (IsUsable IsStored) (map (λ b. b.1) bs) → pack (map (λ f. f.1) fs) ++ (bounded (map (λ b. b.1) bs)).begin ≡ [] →
       length fs + (if nat_lt 0 (length bs) then 1 else 0) ≡ 0
   no_columns [] [] u e = refl
-  no_columns [] (b ∷ bs) u e = absurd (is_no_bytes (bounded (map (λ x. x.1) (b ∷ bs))).begin (latest_nonempty (later [] (begin_of b.1)) (map begin_of (map (λ x. x.1) bs)) (later_right [] (begin_of b.1) (begin_nonempty b.1 u.0))) e)
+  no_columns [] (b ∷ bs) u e = absurd (is_no_bytes (bounded (map (λ x. x.1) (b ∷ bs))).begin (latest_nonempty (later_key [] (begin_of b.1)) (map begin_of (map (λ x. x.1) bs)) (later_right [] (begin_of b.1) (begin_nonempty b.1 u.0))) e)
   no_columns (f ∷ fs) bs u e =
       absurd (is_no_bytes ((pack_cell f.1 ++ pack (map (λ x. x.1) fs)) ++ (bounded (map (λ x. x.1) bs)).begin)
       (subst IsNonEmpty (sym (append_assoc (pack_cell f.1) (pack (map (λ x. x.1) fs)) (bounded (map (λ x. x.1) bs)).begin)) (laws.some_byte f.1 (pack (map (λ x. x.1) fs) ++ (bounded (map (λ x. x.1) bs)).begin))) e)
 
-  full_unmatched : (t : TypeDefinition) (cs : List Conjunct) → Each (λ c. HasValue IsStored c.1) cs → (p : Path) → is_full (matched_scan t cs p false) ≡ true → reach (match_of t cs p) ≡ 0
+  full_unmatched : (t : TypeDefinition) (cs : List Conjunct) → Each (λ c. HasValue IsStored c.1) cs → (p : Path) → is_full (matched_scan t cs p false) ≡ true → match_reach (match_of t cs p) ≡ 0
   full_unmatched t cs v p e =
       let m : Match = match_of t cs p in
       no_columns m.fixed m.bounds (match_stored IsStored null_stored cs v (map (name_at t) (columns t p))).1
@@ -299,7 +300,7 @@ module _ (t : TypeDefinition) (indexes : List IndexDefinition) where
   pub unsorted_scans : (f : Filter) → HasUnion t indexes f ⊎ ScansLongest t indexes f (unsorted_plan t indexes f).root
   unsorted_scans f = by (union_plan t indexes f) refl
     where
-      by : (o : Option Draft) → union_plan t indexes f ≡ o → HasUnion t indexes f ⊎ ScansLongest t indexes f (unwrap_or o (single_plan t indexes (numbered (conjuncts f)))).root
+      by : (o : Option Draft) → union_plan t indexes f ≡ o → HasUnion t indexes f ⊎ ScansLongest t indexes f (unwrap_or o (single_plan t indexes (numbered_filters (conjuncts f)))).root
       by None e = inr (single_scans t indexes f).0
       by (Some d) e =
           let u : (gs : List Filter) × (alternatives (conjuncts f) ≡ Some gs) × (list_any full_plan gs ≡ false) × (scans_all d.root ≡ false) = union_by (alternatives (conjuncts f)) d (sym (union_is t indexes f) ∙ e) in
@@ -312,10 +313,10 @@ module _ (t : TypeDefinition) (indexes : List IndexDefinition) where
     full_only f v e = by (union_plan t indexes f) refl e
       where
         cs : List Conjunct
-        cs = numbered (conjuncts f)
+        cs = numbered_filters (conjuncts f)
 
-        no_longer : (p q : Path) → reach (match_of t cs p) ≡ 0 → is_longer (path_number q, match_of t cs q) (path_number p, match_of t cs p) ≡ false → reach (match_of t cs q) ≡ 0
-        no_longer p q z h = elim (cases_lt 0 (reach (match_of t cs q))) [
+        no_longer : (p q : Path) → match_reach (match_of t cs p) ≡ 0 → is_longer (path_number q, match_of t cs q) (path_number p, match_of t cs p) ≡ false → match_reach (match_of t cs q) ≡ 0
+        no_longer p q z h = elim (cases_lt 0 (match_reach (match_of t cs q))) [
           | inl a ↦ absurd (not_both _ (is_said (q, match_of t cs q) (p, match_of t cs p) (inl (omega (arith, a, z)))) h)
           | inr a ↦ omega (arith, a)
         ]
@@ -323,16 +324,16 @@ module _ (t : TypeDefinition) (indexes : List IndexDefinition) where
         single_full : (n : Node) (l : ScansLongest t indexes f n) → list_any is_full l.joined ≡ false → scans_all n ≡ true → HasNoMatch t indexes f
         single_full n l none h =
             let full : is_full (matched_scan t cs l.path false) ≡ true = or_false (is_full (matched_scan t cs l.path false)) (list_any is_full l.joined) (sym (ap (list_any is_full) l.scans) ∙ h) none in
-            let z : reach (match_of t cs l.path) ≡ 0 = full_unmatched IsStored laws null_stored t cs (numbered_checked IsStored (conjuncts f) 0 (conjuncts_checked IsStored f v)) l.path full in
-            each_all (λ q. reach (match_of t cs q) ≡ 0) (paths indexes)
-            (each_map (λ q. is_longer (path_number q, match_of t cs q) (path_number l.path, match_of t cs l.path) ≡ false) (λ q. reach (match_of t cs q) ≡ 0) (λ q k. no_longer l.path q z k) (paths indexes)
+            let z : match_reach (match_of t cs l.path) ≡ 0 = full_unmatched IsStored laws null_stored t cs (numbered_checked IsStored (conjuncts f) 0 (conjuncts_checked IsStored f v)) l.path full in
+            each_all (λ q. match_reach (match_of t cs q) ≡ 0) (paths indexes)
+            (each_map (λ q. is_longer (path_number q, match_of t cs q) (path_number l.path, match_of t cs l.path) ≡ false) (λ q. match_reach (match_of t cs q) ≡ 0) (λ q k. no_longer l.path q z k) (paths indexes)
             (all_each (λ q. is_longer (path_number q, match_of t cs q) (path_number l.path, match_of t cs l.path) ≡ false) (paths indexes) l.longest.none_longer))
           where
             or_false : (a b : Bool) → (a || b) ≡ true → b ≡ false → a ≡ true
             or_false true b g k = refl
             or_false false b g k = sym k ∙ g
 
-        by : (o : Option Draft) → union_plan t indexes f ≡ o → scans_all (unwrap_or o (single_plan t indexes (numbered (conjuncts f)))).root ≡ true →
+        by : (o : Option Draft) → union_plan t indexes f ≡ o → scans_all (unwrap_or o (single_plan t indexes (numbered_filters (conjuncts f)))).root ≡ true →
             HasNoMatch t indexes f × ((gs : List Filter) → alternatives (conjuncts f) ≡ Some gs → HasFullPart t indexes gs)
         by None q h =
             let s : (l : ScansLongest t indexes f (single_plan t indexes cs).root) × (list_any is_full l.joined ≡ false) = single_scans t indexes f in (
@@ -353,4 +354,4 @@ module _ (t : TypeDefinition) (indexes : List IndexDefinition) where
       where
         root_is : is_empty q.sort ≡ true → (unsorted_plan t indexes q.filter).root ≡ root
         root_is e = same_Some (unsorted_plan t indexes q.filter).root root
-            (sym (ap (λ b. if b then Some (unsorted_plan t indexes q.filter).root else sorted_plan t indexes (numbered (conjuncts q.filter)) q.sort q.reverse) e) ∙ h)
+            (sym (ap (λ b. if b then Some (unsorted_plan t indexes q.filter).root else sorted_plan t indexes (numbered_filters (conjuncts q.filter)) q.sort q.reverse) e) ∙ h)

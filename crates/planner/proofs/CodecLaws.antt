@@ -13,7 +13,7 @@ use Rattle.std.proofs.Math.Seq.{take-append_seam}
 use Rattle.std.proofs.lemmas.Slice.Eq.{bytes_eq-Decides}
 use Rattle.tuple_codec.specs.Order.{bytes_cmp}
 use Rattle.tuple_codec.specs.Spelling.{escaped, outer, spelling}
-use Rattle.tuple_codec.specs.Subspace.{BeginsWith, IsBefore, IsWithin, raised, strinc}
+use Rattle.tuple_codec.specs.Subspace.{BeginsWith, IsBefore, IsWithin, raised_last, strinc}
 use Rattle.tuple_codec.proofs.Again.{tuple_again}
 use Rattle.tuple_codec.proofs.ClosedStrings.{AreLow}
 use Rattle.tuple_codec.proofs.Outcome.{bytes_from_low, low_from_bytes}
@@ -48,12 +48,12 @@ string_end Null e = cc
 string_end (Int z) e = cc
 string_end (Text t) e = by (strinc (escaped t))
   where
-    by : (o : Option (List ℕ)) → raised 2 o ≡ Some (unwrap_or (raised 2 o) [])
+    by : (o : Option (List ℕ)) → raised_last 2 o ≡ Some (unwrap_or (raised_last 2 o) [])
     by None = refl
     by (Some end) = refl
 string_end (Bytes t) e = by (strinc (escaped t))
   where
-    by : (o : Option (List ℕ)) → raised 1 o ≡ Some (unwrap_or (raised 1 o) [])
+    by : (o : Option (List ℕ)) → raised_last 1 o ≡ Some (unwrap_or (raised_last 1 o) [])
     by None = refl
     by (Some end) = refl
 
@@ -62,13 +62,13 @@ string_stop Null e = cc
 string_stop (Int z) e = cc
 string_stop (Text t) e = (refl, by (strinc (escaped t)))
   where
-    by : (o : Option (List ℕ)) → is_stop (unwrap_or (raised 2 o) []) ≡ true
+    by : (o : Option (List ℕ)) → is_stop (unwrap_or (raised_last 2 o) []) ≡ true
     by None = refl
     by (Some []) = refl
     by (Some (b ∷ end)) = refl
 string_stop (Bytes t) e = (refl, by (strinc (escaped t)))
   where
-    by : (o : Option (List ℕ)) → is_stop (unwrap_or (raised 1 o) []) ≡ true
+    by : (o : Option (List ℕ)) → is_stop (unwrap_or (raised_last 1 o) []) ≡ true
     by None = refl
     by (Some []) = refl
     by (Some (b ∷ end)) = refl

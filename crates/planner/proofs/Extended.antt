@@ -5,7 +5,8 @@ use Rattle.metadata.specs.declared.index.IndexDefinition.{IndexDefinition}
 use Rattle.metadata.specs.declared.definition.TypeDefinition.{TypeDefinition}
 use Rattle.query.specs.Filter.{Filter, compare, null_field, starts, all_of, some_of, negation, Filters, no_filters, filter as part, parts, conjuncts, conjuncts_of}
 use Rattle.query.specs.Query.{Query}
-use Rattle.planner.specs.Match.{Path, primary, along, Conjunct, numbered, Match, matching, match_of, name_at, sort_columns, used, serves_from, serves, paths, others}
+use Rattle.planner.specs.Match.{Path, primary, along, Conjunct, numbered_filters, Match, matching, match_of, name_at}
+use Rattle.planner.specs.Match.{sort_columns, used, serves_from, serves, paths, others}
 use Rattle.planner.specs.Planned.{path_scan, residual, longest, matched_paths, sorted_plan, fixes_all, joining, other_than, index_draft, path_draft, single_plan, union_of, is_empty, union_plan, only_union_plan, part_plans, planned}
 use Rattle.planner.proofs.Ranges.{Each}
 use Rattle.planner.proofs.Residual.{each_append, each_of_map, each_where}
@@ -74,7 +75,7 @@ module _ (t u : TypeDefinition) (n : ℕ) (same_key : t.key ≡ u.key) (same_nam
 
       parts_same : (fs : Filters) → part_plans t indexes fs ≡ part_plans u indexes fs
       parts_same no_filters = refl
-      parts_same (part f fs) = λ k. unwrap_or (union_same f k) (single_same (numbered (conjuncts f)) k) ∷ parts_same fs k
+      parts_same (part f fs) = λ k. unwrap_or (union_same f k) (single_same (numbered_filters (conjuncts f)) k) ∷ parts_same fs k
 
     sorted_same : (cs : List Conjunct) (sort : List (List ℕ)) (reversed : Bool) → sorted_plan t indexes cs sort reversed ≡ sorted_plan u indexes cs sort reversed
     sorted_same cs sort reversed =
@@ -85,5 +86,5 @@ module _ (t u : TypeDefinition) (n : ℕ) (same_key : t.key ≡ u.key) (same_nam
     -- the two types have the same plan
     pub planned_same : (q : Query) → planned t indexes q ≡ planned u indexes q
     planned_same q =
-        λ k. if is_empty q.sort then Some (unwrap_or (union_same q.filter k) (single_same (numbered (conjuncts q.filter)) k)).root
-        else sorted_same (numbered (conjuncts q.filter)) q.sort q.reverse k
+        λ k. if is_empty q.sort then Some (unwrap_or (union_same q.filter k) (single_same (numbered_filters (conjuncts q.filter)) k)).root
+        else sorted_same (numbered_filters (conjuncts q.filter)) q.sort q.reverse k

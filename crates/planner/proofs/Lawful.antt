@@ -16,7 +16,8 @@ use Rattle.metadata.specs.declared.cells.Kind.TheVariants as kind
 use Rattle.metadata.specs.declared.refusal.Refusal.{Refusal}
 use Rattle.metadata.specs.declared.refusal.Refusal.TheVariants.{BadName, NameTaken, UnknownField, BadSchema, TooMany}
 use Rattle.metadata.specs.Cell.{is_word}
-use Rattle.metadata.specs.Change.{add_types, empty_schema, field_names, first_refusal, has_twice, has_unknown, is_name, places_of, same_field, type_asked, type_refusal, types_alone, with_type}
+use Rattle.metadata.specs.Change.{add_types, empty_schema, field_names, first_test_refusal, has_twice, has_unknown}
+use Rattle.metadata.specs.Change.{is_name, places_of, same_field, type_asked, type_refusal, types_alone, with_type}
 use Rattle.metadata.specs.IndexChange.{is_int}
 use Rattle.metadata.specs.Lawful.{IsLawfulSchema, is_index, is_index_over}
 use Rattle.metadata.specs.Schema.{Schema, find_type, kind_at, place_of, type_at}
@@ -33,7 +34,7 @@ pub record IsSoundType (t : TypeDefinition) : Type 0 where
 
 -- ---- what an unrefused request tells
 
-first_none : (b : Bool) (r : Refusal) (tests : List (Bool × Refusal)) → first_refusal ((b, r) ∷ tests) ≡ None → (b ≡ false) × (first_refusal tests ≡ None)
+first_none : (b : Bool) (r : Refusal) (tests : List (Bool × Refusal)) → first_test_refusal ((b, r) ∷ tests) ≡ None → (b ≡ false) × (first_test_refusal tests ≡ None)
 first_none true r tests e = cc
 first_none false r tests e = (refl, e)
 
@@ -67,7 +68,7 @@ places_within fields (name ∷ names) = by (place_of fields name) refl (places_w
     by None e more = let same : places_of fields names ≡ filter_map (place_of fields) (name ∷ names) = cc in subst (Each (λ p. p < length fields)) same more
     by (Some p) e more = let same : p ∷ places_of fields names ≡ filter_map (place_of fields) (name ∷ names) = cc in subst (Each (λ q. q < length fields)) same ((position-Some (λ f. bytes_eq f.name name) fields p no_field e).0, more)
 
-five_none : (a b c d e : Bool) (p q r s t : Refusal) → first_refusal ((a, p) ∷ (b, q) ∷ (c, r) ∷ (d, s) ∷ (e, t) ∷ []) ≡ None → (b ≡ false) × (e ≡ false)
+five_none : (a b c d e : Bool) (p q r s t : Refusal) → first_test_refusal ((a, p) ∷ (b, q) ∷ (c, r) ∷ (d, s) ∷ (e, t) ∷ []) ≡ None → (b ≡ false) × (e ≡ false)
 five_none true b c d e p q r s t h = cc
 five_none false true c d e p q r s t h = cc
 five_none false false true d e p q r s t h = cc

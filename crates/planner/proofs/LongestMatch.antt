@@ -5,7 +5,7 @@ use Rattle.std.proofs.Common.{ap, sym, ◌∙◌, arith, inl, inr}
 use Rattle.std.proofs.lemmas.Bool.{cases_lt}
 use Rattle.std.proofs.lemmas.Bool.Decides.{Decides-or, Decides-and, Decides-ltb, Decides-eqb}
 use Rattle.metadata.specs.declared.definition.TypeDefinition.{TypeDefinition}
-use Rattle.planner.specs.Match.{Path, path_number, Conjunct, Match, match_of, reach, is_longer}
+use Rattle.planner.specs.Match.{Path, path_number, Conjunct, Match, match_of, match_reach, is_longer}
 use Rattle.planner.specs.Planned.{Matched, longer_of, matched_paths}
 use Rattle.planner.specs.Choice.{IsLongest}
 use Rattle.planner.proofs.Ranges.{Each}
@@ -29,10 +29,10 @@ not_both b e f = never (sym e ∙ f)
 abbrev pub Longer : ℕ → ℕ → ℕ → ℕ → ℕ → ℕ → Type 0
 Longer r f p s g q = (s < r) ⊎ ((r ≡ s) × ((g < f) ⊎ ((f ≡ g) × (p < q))))
 
-pub longer_decides : (p q : ℕ) (m n : Match) → Decides (is_longer (p, m) (q, n)) (Longer (reach m) (length m.fixed) p (reach n) (length n.fixed) q)
+pub longer_decides : (p q : ℕ) (m n : Match) → Decides (is_longer (p, m) (q, n)) (Longer (match_reach m) (length m.fixed) p (match_reach n) (length n.fixed) q)
 longer_decides p q m n =
-    Decides-or _ _ (Decides-ltb (reach n) (reach m))
-    (Decides-and _ _ (Decides-eqb (reach m) (reach n))
+    Decides-or _ _ (Decides-ltb (match_reach n) (match_reach m))
+    (Decides-and _ _ (Decides-eqb (match_reach m) (match_reach n))
     (Decides-or _ _ (Decides-ltb (length n.fixed) (length m.fixed)) (Decides-and _ _ (Decides-eqb (length m.fixed) (length n.fixed)) (Decides-ltb p q))))
 
 pub never_both : (r f p s g q : ℕ) → Longer r f p s g q → Longer s g q r f p → ⊥
@@ -75,7 +75,7 @@ abbrev pub longer_than : Matched → Matched → Bool
 longer_than q p = is_longer (path_number q.0, q.1) (path_number p.0, p.1)
 
 abbrev pub LongerThan : Matched → Matched → Type 0
-LongerThan q p = Longer (reach q.1) (length q.1.fixed) (path_number q.0) (reach p.1) (length p.1.fixed) (path_number p.0)
+LongerThan q p = Longer (match_reach q.1) (length q.1.fixed) (path_number q.0) (match_reach p.1) (length p.1.fixed) (path_number p.0)
 
 pub says_longer : (q p : Matched) → longer_than q p ≡ true → LongerThan q p
 says_longer q p e = (longer_decides (path_number q.0) (path_number p.0) q.1 p.1).0 e
@@ -84,10 +84,10 @@ pub is_said : (q p : Matched) → LongerThan q p → longer_than q p ≡ true
 is_said q p l = (longer_decides (path_number q.0) (path_number p.0) q.1 p.1).1 l
 
 pub asymmetric : (q p : Matched) → longer_than q p ≡ true → longer_than p q ≡ true → ⊥
-asymmetric q p e f = never_both (reach q.1) (length q.1.fixed) (path_number q.0) (reach p.1) (length p.1.fixed) (path_number p.0) (says_longer q p e) (says_longer p q f)
+asymmetric q p e f = never_both (match_reach q.1) (length q.1.fixed) (path_number q.0) (match_reach p.1) (length p.1.fixed) (path_number p.0) (says_longer q p e) (says_longer p q f)
 
 pub third : (q p x : Matched) → longer_than q p ≡ true → (longer_than q x ≡ true) ⊎ (longer_than x p ≡ true)
-third q p x e = elim (either_longer (reach q.1) (length q.1.fixed) (path_number q.0) (reach x.1) (length x.1.fixed) (path_number x.0) (reach p.1) (length p.1.fixed) (path_number p.0) (says_longer q p e)) [
+third q p x e = elim (either_longer (match_reach q.1) (length q.1.fixed) (path_number q.0) (match_reach x.1) (length x.1.fixed) (path_number x.0) (match_reach p.1) (length p.1.fixed) (path_number p.0) (says_longer q p e)) [
   | inl a ↦ inl (is_said q x a)
   | inr a ↦ inr (is_said x p a)
 ]

@@ -9,17 +9,18 @@ use Rattle.metadata.specs.declared.index.IndexDefinition.{IndexDefinition}
 use Rattle.metadata.specs.Record.{Record}
 use Rattle.metadata.specs.declared.definition.TypeDefinition.{TypeDefinition}
 use Rattle.planner.specs.Pack.{pack}
-use Rattle.query.specs.Fields.{cell_in, cell_named}
+use Rattle.query.specs.Fields.{cell_named, field_cell}
 use Rattle.metadata.specs.Cell.{cells_at, items_of}
 use Rattle.metadata.specs.Entries.{entry_of}
 use Rattle.metadata.specs.Layout.{Pair, entries_prefix, entry_pair, record_key, record_pair, records_prefix}
-use Rattle.planner.specs.Layout.{primary_cells, record_of, entry_primary_key}
+use Rattle.planner.specs.Layout.{primary_cells, stored_record, entry_primary_key}
 use Rattle.query.specs.declared.filter.Operator.TheVariants.{Equal, NotEqual, Less, AtMost, Greater, AtLeast}
 use Rattle.query.specs.Filter.{Filter, compare, null_field, starts, all_of, some_of, negation, filters_of}
 use Rattle.query.specs.Truth.{selects}
 use Rattle.query.proofs.Truths.{selects-all_of}
-use Rattle.planner.specs.Range.{Bound, above, from, below, up_to, prefixed, is_within}
-use Rattle.planner.specs.Match.{primary, along, Conjunct, Match, matching, in_front, match_of, name_at, fixing, bounding, said, first, used, others}
+use Rattle.planner.specs.Range.{Bound, above, from, below, up_to, prefixed, range_has}
+use Rattle.planner.specs.Match.{primary, along, Conjunct, Match, matching, column_in_front, match_of, name_at, fixing}
+use Rattle.planner.specs.Match.{bounding, said, first, used, others}
 use Rattle.planner.specs.Plan.{Node, filtered, one}
 use Rattle.planner.specs.Planned.{matched_range, index_scan, path_scan, residual}
 use Rattle.planner.specs.Meaning.{fetched, scanned_keys}
@@ -83,9 +84,9 @@ module _ (IsStored : Cell → Type 0) (null_stored : IsStored Null) where
         by : (o : Option (ℕ × Cell)) → first (said (fixing name) cs) ≡ o →
             (Each IsStored (map (λ f. f.1) (matching cs names).fixed) × Each (IsUsable IsStored) (map (λ b. b.1) (matching cs names).bounds)
             × (spoken (map (λ f. f.1) (matching cs names).fixed) (map (λ b. b.1) (matching cs names).bounds) ≤ length names)) →
-            Each IsStored (map (λ f. f.1) (in_front o (said (bounding name) cs) (matching cs names)).fixed)
-            × Each (IsUsable IsStored) (map (λ b. b.1) (in_front o (said (bounding name) cs) (matching cs names)).bounds)
-            × (spoken (map (λ f. f.1) (in_front o (said (bounding name) cs) (matching cs names)).fixed) (map (λ b. b.1) (in_front o (said (bounding name) cs) (matching cs names)).bounds) ≤ length (name ∷ names))
+            Each IsStored (map (λ f. f.1) (column_in_front o (said (bounding name) cs) (matching cs names)).fixed)
+            × Each (IsUsable IsStored) (map (λ b. b.1) (column_in_front o (said (bounding name) cs) (matching cs names)).bounds)
+            × (spoken (map (λ f. f.1) (column_in_front o (said (bounding name) cs) (matching cs names)).fixed) (map (λ b. b.1) (column_in_front o (said (bounding name) cs) (matching cs names)).bounds) ≤ length (name ∷ names))
         by None q more = (tt, usable, at_most_one (map (λ b. b.1) (said (bounding name) cs)))
         by (Some f) q more =
             let m : IsFrom (fixing name) cs f = first_has (IsFrom (fixing name) cs) (said (fixing name) cs) f q (said_from (fixing name) cs) in
@@ -157,16 +158,16 @@ module _ (prefix : List ℕ) (pairs : List Pair) (t : TypeDefinition) (records :
 pub record IsGoodIndex (IsStored : Cell → Type 0) (prefix : List ℕ) (pairs : List Pair) (t : TypeDefinition) (records : List Record) (i : IndexDefinition) : Type 0 where
   pub holds : Holds (entries_prefix prefix i.number) pairs records (λ r. entry_pair prefix i.number (entry_of i r)) (λ r. pack (entry_cells i r)) (entry_primary_key prefix t i) primary_cells
   pub stored : (r : Record) → Member r records → Each IsStored (entry_cells i r)
-  pub named : (r : Record) → Member r records → map (cell_in r) i.columns ≡ map (cell_named r) (map (name_at t) i.columns)
+  pub named : (r : Record) → Member r records → map (field_cell r) i.columns ≡ map (cell_named r) (map (name_at t) i.columns)
 
 -- the same of the records themselves
 pub record IsGoodType (IsStored : Cell → Type 0) (prefix : List ℕ) (pairs : List Pair) (t : TypeDefinition) (records : List Record) : Type 0 where
-  pub holds : Holds (records_prefix prefix t.number) pairs records (record_pair prefix) (λ r. pack (map (cell_in r) t.key)) (record_of prefix t) (λ r. r)
+  pub holds : Holds (records_prefix prefix t.number) pairs records (record_pair prefix) (λ r. pack (map (field_cell r) t.key)) (stored_record prefix t) (λ r. r)
   pub loads : (r : Record) → Member r records → fetched prefix pairs t (primary_cells r) ≡ Some r
   pub keyed : IsKeyed records
-  pub keys_are : (r : Record) → Member r records → primary_cells r ≡ Int (pos t.number) ∷ map (cell_in r) t.key
-  pub stored : (r : Record) → Member r records → Each IsStored (map (cell_in r) t.key)
-  pub named : (r : Record) → Member r records → map (cell_in r) t.key ≡ map (cell_named r) (map (name_at t) t.key)
+  pub keys_are : (r : Record) → Member r records → primary_cells r ≡ Int (pos t.number) ∷ map (field_cell r) t.key
+  pub stored : (r : Record) → Member r records → Each IsStored (map (field_cell r) t.key)
+  pub named : (r : Record) → Member r records → map (field_cell r) t.key ≡ map (cell_named r) (map (name_at t) t.key)
 
 length-maps : {A B C : Type 0} (f : A → B) (g : A → C) (xs : List A) → length (map f xs) ≡ length (map g xs)
 length-maps f g [] = refl
@@ -177,7 +178,7 @@ module _ (prefix : List ℕ) (pairs : List Pair) (t : TypeDefinition) (records :
     (cs : List Conjunct) (is_numbered : IsNumbered cs) (values : Each (λ c. HasValue IsStored c.1) cs) where
   -- cells that begin with a path's columns are in the range of the match where the match admits them
   columns_exact : (names : List (List ℕ)) (r : Record) (front rest : List Cell) → front ≡ map (cell_named r) names → Each IsStored (front ++ rest) →
-      (is_within (matched_range (matching cs names)) (pack (front ++ rest)) && list_all (λ c. selects c.1 r) (others (used (matching cs names)) cs)) ≡ list_all (λ c. selects c.1 r) cs
+      (range_has (matched_range (matching cs names)) (pack (front ++ rest)) && list_all (λ c. selects c.1 r) (others (used (matching cs names)) cs)) ≡ list_all (λ c. selects c.1 r) cs
   columns_exact names r front rest same stored =
       let m : Match = matching cs names in
       let s : Each IsStored (map (λ e. e.1) m.fixed) × Each (IsUsable IsStored) (map (λ b. b.1) m.bounds) × (spoken (map (λ e. e.1) m.fixed) (map (λ b. b.1) m.bounds) ≤ length names) =
@@ -195,21 +196,21 @@ module _ (prefix : List ℕ) (pairs : List Pair) (t : TypeDefinition) (records :
 
   -- the range of an index's match and the other conjuncts are all conjuncts
   pub along_exact : (i : IndexDefinition) → IsGoodIndex IsStored prefix pairs t records i → (r : Record) → Member r records →
-      (is_within (matched_range (match_of t cs (along i))) (pack (entry_cells i r)) && list_all (λ c. selects c.1 r) (others (used (match_of t cs (along i))) cs)) ≡ list_all (λ c. selects c.1 r) cs
-  along_exact i g r m = columns_exact (map (name_at t) i.columns) r (map (cell_in r) i.columns) (primary_cells r) (g.named r m) (g.stored r m)
+      (range_has (matched_range (match_of t cs (along i))) (pack (entry_cells i r)) && list_all (λ c. selects c.1 r) (others (used (match_of t cs (along i))) cs)) ≡ list_all (λ c. selects c.1 r) cs
+  along_exact i g r m = columns_exact (map (name_at t) i.columns) r (map (field_cell r) i.columns) (primary_cells r) (g.named r m) (g.stored r m)
 
   pub primary_exact : (r : Record) → Member r records →
-      (is_within (matched_range (match_of t cs primary)) (pack (map (cell_in r) t.key)) && list_all (λ c. selects c.1 r) (others (used (match_of t cs primary)) cs)) ≡ list_all (λ c. selects c.1 r) cs
+      (range_has (matched_range (match_of t cs primary)) (pack (map (field_cell r) t.key)) && list_all (λ c. selects c.1 r) (others (used (match_of t cs primary)) cs)) ≡ list_all (λ c. selects c.1 r) cs
   primary_exact r m =
-      ap (λ w. is_within (matched_range (match_of t cs primary)) (pack w) && list_all (λ c. selects c.1 r) (others (used (match_of t cs primary)) cs)) (sym (append-nil (map (cell_in r) t.key)))
-      ∙ columns_exact (map (name_at t) t.key) r (map (cell_in r) t.key) [] (good.named r m) (subst (Each IsStored) (sym (append-nil (map (cell_in r) t.key))) (good.stored r m))
+      ap (λ w. range_has (matched_range (match_of t cs primary)) (pack w) && list_all (λ c. selects c.1 r) (others (used (match_of t cs primary)) cs)) (sym (append-nil (map (field_cell r) t.key)))
+      ∙ columns_exact (map (name_at t) t.key) r (map (field_cell r) t.key) [] (good.named r m) (subst (Each IsStored) (sym (append-nil (map (field_cell r) t.key))) (good.stored r m))
 
   -- the plan along an index, in either direction, gives exactly what all conjuncts select
   pub along_gives : (reversed : Bool) (i : IndexDefinition) → IsGoodIndex IsStored prefix pairs t records i →
       Gives prefix pairs t records (residual (others (used (match_of t cs (along i))) cs) (path_scan (along i) (match_of t cs (along i)) reversed)) (λ r. list_all (λ c. selects c.1 r) cs)
   along_gives reversed i g =
       let m : Match = match_of t cs (along i) in
-      let p : Record → Bool = λ r. is_within (matched_range m) (pack (entry_cells i r)) in
+      let p : Record → Bool = λ r. range_has (matched_range m) (pack (entry_cells i r)) in
       let k : (keys : List (List Cell)) × (scanned_keys prefix pairs t (index_scan i m reversed) ≡ Some keys) × AreKeysOf records p keys × Differ (λ k. k) keys =
       index_scan_gives prefix pairs t records good.keyed (index_scan i m reversed) (λ r. pack (entry_cells i r)) (λ r. entry_pair prefix i.number (entry_of i r)) g.holds in
       gives_same prefix pairs t records (residual (others (used m) cs) (path_scan (along i) m reversed))
@@ -222,9 +223,9 @@ module _ (prefix : List ℕ) (pairs : List Pair) (t : TypeDefinition) (records :
       Gives prefix pairs t records (residual (others (used (match_of t cs primary)) cs) (path_scan primary (match_of t cs primary) reversed)) (λ r. list_all (λ c. selects c.1 r) cs)
   primary_gives reversed =
       let m : Match = match_of t cs primary in
-      let p : Record → Bool = λ r. is_within (matched_range m) (pack (map (cell_in r) t.key)) in
+      let p : Record → Bool = λ r. range_has (matched_range m) (pack (map (field_cell r) t.key)) in
       gives_same prefix pairs t records (residual (others (used m) cs) (path_scan primary m reversed))
       (λ r. p r && list_all (λ c. selects c.1 r) (others (used m) cs)) (λ r. list_all (λ c. selects c.1 r) cs) (λ r n. primary_exact r n)
       (residual_gives prefix pairs t records (others (used m) cs) (path_scan primary m reversed) p
-      (scan_gives prefix pairs t records (record { range = matched_range m; reverse = reversed }) (λ r. pack (map (cell_in r) t.key)) (record_pair prefix) good.holds
+      (scan_gives prefix pairs t records (record { range = matched_range m; reverse = reversed }) (λ r. pack (map (field_cell r) t.key)) (record_pair prefix) good.holds
       (λ a b e. ap (λ k. record_key prefix (items_of k)) e)))

@@ -18,7 +18,7 @@ use Rattle.query.specs.declared.filter.Operator.TheVariants.{Equal, NotEqual, Le
 use Rattle.query.specs.Filter.{Filter, compare, null_field, starts, all_of, some_of, negation}
 use Rattle.query.specs.Truth.{selects, null_test, is_true}
 use Rattle.planner.specs.Range.{Bound, above, from, below, up_to, prefixed}
-use Rattle.planner.specs.Match.{Conjunct, fixing, bounding, said, first, in_front, matching, used, others}
+use Rattle.planner.specs.Match.{Conjunct, fixing, bounding, said, first, column_in_front, matching, used, others}
 use Rattle.planner.proofs.Admits.{lets_in, admits}
 use Rattle.planner.proofs.Ranges.{Each, comparison_true, at_null}
 use Rattle.metadata.specs.Order.{is_string}
@@ -190,7 +190,7 @@ module _ (IsStored : Cell → Type 0) (r : Record) (cs : List Conjunct) (values 
 
       by : (o : Option (ℕ × Cell)) → first (said (fixing name) cs) ≡ o →
           admits (map (λ f. f.1) (matching cs names).fixed) (map (λ b. b.1) (matching cs names).bounds) (map (cell_named r) names ++ rest) ≡ true →
-          admits (map (λ f. f.1) (in_front o (said (bounding name) cs) (matching cs names)).fixed) (map (λ b. b.1) (in_front o (said (bounding name) cs) (matching cs names)).bounds)
+          admits (map (λ f. f.1) (column_in_front o (said (bounding name) cs) (matching cs names)).fixed) (map (λ b. b.1) (column_in_front o (said (bounding name) cs) (matching cs names)).bounds)
           (cell_named r name ∷ (map (cell_named r) names ++ rest)) ≡ true
       by None q more = open_admits (said (bounding name) cs) (said_from (bounding name) cs)
       by (Some f) q more =
@@ -216,9 +216,9 @@ module _ (IsStored : Cell → Type 0) (r : Record) (cs : List Conjunct) (values 
       by : (o : Option (ℕ × Cell)) → first (said (fixing name) cs) ≡ o →
           (admits (map (λ f. f.1) (matching cs names).fixed) (map (λ b. b.1) (matching cs names).bounds) (map (cell_named r) names ++ rest) ≡ true →
           Each (λ f. IsTrueAt f.0) (matching cs names).fixed × Each (λ b. IsTrueAt b.0) (matching cs names).bounds) →
-          admits (map (λ f. f.1) (in_front o (said (bounding name) cs) (matching cs names)).fixed) (map (λ b. b.1) (in_front o (said (bounding name) cs) (matching cs names)).bounds)
+          admits (map (λ f. f.1) (column_in_front o (said (bounding name) cs) (matching cs names)).fixed) (map (λ b. b.1) (column_in_front o (said (bounding name) cs) (matching cs names)).bounds)
           (cell_named r name ∷ (map (cell_named r) names ++ rest)) ≡ true →
-          Each (λ f. IsTrueAt f.0) (in_front o (said (bounding name) cs) (matching cs names)).fixed × Each (λ b. IsTrueAt b.0) (in_front o (said (bounding name) cs) (matching cs names)).bounds
+          Each (λ f. IsTrueAt f.0) (column_in_front o (said (bounding name) cs) (matching cs names)).fixed × Each (λ b. IsTrueAt b.0) (column_in_front o (said (bounding name) cs) (matching cs names)).bounds
       by None q more h = (tt, open_true (said (bounding name) cs) (said_from (bounding name) cs) h)
       by (Some f) q more h =
           let m : IsFrom (fixing name) cs f = first_has (IsFrom (fixing name) cs) (said (fixing name) cs) f q (said_from (fixing name) cs) in

@@ -27,11 +27,12 @@ use Rattle.tuple_codec.specs.Order.{bytes_cmp}
 use Rattle.tuple_codec.specs.Spelling.{spelling}
 use Rattle.metadata.specs.Cell.{IsCell}
 use Rattle.planner.specs.Pack.{pack, pack_cell, unpack}
-use Rattle.query.specs.Fields.{cell_in, cell_named}
+use Rattle.query.specs.Fields.{cell_named, field_cell}
 use Rattle.metadata.specs.Schema.{place_of}
 use Rattle.metadata.specs.Entries.{entry_of}
 use Rattle.metadata.specs.Layout.{Pair, entries_prefix, entry_pair, record_key, record_pair, records_prefix}
-use Rattle.planner.specs.Layout.{primary_cells, record_of, keyed, entry_primary_key, column_kinds, is_entry, is_primary_key}
+use Rattle.planner.specs.Layout.{primary_cells, stored_record, keyed, entry_primary_key, column_kinds, is_entry}
+use Rattle.planner.specs.Layout.{is_primary_key}
 use Rattle.std.specs.Result.{result_ok}
 use Rattle.metadata.specs.Cell.{all_fit, cell_at, cells_at, is_word, item_of}
 use Rattle.metadata.specs.Record.{record_in}
@@ -85,10 +86,10 @@ place_named t n named p l =
 
 -- columns go by their names
 pub columns_named : (t : TypeDefinition) (n : ℕ) → AreNamed t n → (r : Record) → r.definition ≡ t → (places : List ℕ) → Each (λ p. p < n) places →
-    map (cell_in r) places ≡ map (cell_named r) (map (name_at t) places)
+    map (field_cell r) places ≡ map (cell_named r) (map (name_at t) places)
 columns_named t n named r same [] e = refl
 columns_named t n named r same (p ∷ places) e =
-    λ i. sym (ap (λ d. option_map_or (cell_in r) (place_of d.fields (name_at t p)) Null) same ∙ ap (λ o. option_map_or (cell_in r) o Null) (place_named t n named p e.0)) i
+    λ i. sym (ap (λ d. option_map_or (field_cell r) (place_of d.fields (name_at t p)) Null) same ∙ ap (λ o. option_map_or (field_cell r) o Null) (place_named t n named p e.0)) i
     ∷ columns_named t n named r same places e.1 i
 
 -- ---- pairs in order
@@ -153,7 +154,7 @@ cell_stored [] e k = tt
 cell_stored (c ∷ cells) e zero = e.0
 cell_stored (c ∷ cells) e (suc k) = cell_stored cells e.1 k
 
-cells_stored : (r : Record) → Each IsCell r.cells → (places : List ℕ) → Each IsCell (map (cell_in r) places)
+cells_stored : (r : Record) → Each IsCell r.cells → (places : List ℕ) → Each IsCell (map (field_cell r) places)
 cells_stored r e [] = tt
 cells_stored r e (p ∷ places) = (cell_stored r.cells e p, cells_stored r e places)
 
@@ -183,7 +184,7 @@ module _ (reads_back : ReadsBack IsCell) (prefix : List ℕ) (pairs : List Pair)
   rises = rising pairs exact.in_order
 
   -- a record's pair is read back as the record
-  record_reads : (r : Record) → Member r records → record_of prefix t (record_pair prefix r) ≡ Some r
+  record_reads : (r : Record) → Member r records → stored_record prefix t (record_pair prefix r) ≡ Some r
   record_reads r m =
       ap (λ o. option_and_then back (option_and_then (λ cells. result_ok (record_in t cells)) o)) (reads_back r.cells (its_cells_stored r m))
       ∙ ap (λ o. option_and_then back (result_ok o)) (of_type r m).made
@@ -192,18 +193,18 @@ module _ (reads_back : ReadsBack IsCell) (prefix : List ℕ) (pairs : List Pair)
       back : Record → Option Record
       back = keyed prefix (record_key prefix (primary_key r))
 
-  record_keys : (r : Record) → Member r records → (record_pair prefix r).0 ≡ records_prefix prefix t.number ++ pack (map (cell_in r) t.key)
+  record_keys : (r : Record) → Member r records → (record_pair prefix r).0 ≡ records_prefix prefix t.number ++ pack (map (field_cell r) t.key)
   record_keys r m =
-      ap (λ d. prefix ++ pack (Int (pos 1) ∷ Int (pos d.number) ∷ map (cell_in r) d.key)) (its_type r m)
-      ∙ ap (λ w. prefix ++ w) (pack_append (Int (pos 1) ∷ Int (pos t.number) ∷ []) (map (cell_in r) t.key))
-      ∙ sym (append_assoc prefix (pack (Int (pos 1) ∷ Int (pos t.number) ∷ [])) (pack (map (cell_in r) t.key)))
+      ap (λ d. prefix ++ pack (Int (pos 1) ∷ Int (pos d.number) ∷ map (field_cell r) d.key)) (its_type r m)
+      ∙ ap (λ w. prefix ++ w) (pack_append (Int (pos 1) ∷ Int (pos t.number) ∷ []) (map (field_cell r) t.key))
+      ∙ sym (append_assoc prefix (pack (Int (pos 1) ∷ Int (pos t.number) ∷ [])) (pack (map (field_cell r) t.key)))
 
-  holds_records : Holds (records_prefix prefix t.number) pairs records (record_pair prefix) (λ r. pack (map (cell_in r) t.key)) (record_of prefix t) (λ r. r)
-  holds_records = holds_those (records_prefix prefix t.number) pairs records (record_pair prefix) (λ r. pack (map (cell_in r) t.key)) (record_of prefix t) (λ r. r) rises exact.records_are record_keys record_reads
+  holds_records : Holds (records_prefix prefix t.number) pairs records (record_pair prefix) (λ r. pack (map (field_cell r) t.key)) (stored_record prefix t) (λ r. r)
+  holds_records = holds_those (records_prefix prefix t.number) pairs records (record_pair prefix) (λ r. pack (map (field_cell r) t.key)) (stored_record prefix t) (λ r. r) rises exact.records_are record_keys record_reads
 
   record_loads : (r : Record) → Member r records → fetched prefix pairs t (primary_cells r) ≡ Some r
   record_loads r m =
-      ap (option_and_then (λ value. record_of prefix t (record_key prefix (primary_key r), value))) (find_member pairs rises (record_pair prefix r) (holds_records.has r m))
+      ap (option_and_then (λ value. stored_record prefix t (record_key prefix (primary_key r), value))) (find_member pairs rises (record_pair prefix r) (holds_records.has r m))
       ∙ record_reads r m
 
   -- the records of an exact map, as the planner's proofs take them
@@ -212,13 +213,13 @@ module _ (reads_back : ReadsBack IsCell) (prefix : List ℕ) (pairs : List Pair)
     holds = holds_records;
     loads = record_loads;
     keyed = λ r s m k e. same_Some r s (sym (record_loads r m) ∙ ap (fetched prefix pairs t) e ∙ record_loads s k);
-    keys_are = λ r m. ap (λ d. Int (pos d.number) ∷ map (cell_in r) d.key) (its_type r m);
+    keys_are = λ r m. ap (λ d. Int (pos d.number) ∷ map (field_cell r) d.key) (its_type r m);
     stored = λ r m. cells_stored r (its_cells_stored r m) t.key;
     named = λ r m. columns_named t n named r (its_type r m) t.key (all_each (λ p. p < n) t.key key_in);
   }
 
   entry_stored : (i : IndexDefinition) (r : Record) → Member r records → Each IsCell (entry_cells i r)
-  entry_stored i r m = each_append IsCell (map (cell_in r) i.columns) (primary_cells r) (cells_stored r (its_cells_stored r m) i.columns) (key_stored r m)
+  entry_stored i r m = each_append IsCell (map (field_cell r) i.columns) (primary_cells r) (cells_stored r (its_cells_stored r m) i.columns) (key_stored r m)
 
   fields_in : (places : List ℕ) → Each (λ p. p < n) places → Each (λ p. p < length t.fields) places
   fields_in places e = each_map (λ p. p < n) (λ p. p < length t.fields) (λ p l. omega (arith, l, named.in_range)) places e
@@ -243,10 +244,10 @@ module _ (reads_back : ReadsBack IsCell) (prefix : List ℕ) (pairs : List Pair)
       cut cells = if is_entry t i cells then Some (drop (length i.columns) cells) else None
 
       behind : drop (length i.columns) (entry_cells i r) ≡ primary_cells r
-      behind = ap (λ k. drop k (entry_cells i r)) (sym (length-map i.columns (cell_in r))) ∙ drop-append_seam (map (cell_in r) i.columns) (primary_cells r)
+      behind = ap (λ k. drop k (entry_cells i r)) (sym (length-map i.columns (field_cell r))) ∙ drop-append_seam (map (field_cell r) i.columns) (primary_cells r)
 
       front : take (length i.columns) (entry_cells i r) ≡ cells_at r.cells i.columns
-      front = ap (λ k. take k (entry_cells i r)) (sym (length-map i.columns (cell_in r))) ∙ take-append_seam (map (cell_in r) i.columns) (primary_cells r)
+      front = ap (λ k. take k (entry_cells i r)) (sym (length-map i.columns (field_cell r))) ∙ take-append_seam (map (field_cell r) i.columns) (primary_cells r)
 
       its_entry : is_entry t i (entry_cells i r) ≡ true
       its_entry =

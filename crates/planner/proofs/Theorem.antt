@@ -31,7 +31,7 @@ use Rattle.metadata.proofs.CellItems.{items_of-injective}
 use Rattle.metadata.proofs.StoredApart.{named_typed}
 use Rattle.metadata.specs.Schema.{type_at}
 use Rattle.planner.proofs.Lawful.{IsSoundType, types_sound, columns_within}
-use Rattle.query.specs.Checked.{field_named, is_value_of, is_prefix_of, node_refusal, refusal, unless}
+use Rattle.query.specs.Checked.{field_named, is_value_of, is_prefix_of, node_refusal, query_refusal, refusal_unless}
 use Rattle.metadata.specs.Schema.{find_type}
 use Rattle.query.specs.Filter.{Filter, compare, null_field, starts, all_of, some_of, negation, leaf_values, values, nodes, conjuncts}
 use Rattle.query.specs.Query.{Query, sort_cells, sort_cmp, Allows}
@@ -40,7 +40,7 @@ use Rattle.query.specs.declared.error.QueryError.{QueryError}
 use Rattle.query.specs.declared.error.QueryError.TheVariants.{WrongKind}
 use Rattle.query.proofs.Refusals.{EachFilter, passed, field_passed, none_refused, nodes_checked}
 use Rattle.query.proofs.Truths.{selects-conjuncts}
-use Rattle.planner.specs.Match.{numbered, name_at}
+use Rattle.planner.specs.Match.{numbered_filters, name_at}
 use Rattle.planner.specs.Plan.{Node}
 use Rattle.planner.specs.Planned.{is_empty, unsorted_plan, sorted_plan, planned}
 use Rattle.planner.specs.Rules.{MayBeUsed, usable}
@@ -129,14 +129,14 @@ node_has_value fields (compare n o v) e s =
     (s.0, not_null p.0.kind v (passed (is_value_of p.0.kind v) WrongKind p.1))
   where
     unless_value : Field → Option QueryError
-    unless_value f = unless (is_value_of f.kind v) WrongKind
+    unless_value f = refusal_unless (is_value_of f.kind v) WrongKind
 node_has_value fields (null_field n) e s = tt
 node_has_value fields (starts n v) e s =
     let p : (f : Field) × (unless_prefix f ≡ None) = field_passed (field_named fields n) unless_prefix e in
     (s.0, has_prefix p.0.kind v (passed (is_prefix_of p.0.kind v) WrongKind p.1))
   where
     unless_prefix : Field → Option QueryError
-    unless_prefix f = unless (is_prefix_of f.kind v) WrongKind
+    unless_prefix f = refusal_unless (is_prefix_of f.kind v) WrongKind
 node_has_value fields (all_of fs) e s = tt
 node_has_value fields (some_of fs) e s = tt
 node_has_value fields (negation f) e s = tt
@@ -185,7 +185,7 @@ no_field = record { name = []; kind = kind.Int }
 -- ---- the theorem
 
 module _ (laws : PackLaws IsCell) (reads_back : ReadsBack IsCell) (schema : Schema) (states : List (ℕ × State)) (query : Query) (t : TypeDefinition)
-    (lawful : IsLawfulSchema schema) (checked : refusal schema query ≡ None) (stored : All IsCell (values query.filter)) (its_type : find_type schema query.record_type ≡ Some t) where
+    (lawful : IsLawfulSchema schema) (checked : query_refusal schema query ≡ None) (stored : All IsCell (values query.filter)) (its_type : find_type schema query.record_type ≡ Some t) where
   in_schema : Contains schema.types t
   in_schema = contains_member t schema.types (found_member (λ u. bytes_eq u.name query.record_type) schema.types t its_type).0
 
@@ -246,7 +246,7 @@ module _ (laws : PackLaws IsCell) (reads_back : ReadsBack IsCell) (schema : Sche
           good_index reads_back prefix pairs u (indexes_of root) records exact n named key_in_u number_fits i (contains_member i (indexes_of root) m)
           (columns_in i (each_member (MayBeUsed schema states t) (planned_usable schema states t query root plan_is) m)))
 
-      by : (b : Bool) → is_empty query.sort ≡ b → (if b then Some (unsorted_plan u (usable schema states t) query.filter).root else sorted_plan u (usable schema states t) (numbered (conjuncts query.filter)) query.sort query.reverse) ≡ Some root →
+      by : (b : Bool) → is_empty query.sort ≡ b → (if b then Some (unsorted_plan u (usable schema states t) query.filter).root else sorted_plan u (usable schema states t) (numbered_filters (conjuncts query.filter)) query.sort query.reverse) ≡ Some root →
           (rows : List Record) × (rows_of prefix pairs u (record { definition = t; root = root }) ≡ Some rows) × Allows query records rows
       by true e h =
           let g : Gives prefix pairs u records root (selects query.filter) =
@@ -254,12 +254,12 @@ module _ (laws : PackLaws IsCell) (reads_back : ReadsBack IsCell) (schema : Sche
           (unsorted_gives prefix pairs u records IsCell laws tt good (usable schema states t) query.filter have_value) goods in
           (g.rows, g.means, allows prefix pairs u records query root (selects query.filter) g (λ r. refl) (any_order query.sort query.reverse g.rows e))
       by false e h =
-          let g : GivesSorted prefix pairs u records root (λ r. list_all (λ c. selects c.1 r) (numbered (conjuncts query.filter))) query.sort query.reverse =
-          sorted_gives prefix pairs u records IsCell laws tt good (rising pairs exact.in_order) (numbered (conjuncts query.filter)) (enumerated (conjuncts query.filter) 0)
+          let g : GivesSorted prefix pairs u records root (λ r. list_all (λ c. selects c.1 r) (numbered_filters (conjuncts query.filter))) query.sort query.reverse =
+          sorted_gives prefix pairs u records IsCell laws tt good (rising pairs exact.in_order) (numbered_filters (conjuncts query.filter)) (enumerated (conjuncts query.filter) 0)
           (numbered_checked IsCell (conjuncts query.filter) 0 (conjuncts_checked IsCell query.filter have_value)) query.reverse (usable schema states t) query.sort root h goods in (
             g.gives.rows,
             g.gives.means,
-            allows prefix pairs u records query root (λ r. list_all (λ c. selects c.1 r) (numbered (conjuncts query.filter))) g.gives
+            allows prefix pairs u records query root (λ r. list_all (λ c. selects c.1 r) (numbered_filters (conjuncts query.filter))) g.gives
                 (λ r. list_all-enumerated (λ f. selects f r) (conjuncts query.filter) 0 ∙ sym (selects-conjuncts query.filter r)) g.in_order,
           )
 

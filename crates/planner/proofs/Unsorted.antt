@@ -19,13 +19,14 @@ use Rattle.query.proofs.CellLaws.{cells_cmp_total}
 use Rattle.query.specs.Filter.{Filter, compare, null_field, starts, all_of, some_of, negation, Filters, no_filters, filter as part, parts, conjuncts, conjuncts_of, nodes, nodes_of as nodes_of_parts}
 use Rattle.query.specs.Truth.{selects, truth, truth_of_all, is_true}
 use Rattle.query.proofs.Truths.{selects-conjuncts, selects-conjuncts_of, selects-some_of, is_true-both}
-use Rattle.planner.specs.Range.{is_within}
-use Rattle.planner.specs.Match.{primary, along, Conjunct, numbered, Match, match_of, used, others, is_longer, path_number}
+use Rattle.planner.specs.Range.{range_has}
+use Rattle.planner.specs.Match.{primary, along, Conjunct, numbered_filters, Match, match_of, used, others, is_longer}
+use Rattle.planner.specs.Match.{path_number}
 use Rattle.planner.specs.Plan.{Node, fetch, union, unordered_union, distinct, intersection}
 use Rattle.planner.specs.Right.{indexes_of, indexes_of_all, indexes_of_scans}
 use Rattle.planner.specs.Scanned.{scans_all}
 use Rattle.planner.specs.Planned.{matched_range, index_scan, path_scan, residual, Matched, longer_of, fixes_all, joining, Draft, other_than, index_draft, path_draft, single_plan, nodes_of, union_of, is_empty, union_plan, only_union_plan, part_plans, unsorted_plan}
-use Rattle.planner.specs.Meaning.{of_each, scanned_keys, in_key_order, common}
+use Rattle.planner.specs.Meaning.{of_each, scanned_keys, in_key_order, keys_in_all}
 use Rattle.planner.proofs.Ranges.{PackLaws, Each}
 use Rattle.planner.proofs.Residual.{HasValue, Member, each_map, each_where, each_append, IsNumbered}
 use Rattle.planner.proofs.Rows.{member_of_where, IsRising, in_key_order_rising}
@@ -128,7 +129,7 @@ module _ (prefix : List ℕ) (pairs : List Pair) (t : TypeDefinition) (records :
   IsGood i = IsGoodIndex IsStored prefix pairs t records i
 
   abbrev in_range : IndexDefinition × Match → Record → Bool
-  in_range k r = is_within (matched_range k.1) (pack (entry_cells k.0 r))
+  in_range k r = range_has (matched_range k.1) (pack (entry_cells k.0 r))
 
   -- all conjuncts are those of the indexes that join, and the others
   joined_exact : (is : List IndexDefinition) (cs : List Conjunct) → IsNumbered cs → Each (λ c. HasValue IsStored c.1) cs → (r : Record) → Member r records → Each (λ k. IsGood k.0) (joining t is cs) →
@@ -185,11 +186,11 @@ module _ (prefix : List ℕ) (pairs : List Pair) (t : TypeDefinition) (records :
       index_scan_gives prefix pairs t records good.keyed (index_scan k.0 k.1 false) (λ r. pack (entry_cells k.0 r)) (λ r. entry_pair prefix k.0.number (entry_of k.0 r)) g.0.holds in
       let f : (kss : List (List (List Cell))) × (of_each (scanned_keys prefix pairs t) (map (λ k. index_scan k.0 k.1 false) ks) ≡ Some kss) × AllKeysOf records (map in_range ks) kss = scans_give ks g.1 in
       let p : Record → Bool = λ r. in_range k r && list_all (λ q. q r) (map in_range ks) in
-      let all : List (List Cell) = common (h.0 ∷ f.0) in
+      let all : List (List Cell) = keys_in_all (h.0 ∷ f.0) in
       let a : AreKeysOf records p all = common_keys records good.keyed (in_range k) (map in_range ks) h.0 f.0 (h.2, f.2) in
       gives_same prefix pairs t records (fetch (intersection (map (λ k. index_scan k.0 k.1 false) (k ∷ ks)))) p (λ r. list_all (λ k. in_range k r) (k ∷ ks)) (λ r m. ap (λ b. in_range k r && b) (all-map ks r))
       (fetch_gives prefix pairs t records good.loads (intersection (map (λ k. index_scan k.0 k.1 false) (k ∷ ks))) p (in_key_order (λ x. x) all)
-      (λ i. option_map (λ kss. in_key_order (λ x. x) (common kss)) (option_map (λ q. q.0 ∷ q.1) (option_zip (h.1 i) (f.1 i))))
+      (λ i. option_map (λ kss. in_key_order (λ x. x) (keys_in_all kss)) (option_map (λ q. q.0 ∷ q.1) (option_zip (h.1 i) (f.1 i))))
       (keys_in_order records p all a) (differ_from_rising (in_key_order (λ x. x) all) (in_key_order_rising (λ x. x) all)))
 
   -- ---- single paths
@@ -274,11 +275,11 @@ module _ (prefix : List ℕ) (pairs : List Pair) (t : TypeDefinition) (records :
     abbrev V : Filter → Type 0
     V = HasValue IsStored
 
-    filter_single_gives : (f : Filter) → Each V (nodes f) → GivesOver (single_plan t indexes (numbered (conjuncts f))).root (selects f)
+    filter_single_gives : (f : Filter) → Each V (nodes f) → GivesOver (single_plan t indexes (numbered_filters (conjuncts f))).root (selects f)
     filter_single_gives f e o =
-        gives_same prefix pairs t records (single_plan t indexes (numbered (conjuncts f))).root (λ r. list_all (λ c. selects c.1 r) (numbered (conjuncts f))) (selects f)
+        gives_same prefix pairs t records (single_plan t indexes (numbered_filters (conjuncts f))).root (λ r. list_all (λ c. selects c.1 r) (numbered_filters (conjuncts f))) (selects f)
         (λ r m. list_all-enumerated (λ g. selects g r) (conjuncts f) 0 ∙ sym (selects-conjuncts f r))
-        (single_gives (numbered (conjuncts f)) (enumerated (conjuncts f) 0) (numbered_checked IsStored (conjuncts f) 0 (conjuncts_checked IsStored f e)) o)
+        (single_gives (numbered_filters (conjuncts f)) (enumerated (conjuncts f) 0) (numbered_checked IsStored (conjuncts f) 0 (conjuncts_checked IsStored f e)) o)
 
     -- without conjuncts everything is selected
     all_selected : (f : Filter) (r : Record) → is_empty (conjuncts f) ≡ true → selects f r ≡ true
@@ -321,7 +322,7 @@ module _ (prefix : List ℕ) (pairs : List Pair) (t : TypeDefinition) (records :
     only_by f fs d false false p q later own e o = absurd_none d (Gives prefix pairs t records d.root (λ r. is_true (truth_of_all (part f fs) r))) e
 
     draft_by : (f : Filter) (o : Option Draft) → union_plan t indexes f ≡ o → ((d : Draft) → union_plan t indexes f ≡ Some d → GivesOver d.root (selects f)) →
-        GivesOver (single_plan t indexes (numbered (conjuncts f))).root (selects f) → GivesOver (unwrap_or o (single_plan t indexes (numbered (conjuncts f)))).root (selects f)
+        GivesOver (single_plan t indexes (numbered_filters (conjuncts f))).root (selects f) → GivesOver (unwrap_or o (single_plan t indexes (numbered_filters (conjuncts f)))).root (selects f)
     draft_by f None e g single = single
     draft_by f (Some d) e g single = g d e
 

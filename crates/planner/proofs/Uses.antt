@@ -10,7 +10,8 @@ use Rattle.metadata.specs.Index.{is_value}
 use Rattle.metadata.specs.declared.definition.TypeDefinition.{TypeDefinition}
 use Rattle.query.specs.Filter.{Filter, compare, null_field, starts, all_of, some_of, negation, Filters, no_filters, filter as part, parts, conjuncts, conjuncts_of}
 use Rattle.query.specs.Query.{Query}
-use Rattle.planner.specs.Match.{Path, primary, along, Conjunct, numbered, Match, match_of, used, serves, paths, others}
+use Rattle.planner.specs.Match.{Path, primary, along, Conjunct, numbered_filters, Match, match_of, used, serves, paths}
+use Rattle.planner.specs.Match.{others}
 use Rattle.planner.specs.Plan.{Node, fetch, intersection, union, unordered_union, distinct}
 use Rattle.planner.specs.Scanned.{scans_all}
 use Rattle.planner.specs.Planned.{index_scan, path_scan, residual, Matched, longer_of, longest, matched_paths, sorted_plan, fixes_all, joining, Draft, other_than, index_draft, path_draft, single_plan, nodes_of, union_of, is_empty, union_plan, only_union_plan, part_plans, unsorted_plan, planned}
@@ -137,13 +138,13 @@ module _ (t : TypeDefinition) (indexes : List IndexDefinition) (P : IndexDefinit
     parts_use no_filters = tt
     parts_use (part f fs) =
         each_append P (indexes_of (unsorted_plan t indexes f).root) (indexes_of_all (nodes_of (map (λ d. d.root) (part_plans t indexes fs))))
-        (either_uses (union_plan t indexes f) (single_plan t indexes (numbered (conjuncts f))) (λ d g. union_plan_uses f d g) (single_uses (numbered (conjuncts f)))) (parts_use fs)
+        (either_uses (union_plan t indexes f) (single_plan t indexes (numbered_filters (conjuncts f))) (λ d g. union_plan_uses f d g) (single_uses (numbered_filters (conjuncts f)))) (parts_use fs)
 
   -- what holds of all indexes that may be used holds of those that the plan scans
   pub planned_uses : (q : Query) (root : Node) → planned t indexes q ≡ Some root → Uses root
   planned_uses q root e = by (is_empty q.sort) e
     where
-      by : (b : Bool) → (if b then Some (unsorted_plan t indexes q.filter).root else sorted_plan t indexes (numbered (conjuncts q.filter)) q.sort q.reverse) ≡ Some root → Uses root
+      by : (b : Bool) → (if b then Some (unsorted_plan t indexes q.filter).root else sorted_plan t indexes (numbered_filters (conjuncts q.filter)) q.sort q.reverse) ≡ Some root → Uses root
       by true h = subst Uses (same_Some (unsorted_plan t indexes q.filter).root root h)
-          (either_uses (union_plan t indexes q.filter) (single_plan t indexes (numbered (conjuncts q.filter))) (λ d g. union_plan_uses q.filter d g) (single_uses (numbered (conjuncts q.filter))))
-      by false h = sorted_uses (numbered (conjuncts q.filter)) q.sort q.reverse root h
+          (either_uses (union_plan t indexes q.filter) (single_plan t indexes (numbered_filters (conjuncts q.filter))) (λ d g. union_plan_uses q.filter d g) (single_uses (numbered_filters (conjuncts q.filter))))
+      by false h = sorted_uses (numbered_filters (conjuncts q.filter)) q.sort q.reverse root h

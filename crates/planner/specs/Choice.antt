@@ -5,7 +5,8 @@ use Rattle.metadata.specs.declared.index.IndexDefinition.{IndexDefinition}
 use Rattle.metadata.specs.declared.definition.TypeDefinition.{TypeDefinition}
 use Rattle.query.specs.Filter.{Filter, compare, null_field, starts, all_of, some_of, negation, parts, conjuncts}
 use Rattle.query.specs.Query.{Query}
-use Rattle.planner.specs.Match.{Path, path_number, Conjunct, numbered, match_of, reach, is_longer, serves, paths}
+use Rattle.planner.specs.Match.{Path, path_number, Conjunct, numbered_filters, match_of, match_reach, is_longer, serves}
+use Rattle.planner.specs.Match.{paths}
 use Rattle.planner.specs.Plan.{Node}
 use Rattle.planner.specs.Planned.{matched_range, is_empty, unsorted_plan}
 use Rattle.planner.specs.Scanned.{PathScan, scans_of, scans_all}
@@ -35,20 +36,20 @@ module _ (t : TypeDefinition) (indexes : List IndexDefinition) where
   -- a plan for a sort scans the serving path of the longest match, and nothing else
   pub record ScansServing (query : Query) (root : Node) : Type 0 where
     pub path : Path
-    pub longest : IsLongest t (numbered (conjuncts query.filter))
-        (filter (serves t (numbered (conjuncts query.filter)) query.sort) (paths indexes)) path
-    pub scans : scans_of root ≡ matched_scan t (numbered (conjuncts query.filter)) path query.reverse ∷ []
+    pub longest : IsLongest t (numbered_filters (conjuncts query.filter))
+        (filter (serves t (numbered_filters (conjuncts query.filter)) query.sort) (paths indexes)) path
+    pub scans : scans_of root ≡ matched_scan t (numbered_filters (conjuncts query.filter)) path query.reverse ∷ []
 
   -- a plan first scans the path of the longest match, whose index others may join
   pub record ScansLongest (f : Filter) (root : Node) : Type 0 where
     pub path : Path
     pub joined : List PathScan
-    pub longest : IsLongest t (numbered (conjuncts f)) (paths indexes) path
-    pub scans : scans_of root ≡ matched_scan t (numbered (conjuncts f)) path false ∷ joined
+    pub longest : IsLongest t (numbered_filters (conjuncts f)) (paths indexes) path
+    pub scans : scans_of root ≡ matched_scan t (numbered_filters (conjuncts f)) path false ∷ joined
 
   -- no path has a match
   abbrev pub HasNoMatch : Filter → Type 0
-  HasNoMatch f = All (λ p. reach (match_of t (numbered (conjuncts f)) p) ≡ 0) (paths indexes)
+  HasNoMatch f = All (λ p. match_reach (match_of t (numbered_filters (conjuncts f)) p) ≡ 0) (paths indexes)
 
   -- one of the alternatives is planned with a full record scan
   abbrev pub HasFullPart : List Filter → Type 0

@@ -23,8 +23,8 @@ abbrev pub keyed : List ℕ → List ℕ → Record → Option Record
 keyed prefix key r = if bytes_eq key (record_key prefix (primary_key r)) then Some r else None
 
 -- the record that a pair stands for, if its bytes are of the written form
-abbrev pub record_of : List ℕ → TypeDefinition → Pair → Option Record
-record_of prefix t pair =
+abbrev pub stored_record : List ℕ → TypeDefinition → Pair → Option Record
+stored_record prefix t pair =
     option_and_then (keyed prefix pair.0) (option_and_then (λ cells. result_ok (record_in t cells))
     (unpack pair.1))
 

@@ -35,8 +35,8 @@ sort_columns t (along i) = i.columns ++ t.key
 abbrev pub Conjunct : Type 0
 Conjunct = ℕ × Filter
 
-abbrev pub numbered : List Filter → List Conjunct
-numbered fs = enumerate_from 0 fs
+abbrev pub numbered_filters : List Filter → List Conjunct
+numbered_filters fs = enumerate_from 0 fs
 
 -- the cell to which a filter fixes a field: that of an equality, or null
 abbrev pub fixing : List ℕ → Filter → Option Cell
@@ -72,15 +72,16 @@ abbrev pub name_at : TypeDefinition → ℕ → List ℕ
 name_at t place = slice_index_or (map (λ f. f.name) t.fields) place []
 
 -- a column in front of a match: fixed, or bounded and then the last that is matched
-abbrev pub in_front : Option (ℕ × Cell) → List (ℕ × Bound) → Match → Match
-in_front None bounds rest = record { fixed = []; bounds = bounds }
-in_front (Some f) bounds rest = record { fixed = f ∷ rest.fixed; bounds = rest.bounds }
+abbrev pub column_in_front : Option (ℕ × Cell) → List (ℕ × Bound) → Match → Match
+column_in_front None bounds rest = record { fixed = []; bounds = bounds }
+column_in_front (Some f) bounds rest = record { fixed = f ∷ rest.fixed; bounds = rest.bounds }
 
 -- the match of the conjuncts along columns of these names: each is fixed by the first conjunct that fixes it, up to
 -- the first that none fixes, which all its bounds bound
 abbrev pub matching : List Conjunct → List (List ℕ) → Match
 matching cs [] = record { fixed = []; bounds = [] }
-matching cs (name ∷ names) = in_front (first (said (fixing name) cs)) (said (bounding name) cs) (matching cs names)
+matching cs (name ∷ names) =
+    column_in_front (first (said (fixing name) cs)) (said (bounding name) cs) (matching cs names)
 
 -- the match of a path
 abbrev pub match_of : TypeDefinition → List Conjunct → Path → Match
@@ -91,15 +92,16 @@ abbrev pub used : Match → List ℕ
 used m = map (λ f. f.0) m.fixed ++ map (λ b. b.0) m.bounds
 
 -- the columns fixed and bounded together
-abbrev pub reach : Match → ℕ
-reach m = length m.fixed + (if nat_lt 0 (length m.bounds) then 1 else 0)
+abbrev pub match_reach : Match → ℕ
+match_reach m = length m.fixed + (if nat_lt 0 (length m.bounds) then 1 else 0)
 
 -- whether the first match is longer: in columns fixed and bounded together, else in columns fixed, else by the
 -- smaller number of its path
 abbrev pub is_longer : ℕ × Match → ℕ × Match → Bool
 is_longer (p, m) (q, n) =
-    nat_lt (reach n) (reach m)
-    || (reach m == reach n) && (nat_lt (length n.fixed) (length m.fixed) || (length m.fixed == length n.fixed)
+    nat_lt (match_reach n) (match_reach m)
+    || (match_reach m == match_reach n)
+    && (nat_lt (length n.fixed) (length m.fixed) || (length m.fixed == length n.fixed)
     && nat_lt p q)
 
 -- whether the records come sorted by fields of these names along a path: without some of its leading fixed columns,

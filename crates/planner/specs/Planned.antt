@@ -7,15 +7,15 @@ use Rattle.metadata.specs.declared.definition.TypeDefinition.{TypeDefinition}
 use Rattle.query.specs.Filter.{Filter, compare, null_field, starts, all_of, some_of, negation, Filters}
 use Rattle.query.specs.Filter.{no_filters, filter as part, parts, filters_of, conjuncts, conjuncts_of}
 use Rattle.query.specs.Query.{Query}
-use Rattle.planner.specs.Range.{KeyRange, range_of}
-use Rattle.planner.specs.Match.{Path, primary, along, path_number, Conjunct, numbered, Match, match_of, used}
+use Rattle.planner.specs.Range.{PlanRange, range_of}
+use Rattle.planner.specs.Match.{Path, primary, along, path_number, Conjunct, numbered_filters, Match, match_of, used}
 use Rattle.planner.specs.Match.{is_longer, serves, paths, others}
 use Rattle.planner.specs.Scanned.{scans_all}
 use Rattle.planner.specs.Plan.{IndexScan, one, intersection, Node, scan, fetch, filtered, union}
 use Rattle.planner.specs.Plan.{unordered_union, distinct, Nodes, no_nodes, node}
 
 -- the range that a match gives a scan of its path
-abbrev pub matched_range : Match → KeyRange
+abbrev pub matched_range : Match → PlanRange
 matched_range m = range_of (map (λ f. f.1) m.fixed) (map (λ b. b.1) m.bounds)
 
 abbrev pub index_scan : IndexDefinition → Match → Bool → IndexScan
@@ -141,15 +141,15 @@ module _ (t : TypeDefinition) (indexes : List IndexDefinition) where
     -- the plan of each alternative
     pub part_plans : Filters → List Draft
     part_plans no_filters = []
-    part_plans (part f fs) = unwrap_or (union_plan f) (single_plan t indexes (numbered (conjuncts f)))
+    part_plans (part f fs) = unwrap_or (union_plan f) (single_plan t indexes (numbered_filters (conjuncts f)))
         ∷ part_plans fs
 
   -- the plan of a filter without a sort
   abbrev pub unsorted_plan : Filter → Draft
-  unsorted_plan f = unwrap_or (union_plan f) (single_plan t indexes (numbered (conjuncts f)))
+  unsorted_plan f = unwrap_or (union_plan f) (single_plan t indexes (numbered_filters (conjuncts f)))
 
   -- the plan of a query, if there is one
   abbrev pub planned : Query → Option Node
   planned q =
       if is_empty q.sort then Some (unsorted_plan q.filter).root
-      else sorted_plan t indexes (numbered (conjuncts q.filter)) q.sort q.reverse
+      else sorted_plan t indexes (numbered_filters (conjuncts q.filter)) q.sort q.reverse

@@ -14,7 +14,7 @@ use Rattle.metadata.specs.Layout.{Pair}
 use Rattle.query.specs.Filter.{conjuncts}
 use Rattle.query.specs.Query.{Query, Allows}
 use Rattle.metadata.specs.Schema.{find_type}
-use Rattle.planner.specs.Match.{numbered, serves, paths}
+use Rattle.planner.specs.Match.{numbered_filters, serves, paths}
 use Rattle.planner.specs.Plan.{Plan, IndexScan, Source, one, intersection, Node, scan, fetch, filtered, union}
 use Rattle.planner.specs.Plan.{unordered_union, distinct, Nodes, no_nodes, node}
 use Rattle.planner.specs.Planned.{is_empty}
@@ -78,7 +78,7 @@ pub record IsPlanFor (query : Query) (plan : Plan) : Type 0 where
 -- whether a path to the records of the type serves the query's sort
 abbrev pub has_sorted_path : Schema → List (ℕ × State) → Query → TypeDefinition → Bool
 has_sorted_path schema states query t =
-    list_any (serves t (numbered (conjuncts query.filter)) query.sort) (paths (usable schema states t))
+    list_any (serves t (numbered_filters (conjuncts query.filter)) query.sort) (paths (usable schema states t))
 
 -- whether the query asks for no sort, or a path serves it
 abbrev pub is_served : Schema → List (ℕ × State) → Query → Bool

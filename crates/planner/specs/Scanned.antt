@@ -1,14 +1,14 @@
 -- The scans of a plan, each as a path within a range.
 use Rattle.std.specs.Prelude.{Bool, true, false, ◌&&◌, List, [], ◌∷◌, ◌++◌, map, bytes_eq}
 use Rattle.std.specs.List.{list_any}
-use Rattle.planner.specs.Range.{KeyRange}
+use Rattle.planner.specs.Range.{PlanRange}
 use Rattle.planner.specs.Match.{Path, primary, along}
 use Rattle.planner.specs.Plan.{IndexScan, Source, one, intersection, Node, scan, fetch, filtered, union}
 use Rattle.planner.specs.Plan.{unordered_union, distinct, Nodes, no_nodes, node}
 
 pub record PathScan : Type 0 where
   pub path : Path
-  pub range : KeyRange
+  pub range : PlanRange
   pub reverse : Bool
 
 abbrev pub along_index : IndexScan → PathScan

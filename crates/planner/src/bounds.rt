@@ -3,8 +3,8 @@ ghost use Rattle.std.specs.Prelude.{◌≡◌, ◌++◌, ◌∷◌, [], fold, ma
 ghost use Rattle.metadata.specs.Order.{open_pack};
 ghost use Rattle.planner.specs.Pack.{behind_all, pack, pack_cell};
 ghost use Rattle.planner.specs.Planned.{matched_range};
-ghost use Rattle.planner.specs.Range.{begin_of, bounded, earlier, end_of, later};
-ghost use Rattle.planner.specs.View.{bound_of, bounds_of, cell_of, fixed_of, match_of, range_of};
+ghost use Rattle.planner.specs.Range.{begin_of, bounded, earlier_key, end_of, later_key};
+ghost use Rattle.planner.specs.View.{bound_of, bounds_of, fixed_cell, fixed_of, match_of, range_of};
 
 use crate::fixing::{Bound, Fixed};
 use crate::matching::Match;
@@ -26,7 +26,7 @@ fn pack_cell(alloc: Global, cell: &Cell) -> Result<Vec<u8>, AllocError>
 
 /// The pack of the cell that a column is fixed to.
 fn pack_fixed(alloc: Global, cell: Fixed) -> Result<Vec<u8>, AllocError>
-    ensures { IfOk result (λ bytes. bytes.items ≡ pack_cell (cell_of cell.entry)) }
+    ensures { IfOk result (λ bytes. bytes.items ≡ pack_cell (fixed_cell cell.entry)) }
 {
     match cell {
         Fixed::Null => pack_cell(alloc, &Cell::Null),
@@ -120,7 +120,7 @@ fn end_of(alloc: Global, bound: Bound) -> Result<Vec<u8>, AllocError>
 
 /// The later of two keys.
 fn later(a: Vec<u8>, b: Vec<u8>) -> Vec<u8>
-    ensures { result.items ≡ later a.items b.items }
+    ensures { result.items ≡ later_key a.items b.items }
 {
     if b.as_slice().cmp(a.as_slice()).is_lt() {
         a
@@ -131,7 +131,7 @@ fn later(a: Vec<u8>, b: Vec<u8>) -> Vec<u8>
 
 /// The earlier of two keys.
 fn earlier(a: Vec<u8>, b: Vec<u8>) -> Vec<u8>
-    ensures { result.items ≡ earlier a.items b.items }
+    ensures { result.items ≡ earlier_key a.items b.items }
 {
     if b.as_slice().cmp(a.as_slice()).is_lt() {
         b
@@ -147,7 +147,7 @@ fn latest_begin(
     bounds: &[(usize, Bound)],
 ) -> Result<Vec<u8>, AllocError>
     ensures { IfOk result (λ bytes. bytes.items
-        ≡ fold later begin.items (map begin_of (map (λ b. b.1) (map bounds_of bounds.now)))) }
+        ≡ fold later_key begin.items (map begin_of (map (λ b. b.1) (map bounds_of bounds.now)))) }
 {
     match bounds {
         [] => Ok(begin),
@@ -165,7 +165,7 @@ fn earliest_end(
     bounds: &[(usize, Bound)],
 ) -> Result<Vec<u8>, AllocError>
     ensures { IfOk result (λ bytes. bytes.items
-        ≡ fold earlier end.items (map end_of (map (λ b. b.1) (map bounds_of bounds.now)))) }
+        ≡ fold earlier_key end.items (map end_of (map (λ b. b.1) (map bounds_of bounds.now)))) }
 {
     match bounds {
         [] => Ok(end),

@@ -3,7 +3,7 @@ ghost use Rattle.std.specs.Prelude.{◌≡◌, ◌++◌, map, length, OnOk, IfOk
 ghost use Rattle.std.specs.List.{enumerate_from};
 ghost use Rattle.query.specs.Filter.{conjuncts, conjuncts_of, filters_of};
 ghost use Rattle.query.specs.View.{filter_of};
-ghost use Rattle.planner.specs.Match.{numbered};
+ghost use Rattle.planner.specs.Match.{numbered_filters};
 ghost use Rattle.planner.specs.View.{conjunct_of};
 
 use crate::matching::Conjunct;
@@ -16,7 +16,7 @@ pub(crate) fn conjuncts<'a>(
     filter: &'a Filter,
 ) -> Result<Vec<Conjunct<'a>>, AllocError>
     ensures { IfOk result (λ cs. map conjunct_of cs.items
-        ≡ numbered (conjuncts (filter_of filter.now))) }
+        ≡ numbered_filters (conjuncts (filter_of filter.now))) }
 {
     let mut into = Vec::new(alloc);
     add_conjuncts(filter, &mut into)?;

@@ -2,7 +2,8 @@
 //! modules here.
 ghost use Rattle.std.specs.Prelude.{◌≡◌, ◌+◌, ◌∷◌, ◌++◌, [], map, option_map, IfOk, OnOk};
 ghost use Rattle.planner.specs.ByField.{IsByField};
-ghost use Rattle.planner.specs.Match.{name_at, first, said, fixing, bounding, matching, reach, is_longer};
+ghost use Rattle.planner.specs.Match.{name_at, first, said, fixing, bounding, matching};
+ghost use Rattle.planner.specs.Match.{match_reach, is_longer};
 ghost use Rattle.planner.specs.View.{conjunct_of, fixed_of, bounds_of, match_of};
 
 use crate::by_field::on_field;
@@ -51,7 +52,7 @@ fn first_fixing<'a>(name: &[u8], conjuncts: &[Conjunct<'a>]) -> Option<(usize, F
 
 /// How many columns are fixed and bounded together.
 pub(crate) fn reach(m: &Match) -> usize
-    ensures { result ≡ reach (match_of m.now) }
+    ensures { result ≡ match_reach (match_of m.now) }
 {
     if m.bounds.is_empty() {
         m.fixed.len()

@@ -1,7 +1,7 @@
 //! The call that plans a query. Called by `plan_exec` and `explain`.
 ghost use Rattle.std.specs.Prelude.{◌≡◌, All, Some, None, IfOk, IfErr, IsTrue, IsFalse};
 ghost use Rattle.metadata.specs.Schema.{find_type};
-ghost use Rattle.query.specs.Checked.{refusal};
+ghost use Rattle.query.specs.Checked.{query_refusal};
 ghost use Rattle.query.specs.View.{query_of};
 ghost use Rattle.planner.specs.Choice.{IsChosen};
 ghost use Rattle.planner.specs.Planned.{planned};
@@ -29,7 +29,7 @@ pub fn plan(
     states: &[(u64, State)],
     query: &Query,
 ) -> Result<Plan, PlanError>
-    requires { refusal schema.now (query_of query.now) ≡ None }
+    requires { query_refusal schema.now (query_of query.now) ≡ None }
     ensures typed { IfOk result (λ p. find_type schema.now query.now.record_type
         ≡ Some (plan_of p).definition) }
     ensures is { IfOk result

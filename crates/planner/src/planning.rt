@@ -5,7 +5,8 @@ ghost use Rattle.std.specs.Prelude.{[], ◌||◌, true, nat_lt, fold, IfOk, OnOk
 ghost use Rattle.std.specs.Option.{option_map_or};
 ghost use Rattle.metadata.specs.Index.{is_readable, is_value, listed_state};
 ghost use Rattle.planner.specs.ByField.{IsByField};
-ghost use Rattle.planner.specs.Match.{along, match_of as match_of_path, matching, name_at, path_number, reach};
+ghost use Rattle.planner.specs.Match.{along, match_of as match_of_path, match_reach, matching};
+ghost use Rattle.planner.specs.Match.{name_at, path_number};
 ghost use Rattle.planner.specs.Planned.{longer_of, matched_paths};
 ghost use Rattle.planner.specs.Rules.{usable};
 ghost use Rattle.planner.specs.View.{conjunct_of, match_of, matched_of, path_of};
@@ -89,7 +90,7 @@ fn is_untold(t: &TypeDefinition, columns: &[usize], conjuncts: &[Conjunct]) -> b
 /// Whether no match without columns is longer: the path is the primary one, or its match has columns.
 fn outdoes_none(m: &Matched) -> bool
     ensures { result ≡ (path_number (matched_of m.now).0 == 0
-        || nat_lt 0 (reach (matched_of m.now).1)) }
+        || nat_lt 0 (match_reach (matched_of m.now).1)) }
 {
     path_number(m.path) == 0 || 0 < reach(&m.columns)
 }

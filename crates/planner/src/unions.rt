@@ -4,7 +4,7 @@ ghost use Rattle.std.specs.Prelude.{◌≡◌, ◌++◌, length, nat_lt, [], map
 ghost use Rattle.std.specs.List.{list_all, list_any};
 ghost use Rattle.query.specs.Filter.{conjuncts, conjuncts_of, filters_of, parts};
 ghost use Rattle.query.specs.View.{filter_of, query_of};
-ghost use Rattle.planner.specs.Match.{numbered, paths};
+ghost use Rattle.planner.specs.Match.{numbered_filters, paths};
 ghost use Rattle.planner.specs.Planned.{is_empty, matched_paths, nodes_of, only_union_plan, part_plans};
 ghost use Rattle.planner.specs.Planned.{planned, single_plan, union_of, union_plan, unsorted_plan};
 ghost use Rattle.planner.specs.Scanned.{is_full, scans_all, scans_of, scans_of_all, source_scans};
@@ -96,7 +96,7 @@ fn single_plan<'a>(
 ) -> Result<Draft, AllocError>
     ensures { IfOk result (λ draft. draft_of draft
         ≡ single_plan t.now (map (λ i. i.now) indexes.now)
-        (numbered (conjuncts (filter_of filter.now)))) }
+        (numbered_filters (conjuncts (filter_of filter.now)))) }
 {
     let all = conjuncts(alloc, filter)?;
     let sorted = by_field(alloc, all.as_slice())?;

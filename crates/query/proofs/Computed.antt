@@ -13,7 +13,7 @@ use Rattle.query.specs.declared.error.QueryError.TheVariants.{UnknownType, TooDe
 use Rattle.query.specs.Filter.{Filter, compare, null_field, starts, all_of, some_of, negation, no_filters, filters_of, conjuncts}
 use Rattle.query.specs.Truth.{truth, selects}
 use Rattle.query.specs.Query.{Query}
-use Rattle.query.specs.Checked.{refusal}
+use Rattle.query.specs.Checked.{query_refusal}
 
 -- the names k, a, b, s, y, t, u, z
 abbrev pub k : List ℕ
@@ -113,35 +113,35 @@ abbrev nested : ℕ → Filter
 nested zero = null_field a
 nested (suc n) = negation (nested n)
 
-pub unknown_type : refusal schema (asks z (null_field a) []) ≡ Some UnknownType
+pub unknown_type : query_refusal schema (asks z (null_field a) []) ≡ Some UnknownType
 unknown_type = refl
 
-pub too_deep : refusal schema (asks t (nested 32) []) ≡ Some TooDeep
+pub too_deep : query_refusal schema (asks t (nested 32) []) ≡ Some TooDeep
 too_deep = refl
 
-pub deep_enough : refusal schema (asks t (nested 31) []) ≡ None
+pub deep_enough : query_refusal schema (asks t (nested 31) []) ≡ None
 deep_enough = refl
 
-pub too_large : refusal schema (asks t (all_of (filters_of (replicate 256 (null_field a)))) []) ≡ Some TooLarge
+pub too_large : query_refusal schema (asks t (all_of (filters_of (replicate 256 (null_field a)))) []) ≡ Some TooLarge
 too_large = refl
 
-pub large_enough : refusal schema (asks t (all_of (filters_of (replicate 255 (null_field a)))) []) ≡ None
+pub large_enough : query_refusal schema (asks t (all_of (filters_of (replicate 255 (null_field a)))) []) ≡ None
 large_enough = refl
 
-pub nine_sort_fields : refusal schema (asks t (null_field z) (replicate 9 a)) ≡ Some TooLarge
+pub nine_sort_fields : query_refusal schema (asks t (null_field z) (replicate 9 a)) ≡ Some TooLarge
 nine_sort_fields = refl
 
-pub unknown_field : refusal schema (asks t (compare z Equal (int 1)) []) ≡ Some UnknownField
+pub unknown_field : query_refusal schema (asks t (compare z Equal (int 1)) []) ≡ Some UnknownField
 unknown_field = refl
 
-pub null_value : refusal schema (asks t (compare a Equal Null) []) ≡ Some WrongKind
+pub null_value : query_refusal schema (asks t (compare a Equal Null) []) ≡ Some WrongKind
 null_value = refl
 
-pub number_prefix : refusal schema (asks t (starts a (int 1)) []) ≡ Some WrongKind
+pub number_prefix : query_refusal schema (asks t (starts a (int 1)) []) ≡ Some WrongKind
 number_prefix = refl
 
-pub unknown_sort : refusal schema (asks t (all_of no_filters) (z ∷ [])) ≡ Some UnknownField
+pub unknown_sort : query_refusal schema (asks t (all_of no_filters) (z ∷ [])) ≡ Some UnknownField
 unknown_sort = refl
 
-pub sort_twice : refusal schema (asks t (all_of no_filters) (a ∷ a ∷ [])) ≡ Some SortTwice
+pub sort_twice : query_refusal schema (asks t (all_of no_filters) (a ∷ a ∷ [])) ≡ Some SortTwice
 sort_twice = refl

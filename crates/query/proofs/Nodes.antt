@@ -6,7 +6,7 @@ use Rattle.std.proofs.lemmas.List.Elements.{All-append}
 use Rattle.std.proofs.Common.{arith, length-append, subst, sym, ap, ◌∙◌}
 use Rattle.std.proofs.Math.Seq.{take-length}
 use Rattle.metadata.specs.Cell.{IsCell}
-use Rattle.query.specs.Checked.{first_refusal}
+use Rattle.query.specs.Checked.{first_query_refusal}
 use Rattle.query.specs.declared.error.QueryError.{QueryError}
 use Rattle.query.specs.Filter.{Filter, compare, null_field, starts, all_of, some_of, negation, Filters, filter, nodes, nodes_of, leaf_values}
 
@@ -22,11 +22,11 @@ pub length_nodes_of : (f : Filter) (fs : Filters) → length (nodes_of (filter f
 length_nodes_of f fs = length-append (nodes f) (nodes_of fs)
 
 -- the first refusal among several lists
-pub first_refusal_append : {A : Type 0} (why : A → Option QueryError) (xs ys : List A) → first_refusal why (xs ++ ys) ≡ option_or (first_refusal why xs) (first_refusal why ys)
+pub first_refusal_append : {A : Type 0} (why : A → Option QueryError) (xs ys : List A) → first_query_refusal why (xs ++ ys) ≡ option_or (first_query_refusal why xs) (first_query_refusal why ys)
 first_refusal_append why [] ys = refl
 first_refusal_append why (x ∷ xs) ys = by (why x) (first_refusal_append why xs ys)
   where
-    by : (o : Option QueryError) → first_refusal why (xs ++ ys) ≡ option_or (first_refusal why xs) (first_refusal why ys) → option_or o (first_refusal why (xs ++ ys)) ≡ option_or (option_or o (first_refusal why xs)) (first_refusal why ys)
+    by : (o : Option QueryError) → first_query_refusal why (xs ++ ys) ≡ option_or (first_query_refusal why xs) (first_query_refusal why ys) → option_or o (first_query_refusal why (xs ++ ys)) ≡ option_or (option_or o (first_query_refusal why xs)) (first_query_refusal why ys)
     by None e = e
     by (Some x) e = refl
 
@@ -43,6 +43,6 @@ first_and_rest (x ∷ xs) d l = ap (λ w. x ∷ w) (sym (take-length xs) ∙ ap 
     same = omega arith
 
 -- where the first of several filters isn't refused, the others are
-pub parts_step : (why : Filter → Option QueryError) (f : Filter) (fs all : Filters) → all ≡ filter f fs → (r : Option QueryError) → first_refusal why (nodes f) ≡ None → r ≡ first_refusal why (nodes_of fs) → r ≡ first_refusal why (nodes_of all)
+pub parts_step : (why : Filter → Option QueryError) (f : Filter) (fs all : Filters) → all ≡ filter f fs → (r : Option QueryError) → first_query_refusal why (nodes f) ≡ None → r ≡ first_query_refusal why (nodes_of fs) → r ≡ first_query_refusal why (nodes_of all)
 parts_step why f fs all is_all r none rest =
-    rest ∙ ap (λ o. option_or o (first_refusal why (nodes_of fs))) (sym none) ∙ sym (first_refusal_append why (nodes f) (nodes_of fs)) ∙ ap (λ w. first_refusal why (nodes_of w)) (sym is_all)
+    rest ∙ ap (λ o. option_or o (first_query_refusal why (nodes_of fs))) (sym none) ∙ sym (first_refusal_append why (nodes f) (nodes_of fs)) ∙ ap (λ w. first_query_refusal why (nodes_of w)) (sym is_all)

@@ -31,24 +31,24 @@ is_prefix_of kind.Int c = false
 is_prefix_of k c = is_value_of k c
 
 -- the refusal where a test fails
-abbrev pub unless : Bool → QueryError → Option QueryError
-unless ok e = if ok then None else Some e
+abbrev pub refusal_unless : Bool → QueryError → Option QueryError
+refusal_unless ok e = if ok then None else Some e
 
 -- why a single node is refused, its parts aside
 abbrev pub node_refusal : List Field → Filter → Option QueryError
 node_refusal fields (compare name o v) =
-    option_map_or (λ f. unless (is_value_of f.kind v) WrongKind) (field_named fields name) (Some UnknownField)
-node_refusal fields (null_field name) = unless (not (is_none (field_named fields name))) UnknownField
+    option_map_or (λ f. refusal_unless (is_value_of f.kind v) WrongKind) (field_named fields name) (Some UnknownField)
+node_refusal fields (null_field name) = refusal_unless (not (is_none (field_named fields name))) UnknownField
 node_refusal fields (starts name p) =
-    option_map_or (λ f. unless (is_prefix_of f.kind p) WrongKind) (field_named fields name) (Some UnknownField)
+    option_map_or (λ f. refusal_unless (is_prefix_of f.kind p) WrongKind) (field_named fields name) (Some UnknownField)
 node_refusal fields (all_of fs) = None
 node_refusal fields (some_of fs) = None
 node_refusal fields (negation f) = None
 
 -- the first refusal among those of the list
-abbrev pub first_refusal : {A : Type 0} → (A → Option QueryError) → List A → Option QueryError
-first_refusal why [] = None
-first_refusal why (x ∷ xs) = option_or (why x) (first_refusal why xs)
+abbrev pub first_query_refusal : {A : Type 0} → (A → Option QueryError) → List A → Option QueryError
+first_query_refusal why [] = None
+first_query_refusal why (x ∷ xs) = option_or (why x) (first_query_refusal why xs)
 
 -- limits: the depth of a filter, its nodes, and the sort fields
 abbrev pub max_depth : ℕ
@@ -63,12 +63,14 @@ max_sort = 8
 -- why the query is refused for a type's fields: its size, then its nodes from the outermost on, then its sort
 abbrev pub refusal_in : List Field → Query → Option QueryError
 refusal_in fields q =
-    option_or (unless (not (nat_lt max_depth (depth q.filter))) TooDeep)
-    (option_or (unless (not (nat_lt max_nodes (length (nodes q.filter)) || nat_lt max_sort (length q.sort))) TooLarge)
-    (option_or (first_refusal (node_refusal fields) (nodes q.filter))
-    (option_or (first_refusal (λ name. unless (not (is_none (field_named fields name))) UnknownField) q.sort)
-    (unless (not (has_twice bytes_eq q.sort)) SortTwice))))
+    option_or (refusal_unless (not (nat_lt max_depth (depth q.filter))) TooDeep)
+    (option_or (refusal_unless (not (nat_lt max_nodes (length (nodes q.filter)) || nat_lt max_sort (length q.sort)))
+    TooLarge)
+    (option_or (first_query_refusal (node_refusal fields) (nodes q.filter))
+    (option_or (first_query_refusal (λ name. refusal_unless (not (is_none (field_named fields name))) UnknownField)
+    q.sort)
+    (refusal_unless (not (has_twice bytes_eq q.sort)) SortTwice))))
 
 -- why the query is refused under a schema; a query without a refusal is a checked one
-abbrev pub refusal : Schema → Query → Option QueryError
-refusal schema q = option_map_or (λ t. refusal_in t.fields q) (find_type schema q.record_type) (Some UnknownType)
+abbrev pub query_refusal : Schema → Query → Option QueryError
+query_refusal schema q = option_map_or (λ t. refusal_in t.fields q) (find_type schema q.record_type) (Some UnknownType)

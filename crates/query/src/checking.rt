@@ -6,8 +6,8 @@ ghost use Rattle.std.specs.List.{flat_map};
 ghost use Rattle.std.specs.Option.{option_copied};
 ghost use Rattle.std.specs.Str.{bytes_eq};
 ghost use Rattle.metadata.specs.Cell.{IsCell};
-ghost use Rattle.query.specs.Checked.{field_named, first_refusal, is_prefix_of, is_value_of};
-ghost use Rattle.query.specs.Checked.{node_refusal, refusal, refusal_in, unless};
+ghost use Rattle.query.specs.Checked.{field_named, first_query_refusal, is_prefix_of, is_value_of};
+ghost use Rattle.query.specs.Checked.{node_refusal, query_refusal, refusal_in, refusal_unless};
 ghost use Rattle.query.specs.Filter.{depth, filters_of, greatest_depth, nodes, nodes_of, leaf_values};
 ghost use Rattle.query.specs.View.{filter_of, query_of};
 ghost use Rattle.query.specs.declared.error.QueryError.TheVariants.{UnknownField};
@@ -59,7 +59,7 @@ fn is_prefix_of(kind: Kind, value: &Cell) -> bool
 
 // The refusal where a test fails.
 fn unless(ok: bool, error: QueryError) -> Option<QueryError>
-    ensures { result ≡ unless ok error }
+    ensures { result ≡ refusal_unless ok error }
 {
     if ok { None } else { Some(error) }
 }
@@ -91,7 +91,8 @@ fn node_refusal(fields: &[Field], filter: &Filter) -> Option<QueryError>
 #[cycle(refusals)]
 #[tactic(auto, using(crate::proofs::Nodes::first_refusal_append))]
 fn nodes_refusal(fields: &[Field], filter: &Filter) -> Option<QueryError>
-    ensures { result ≡ first_refusal (node_refusal fields.now) (nodes (filter_of filter.now)) }
+    ensures { result ≡ first_query_refusal (node_refusal fields.now)
+        (nodes (filter_of filter.now)) }
 {
     if let Some(error) = node_refusal(fields, filter) {
         return Some(error);
@@ -107,7 +108,7 @@ fn nodes_refusal(fields: &[Field], filter: &Filter) -> Option<QueryError>
 #[cycle(refusals)]
 #[tactic(auto, using(crate::proofs::Nodes::first_refusal_append))]
 fn parts_refusal(fields: &[Field], parts: &[Filter]) -> Option<QueryError>
-    ensures { result ≡ first_refusal (node_refusal fields.now) (nodes_of (filters_of (map filter_of parts.now))) }
+    ensures { result ≡ first_query_refusal (node_refusal fields.now) (nodes_of (filters_of (map filter_of parts.now))) }
 {
     match parts {
         [] => None,
@@ -187,7 +188,8 @@ fn is_small(filter: &Filter) -> bool
 // Why one of the names is refused as that of no field.
 fn names_refusal(fields: &[Field], names: &[Text]) -> Option<QueryError>
     ensures { result
-        ≡ first_refusal (λ name. unless (not (is_none (field_named fields.now name))) UnknownField) names.now }
+        ≡ first_query_refusal (λ name. refusal_unless (not (is_none (field_named fields.now name)))
+        UnknownField) names.now }
 {
     match names {
         [] => None,
@@ -228,8 +230,8 @@ impl Query {
     /// whole before its parts, `UnknownField` or `WrongKind`; then for the sort `UnknownField` of
     /// any field, and last `SortTwice`.
     pub fn check(&self, schema: &Schema) -> Result<(), QueryError>
-        ensures { MatchResult result (λ _. refusal schema.now (query_of self.now) ≡ None)
-            (λ error. refusal schema.now (query_of self.now) ≡ Some error) }
+        ensures { MatchResult result (λ _. query_refusal schema.now (query_of self.now) ≡ None)
+            (λ error. query_refusal schema.now (query_of self.now) ≡ Some error) }
     {
         let Some(definition) = schema.type_named(&self.record_type) else {
             return Err(QueryError::UnknownType);

@@ -31,16 +31,16 @@ explains_end config errors.Corrupt = Unit {0}
 explains_end config errors.Memory = Unit {0}
 
 -- how much the end of a thread counts: that it gave up counts most, then want of memory
-abbrev pub rank : Result (Unit {0}) Fault → ℕ
-rank (Ok done) = 0
-rank (Err faults.GaveUp) = 3
-rank (Err faults.Memory) = 2
-rank (Err (faults.Refused why)) = 1
-rank (Err faults.Corrupt) = 1
+abbrev pub end_rank : Result (Unit {0}) Fault → ℕ
+end_rank (Ok done) = 0
+end_rank (Err faults.GaveUp) = 3
+end_rank (Err faults.Memory) = 2
+end_rank (Err (faults.Refused why)) = 1
+end_rank (Err faults.Corrupt) = 1
 
 -- of the ends of two threads the one that counts more, and the first where both count the same
 abbrev pub first_fault : Result (Unit {0}) Fault → Result (Unit {0}) Fault → Result (Unit {0}) Fault
-first_fault one other = if nat_lt (rank one) (rank other) then other else one
+first_fault one other = if nat_lt (end_rank one) (end_rank other) then other else one
 
 -- the first type of this name
 abbrev pub first_named : List TypeRequest → List ℕ → Option TypeRequest
@@ -60,11 +60,11 @@ all_records race = record {
 }
 
 -- a kind of index is COUNT
-abbrev pub is_count : IndexKind → Bool
-is_count kinds.Value = false
-is_count kinds.Count = true
-is_count kinds.Sum = false
+abbrev pub is_count_kind : IndexKind → Bool
+is_count_kind kinds.Value = false
+is_count_kind kinds.Count = true
+is_count_kind kinds.Sum = false
 
 -- an index is a COUNT without columns
 abbrev pub counts_all : IndexRequest → Bool
-counts_all index = is_count index.kind && (length index.columns == 0)
+counts_all index = is_count_kind index.kind && (length index.columns == 0)

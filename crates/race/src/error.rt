@@ -1,7 +1,7 @@
 // The errors of a race and of its threads. Used by `racing` and `telling`; `recordctl` prints them.
 ghost use Rattle.std.specs.Prelude.{◌≡◌, IfErr};
 ghost use Rattle.cluster_core.specs.declared.answers.Config.{Config};
-ghost use Rattle.race.specs.Racing.{explains_end, first_fault, rank};
+ghost use Rattle.race.specs.Racing.{end_rank, explains_end, first_fault};
 ghost use Rattle.race.specs.declared.error.Fault.TheVariants.{Memory};
 
 use cluster_core::ConfigError;
@@ -73,7 +73,7 @@ impl From<RunError> for Fault {
 
 // How much the end of a thread counts: that it gave up counts most, then want of memory.
 fn rank(end: &Result<(), Fault>) -> u8
-    ensures { result ≡ rank end.now }
+    ensures { result ≡ end_rank end.now }
 {
     match end {
         Ok(()) => 0,

@@ -9,8 +9,8 @@ use Rattle.txn.specs.Reads.{has_read, seen}
 use Rattle.txn.proofs.Running.{ran_because, ran_read, ran_still}
 use Rattle.range_set.specs.declared.error.RangeSetError.{RangeSetError}
 use Rattle.range_set.specs.declared.error.RangeSetError.TheVariants.{Memory, Read, Corrupt}
-use Rattle.range_set.specs.Calls.{IsAnswered, IsRefused, IsUnread, Reading}
-use Rattle.range_set.specs.Steps.{HaveNoRanges, no_memory, of_read}
+use Rattle.range_set.specs.Calls.{IsSetAnswered, IsSetRefused, IsSetUnread, SetReading}
+use Rattle.range_set.specs.Steps.{HaveNoRanges, set_memory, set_read}
 use Rattle.range_set.specs.Stored.{ArePairsOf, AreWritten, HasSet, IsFirstDamaged}
 use Rattle.range_set.proofs.RangeRows.{not_damaged}
 
@@ -18,14 +18,14 @@ abbrev Pair : Type 0
 Pair = List ℕ × List ℕ
 
 -- the range that was added and the pairs are those of the reading, over each map that agrees
-abbrev pub IsReading : (ℕ → Map) → Reading → KeyRange → List Pair → CommitRequest → CommitRequest → Type 0
+abbrev pub IsReading : (ℕ → Map) → SetReading → KeyRange → List Pair → CommitRequest → CommitRequest → Type 0
 IsReading maps reading range pairs old new =
     (m : Map) → Agree new.reads (maps old.read_version) m → (range ≡ reading.added (seen old m)) × (pairs ≡ reading.pairs (seen old m))
 
-module _ (maps : ℕ → Map) (refuses : KeyRange → ℕ → ReadError → Type 0) (place : List ℕ) (reading : Reading) (old new : CommitRequest) where
+module _ (maps : ℕ → Map) (refuses : KeyRange → ℕ → ReadError → Type 0) (place : List ℕ) (reading : SetReading) (old new : CommitRequest) where
   -- ANSWERED: the pairs read stand for ranges, and these tell the answer
   pub answered : (range : KeyRange) (pairs : List Pair) (ranges : List KeyRange) (Answer : List KeyRange → Type 0) → new ≡ has_read range old → IsReading maps reading range pairs old new → ArePairsOf place pairs ranges →
-      ((m : Map) (set : List KeyRange) → ArePairsOf place (reading.pairs m) ranges → HasSet place set m → Answer set) → IsAnswered maps place reading old new Answer
+      ((m : Map) (set : List KeyRange) → ArePairsOf place (reading.pairs m) ranges → HasSet place set m → Answer set) → IsSetAnswered maps place reading old new Answer
   answered range pairs ranges Answer made says are tells = record {
     added = range;
     ran = ran_read range made (λ m agree.
@@ -34,14 +34,14 @@ module _ (maps : ℕ → Map) (refuses : KeyRange → ℕ → ReadError → Type
   }
 
   -- STILL: memory was wanting before anything was read
-  pub still : new ≡ old → IsRefused maps refuses place reading no_memory old new
+  pub still : new ≡ old → IsSetRefused maps refuses place reading set_memory old new
   still same = record { added = []; ran = ran_still same (λ m. inl refl) }
 
   -- REFUSED: the read was refused, or memory was wanting then
-  pub read_refused : (range : KeyRange) (error : ReadError) → range ≡ reading.asked → new ≡ old → (error ≡ read.Memory) ⊎ refuses range old.read_version error → IsRefused maps refuses place reading (of_read error) old new
+  pub read_refused : (range : KeyRange) (error : ReadError) → range ≡ reading.asked → new ≡ old → (error ≡ read.Memory) ⊎ refuses range old.read_version error → IsSetRefused maps refuses place reading (set_read error) old new
   read_refused range error is same says = record { added = []; ran = ran_still same (λ m. by_error m error says) }
     where
-      by_error : (m : Map) (e : ReadError) → (e ≡ read.Memory) ⊎ refuses range old.read_version e → IsUnread (λ r. refuses r old.read_version) place reading (of_read e) [] m
+      by_error : (m : Map) (e : ReadError) → (e ≡ read.Memory) ⊎ refuses range old.read_version e → IsSetUnread (λ r. refuses r old.read_version) place reading (set_read e) [] m
       by_error m read.Memory met = inl refl
       by_error m read.TooOld (inl memory) = absurd (cc)
       by_error m read.TooOld (inr met) = (refl, subst (λ r. refuses r old.read_version read.TooOld) is met)
@@ -50,10 +50,10 @@ module _ (maps : ℕ → Map) (refuses : KeyRange → ℕ → ReadError → Type
 
   -- DAMAGED: the pairs read don't stand for ranges, or memory was wanting behind the read
   pub damaged : (range : KeyRange) (pairs : List Pair) (error : RangeSetError) → new ≡ has_read range old → IsReading maps reading range pairs old new → HaveNoRanges place pairs error →
-      ((m : Map) (set : List KeyRange) → HasSet place set m → AreWritten place (reading.pairs m)) → IsRefused maps refuses place reading error old new
+      ((m : Map) (set : List KeyRange) → HasSet place set m → AreWritten place (reading.pairs m)) → IsSetRefused maps refuses place reading error old new
   damaged range pairs error made says none written = record { added = range ∷ []; ran = ran_read range made (λ m agree. by_error (seen old m) error none (says m agree)) }
     where
-      by_error : (m : Map) (e : RangeSetError) → HaveNoRanges place pairs e → (range ≡ reading.added m) × (pairs ≡ reading.pairs m) → IsUnread (λ r. refuses r old.read_version) place reading e (range ∷ []) m
+      by_error : (m : Map) (e : RangeSetError) → HaveNoRanges place pairs e → (range ≡ reading.added m) × (pairs ≡ reading.pairs m) → IsSetUnread (λ r. refuses r old.read_version) place reading e (range ∷ []) m
       by_error m Memory is here = inr (ap (λ r. r ∷ []) here.0)
       by_error m (Read e) is here = absurd is
       by_error m (Corrupt key) is here =
@@ -61,5 +61,5 @@ module _ (maps : ℕ → Map) (refuses : KeyRange → ℕ → ReadError → Type
           (ap (λ r. r ∷ []) here.0, bad, λ set has. not_damaged place (reading.pairs m) key (written m set has) bad)
 
   -- SO: what an answer tells
-  pub answered_so : (A B : List KeyRange → Type 0) → IsAnswered maps place reading old new A → ((set : List KeyRange) → A set → B set) → IsAnswered maps place reading old new B
+  pub answered_so : (A B : List KeyRange → Type 0) → IsSetAnswered maps place reading old new A → ((set : List KeyRange) → A set → B set) → IsSetAnswered maps place reading old new B
   answered_so A B is so = record { added = is.added; ran = ran_because is.ran (λ m found. (found.0, found.1, λ set has. so set (found.2 set has))) }

@@ -5,7 +5,8 @@ use Rattle.std.proofs.lemmas.Bool.{and_parts, cases_Bool, true≢false, false_fr
 use Rattle.kv_core.specs.Bytes.{end_of_keys, key_le, key_lt}
 use Rattle.kv_core.specs.Range.{KeyRange, contains}
 use Rattle.kv_core.proofs.Order.{cases_key, clash, le_both, le_from, le_from_lt, le_lt_trans, le_refl, le_trans, lt_le_trans}
-use Rattle.range_set.specs.Gaps.{IsFirstGap, IsGap, SamePositions, first_gap, gap_begin, gap_end, has_position, least_of}
+use Rattle.range_set.specs.Gaps.{IsFirstGap, IsGap, SamePositions, first_gap, gap_begin, gap_end, has_position}
+use Rattle.range_set.specs.Gaps.{least_key}
 
 -- the key is one of the list
 abbrev IsIn : List ℕ → List (List ℕ) → Type 0
@@ -14,35 +15,35 @@ IsIn key (first ∷ keys) = (key ≡ first) ⊎ IsIn key keys
 
 -- ---- the least of some keys
 
-least_upto : (least : List ℕ) (keys : List (List ℕ)) → key_le (least_of least keys) least ≡ true
+least_upto : (least : List ℕ) (keys : List (List ℕ)) → key_le (least_key least keys) least ≡ true
 least_upto least [] = le_refl least
 least_upto least (key ∷ keys) = by_test (key_lt key least) refl (least_upto key keys) (least_upto least keys)
   where
-    by_test : (b : Bool) → key_lt key least ≡ b → key_le (least_of key keys) key ≡ true → key_le (least_of least keys) least ≡ true →
-        key_le (least_of (cond b key least) keys) least ≡ true
-    by_test true is low high = le_trans (least_of key keys) key least low (le_from_lt key least is)
+    by_test : (b : Bool) → key_lt key least ≡ b → key_le (least_key key keys) key ≡ true → key_le (least_key least keys) least ≡ true →
+        key_le (least_key (cond b key least) keys) least ≡ true
+    by_test true is low high = le_trans (least_key key keys) key least low (le_from_lt key least is)
     by_test false is low high = high
 
-least_among : (least : List ℕ) (keys : List (List ℕ)) (one : List ℕ) → IsIn one keys → key_le (least_of least keys) one ≡ true
+least_among : (least : List ℕ) (keys : List (List ℕ)) (one : List ℕ) → IsIn one keys → key_le (least_key least keys) one ≡ true
 least_among least [] one is = absurd is
 least_among least (key ∷ keys) one (inl here) = by_test (key_lt key least) refl (least_upto key keys) (least_upto least keys)
   where
-    by_test : (b : Bool) → key_lt key least ≡ b → key_le (least_of key keys) key ≡ true → key_le (least_of least keys) least ≡ true →
-        key_le (least_of (cond b key least) keys) one ≡ true
-    by_test true is low high = subst (λ k. key_le (least_of key keys) k ≡ true) (sym here) low
-    by_test false is low high = subst (λ k. key_le (least_of least keys) k ≡ true) (sym here) (le_trans (least_of least keys) least key high (le_from least key is))
+    by_test : (b : Bool) → key_lt key least ≡ b → key_le (least_key key keys) key ≡ true → key_le (least_key least keys) least ≡ true →
+        key_le (least_key (cond b key least) keys) one ≡ true
+    by_test true is low high = subst (λ k. key_le (least_key key keys) k ≡ true) (sym here) low
+    by_test false is low high = subst (λ k. key_le (least_key least keys) k ≡ true) (sym here) (le_trans (least_key least keys) least key high (le_from least key is))
 least_among least (key ∷ keys) one (inr there) = by_test (key_lt key least) (least_among key keys one there) (least_among least keys one there)
   where
-    by_test : (b : Bool) → key_le (least_of key keys) one ≡ true → key_le (least_of least keys) one ≡ true → key_le (least_of (cond b key least) keys) one ≡ true
+    by_test : (b : Bool) → key_le (least_key key keys) one ≡ true → key_le (least_key least keys) one ≡ true → key_le (least_key (cond b key least) keys) one ≡ true
     by_test true low high = low
     by_test false low high = high
 
 -- it is the given key or one of the list, of which something holds
-least_is : (P : List ℕ → Type 0) (least : List ℕ) (keys : List (List ℕ)) → P least → AllByRecursion P keys → P (least_of least keys)
+least_is : (P : List ℕ → Type 0) (least : List ℕ) (keys : List (List ℕ)) → P least → AllByRecursion P keys → P (least_key least keys)
 least_is P least [] given all = given
 least_is P least (key ∷ keys) given all = by_test (key_lt key least) (least_is P key keys all.0 all.1) (least_is P least keys given all.1)
   where
-    by_test : (b : Bool) → P (least_of key keys) → P (least_of least keys) → P (least_of (cond b key least) keys)
+    by_test : (b : Bool) → P (least_key key keys) → P (least_key least keys) → P (least_key (cond b key least) keys)
     by_test true low high = low
     by_test false low high = high
 

@@ -4,14 +4,14 @@ use Rattle.std.specs.Prelude.{IsErrAnd}
 use Rattle.std.proofs.lemmas.Bool.{true≢false}
 use Rattle.std.proofs.lemmas.Result.{err_from_is_err_and}
 use Rattle.tuple_codec.specs.Item.{Item, IsTuple, AreBytes, bytes}
-use Rattle.tuple_codec.specs.Subspace.{SpellsUnder, key_of}
+use Rattle.tuple_codec.specs.Subspace.{SpellsUnder, subspace_key}
 use Rattle.tuple_codec.proofs.Prefixes.{key_spells}
 use Rattle.tuple_codec.proofs.Spellings.{one_spelling}
 use Rattle.kv_core.specs.Range.{KeyRange, is_key_range}
 use Rattle.kv_core.proofs.Order.{le_from_lt}
 use Rattle.range_set.specs.declared.error.RangeSetError.{RangeSetError}
 use Rattle.range_set.specs.declared.error.RangeSetError.TheVariants.{Memory, Read, Corrupt}
-use Rattle.range_set.specs.Steps.{IsNoRange, IsPairOf, IsPairOfNone, IsSpelledAs, IsUnspelled, only_bytes}
+use Rattle.range_set.specs.Steps.{IsNoStoredRange, IsPairOfNoRange, IsPairOfRange, IsSpelledAs, IsUnspelled, only_bytes}
 use Rattle.range_set.specs.Stored.{IsStoredRange}
 
 -- what a `?` passes on
@@ -42,11 +42,11 @@ no_stored begin end none is = true≢false (sym (λ i. le_from_lt begin end is.s
 one_tuple : (begin : List ℕ) → AreBytes begin → IsTuple (bytes begin ∷ [])
 one_tuple begin h = record { items = (h, tt); depth = omega arith }
 
-spells_it : (place : List ℕ) (pair : List ℕ × List ℕ) (range : KeyRange) → IsPairOf place pair range → SpellsUnder place (bytes range.begin ∷ []) pair.0
+spells_it : (place : List ℕ) (pair : List ℕ × List ℕ) (range : KeyRange) → IsPairOfRange place pair range → SpellsUnder place (bytes range.begin ∷ []) pair.0
 spells_it place pair range is =
     subst (λ k. SpellsUnder place (bytes range.begin ∷ []) k) (sym (ap (λ (p : List ℕ × List ℕ). p.0) is.is)) (key_spells place (bytes range.begin ∷ []) (one_tuple range.begin is.stored.begin))
 
-pub unread_key : (place : List ℕ) (pair : List ℕ × List ℕ) (error : RangeSetError) → IsUnspelled place pair.0 error → IsPairOfNone place pair error
+pub unread_key : (place : List ℕ) (pair : List ℕ × List ℕ) (error : RangeSetError) → IsUnspelled place pair.0 error → IsPairOfNoRange place pair error
 unread_key place pair Memory none = tt
 unread_key place pair (Read error) none = none
 unread_key place pair (Corrupt key) none = (none.0, λ range is. none.1 (bytes range.begin ∷ []) (spells_it place pair range is))
@@ -54,7 +54,7 @@ unread_key place pair (Corrupt key) none = (none.0, λ range is. none.1 (bytes r
 some_bytes : (a b : List ℕ) → Some a ≡ Some b → a ≡ b
 some_bytes a b same = cc
 
-pub unread_range : (place : List ℕ) (pair : List ℕ × List ℕ) (t : List Item) (begin : List ℕ) → IsSpelledAs place pair.0 t → Some begin ≡ only_bytes t → (error : RangeSetError) → IsNoRange pair.0 begin pair.1 error → IsPairOfNone place pair error
+pub unread_range : (place : List ℕ) (pair : List ℕ × List ℕ) (t : List Item) (begin : List ℕ) → IsSpelledAs place pair.0 t → Some begin ≡ only_bytes t → (error : RangeSetError) → IsNoStoredRange pair.0 begin pair.1 error → IsPairOfNoRange place pair error
 unread_range place pair t begin told found Memory none = tt
 unread_range place pair t begin told found (Read error) none = none
 unread_range place pair t begin told found (Corrupt key) none = (
@@ -64,7 +64,7 @@ unread_range place pair t begin told found (Corrupt key) none = (
       none.1 (subst IsStoredRange (λ i. record { begin = sym same i; end = sym (ap (λ (p : List ℕ × List ℕ). p.1) is.is) i }) is.stored),
 )
 
-pub unread_tuple : (place : List ℕ) (pair : List ℕ × List ℕ) (t : List Item) → IsSpelledAs place pair.0 t → None ≡ only_bytes t → (range : KeyRange) → IsPairOf place pair range → ⊥
+pub unread_tuple : (place : List ℕ) (pair : List ℕ × List ℕ) (t : List Item) → IsSpelledAs place pair.0 t → None ≡ only_bytes t → (range : KeyRange) → IsPairOfRange place pair range → ⊥
 unread_tuple place pair t told found range is = no_bytes range.begin (found ∙ ap only_bytes (told.only (bytes range.begin ∷ []) (spells_it place pair range is)))
   where
     no_bytes : (b : List ℕ) → None ≡ Some b → ⊥
@@ -77,16 +77,16 @@ only_bytes-is t begin h = cc
 
 -- a pair that was found is read as its range
 pub read_as : (place : List ℕ) (pair : List ℕ × List ℕ) (t : List Item) (begin : List ℕ) (range : KeyRange) → IsSpelledAs place pair.0 t → Some begin ≡ only_bytes t →
-    range ≡ record { begin = begin; end = pair.1 } → IsStoredRange range → IsPairOf place pair range
+    range ≡ record { begin = begin; end = pair.1 } → IsStoredRange range → IsPairOfRange place pair range
 read_as place pair t begin range told found same stored = record {
   stored = stored;
   is = λ i. (keyed i, sym (ap (λ (r : KeyRange). r.end) same) i);
 }
   where
-    keyed : pair.0 ≡ key_of place (bytes range.begin ∷ [])
+    keyed : pair.0 ≡ subspace_key place (bytes range.begin ∷ [])
     keyed =
         told.spelled.1 ∙ ap (λ rest. place ++ rest) (one_spelling t told.spelled.0 told.spelled.2)
-        ∙ ap (key_of place) (only_bytes-is t begin found ∙ ap (λ k. bytes k ∷ []) (sym (ap (λ (r : KeyRange). r.begin) same)))
+        ∙ ap (subspace_key place) (only_bytes-is t begin found ∙ ap (λ k. bytes k ∷ []) (sym (ap (λ (r : KeyRange). r.begin) same)))
 
 pub if_ok_map : {T : Type 0} (r : Result T RangeSetError) (P Q : T → Type 0) → ((value : T) → P value → Q value) → IfOk r P → IfOk r Q
 if_ok_map (Ok value) P Q f h = f value h

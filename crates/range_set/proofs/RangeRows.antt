@@ -8,7 +8,7 @@ use Rattle.kv_core.specs.Range.{KeyRange}
 use Rattle.kv_core.proofs.Order.{clash, le_from_lt, le_refl, le_trans}
 use Rattle.range_set.specs.declared.error.RangeSetError.{RangeSetError}
 use Rattle.range_set.specs.declared.error.RangeSetError.TheVariants.{Memory, Read, Corrupt}
-use Rattle.range_set.specs.Steps.{HaveNoRanges, IsNext, IsNotNext, IsPairOf, last_end}
+use Rattle.range_set.specs.Steps.{HaveNoRanges, IsNext, IsNotNext, IsPairOfRange, last_end}
 use Rattle.range_set.specs.Stored.{ArePairsOf, AreStored, AreWritten, IsFirstDamaged, IsStoredRange, range_pair}
 use Rattle.range_set.proofs.PlacePairs.{one_range}
 
@@ -127,7 +127,7 @@ module _ (place : List ℕ) where
   }
 
   -- OVERLAP: a pair whose range begins before an end stands for no range that is next
-  pub overlap : (end : List ℕ) (pair : Pair) (range : KeyRange) (begin : List ℕ) (b : Bool) → IsPairOf place pair range → begin ≡ range.begin → b ≡ key_lt begin end → b ≡ true → (other : KeyRange) → IsNext place end pair other → ⊥
+  pub overlap : (end : List ℕ) (pair : Pair) (range : KeyRange) (begin : List ℕ) (b : Bool) → IsPairOfRange place pair range → begin ≡ range.begin → b ≡ key_lt begin end → b ≡ true → (other : KeyRange) → IsNext place end pair other → ⊥
   overlap end pair range begin b is first tests true_so other next =
       let same : range ≡ other = one_range place range other is.stored next.stands.stored (sym is.is ∙ next.stands.is) in
       clash range.begin end (ap (λ k. key_lt k end) (sym first) ∙ sym tests ∙ true_so) (subst (λ (r : KeyRange). key_le end r.begin ≡ true) (sym same) next.behind)

@@ -11,7 +11,8 @@ use Rattle.txn.specs.Reads.{has_read, seen}
 use Rattle.txn.proofs.Running.{ran_read}
 use Rattle.range_set.specs.declared.error.RangeSetError.{RangeSetError}
 use Rattle.range_set.specs.declared.error.RangeSetError.TheVariants.{Memory, Read, Corrupt}
-use Rattle.range_set.specs.Calls.{IsAnswered, IsRefused, IsTold, IsUntold, all_ranges, last_upto, upto_range, whole_range}
+use Rattle.range_set.specs.Calls.{IsPositionTold, IsSetAnswered, IsSetRefused, IsUntold, all_ranges, last_upto}
+use Rattle.range_set.specs.Calls.{upto_range, whole_range}
 use Rattle.range_set.specs.Gaps.{first_gap, has_position}
 use Rattle.range_set.specs.Steps.{HaveNoRanges, ends_behind, gap_from}
 use Rattle.range_set.specs.Stored.{ArePairsOf, AreWritten}
@@ -37,12 +38,12 @@ module _ (maps : ℕ → Map) (refuses : KeyRange → ℕ → ReadError → Type
 
     -- CONTAINS: it tells whether the set has the position
     pub contains_told : (ranges row : List KeyRange) (told : Bool) → ArePairsOf place slice ranges → row ≡ ranges → told ≡ ends_behind position row →
-        IsAnswered maps place (last_upto place position) old new (λ set. told ≡ has_position set position)
+        IsSetAnswered maps place (last_upto place position) old new (λ set. told ≡ has_position set position)
     contains_told ranges row told are rows tells =
         answered maps refuses place (last_upto place position) old new (range_read range 1 true pairs) slice ranges (λ set. told ≡ has_position set position) made upto_reading are
         (λ m set there has. tells ∙ ap (ends_behind position) rows ∙ range_found_tells place position set ranges m known there has)
 
-    pub contains_damaged : (error : RangeSetError) → HaveNoRanges place slice error → IsRefused maps refuses place (last_upto place position) error old new
+    pub contains_damaged : (error : RangeSetError) → HaveNoRanges place slice error → IsSetRefused maps refuses place (last_upto place position) error old new
     contains_damaged error none =
         damaged maps refuses place (last_upto place position) old new (range_read range 1 true pairs) slice error made upto_reading none (λ m set has. found_written place position set m known has)
 
@@ -54,7 +55,7 @@ module _ (maps : ℕ → Map) (refuses : KeyRange → ℕ → ReadError → Type
     whole_reading m agree = (is, same ∙ says m agree ∙ ap (pairs_in (seen old m)) is)
 
     -- GAP: they tell the first gap
-    pub gap_found_there : (ranges row : List KeyRange) (gap : Option KeyRange) → ArePairsOf place slice ranges → row ≡ ranges → gap ≡ gap_from [] row → IsAnswered maps place (all_ranges place) old new (λ set. gap ≡ first_gap set)
+    pub gap_found_there : (ranges row : List KeyRange) (gap : Option KeyRange) → ArePairsOf place slice ranges → row ≡ ranges → gap ≡ gap_from [] row → IsSetAnswered maps place (all_ranges place) old new (λ set. gap ≡ first_gap set)
     gap_found_there ranges row gap are rows finds =
         answered maps refuses place (all_ranges place) old new range slice ranges (λ set. gap ≡ first_gap set) made whole_reading are
         (λ m set there has. finds ∙ ap (gap_from []) rows ∙ gap_told place set ranges m there has)
@@ -65,7 +66,7 @@ module _ (maps : ℕ → Map) (refuses : KeyRange → ℕ → ReadError → Type
         ran_read (whole_range place) (made ∙ ap (λ r. has_read r old) is)
         (λ m agree. finds ∙ ap (gap_from []) rows ∙ gap_walked place (seen old m) ranges (subst (λ ps. ArePairsOf place ps ranges) (whole_reading m agree).1 are))
 
-    pub gap_damaged : (error : RangeSetError) → HaveNoRanges place slice error → IsRefused maps refuses place (all_ranges place) error old new
+    pub gap_damaged : (error : RangeSetError) → HaveNoRanges place slice error → IsSetRefused maps refuses place (all_ranges place) error old new
     gap_damaged error none = damaged maps refuses place (all_ranges place) old new range slice error made whole_reading none (λ m set has. all_written place set m has)
 
 -- NONE: what has no value, by the test of the call
@@ -76,7 +77,7 @@ none_told (Some x) true says = cc
 none_told (Some x) false says = refl
 
 -- TOLD: the ranges of the pairs found tell it
-pub told_by : (place position : List ℕ) (pairs : List Pair) (ranges row : List KeyRange) (told : Bool) → AreBytes position → ArePairsOf place pairs ranges → row ≡ ranges → told ≡ ends_behind position row → IsTold place position pairs told
+pub told_by : (place position : List ℕ) (pairs : List Pair) (ranges row : List KeyRange) (told : Bool) → AreBytes position → ArePairsOf place pairs ranges → row ≡ ranges → told ≡ ends_behind position row → IsPositionTold place position pairs told
 told_by place position pairs ranges row told known are rows tells = record {
   written = (ranges, are);
   is = λ set m there has. tells ∙ ap (ends_behind position) rows ∙ range_found_tells place position set ranges m known (subst (λ ps. ArePairsOf place ps ranges) there are) has;

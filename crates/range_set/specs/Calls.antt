@@ -23,13 +23,13 @@ abbrev pub upto_range : List ℕ → List ℕ → KeyRange
 upto_range place position = record { begin = range_begin place; end = next_key (range_key place position) }
 
 -- what a call reads of a map: the range that it asks for, the range that it adds to those read, and the pairs
-pub record Reading : Type 0 where
+pub record SetReading : Type 0 where
   pub asked : KeyRange
   pub added : Map → KeyRange
   pub pairs : Map → List (List ℕ × List ℕ)
 
 -- all ranges of a set are read
-abbrev pub all_ranges : List ℕ → Reading
+abbrev pub all_ranges : List ℕ → SetReading
 all_ranges place =
     record {
       asked = whole_range place;
@@ -38,7 +38,7 @@ all_ranges place =
     }
 
 -- of the ranges that begin at a position or before it the last one is read, if there is one
-abbrev pub last_upto : List ℕ → List ℕ → Reading
+abbrev pub last_upto : List ℕ → List ℕ → SetReading
 last_upto place position =
     record {
       asked = upto_range place position;
@@ -71,7 +71,7 @@ IsUntold place position pairs (Corrupt key) =
 
 -- the pair found tells whether a position is in the set: it is of the written form, and so it is for each set of a map
 -- of which it was read
-pub record IsTold (place position : List ℕ) (pairs : List (List ℕ × List ℕ)) (told : Bool) : Type 0 where
+pub record IsPositionTold (place position : List ℕ) (pairs : List (List ℕ × List ℕ)) (told : Bool) : Type 0 where
   pub written : AreWritten place pairs
   pub is :
       (set : List KeyRange) (m : Map) → pairs ≡ (last_upto place position).pairs m → HasSet place set m →
@@ -83,7 +83,7 @@ AtSets place m Fact = (set : List KeyRange) → HasSet place set m → Fact set
 
 -- a call was answered: it added to the ranges read the one that it reads, it wrote nothing, the pairs read are of the
 -- written form, and the answer is so for each set that is there
-pub record IsAnswered (maps : ℕ → Map) (place : List ℕ) (reading : Reading) (old new : CommitRequest)
+pub record IsSetAnswered (maps : ℕ → Map) (place : List ℕ) (reading : SetReading) (old new : CommitRequest)
     (Answer : List KeyRange → Type 0) : Type 0 where
   pub added : KeyRange
   pub ran : Ran maps (added ∷ []) old new []
@@ -91,16 +91,16 @@ pub record IsAnswered (maps : ℕ → Map) (place : List ℕ) (reading : Reading
 
 -- why a call isn't answered: memory is wanting, before the read or behind it; or the read is refused, and adds nothing;
 -- or it was answered, the first damaged pair of it has this key, and no set is there
-abbrev pub IsUnread :
-    (KeyRange → ReadError → Type 0) → List ℕ → Reading → RangeSetError → List KeyRange → Map → Type 0
-IsUnread refuses place reading Memory added m = (added ≡ []) ⊎ (added ≡ reading.added m ∷ [])
-IsUnread refuses place reading (Read error) added m = (added ≡ []) × refuses reading.asked error
-IsUnread refuses place reading (Corrupt key) added m =
+abbrev pub IsSetUnread :
+    (KeyRange → ReadError → Type 0) → List ℕ → SetReading → RangeSetError → List KeyRange → Map → Type 0
+IsSetUnread refuses place reading Memory added m = (added ≡ []) ⊎ (added ≡ reading.added m ∷ [])
+IsSetUnread refuses place reading (Read error) added m = (added ≡ []) × refuses reading.asked error
+IsSetUnread refuses place reading (Corrupt key) added m =
     (added ≡ reading.added m ∷ []) × IsFirstDamaged place (reading.pairs m) key × AtSets place m (λ set. ⊥)
 
 -- a call wasn't answered: it added these ranges to those read, and wrote nothing
-pub record IsRefused (maps : ℕ → Map) (refuses : KeyRange → ℕ → ReadError → Type 0) (place : List ℕ) (reading : Reading)
-    (error : RangeSetError) (old new : CommitRequest) : Type 0 where
+pub record IsSetRefused (maps : ℕ → Map) (refuses : KeyRange → ℕ → ReadError → Type 0) (place : List ℕ)
+    (reading : SetReading) (error : RangeSetError) (old new : CommitRequest) : Type 0 where
   pub added : List KeyRange
   pub ran : Ran maps added old new []
-      (IsUnread (λ range. refuses range old.read_version) place reading error added)
+      (IsSetUnread (λ range. refuses range old.read_version) place reading error added)

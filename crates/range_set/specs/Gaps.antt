@@ -13,20 +13,20 @@ abbrev pub SamePositions : List KeyRange → List KeyRange → Type 0
 SamePositions set other = (position : List ℕ) → has_position set position ≡ has_position other position
 
 -- the least of a key and some keys
-abbrev pub least_of : List ℕ → List (List ℕ) → List ℕ
-least_of least [] = least
-least_of least (key ∷ keys) = least_of (if key_lt key least then key else least) keys
+abbrev pub least_key : List ℕ → List (List ℕ) → List ℕ
+least_key least [] = least
+least_key least (key ∷ keys) = least_key (if key_lt key least then key else least) keys
 
 -- where the first gap begins: of the first position and those where ranges end the least one that isn't in the set, or
 -- the end of positions where each is
 abbrev pub gap_begin : List KeyRange → List ℕ
 gap_begin set =
-    least_of end_of_keys (filter (λ key. not (has_position set key)) ([] ∷ map (λ range. range.end) set))
+    least_key end_of_keys (filter (λ key. not (has_position set key)) ([] ∷ map (λ range. range.end) set))
 
 -- where a gap ends that begins so: where the next range with a position begins, or at the end of positions
 abbrev pub gap_end : List KeyRange → List ℕ → List ℕ
 gap_end set begin =
-    least_of end_of_keys
+    least_key end_of_keys
     (filter (λ key. key_lt begin key && has_position set key) (map (λ range. range.begin) set))
 
 -- the first range of positions that aren't in the set

@@ -11,13 +11,13 @@ use Rattle.range_set.specs.declared.error.RangeSetError.TheVariants.{Memory, Rea
 use Rattle.range_set.specs.Stored.{IsFirstDamaged, IsStoredRange, range_pair}
 
 -- the error that want of memory is
-abbrev pub no_memory : RangeSetError
-no_memory = Memory
+abbrev pub set_memory : RangeSetError
+set_memory = Memory
 
 -- the error that a refused read is
-abbrev pub of_read : ReadError → RangeSetError
-of_read read.Memory = Memory
-of_read error = Read error
+abbrev pub set_read : ReadError → RangeSetError
+set_read read.Memory = Memory
+set_read error = Read error
 
 -- the only item of a tuple, if that is bytes
 abbrev pub only_bytes : List Item → Option (List ℕ)
@@ -36,27 +36,27 @@ IsUnspelled place key (Read error) = ⊥
 IsUnspelled place key (Corrupt damaged) = (damaged ≡ key) × ((u : List Item) → SpellsUnder place u key → ⊥)
 
 -- why the range from a begin to an end isn't one that may be stored: memory is wanting, or it isn't
-abbrev pub IsNoRange : List ℕ → List ℕ → List ℕ → RangeSetError → Type 0
-IsNoRange key begin end Memory = Unit {0}
-IsNoRange key begin end (Read error) = ⊥
-IsNoRange key begin end (Corrupt damaged) =
+abbrev pub IsNoStoredRange : List ℕ → List ℕ → List ℕ → RangeSetError → Type 0
+IsNoStoredRange key begin end Memory = Unit {0}
+IsNoStoredRange key begin end (Read error) = ⊥
+IsNoStoredRange key begin end (Corrupt damaged) =
     (damaged ≡ key) × (IsStoredRange (record { begin = begin; end = end }) → ⊥)
 
 -- a pair stands for this range, which may be stored
-pub record IsPairOf (place : List ℕ) (pair : List ℕ × List ℕ) (range : KeyRange) : Type 0 where
+pub record IsPairOfRange (place : List ℕ) (pair : List ℕ × List ℕ) (range : KeyRange) : Type 0 where
   pub stored : IsStoredRange range
   pub is : pair ≡ range_pair place range
 
 -- why a pair isn't read as a range: memory is wanting, or it stands for none
-abbrev pub IsPairOfNone : List ℕ → List ℕ × List ℕ → RangeSetError → Type 0
-IsPairOfNone place pair Memory = Unit {0}
-IsPairOfNone place pair (Read error) = ⊥
-IsPairOfNone place pair (Corrupt key) =
-    (key ≡ pair.0) × ((range : KeyRange) → IsPairOf place pair range → ⊥)
+abbrev pub IsPairOfNoRange : List ℕ → List ℕ × List ℕ → RangeSetError → Type 0
+IsPairOfNoRange place pair Memory = Unit {0}
+IsPairOfNoRange place pair (Read error) = ⊥
+IsPairOfNoRange place pair (Corrupt key) =
+    (key ≡ pair.0) × ((range : KeyRange) → IsPairOfRange place pair range → ⊥)
 
 -- a pair stands for this range, which begins at a position or behind it
 pub record IsNext (place end : List ℕ) (pair : List ℕ × List ℕ) (range : KeyRange) : Type 0 where
-  pub stands : IsPairOf place pair range
+  pub stands : IsPairOfRange place pair range
   pub behind : IsTrue (key_le end range.begin)
 
 -- why a pair stands for no such range: memory is wanting, or it doesn't

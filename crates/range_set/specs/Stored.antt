@@ -3,7 +3,7 @@ use Rattle.std.specs.Prelude.{◌≡◌, ℕ, IsTrue, false, List, [], ◌∷◌
 use Rattle.std.specs.FinMap.{from_entries, get}
 use Rattle.std.specs.List.{AllByRecursion}
 use Rattle.tuple_codec.specs.Item.{AreBytes, bytes}
-use Rattle.tuple_codec.specs.Subspace.{key_of}
+use Rattle.tuple_codec.specs.Subspace.{subspace_key}
 use Rattle.kv_core.specs.Bytes.{end_of_keys, key_le, key_lt}
 use Rattle.kv_core.specs.Map.{Map}
 use Rattle.kv_core.specs.Range.{KeyRange, contains}
@@ -26,7 +26,7 @@ AreStored (range ∷ ranges) =
 
 -- the key of the range that begins at a position: the pack of its bytes, behind the place
 abbrev pub range_key : List ℕ → List ℕ → List ℕ
-range_key place begin = key_of place (bytes begin ∷ [])
+range_key place begin = subspace_key place (bytes begin ∷ [])
 
 -- the pair that stands for a range
 abbrev pub range_pair : List ℕ → KeyRange → List ℕ × List ℕ

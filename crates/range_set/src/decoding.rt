@@ -2,7 +2,8 @@
 // proof.
 ghost use Rattle.std.specs.Prelude.{◌≡◌, IfErr, IfOk};
 ghost use Rattle.tuple_codec.specs.Item.{AreBytes};
-ghost use Rattle.range_set.specs.Steps.{HaveNoRanges, IsNext, IsNoRange, IsNotNext, IsPairOf, IsPairOfNone};
+ghost use Rattle.range_set.specs.Steps.{HaveNoRanges, IsNext, IsNoStoredRange, IsNotNext};
+ghost use Rattle.range_set.specs.Steps.{IsPairOfNoRange, IsPairOfRange};
 ghost use Rattle.range_set.specs.Steps.{IsSpelledAs, IsUnspelled, only_bytes};
 ghost use Rattle.range_set.specs.Stored.{ArePairsOf, IsStoredRange};
 
@@ -47,7 +48,7 @@ fn tuple_behind(alloc: Global, place: &[u8], key: &Bytes) -> Result<Tuple, Range
 fn range_between(key: &Bytes, begin: Bytes, end: &Bytes) -> Result<KeyRange, RangeSetError>
     ensures found { IfOk result (λ range.
         (range ≡ record { begin = begin; end = end.now }) × IsStoredRange range) }
-    ensures refused { IfErr result (IsNoRange key.now begin end.now) }
+    ensures refused { IfErr result (IsNoStoredRange key.now begin end.now) }
 {
     bytes_known(begin.as_slice());
     bytes_known(end.as_slice());
@@ -62,8 +63,8 @@ fn range_between(key: &Bytes, begin: Bytes, end: &Bytes) -> Result<KeyRange, Ran
 
 // The range that a pair behind the place stands for.
 fn range_found(alloc: Global, place: &[u8], pair: &Pair) -> Result<KeyRange, RangeSetError>
-    ensures found { IfOk result (IsPairOf place.now pair.now) }
-    ensures refused { IfErr result (IsPairOfNone place.now pair.now) }
+    ensures found { IfOk result (IsPairOfRange place.now pair.now) }
+    ensures refused { IfErr result (IsPairOfNoRange place.now pair.now) }
 {
     let tuple = tuple_behind(alloc, place, &pair.0)?;
     match only_bytes(tuple) {

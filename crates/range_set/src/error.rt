@@ -1,6 +1,6 @@
 // The errors of reads. Used by `reading` and `decoding`; `record_store` passes them on.
 ghost use Rattle.std.specs.Prelude.{◌≡◌};
-ghost use Rattle.range_set.specs.Steps.{no_memory, of_read};
+ghost use Rattle.range_set.specs.Steps.{set_memory, set_read};
 
 use cluster_core::ReadError;
 use kv_core::Bytes;
@@ -23,7 +23,7 @@ pub enum RangeSetError {
 }
 
 impl From<AllocError> for RangeSetError {
-    ghost from_gives = { λ _ made. made ≡ no_memory };
+    ghost from_gives = { λ _ made. made ≡ set_memory };
 
     fn from(_error: AllocError) -> RangeSetError {
         RangeSetError::Memory
@@ -31,7 +31,7 @@ impl From<AllocError> for RangeSetError {
 }
 
 impl<T: Drop> From<AllocFailed<T>> for RangeSetError {
-    ghost from_gives = { λ _ made. made ≡ no_memory };
+    ghost from_gives = { λ _ made. made ≡ set_memory };
 
     fn from(_error: AllocFailed<T>) -> RangeSetError {
         RangeSetError::Memory
@@ -39,7 +39,7 @@ impl<T: Drop> From<AllocFailed<T>> for RangeSetError {
 }
 
 impl From<ReadError> for RangeSetError {
-    ghost from_gives = { λ error made. made ≡ of_read error };
+    ghost from_gives = { λ error made. made ≡ set_read error };
 
     fn from(error: ReadError) -> RangeSetError {
         match error {

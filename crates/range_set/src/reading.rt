@@ -2,7 +2,8 @@
 // built, and by `online_builder` for what is to be.
 ghost use Rattle.std.specs.Prelude.{◌≡◌, IfErr, IfOk, IsTrue, OnOk};
 ghost use Rattle.kv_core.specs.Bytes.{end_of_keys, key_lt};
-ghost use Rattle.range_set.specs.Calls.{IsAnswered, IsRefused, IsTold, IsUntold, all_ranges, last_upto};
+ghost use Rattle.range_set.specs.Calls.{IsPositionTold, IsSetAnswered, IsSetRefused, IsUntold};
+ghost use Rattle.range_set.specs.Calls.{all_ranges, last_upto};
 ghost use Rattle.range_set.specs.Calls.{upto_range, whole_range};
 ghost use Rattle.range_set.specs.Gaps.{first_gap, has_position, is_whole};
 ghost use Rattle.range_set.specs.Steps.{ends_behind};
@@ -36,7 +37,7 @@ pub fn position_told(
     pairs: &[Pair],
     position: &[u8],
 ) -> Result<bool, RangeSetError>
-    ensures told { IfOk result (IsTold place.now position.now pairs.now) }
+    ensures told { IfOk result (IsPositionTold place.now position.now pairs.now) }
     ensures refused { IfErr result (IsUntold place.now position.now pairs.now) }
 {
     bytes_known(position);
@@ -59,12 +60,12 @@ pub fn contains<S: Snapshot>(
 ) -> Result<bool, RangeSetError>
     requires { IsTrue (key_lt place.now end_of_keys) }
     ensures told { IfOk result (λ told.
-        IsAnswered (S.map_at db.now) place.now (last_upto place.now position.now) tx.old tx.new
+        IsSetAnswered (S.map_at db.now) place.now (last_upto place.now position.now) tx.old tx.new
         (λ set. told ≡ has_position set position.now)) }
     ensures allowed { OnOk result
         (S.must_refuse db.now (upto_range place.now position.now) tx.old.read_version → ⊥) }
     ensures refused { IfErr result (λ error.
-        IsRefused (S.map_at db.now) (S.may_refuse db.now) place.now
+        IsSetRefused (S.map_at db.now) (S.may_refuse db.now) place.now
         (last_upto place.now position.now) error tx.old tx.new) }
 {
     bytes_known(position);
@@ -88,13 +89,13 @@ pub fn first_gap<S: Snapshot>(
 ) -> Result<Option<KeyRange>, RangeSetError>
     requires { IsTrue (key_lt place.now end_of_keys) }
     ensures gap { IfOk result (λ gap.
-        IsAnswered (S.map_at db.now) place.now (all_ranges place.now) tx.old tx.new
+        IsSetAnswered (S.map_at db.now) place.now (all_ranges place.now) tx.old tx.new
         (λ set. gap ≡ first_gap set)) }
     ensures told { IfOk result (IsGapIn (S.map_at db.now) place.now tx.old tx.new) }
     ensures allowed { OnOk result
         (S.must_refuse db.now (whole_range place.now) tx.old.read_version → ⊥) }
     ensures refused { IfErr result (λ error.
-        IsRefused (S.map_at db.now) (S.may_refuse db.now) place.now (all_ranges place.now)
+        IsSetRefused (S.map_at db.now) (S.may_refuse db.now) place.now (all_ranges place.now)
         error tx.old tx.new) }
 {
     let range = whole_range(alloc, place)?;
@@ -115,12 +116,12 @@ pub fn is_whole<S: Snapshot>(
 ) -> Result<bool, RangeSetError>
     requires { IsTrue (key_lt place.now end_of_keys) }
     ensures whole { IfOk result (λ whole.
-        IsAnswered (S.map_at db.now) place.now (all_ranges place.now) tx.old tx.new
+        IsSetAnswered (S.map_at db.now) place.now (all_ranges place.now) tx.old tx.new
         (λ set. whole ≡ is_whole set)) }
     ensures allowed { OnOk result
         (S.must_refuse db.now (whole_range place.now) tx.old.read_version → ⊥) }
     ensures refused { IfErr result (λ error.
-        IsRefused (S.map_at db.now) (S.may_refuse db.now) place.now (all_ranges place.now)
+        IsSetRefused (S.map_at db.now) (S.may_refuse db.now) place.now (all_ranges place.now)
         error tx.old tx.new) }
 {
     let gap = first_gap(alloc, place, tx, db)?;

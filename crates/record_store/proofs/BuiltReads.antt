@@ -18,9 +18,9 @@ use Rattle.metadata.specs.declared.index.IndexDefinition.{IndexDefinition}
 use Rattle.index_maint.specs.Layout.{built_place}
 use Rattle.record_store.specs.declared.error.StoreError.{StoreError}
 use Rattle.record_store.specs.declared.error.StoreError.TheVariants.{Memory, Read, Write, Corrupt, Refused, NoStore, AlreadyThere, OtherSchema, NotAggregate, NotReadable, WrongState, NotBuilt}
-use Rattle.record_store.specs.BuiltReading.{added_of, asked_of, asks, built_reading, found_of}
+use Rattle.record_store.specs.BuiltReading.{added_of, asked_ranges, asks, built_reading, found_of}
 use Rattle.record_store.specs.Call.{Opened, Reading}
-use Rattle.record_store.specs.Reading.{HasReadBuilt, HasReadOne, HasStopped, IsStopped}
+use Rattle.record_store.specs.Reading.{HasReadBuilt, HasReadOne, IsStopped, ReadsHaveStopped}
 use Rattle.record_store.specs.Steps.{IsBeginning, IsNextRefused, no_memory, of_read}
 use Rattle.record_store.proofs.Scanning.{split_at}
 use Rattle.record_store.proofs.StateSteps.{all_taken}
@@ -49,12 +49,12 @@ flat_split f i xs x within is = ap (flat_map f) (split_at i xs x within is) ∙ 
 
 module _ {maps : ℕ → Map} {refuses : KeyRange → ℕ → ReadError → Type 0} where
   -- nothing was read, and memory is wanting
-  pub stopped_still : {old new : CommitRequest} (reading : Reading) → new ≡ old → HasStopped maps refuses reading no_memory old new
+  pub stopped_still : {old new : CommitRequest} (reading : Reading) → new ≡ old → ReadsHaveStopped maps refuses reading no_memory old new
   stopped_still reading same = record { added = []; ran = ran_still same (λ m. none_begin (reading.added m)) }
 
   -- the only read was refused, or memory was wanting
   pub stopped_failed : {old new : CommitRequest} (reading : Reading) (range other : KeyRange) (error : ReadError) → range ≡ other → ((m : Map) → reading.asked m ≡ other ∷ []) → new ≡ old →
-      (error ≡ read.Memory) ⊎ refuses range old.read_version error → HasStopped maps refuses reading (of_read error) old new
+      (error ≡ read.Memory) ⊎ refuses range old.read_version error → ReadsHaveStopped maps refuses reading (of_read error) old new
   stopped_failed {old = old} reading range other error is asks_it same says = record { added = []; ran = ran_still same (λ m. by_error m error says) }
     where
       refused : (m : Map) (e : ReadError) → refuses range old.read_version e → IsNextRefused (λ r. refuses r old.read_version) (reading.asked m) [] e
@@ -150,7 +150,7 @@ module _ (opened : Opened) (number : ℕ) (position : List ℕ) where
   }
 
   -- as many are added as are asked for
-  as_many : (m : Map) (indexes : List IndexDefinition) → length (flat_map (added_of opened number position m) indexes) ≡ length (flat_map (asked_of opened number position) indexes)
+  as_many : (m : Map) (indexes : List IndexDefinition) → length (flat_map (added_of opened number position m) indexes) ≡ length (flat_map (asked_ranges opened number position) indexes)
   as_many m [] = refl
   as_many m (index ∷ indexes) = by_test (asks opened number index) (as_many m indexes)
     where
@@ -160,24 +160,24 @@ module _ (opened : Opened) (number : ℕ) (position : List ℕ) where
       other : KeyRange
       other = (last_upto (built_place opened.prefix index.number) position).asked
 
-      by_test : (b : Bool) → length (flat_map (added_of opened number position m) indexes) ≡ length (flat_map (asked_of opened number position) indexes) →
-          length (cond b (one ∷ []) [] ++ flat_map (added_of opened number position m) indexes) ≡ length (cond b (other ∷ []) [] ++ flat_map (asked_of opened number position) indexes)
+      by_test : (b : Bool) → length (flat_map (added_of opened number position m) indexes) ≡ length (flat_map (asked_ranges opened number position) indexes) →
+          length (cond b (one ∷ []) [] ++ flat_map (added_of opened number position m) indexes) ≡ length (cond b (other ∷ []) [] ++ flat_map (asked_ranges opened number position) indexes)
       by_test true rest = ap suc rest
       by_test false rest = rest
 
   -- a stop at one index is one of all
   pub stopped_among : {maps : ℕ → Map} {refuses : KeyRange → ℕ → ReadError → Type 0} {old mid new : CommitRequest} (i : ℕ) (indexes : List IndexDefinition) (index : IndexDefinition) (found : List (List Pair)) (error : StoreError) →
-      i < length indexes → index ≡ get_or indexes i index → HasReadBuilt maps opened number position (take i indexes) found old mid → HasStopped maps refuses (built_reading opened number position (index ∷ [])) error mid new →
-      HasStopped maps refuses (built_reading opened number position indexes) error old new
+      i < length indexes → index ≡ get_or indexes i index → HasReadBuilt maps opened number position (take i indexes) found old mid → ReadsHaveStopped maps refuses (built_reading opened number position (index ∷ [])) error mid new →
+      ReadsHaveStopped maps refuses (built_reading opened number position indexes) error old new
   stopped_among {refuses = refuses} {old = old} i indexes index found error within is so_far stop = record {
     added = so_far.added ++ stop.added;
     ran = ran_then so_far.ran stop.ran (λ m before says.
         subst (λ rs. IsStopped (λ range. refuses range old.read_version) (built_reading opened number position indexes) error (rs ++ stop.added) m) (sym before.0)
-        (stopped_within (λ range. refuses range old.read_version) (flat_map (asked_of opened number position) (take i indexes)) stop.added (built_reading opened number position (index ∷ [])) (built_reading opened number position indexes)
-        (flat_map (added_of opened number position m) (take i indexes)) (flat_map (asked_of opened number position) (drop (suc i) indexes)) (flat_map (added_of opened number position m) (drop (suc i) indexes)) error m
+        (stopped_within (λ range. refuses range old.read_version) (flat_map (asked_ranges opened number position) (take i indexes)) stop.added (built_reading opened number position (index ∷ [])) (built_reading opened number position indexes)
+        (flat_map (added_of opened number position m) (take i indexes)) (flat_map (asked_ranges opened number position) (drop (suc i) indexes)) (flat_map (added_of opened number position m) (drop (suc i) indexes)) error m
         (as_many m (take i indexes))
-        (flat_split (asked_of opened number position) i indexes index within is
-        ∙ ap (λ rs. flat_map (asked_of opened number position) (take i indexes) ++ (rs ++ flat_map (asked_of opened number position) (drop (suc i) indexes))) (sym (append-nil (asked_of opened number position index))))
+        (flat_split (asked_ranges opened number position) i indexes index within is
+        ∙ ap (λ rs. flat_map (asked_ranges opened number position) (take i indexes) ++ (rs ++ flat_map (asked_ranges opened number position) (drop (suc i) indexes))) (sym (append-nil (asked_ranges opened number position index))))
         (flat_split (added_of opened number position m) i indexes index within is
         ∙ ap (λ rs. flat_map (added_of opened number position m) (take i indexes) ++ (rs ++ flat_map (added_of opened number position m) (drop (suc i) indexes))) (sym (append-nil (added_of opened number position m index))))
         (subst (λ v. IsStopped (λ range. refuses range v) (built_reading opened number position (index ∷ [])) error stop.added m) so_far.ran.version says)));
@@ -186,7 +186,7 @@ module _ (opened : Opened) (number : ℕ) (position : List ℕ) where
   -- MEMORY: it was wanting behind the reads of some
   pub stopped_behind : {maps : ℕ → Map} {refuses : KeyRange → ℕ → ReadError → Type 0} {old mid new : CommitRequest} (i : ℕ) (indexes : List IndexDefinition) (index : IndexDefinition) (found : List (List Pair)) (pairs : List Pair) →
       i < length indexes → index ≡ get_or indexes i index → HasReadBuilt maps opened number position (take i indexes) found old mid → HasReadOne maps opened number position index pairs mid new →
-      HasStopped maps refuses (built_reading opened number position indexes) no_memory old new
+      ReadsHaveStopped maps refuses (built_reading opened number position indexes) no_memory old new
   stopped_behind i indexes index found pairs within is so_far one = record {
     added = so_far.added ++ one.added;
     ran = ran_then so_far.ran one.ran (λ m before now.

@@ -9,7 +9,7 @@ use Rattle.std.specs.Ordering.{is_eq, match_ordering}
 use Rattle.std.specs.FinMap.{get}
 use Rattle.tuple_codec.specs.Item.{Item, IsTuple, int}
 use Rattle.tuple_codec.specs.Spelling.{spelling}
-use Rattle.tuple_codec.specs.Subspace.{key_of}
+use Rattle.tuple_codec.specs.Subspace.{subspace_key}
 use Rattle.tuple_codec.specs.Order.{tuple_cmp}
 use Rattle.kv_core.specs.Bytes.{key_cmp}
 use Rattle.kv_core.specs.Map.{Map, after}
@@ -163,9 +163,9 @@ module _ (prefix : List ℕ) where
 
   -- with a schema's pair put where nothing is, nothing is at each other key
   pub made_nothing : (m : Map) (value : List ℕ) (n : ℕ) (ns : List Item) (bytes : List ℕ) → (nat_lt 0 7 && (nat_lt n 7 && not (n == 0))) ≡ true → Holds prefix m None →
-      get (after (Set (schema_key prefix) value) m) (key_of prefix (int (pos n) ∷ ns) ++ bytes) ≡ None
+      get (after (Set (schema_key prefix) value) m) (subspace_key prefix (int (pos n) ∷ ns) ++ bytes) ≡ None
   made_nothing m value n ns bytes differ holds =
-      set_leaves m (schema_key prefix) value (key_of prefix (int (pos n) ∷ ns) ++ bytes) (other_place prefix 0 [] n ns (key_of prefix (int (pos n) ∷ ns) ++ bytes) differ (bytes, refl))
+      set_leaves m (schema_key prefix) value (subspace_key prefix (int (pos n) ∷ ns) ++ bytes) (other_place prefix 0 [] n ns (subspace_key prefix (int (pos n) ∷ ns) ++ bytes) differ (bytes, refl))
       ∙ nothing_at prefix m (spelling (int (pos n) ∷ ns)) bytes holds
 
   -- CREATE: with a schema's pair put where nothing is, the map holds the new store
@@ -221,6 +221,6 @@ module _ (prefix : List ℕ) where
       then : Map
       then = after (Set (schema_key prefix) (schema_bytes schema)) m
 
-      leaves : (n : ℕ) (ns : List Item) (bytes : List ℕ) → (nat_lt 0 7 && (nat_lt n 7 && not (n == 0))) ≡ true → get then (key_of prefix (int (pos n) ∷ ns) ++ bytes) ≡ get m (key_of prefix (int (pos n) ∷ ns) ++ bytes)
+      leaves : (n : ℕ) (ns : List Item) (bytes : List ℕ) → (nat_lt 0 7 && (nat_lt n 7 && not (n == 0))) ≡ true → get then (subspace_key prefix (int (pos n) ∷ ns) ++ bytes) ≡ get m (subspace_key prefix (int (pos n) ∷ ns) ++ bytes)
       leaves n ns bytes differ =
-          set_leaves m (schema_key prefix) (schema_bytes schema) (key_of prefix (int (pos n) ∷ ns) ++ bytes) (other_place prefix 0 [] n ns (key_of prefix (int (pos n) ∷ ns) ++ bytes) differ (bytes, refl))
+          set_leaves m (schema_key prefix) (schema_bytes schema) (subspace_key prefix (int (pos n) ∷ ns) ++ bytes) (other_place prefix 0 [] n ns (subspace_key prefix (int (pos n) ∷ ns) ++ bytes) differ (bytes, refl))

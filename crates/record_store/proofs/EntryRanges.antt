@@ -53,7 +53,7 @@ begins_or_other begin key = by_test (starts_with eqb key begin) (begins_or_not k
 
 -- ---- the packs of entries
 
-are_items-append : (t u : List Item) → AreItems (item.items_of t) → AreItems (item.items_of u) → AreItems (item.items_of (t ++ u))
+are_items-append : (t u : List Item) → AreItems (item.items_from t) → AreItems (item.items_from u) → AreItems (item.items_from (t ++ u))
 are_items-append [] u h g = g
 are_items-append (x ∷ t) u h g = (h.0, are_items-append t u h.1 g)
 

@@ -13,7 +13,7 @@ use Rattle.kv_core.proofs.Lists.{All-take}
 use Rattle.kv_core.proofs.Pairs.{All-reverse}
 use Rattle.range_set.specs.declared.error.RangeSetError.{RangeSetError}
 use Rattle.range_set.specs.declared.error.RangeSetError.TheVariants as set
-use Rattle.range_set.specs.Calls.{IsTold, IsUntold, last_upto, upto_range}
+use Rattle.range_set.specs.Calls.{IsPositionTold, IsUntold, last_upto, upto_range}
 use Rattle.range_set.specs.Gaps.{has_position}
 use Rattle.range_set.specs.Stored.{AreStored, AreWritten, HasSet, IsFirstDamaged, range_pair}
 use Rattle.metadata.specs.declared.index.IndexDefinition.{IndexDefinition}
@@ -105,7 +105,7 @@ module _ (opened : Opened) (lawful : IsLawfulSchema opened.schema) (number : ℕ
       each (range ∷ ranges) stored = (inr (inr (record { index = index; there = there; range = range; stored = stored.0; is = refl })), each ranges stored.2)
 
   -- TOLD: what is found tells it
-  pub told_asked : (found : List Pair) (told : Bool) → asks opened number index ≡ true → IsTold place position found told → IsToldOf opened number position index found told
+  pub told_asked : (found : List Pair) (told : Bool) → asks opened number index ≡ true → IsPositionTold place position found told → IsToldOf opened number position index found told
   told_asked found told asked is = λ m same_found. (
     written_pairs found is.written,
     λ store holds same.

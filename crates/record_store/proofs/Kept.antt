@@ -8,7 +8,7 @@ use Rattle.std.specs.FinMap.{get}
 use Rattle.std.specs.Ordering.{is_eq}
 use Rattle.tuple_codec.specs.Item.{Item, int}
 use Rattle.tuple_codec.specs.Spelling.{int_spelling, spelling}
-use Rattle.tuple_codec.specs.Subspace.{BeginsWith, key_of}
+use Rattle.tuple_codec.specs.Subspace.{BeginsWith, subspace_key}
 use Rattle.kv_core.specs.Bytes.{key_cmp}
 use Rattle.kv_core.specs.Map.{Map, after}
 use Rattle.kv_core.specs.Range.{KeyRange, point}
@@ -53,23 +53,23 @@ itself key = ([], sym (append-nil key))
 
 module _ (prefix : List ℕ) where
   -- a key under one number isn't one under another
-  pub other_place : (p : ℕ) (ps : List Item) (n : ℕ) (ns : List Item) (at : List ℕ) → (nat_lt p 7 && (nat_lt n 7 && not (n == p))) ≡ true → BeginsWith (key_of prefix (int (pos n) ∷ ns)) at →
-      at ≡ key_of prefix (int (pos p) ∷ ps) → ⊥
+  pub other_place : (p : ℕ) (ps : List Item) (n : ℕ) (ns : List Item) (at : List ℕ) → (nat_lt p 7 && (nat_lt n 7 && not (n == p))) ≡ true → BeginsWith (subspace_key prefix (int (pos n) ∷ ns)) at →
+      at ≡ subspace_key prefix (int (pos p) ∷ ps) → ⊥
   other_place p ps n ns at differ there same =
       let one = and_parts (nat_lt p 7) (nat_lt n 7 && not (n == p)) differ in
       let two = and_parts (nat_lt n 7) (not (n == p)) one.1 in
       let low = ltb-true p 7 one.0 in
       let high = ltb-true n 7 two.0 in
-      places_differ prefix at (key_of prefix (int (pos p) ∷ ps)) n p ns ps (omega (arith, high)) (omega (arith, low)) (eqb-false n p (not-true (n == p) two.1)) there (itself (key_of prefix (int (pos p) ∷ ps))) same
+      places_differ prefix at (subspace_key prefix (int (pos p) ∷ ps)) n p ns ps (omega (arith, high)) (omega (arith, low)) (eqb-false n p (not-true (n == p) two.1)) there (itself (subspace_key prefix (int (pos p) ∷ ps))) same
 
   -- a key under another number than 2 is that of no entry
-  pub not_entry : (i n : ℕ) (ns : List Item) (key : List ℕ) → (nat_lt n 7 && not (n == 2)) ≡ true → BeginsWith (key_of prefix (int (pos n) ∷ ns)) key → BeginsWith (entries_prefix prefix i) key → ⊥
+  pub not_entry : (i n : ℕ) (ns : List Item) (key : List ℕ) → (nat_lt n 7 && not (n == 2)) ≡ true → BeginsWith (subspace_key prefix (int (pos n) ∷ ns)) key → BeginsWith (entries_prefix prefix i) key → ⊥
   not_entry i n ns key other there entry =
       let parts = and_parts (nat_lt n 7) (not (n == 2)) other in
       let low = ltb-true n 7 parts.0 in
       entries_elsewhere prefix key i n ns (omega (arith, low)) (eqb-false n 2 (not-true (n == 2) parts.1)) entry there
 
-  pub no_entry_at : (n : ℕ) (ns : List Item) (indexes : List IndexDefinition) (key : List ℕ) → (nat_lt n 7 && not (n == 2)) ≡ true → BeginsWith (key_of prefix (int (pos n) ∷ ns)) key → IsNoEntry prefix indexes key
+  pub no_entry_at : (n : ℕ) (ns : List Item) (indexes : List IndexDefinition) (key : List ℕ) → (nat_lt n 7 && not (n == 2)) ≡ true → BeginsWith (subspace_key prefix (int (pos n) ∷ ns)) key → IsNoEntry prefix indexes key
   no_entry_at n ns [] key other there = tt
   no_entry_at n ns (index ∷ indexes) key other there = (not_entry index.number n ns key other there, no_entry_at n ns indexes key other there)
 
@@ -80,13 +80,13 @@ module _ (prefix : List ℕ) where
   no_entry_in n indexes bytes other = no_entry_at n [] indexes (place prefix n ++ bytes) other (bytes, refl)
 
   -- a key under another number than 6 is that of no built range
-  pub not_range : (i n : ℕ) (ns : List Item) (key : List ℕ) → (nat_lt n 7 && not (n == 6)) ≡ true → BeginsWith (key_of prefix (int (pos n) ∷ ns)) key → BeginsWith (built_place prefix i) key → ⊥
+  pub not_range : (i n : ℕ) (ns : List Item) (key : List ℕ) → (nat_lt n 7 && not (n == 6)) ≡ true → BeginsWith (subspace_key prefix (int (pos n) ∷ ns)) key → BeginsWith (built_place prefix i) key → ⊥
   not_range i n ns key other there range =
       let parts = and_parts (nat_lt n 7) (not (n == 6)) other in
       let low = ltb-true n 7 parts.0 in
       eqb-false n 6 (not-true (n == 6) parts.1) (sym (places_apart prefix key 6 n (int (pos i) ∷ []) ns (omega arith) (omega (arith, low)) range there))
 
-  pub no_range_at : (n : ℕ) (ns : List Item) (indexes : List IndexDefinition) (key : List ℕ) → (nat_lt n 7 && not (n == 6)) ≡ true → BeginsWith (key_of prefix (int (pos n) ∷ ns)) key → IsNoRange prefix indexes key
+  pub no_range_at : (n : ℕ) (ns : List Item) (indexes : List IndexDefinition) (key : List ℕ) → (nat_lt n 7 && not (n == 6)) ≡ true → BeginsWith (subspace_key prefix (int (pos n) ∷ ns)) key → IsNoRange prefix indexes key
   no_range_at n ns [] key other there = tt
   no_range_at n ns (index ∷ indexes) key other there = (not_range index.number n ns key other there, no_range_at n ns indexes key other there)
 

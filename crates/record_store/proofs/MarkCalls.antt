@@ -103,16 +103,16 @@ module _ (opened : Opened) (number : ℕ) (there : has_number opened.schema.inde
       (positions_of opened.prefix m (state_of store) (built_of store) number store.schema.indexes (ap (λ (s : Schema). has_number s.indexes number) same.schema ∙ there) holds.ranges)
 
   -- READ: all of it was read
-  pub set_read : {maps : ℕ → Map} {old new : CommitRequest} (Answer : List KeyRange → Type 0) → (found : reads.IsAnswered maps place (all_ranges place) old new Answer) →
+  pub set_read : {maps : ℕ → Map} {old new : CommitRequest} (Answer : List KeyRange → Type 0) → (found : reads.IsSetAnswered maps place (all_ranges place) old new Answer) →
       DidRead maps (found.added ∷ []) old new (λ m. (found.added ∷ [] ≡ reading.added m) × (IsSound opened reading m × AtStore opened m (λ store. Answer (built_of store number))))
   set_read Answer found = ran_because found.ran (λ m is. (ap (λ r. r ∷ []) is.0, ((is.1, tt), λ store holds same. is.2 (built_of store number) (set_there m store holds same))))
 
   -- UNREAD: it wasn't
-  pub set_unread : {maps : ℕ → Map} {refuses : KeyRange → ℕ → ReadError → Type 0} {old new : CommitRequest} (error : RangeSetError) → reads.IsRefused maps refuses place (all_ranges place) error old new →
+  pub set_unread : {maps : ℕ → Map} {refuses : KeyRange → ℕ → ReadError → Type 0} {old new : CommitRequest} (error : RangeSetError) → reads.IsSetRefused maps refuses place (all_ranges place) error old new →
       HasNotFound maps refuses opened reading (of_set error) old new
   set_unread {refuses = refuses} {old = old} error unread = record { added = unread.added; ran = ran_because unread.ran (λ m says. by_error error unread.added m says) }
     where
-      by_error : (e : RangeSetError) (added : List KeyRange) (m : Map) → reads.IsUnread (λ range. refuses range old.read_version) place (all_ranges place) e added m → IsUnread (λ range. refuses range old.read_version) opened reading (of_set e) added m
+      by_error : (e : RangeSetError) (added : List KeyRange) (m : Map) → reads.IsSetUnread (λ range. refuses range old.read_version) place (all_ranges place) e added m → IsUnread (λ range. refuses range old.read_version) opened reading (of_set e) added m
       by_error set.Memory added m (inl none) = subst (λ rs. IsBeginning rs (reading.added m)) (sym none) (none_begin (reading.added m))
       by_error set.Memory added m (inr all) = subst (λ rs. IsBeginning rs (reading.added m)) (sym all) (all_begin (reading.added m))
       by_error (set.Read e) added m says = (
@@ -168,15 +168,15 @@ module _ (maps : ℕ → Map) (refuses : KeyRange → ℕ → ReadError → Type
   marking = (found_write_only opened name index named).1
 
   -- UNREAD: the built ranges weren't read
-  pub readable_unread : {old new : CommitRequest} (at : List ℕ) (error : RangeSetError) → at ≡ built_place opened.prefix index.number → reads.IsRefused maps refuses at (all_ranges at) error old new →
+  pub readable_unread : {old new : CommitRequest} (at : List ℕ) (error : RangeSetError) → at ≡ built_place opened.prefix index.number → reads.IsSetRefused maps refuses at (all_ranges at) error old new →
       IsRefused maps refuses opened (readable_call opened name) (of_set error) old new
   readable_unread {old = old} {new = new} at error is unread =
       refused_unread maps refuses opened (readable_call opened name) (readable_service opened index.number) (of_set error) accepted
-      (set_unread opened index.number known marking error (subst (λ p. reads.IsRefused maps refuses p (all_ranges p) error old new) is unread))
+      (set_unread opened index.number known marking error (subst (λ p. reads.IsSetRefused maps refuses p (all_ranges p) error old new) is unread))
 
-  module _ {old mid : CommitRequest} (at : List ℕ) (whole : Bool) (is : at ≡ built_place opened.prefix index.number) (found : reads.IsAnswered maps at (all_ranges at) old mid (λ set. whole ≡ is_whole set)) where
-    there : reads.IsAnswered maps (built_place opened.prefix index.number) (all_ranges (built_place opened.prefix index.number)) old mid (λ set. whole ≡ is_whole set)
-    there = subst (λ p. reads.IsAnswered maps p (all_ranges p) old mid (λ set. whole ≡ is_whole set)) is found
+  module _ {old mid : CommitRequest} (at : List ℕ) (whole : Bool) (is : at ≡ built_place opened.prefix index.number) (found : reads.IsSetAnswered maps at (all_ranges at) old mid (λ set. whole ≡ is_whole set)) where
+    there : reads.IsSetAnswered maps (built_place opened.prefix index.number) (all_ranges (built_place opened.prefix index.number)) old mid (λ set. whole ≡ is_whole set)
+    there = subst (λ p. reads.IsSetAnswered maps p (all_ranges p) old mid (λ set. whole ≡ is_whole set)) is found
 
     was_read : DidRead maps (there.added ∷ []) old mid (λ m. (there.added ∷ [] ≡ (all_built opened.prefix index.number).added m)
         × (IsSound opened (all_built opened.prefix index.number) m × AtStore opened m (λ store. whole ≡ is_whole (built_of store index.number))))

@@ -11,7 +11,8 @@ use Rattle.metadata.specs.declared.definition.TypeRequest.{TypeRequest}
 use Rattle.metadata.specs.declared.index.IndexDefinition.{IndexDefinition}
 use Rattle.metadata.specs.declared.refusal.Refusal.{Refusal}
 use Rattle.metadata.specs.declared.refusal.Refusal.TheVariants.{BadName, NameTaken, UnknownField, BadSchema, TooMany}
-use Rattle.metadata.specs.Change.{add_types, empty_schema, field_names, first_refusal, has_twice, has_unknown, is_name, same_field, type_asked, type_refusal, types_alone, with_type}
+use Rattle.metadata.specs.Change.{add_types, empty_schema, field_names, first_test_refusal, has_twice, has_unknown}
+use Rattle.metadata.specs.Change.{is_name, same_field, type_asked, type_refusal, types_alone, with_type}
 use Rattle.metadata.specs.Lawful.{IsLawfulSchema, is_index, is_index_over}
 use Rattle.metadata.specs.Schema.{Schema, find_type, type_at}
 use Rattle.metadata.specs.Stored.{IsTypeOf}
@@ -78,7 +79,7 @@ name_free schema request is =
     ∷ (nat_lt 31 (length schema.types) || nat_lt 32 (length request.fields) || nat_lt 8 (length request.key), TooMany)
     ∷ []) is
   where
-    by_tests : (bad : Bool) (found : Option TypeDefinition) (twice : Bool) (rest : List (Bool × Refusal)) → first_refusal ((bad, BadName) ∷ (is_some found || twice, NameTaken) ∷ rest) ≡ None → found ≡ None
+    by_tests : (bad : Bool) (found : Option TypeDefinition) (twice : Bool) (rest : List (Bool × Refusal)) → first_test_refusal ((bad, BadName) ∷ (is_some found || twice, NameTaken) ∷ rest) ≡ None → found ≡ None
     by_tests true found twice rest none = absurd (cc)
     by_tests false None twice rest none = refl
     by_tests false (Some t) twice rest none = absurd (cc)

@@ -26,7 +26,8 @@ use Rattle.record_store.specs.Holds.{Holds, IsListed}
 use Rattle.record_store.specs.Form.{IsFirstBad, IsOpeningPair, IsSchemaPair, IsStatePair, read_in}
 use Rattle.record_store.specs.Opening.{HasSchema, IsOpenFailure, IsOpened, IsThereAs, IsUnopened, opening_reach}
 use Rattle.record_store.proofs.Stopping.{all_begin, error_behind, error_more}
-use Rattle.record_store.specs.Reading.{AreStates, HasNotRead, HaveNoStates, IsBadSchema, IsBadStateAmong, IsNoSchema, IsNoState, IsReadError, IsSchema}
+use Rattle.record_store.specs.Reading.{AreStates, HasNotRead, HaveNoStates, IsBadSchema, IsBadStateAmong}
+use Rattle.record_store.specs.Reading.{IsNoSchemaFound, IsNoState, IsReadError, IsSchema}
 use Rattle.record_store.specs.Steps.{DidRead, no_memory}
 use Rattle.record_store.proofs.Held.{no_schema_held, no_schema_state, no_states, schema_held}
 use Rattle.record_store.proofs.Kept.{itself, other_place}
@@ -245,7 +246,7 @@ module _ (prefix : List ℕ) where
       let some : ◌≡◌ {A = Option (List ℕ)} None (Some (schema_bytes store.schema)) = found ∙ schema_held prefix m store holds in absurd (cc)
 
   schema_failure : (refuses : KeyRange → ReadError → Type 0) (m : Map) (written : Option (List ℕ)) (pairs : List Pair) (error : StoreError) → written ≡ get m (schema_key prefix) → pairs ≡ pairs_in m (states_range prefix) →
-      IsNoSchema prefix written error → IsOpenFailure refuses prefix error (opening_reach prefix) m
+      IsNoSchemaFound prefix written error → IsOpenFailure refuses prefix error (opening_reach prefix) m
   schema_failure refuses m None pairs error found listed says =
       subst (λ e. IsOpenFailure refuses prefix e (opening_reach prefix) m) (sym says) (refl, sym found, λ serial holds. nothing_there m serial found holds)
   schema_failure refuses m (Some bytes) pairs error found listed bad = bad_schema refuses m bytes pairs error found listed bad
@@ -261,7 +262,7 @@ module _ (prefix : List ℕ) where
     pub opened_memory : IsUnopened maps refuses prefix no_memory old new
     opened_memory = record { added = opening_reach prefix; ran = ran_because (both_read one two) (λ m found. all_begin (opening_reach prefix)) }
 
-    pub unopened_schema : (error : StoreError) → IsNoSchema prefix written error → IsUnopened maps refuses prefix error old new
+    pub unopened_schema : (error : StoreError) → IsNoSchemaFound prefix written error → IsUnopened maps refuses prefix error old new
     unopened_schema error says = record {
       added = opening_reach prefix;
       ran = ran_because (both_read one two) (λ m found. schema_failure (λ range. refuses range old.read_version) m written pairs error found.0 found.1 says);

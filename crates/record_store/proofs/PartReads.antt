@@ -37,7 +37,7 @@ use Rattle.record_store.specs.Call.{AtStore, IsOpenAs, IsUnread, Opened}
 use Rattle.record_store.specs.Form.{IsFirstBad, IsRecordPair, IsWritten}
 use Rattle.record_store.specs.Holds.{Holds, IsOfSchema}
 use Rattle.record_store.specs.Layout.{place, record_key, record_pair, type_range}
-use Rattle.record_store.specs.Reading.{ArePairsOf, HasNotFound, HaveNoRecords, IsPairOfNone}
+use Rattle.record_store.specs.Reading.{ArePairsOfRecords, HasNotFound, HaveNoRecords, IsPairOfNone}
 use Rattle.record_store.specs.Steps.{IsBeginning}
 use Rattle.record_store.specs.Store.{Store}
 use Rattle.record_store.proofs.Held.{held_in, rising, type_begin}
@@ -134,7 +134,7 @@ module _ (opened : Opened) (type : TypeDefinition) (lawful : IsLawfulSchema open
   less_index = subst (λ n. n < 2 ^ 64) same_type less
 
   -- FOUND: the rows are the first records there
-  rows_there : (m : Map) (pairs : List Pair) (rows : List Record) → pairs ≡ take limit (pairs_in m here) → ArePairsOf (place opened.prefix 1) type pairs rows →
+  rows_there : (m : Map) (pairs : List Pair) (rows : List Record) → pairs ≡ take limit (pairs_in m here) → ArePairsOfRecords (place opened.prefix 1) type pairs rows →
       AllByRecursion (IsWritten opened.prefix opened.schema) pairs × AtStore opened m (λ store. rows ≡ take limit (records_within range index store.records))
   rows_there m pairs rows is good = (
     good_form opened type lawful found_type pairs rows good,
@@ -200,13 +200,13 @@ module _ (opened : Opened) (type : TypeDefinition) (lawful : IsLawfulSchema open
   part_added m asked pairs is read = ap (range_read asked limit false) read ∙ ap (λ r. range_read r limit false (read_of m r limit false)) is
 
   pub part_read : {maps : ℕ → Map} {old new : CommitRequest} (asked : KeyRange) (pairs : List Pair) (records_place : List ℕ) (rows : List Record) → asked ≡ here → records_place ≡ place opened.prefix 1 →
-      new ≡ has_read (range_read asked limit false pairs) old → ((m : Map) → Agree new.reads (maps old.read_version) m → pairs ≡ read_of (seen old m) asked limit false) → ArePairsOf records_place type pairs rows →
+      new ≡ has_read (range_read asked limit false pairs) old → ((m : Map) → Agree new.reads (maps old.read_version) m → pairs ≡ read_of (seen old m) asked limit false) → ArePairsOfRecords records_place type pairs rows →
       HasReadPart maps opened limit index range rows old new
   part_read {old = old} asked pairs records_place rows is at read answer found = record {
     added = range_read asked limit false pairs;
     ran = ran_read (range_read asked limit false pairs) read (λ m agree.
         let some : pairs ≡ take limit (pairs_in (seen old m) here) = answer m agree ∙ ap (λ r. take limit (pairs_in (seen old m) r)) is in
-        let there = rows_there (seen old m) pairs rows some (subst (λ p. ArePairsOf p type pairs rows) at found) in (
+        let there = rows_there (seen old m) pairs rows some (subst (λ p. ArePairsOfRecords p type pairs rows) at found) in (
           part_added (seen old m) asked pairs is (answer m agree),
           subst (AllByRecursion (IsWritten opened.prefix opened.schema)) some there.0,
           there.1,

@@ -10,7 +10,7 @@ use Rattle.tuple_codec.specs.Item.{Item, IsTuple}
 use Rattle.tuple_codec.specs.Item as item
 use Rattle.tuple_codec.specs.Order.{tuple_cmp}
 use Rattle.tuple_codec.specs.Spelling.{int_spelling, spelling, Spells}
-use Rattle.tuple_codec.specs.Subspace.{BeginsWith, key_of}
+use Rattle.tuple_codec.specs.Subspace.{BeginsWith, subspace_key}
 use Rattle.tuple_codec.proofs.Spellings.{one_tuple, spelling_spells}
 use Rattle.tuple_codec.proofs.TupleOrder.{tuple_order}
 use Rattle.kv_core.specs.Bytes.{key_cmp}
@@ -83,7 +83,7 @@ all_written prefix schema [] all = tt
 all_written prefix schema (pair ∷ pairs) all = (inl all.0, all_written prefix schema pairs all.1)
 
 -- a pair in the place of records isn't that of a total, nor that of a built range
-pub no_other_pair : (prefix : List ℕ) (ns : List Item) (indexes : List IndexDefinition) (pair : Pair) → BeginsWith (key_of prefix (item.int (pos 1) ∷ ns)) pair.0 → IsTotalPair prefix indexes pair ⊎ IsRangePair prefix indexes pair → ⊥
+pub no_other_pair : (prefix : List ℕ) (ns : List Item) (indexes : List IndexDefinition) (pair : Pair) → BeginsWith (subspace_key prefix (item.int (pos 1) ∷ ns)) pair.0 → IsTotalPair prefix indexes pair ⊎ IsRangePair prefix indexes pair → ⊥
 no_other_pair prefix ns indexes pair begins (inl total) = not_entry prefix total.index.number 1 ns pair.0 refl begins (spelling (items_of total.group), total.key)
 no_other_pair prefix ns indexes pair begins (inr one) =
     not_range prefix one.index.number 1 ns pair.0 refl begins (subst (BeginsWith (built_place prefix one.index.number)) (sym (ap (λ (p : Pair). p.0) one.is)) (spelling (item.bytes one.range.begin ∷ []), refl))

@@ -27,13 +27,14 @@ use Rattle.metadata.specs.Schema.{Schema, find_type}
 use Rattle.metadata.specs.Stored.{IsStoredAs}
 use Rattle.index_maint.specs.Built.{position_of}
 use Rattle.record_store.specs.declared.error.StoreError.{StoreError}
-use Rattle.record_store.specs.BuiltReading.{added_of, built_reading, found_of, number_in}
+use Rattle.record_store.specs.BuiltReading.{added_of, built_reading, found_of, type_number_in}
 use Rattle.record_store.specs.Call.{IsAnswered, IsOpenAs, IsRefused, Opened, Reading, where_there}
 use Rattle.record_store.specs.Calls.{done_with, remove_call, remove_service}
 use Rattle.record_store.specs.Form.{IsWritten, read_in}
 use Rattle.record_store.specs.IndexWrites.{one_index_writes, remove_writes}
 use Rattle.record_store.specs.Layout.{record_key}
-use Rattle.record_store.specs.Reading.{HasNotFound, HasNotRead, HasReadBuilt, HasStopped, HaveFollowed, HaveNotFollowed, IsKeyOf, IsNotFound, asked_built}
+use Rattle.record_store.specs.Reading.{HasNotFound, HasNotRead, HasReadBuilt, HaveFollowed, HaveNotFollowed, IsKeyOf}
+use Rattle.record_store.specs.Reading.{IsNotFound, ReadsHaveStopped, asked_built}
 use Rattle.record_store.specs.Steps.{DidRead, no_memory, of_write}
 use Rattle.record_store.specs.Store.{Store}
 use Rattle.record_store.proofs.Answered.{answered, answered_reading, key_given, refused_limit, refused_unread}
@@ -58,15 +59,15 @@ module _ (opened : Opened) (name : List ℕ) (cells : List Cell) (type : TypeDef
   its_key = key_given opened.schema name cells type pk found_type asked is_tuple
 
   -- the type's number is that in the key
-  number_is : number_in pk ≡ type.number
-  number_is = ap number_in its_key.is
+  number_is : type_number_in pk ≡ type.number
+  number_is = ap type_number_in its_key.is
 
   -- what is read behind the record's key where a record stands there
   abbrev built : Reading
   built = built_reading opened type.number (position_of pk) opened.schema.indexes
 
   abbrev other : Reading
-  other = where_there key (built_reading opened (number_in pk) (position_of pk) opened.schema.indexes)
+  other = where_there key (built_reading opened (type_number_in pk) (position_of pk) opened.schema.indexes)
 
   -- the key's read, and those of built ranges
   abbrev pub KeyRead : (ℕ → Map) → Option (List ℕ) → CommitRequest → CommitRequest → Type 0
@@ -84,17 +85,17 @@ module _ (opened : Opened) (name : List ℕ) (cells : List Cell) (type : TypeDef
   -- where a pair stands there it is read
   there_asked : (m : Map) (value : List ℕ) → Some value ≡ get m key → other.asked m ≡ built.asked m
   there_asked m value is =
-      ap (λ o. cond (is_some o) ((built_reading opened (number_in pk) (position_of pk) opened.schema.indexes).asked m) []) (sym is)
+      ap (λ o. cond (is_some o) ((built_reading opened (type_number_in pk) (position_of pk) opened.schema.indexes).asked m) []) (sym is)
       ∙ ap (λ n. (built_reading opened n (position_of pk) opened.schema.indexes).asked m) number_is
 
   there_added : (m : Map) (value : List ℕ) → Some value ≡ get m key → other.added m ≡ flat_map (added_of opened type.number (position_of pk) m) opened.schema.indexes
   there_added m value is =
-      ap (λ o. cond (is_some o) ((built_reading opened (number_in pk) (position_of pk) opened.schema.indexes).added m) []) (sym is)
+      ap (λ o. cond (is_some o) ((built_reading opened (type_number_in pk) (position_of pk) opened.schema.indexes).added m) []) (sym is)
       ∙ ap (λ n. (built_reading opened n (position_of pk) opened.schema.indexes).added m) number_is
 
   there_pairs : (m : Map) (value : List ℕ) → Some value ≡ get m key → other.pairs m ≡ flat_map (found_of opened type.number (position_of pk) m) opened.schema.indexes
   there_pairs m value is =
-      ap (λ o. cond (is_some o) ((built_reading opened (number_in pk) (position_of pk) opened.schema.indexes).pairs m) []) (sym is)
+      ap (λ o. cond (is_some o) ((built_reading opened (type_number_in pk) (position_of pk) opened.schema.indexes).pairs m) []) (sym is)
       ∙ ap (λ n. (built_reading opened n (position_of pk) opened.schema.indexes).pairs m) number_is
 
   unread : {maps : ℕ → Map} {refuses : KeyRange → ℕ → ReadError → Type 0} {old new : CommitRequest} (error : StoreError) → HasNotFound maps refuses opened (remove_service opened pk).reading error old new → IsRefused maps refuses opened (remove_call opened name cells) error old new
@@ -111,9 +112,9 @@ module _ (opened : Opened) (name : List ℕ) (cells : List Cell) (type : TypeDef
       answered_reading maps NeverRefuses opened (remove_call opened name cells) (remove_service opened pk) false accepted refl
       (ran_because ran (λ m is.
       let read = read_there opened type pk lawful own_type its_key m None None (sym is) refl in (
-        ap (λ o. point key ∷ cond (is_some o) ((built_reading opened (number_in pk) (position_of pk) opened.schema.indexes).added m) []) is,
+        ap (λ o. point key ∷ cond (is_some o) ((built_reading opened (type_number_in pk) (position_of pk) opened.schema.indexes).added m) []) is,
         (
-          subst (λ o. AllByRecursion (IsWritten opened.prefix opened.schema) (read_in m (point key ∷ []) ++ cond (is_some o) ((built_reading opened (number_in pk) (position_of pk) opened.schema.indexes).pairs m) [])) is
+          subst (λ o. AllByRecursion (IsWritten opened.prefix opened.schema) (read_in m (point key ∷ []) ++ cond (is_some o) ((built_reading opened (type_number_in pk) (position_of pk) opened.schema.indexes).pairs m) [])) is
               (subst (AllByRecursion (IsWritten opened.prefix opened.schema)) (sym (append-nil (read_in m (point key ∷ [])))) read.0),
           read.1,
         ),
@@ -122,11 +123,11 @@ module _ (opened : Opened) (name : List ℕ) (cells : List Cell) (type : TypeDef
 
   module _ (value : List ℕ) (refuses : KeyRange → ℕ → ReadError → Type 0) {maps : ℕ → Map} {old mid : CommitRequest} (first : KeyRead maps (Some value) old mid) where
     -- BUILT: a read of built ranges isn't answered
-    pub remove_built_refused : {new : CommitRequest} (error : StoreError) → HasStopped maps refuses (built_reading opened type.number at opened.schema.indexes) error mid new → IsRefused maps refuses opened (remove_call opened name cells) error old new
+    pub remove_built_refused : {new : CommitRequest} (error : StoreError) → ReadsHaveStopped maps refuses (built_reading opened type.number at opened.schema.indexes) error mid new → IsRefused maps refuses opened (remove_call opened name cells) error old new
     remove_built_refused {new = new} error stop =
         unread error
         (built_unread opened key other built error (λ m is. (there_asked m value is, there_added m value is)) first
-        (subst (λ p. HasStopped maps refuses (built_reading opened type.number p opened.schema.indexes) error mid new) is_at stop))
+        (subst (λ p. ReadsHaveStopped maps refuses (built_reading opened type.number p opened.schema.indexes) error mid new) is_at stop))
 
     module _ (found : List (List Pair)) {read : CommitRequest} (ranges : BuiltRead maps found mid read) where
       -- MEMORY: it was wanting behind all reads

@@ -25,7 +25,8 @@ use Rattle.record_store.specs.BuiltReading.{built_reading}
 use Rattle.record_store.specs.Call.{IsAnswered, IsRefused, Opened, Reading}
 use Rattle.record_store.specs.Calls.{is_own, save_call, save_service}
 use Rattle.record_store.specs.Layout.{record_key, record_value}
-use Rattle.record_store.specs.Reading.{HasNotFound, HasNotRead, HasReadBuilt, HasStopped, HaveFollowed, HaveNotFollowed, IsFound, IsKeyOf, IsNotFound}
+use Rattle.record_store.specs.Reading.{HasNotFound, HasNotRead, HasReadBuilt, HaveFollowed, HaveNotFollowed, IsFound}
+use Rattle.record_store.specs.Reading.{IsKeyOf, IsNotFound, ReadsHaveStopped}
 use Rattle.record_store.specs.Steps.{DidRead, no_memory, of_write}
 use Rattle.record_store.proofs.Answered.{answered, own_found, own_typed, refused_limit, refused_unread}
 use Rattle.record_store.proofs.RecordCalls.{filled, save_accepted, save_list, save_served}
@@ -78,12 +79,12 @@ module _ (opened : Opened) (r : Record) (own : is_own (find_type opened.schema r
 
   -- BUILT: a read of built ranges isn't answered
   pub save_built_refused : {maps : ℕ → Map} {refuses : KeyRange → ℕ → ReadError → Type 0} {old mid new : CommitRequest} (value : Option (List ℕ)) (error : StoreError) → KeyRead maps value old mid →
-      HasStopped maps refuses (built_reading opened type.number at opened.schema.indexes) error mid new → IsRefused maps refuses opened (save_call opened r) error old new
+      ReadsHaveStopped maps refuses (built_reading opened type.number at opened.schema.indexes) error mid new → IsRefused maps refuses opened (save_call opened r) error old new
   save_built_refused {maps = maps} {refuses = refuses} {mid = mid} {new = new} value error first stop =
       unread error
       (built_unread opened key other other error (λ m found. (refl, refl)) (key_read first)
-      (subst (λ p. HasStopped maps refuses (built_reading opened r.definition.number p opened.schema.indexes) error mid new) place_is
-      (subst (λ (t : TypeDefinition). HasStopped maps refuses (built_reading opened t.number at opened.schema.indexes) error mid new) is_type stop)))
+      (subst (λ p. ReadsHaveStopped maps refuses (built_reading opened r.definition.number p opened.schema.indexes) error mid new) place_is
+      (subst (λ (t : TypeDefinition). ReadsHaveStopped maps refuses (built_reading opened t.number at opened.schema.indexes) error mid new) is_type stop)))
 
   module _ (found : List (List Pair)) (value : Option (List ℕ)) (refuses : KeyRange → ℕ → ReadError → Type 0) {maps : ℕ → Map} {old mid read : CommitRequest} (first : KeyRead maps value old mid) (built : BuiltRead maps found mid read) where
     -- MEMORY: it was wanting behind all reads

@@ -30,7 +30,7 @@ use Rattle.record_store.specs.Holds.{Holds, IsOfSchema}
 use Rattle.record_store.specs.Form.{IsFirstBad, IsRecordPair, IsWritten, read_in}
 use Rattle.record_store.specs.Call.{AreDamaged, AtStore, IsOpenAs, IsUnread, Opened, Reading, first_of, whole}
 use Rattle.record_store.specs.Store.{new_state}
-use Rattle.record_store.specs.Reading.{ArePairsOf, HasNotFound, HasRead, HaveNoRecords, IsPairOf, IsPairOfNone}
+use Rattle.record_store.specs.Reading.{ArePairsOfRecords, HasNotFound, HasRead, HaveNoRecords, IsPairOf, IsPairOfNone}
 use Rattle.record_store.specs.Steps.{DidRead, IsBeginning}
 use Rattle.record_store.proofs.Stopping.{all_begin}
 use Rattle.record_store.proofs.Held.{type_held, under}
@@ -56,7 +56,7 @@ split_at (suc i) (y ∷ ys) x within is = ap (λ zs. y ∷ zs) (split_at i ys x 
 
 -- one more
 pub pairs_more : (records_place : List ℕ) (type : TypeDefinition) (i : ℕ) (pairs : List Pair) (pair : Pair) (records : List Record) (one : Record) → i < length pairs → pair ≡ get_or pairs i pair →
-    ArePairsOf records_place type (take i pairs) records → IsPairOf records_place type pair one → ArePairsOf records_place type (take (suc i) pairs) (records ++ one ∷ [])
+    ArePairsOfRecords records_place type (take i pairs) records → IsPairOf records_place type pair one → ArePairsOfRecords records_place type (take (suc i) pairs) (records ++ one ∷ [])
 pairs_more records_place type zero [] pair records one within is good more = absurd (omega (arith, within))
 pairs_more records_place type zero (p ∷ pairs) pair [] one within is good more = (subst (λ q. IsPairOf records_place type q one) is more, tt)
 pairs_more records_place type zero (p ∷ pairs) pair (r ∷ records) one within is good more = absurd good
@@ -78,7 +78,7 @@ module _ (opened : Opened) (type : TypeDefinition) (lawful : IsLawfulSchema open
   pair_is : (pair : Pair) (r : Record) → IsPairOf (place opened.prefix 1) type pair r → pair ≡ record_pair opened.prefix r
   pair_is pair r is i = ((is.behind ∙ ap (λ rest. place opened.prefix 1 ++ rest) is.is.has_key ∙ record_key_is opened.prefix (primary_key r)) i, is.is.has_value i)
 
-  pub good_form : (pairs : List Pair) (records : List Record) → ArePairsOf (place opened.prefix 1) type pairs records → AllByRecursion (IsWritten opened.prefix opened.schema) pairs
+  pub good_form : (pairs : List Pair) (records : List Record) → ArePairsOfRecords (place opened.prefix 1) type pairs records → AllByRecursion (IsWritten opened.prefix opened.schema) pairs
   good_form [] [] good = tt
   good_form [] (r ∷ records) good = absurd good
   good_form (pair ∷ pairs) [] good = absurd good
@@ -108,7 +108,7 @@ module _ (opened : Opened) (type : TypeDefinition) (lawful : IsLawfulSchema open
       (under q [] (255 ∷ []) pair.0 (ap (λ b. contains (record { begin = b; end = q ++ 255 ∷ [] }) pair.0) (append-nil q) ∙ inside)) is
 
   -- records that stand for the same pairs are the same
-  pub same_records : (records others : List Record) (pairs : List Pair) → ArePairsOf (place opened.prefix 1) type pairs records → pairs ≡ map (record_pair opened.prefix) others →
+  pub same_records : (records others : List Record) (pairs : List Pair) → ArePairsOfRecords (place opened.prefix 1) type pairs records → pairs ≡ map (record_pair opened.prefix) others →
       AllByRecursion (λ (r : Record). IsOfSchema opened.schema r × IsStorable r × (r.definition.number ≡ type.number)) others → records ≡ others
   same_records [] [] pairs good is all = refl
   same_records [] (s ∷ others) [] good is all = absurd (cc)
@@ -147,7 +147,7 @@ module _ (opened : Opened) (type : TypeDefinition) (lawful : IsLawfulSchema open
   here = type_range opened.prefix type.number
 
   -- FOUND: of the pairs of the type the first ones were read, up to a limit, and the rows are the first records
-  rows_there : (m : Map) (limit : ℕ) (pairs : List Pair) (rows : List Record) → pairs ≡ take limit (pairs_in m here) → ArePairsOf (place opened.prefix 1) type pairs rows →
+  rows_there : (m : Map) (limit : ℕ) (pairs : List Pair) (rows : List Record) → pairs ≡ take limit (pairs_in m here) → ArePairsOfRecords (place opened.prefix 1) type pairs rows →
       AllByRecursion (IsWritten opened.prefix opened.schema) pairs × AtStore opened m (λ store. rows ≡ take limit (of_type type.number store.records))
   rows_there m limit pairs rows is good = (
     good_form pairs rows good,
@@ -211,20 +211,20 @@ module _ (opened : Opened) (type : TypeDefinition) (lawful : IsLawfulSchema open
   whole_pairs : (m : Map) (pairs : List Pair) → pairs ≡ pairs_in m here → pairs ≡ take (length pairs) (pairs_in m here)
   whole_pairs m pairs is = sym (take-length pairs) ∙ ap (take (length pairs)) is
 
-  whole_rows : (m : Map) (pairs : List Pair) (rows : List Record) → pairs ≡ pairs_in m here → ArePairsOf (place opened.prefix 1) type pairs rows → AtStore opened m (λ store. rows ≡ of_type type.number store.records)
+  whole_rows : (m : Map) (pairs : List Pair) (rows : List Record) → pairs ≡ pairs_in m here → ArePairsOfRecords (place opened.prefix 1) type pairs rows → AtStore opened m (λ store. rows ≡ of_type type.number store.records)
   whole_rows m pairs rows is good store holds same =
       let all = of_type type.number store.records in
       let many : length all ≡ length pairs = sym (length-map all (record_pair opened.prefix)) ∙ ap length (sym (is ∙ type_held opened.prefix m store type.number small holds)) in
       (rows_there m (length pairs) pairs rows (whole_pairs m pairs is) good).1 store holds same ∙ ap (λ n. take n all) (sym many) ∙ take-length all
 
   pub rows_read : {maps : ℕ → Map} {old new : CommitRequest} (range : KeyRange) (pairs : List Pair) (records_place : List ℕ) (rows : List Record) → range ≡ here → records_place ≡ place opened.prefix 1 →
-      new ≡ has_read range old → ((m : Map) → Agree new.reads (maps old.read_version) m → pairs ≡ pairs_in (seen old m) range) → ArePairsOf records_place type pairs rows →
+      new ≡ has_read range old → ((m : Map) → Agree new.reads (maps old.read_version) m → pairs ≡ pairs_in (seen old m) range) → ArePairsOfRecords records_place type pairs rows →
       DidRead maps (here ∷ []) old new (λ m. AllByRecursion (IsWritten opened.prefix opened.schema) (read_in m (here ∷ [])) × AtStore opened m (λ store. rows ≡ of_type type.number store.records))
   rows_read {old = old} range pairs records_place rows is at read answer found =
       ran_added (ap (λ r. r ∷ []) is)
       (ran_read range read (λ m agree.
       let all : pairs ≡ pairs_in (seen old m) here = answer m agree ∙ ap (pairs_in (seen old m)) is in
-      let good = subst (λ p. ArePairsOf p type pairs rows) at found in
+      let good = subst (λ p. ArePairsOfRecords p type pairs rows) at found in
       (subst (AllByRecursion (IsWritten opened.prefix opened.schema)) (all ∙ sym (read_pairs (seen old m))) (good_form pairs rows good), whole_rows (seen old m) pairs rows all good)))
 
   pub rows_unread : {maps : ℕ → Map} {refuses : KeyRange → ℕ → ReadError → Type 0} {old new : CommitRequest} (range : KeyRange) (pairs : List Pair) (records_place : List ℕ) (error : StoreError) → range ≡ here → records_place ≡ place opened.prefix 1 →
@@ -252,13 +252,13 @@ module _ (opened : Opened) (type : TypeDefinition) (lawful : IsLawfulSchema open
   first_added m range pairs is read = ap (range_read range 1 false) read ∙ ap (λ r. range_read r 1 false (read_of m r 1 false)) is
 
   pub state_read : {maps : ℕ → Map} {old new : CommitRequest} (range : KeyRange) (pairs : List Pair) (records_place : List ℕ) (rows : List Record) → range ≡ here → records_place ≡ place opened.prefix 1 →
-      new ≡ has_read (range_read range 1 false pairs) old → ((m : Map) → Agree new.reads (maps old.read_version) m → pairs ≡ read_of (seen old m) range 1 false) → ArePairsOf records_place type pairs rows →
+      new ≡ has_read (range_read range 1 false pairs) old → ((m : Map) → Agree new.reads (maps old.read_version) m → pairs ≡ read_of (seen old m) range 1 false) → ArePairsOfRecords records_place type pairs rows →
       HasRead maps opened type.number (new_state rows) old new
   state_read {old = old} range pairs records_place rows is at read answer found = record {
     added = range_read range 1 false pairs;
     ran = ran_read (range_read range 1 false pairs) read (λ m agree.
         let some : pairs ≡ take 1 (pairs_in (seen old m) here) = answer m agree ∙ ap (λ r. take 1 (pairs_in (seen old m) r)) is in
-        let there = rows_there (seen old m) 1 pairs rows some (subst (λ p. ArePairsOf p type pairs rows) at found) in (
+        let there = rows_there (seen old m) 1 pairs rows some (subst (λ p. ArePairsOfRecords p type pairs rows) at found) in (
           first_added (seen old m) range pairs is (answer m agree),
           subst (AllByRecursion (IsWritten opened.prefix opened.schema)) some there.0,
           λ store holds same. ap new_state (there.1 store holds same) ∙ state_first (of_type type.number store.records),
@@ -288,6 +288,6 @@ no_pair records_place type pair slice rest value (Some r) at behind same none is
 
 -- among pairs one that is that of none
 pub bad_among : (records_place : List ℕ) (type : TypeDefinition) (pairs : List Pair) (i : ℕ) (pair : Pair) (records : List Record) (error : StoreError) → i < length pairs → pair ≡ get_or pairs i pair →
-    ArePairsOf records_place type (take i pairs) records → IsPairOfNone records_place type pair error → HaveNoRecords records_place type pairs error
+    ArePairsOfRecords records_place type (take i pairs) records → IsPairOfNone records_place type pair error → HaveNoRecords records_place type pairs error
 bad_among records_place type pairs i pair records error within is good none =
     inr (record { before = take i pairs; bad = pair; behind = drop (suc i) pairs; records = records; split = split_at i pairs pair within is; good = good; none = none })

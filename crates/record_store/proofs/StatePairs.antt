@@ -12,7 +12,7 @@ use Rattle.std.proofs.lemmas.Cmp.{nat_list_cmp_total, tied_itself}
 use Rattle.tuple_codec.specs.Item.{IsTuple, int}
 use Rattle.tuple_codec.specs.Spelling.{int_spelling, spelling}
 use Rattle.tuple_codec.specs.Spelling as written
-use Rattle.tuple_codec.specs.Subspace.{key_of, range_begin}
+use Rattle.tuple_codec.specs.Subspace.{range_begin, subspace_key}
 use Rattle.tuple_codec.proofs.ByteOrder.{less}
 use Rattle.tuple_codec.proofs.Prefixes.{key_within}
 use Rattle.kv_core.specs.Bytes.{key_cmp}
@@ -38,8 +38,8 @@ module _ (prefix : List ℕ) where
   state_inside number low =
       let ends = (key_within (place prefix 5) (int (pos number) ∷ []) (number_tuple number low)).1 (λ no. cc) in
       ap (contains (states_range prefix)) (sym (state_key_is prefix number))
-      ∙ (λ i. not (false_from_ne_true (is_lt (key_cmp (key_of (place prefix 5) (int (pos number) ∷ [])) (range_begin (place prefix 5))))
-      (λ before. ends.0 (less_of (key_cmp (key_of (place prefix 5) (int (pos number) ∷ [])) (range_begin (place prefix 5))) before)) i)
+      ∙ (λ i. not (false_from_ne_true (is_lt (key_cmp (subspace_key (place prefix 5) (int (pos number) ∷ [])) (range_begin (place prefix 5))))
+      (λ before. ends.0 (less_of (key_cmp (subspace_key (place prefix 5) (int (pos number) ∷ [])) (range_begin (place prefix 5))) before)) i)
       && is_lt (ends.1 i))
     where
       less_of : (o : Ordering) → is_lt o ≡ true → o ≡ Less

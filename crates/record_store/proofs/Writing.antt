@@ -23,7 +23,8 @@ use Rattle.record_store.specs.Call.{AtStore, IsUnread, Opened, Reading, then_rea
 use Rattle.record_store.specs.Form.{IsFirstBad, IsWritten, read_in}
 use Rattle.record_store.specs.IndexWrites.{one_index_writes}
 use Rattle.record_store.specs.Layout.{record_key}
-use Rattle.record_store.specs.Reading.{HasNotFound, HasNotRead, HasReadBuilt, HasStopped, HaveFollowed, HaveNotFollowed, IsFound, IsKeyOf, IsNotFound, IsReadError, IsStopped, asked_built}
+use Rattle.record_store.specs.Reading.{HasNotFound, HasNotRead, HasReadBuilt, HaveFollowed, HaveNotFollowed, IsFound}
+use Rattle.record_store.specs.Reading.{IsKeyOf, IsNotFound, IsReadError, IsStopped, ReadsHaveStopped, asked_built}
 use Rattle.record_store.specs.Steps.{DidRead, IsBeginning, no_memory}
 use Rattle.record_store.proofs.BuiltReads.{stopped_within}
 use Rattle.record_store.proofs.Followed.{bad_behind, bad_more}
@@ -74,7 +75,7 @@ module _ (opened : Opened) (key : List ℕ) (other : Reading) where
 
   -- BUILT: what is read behind it stopped
   pub built_unread : {maps : ℕ → Map} {refuses : KeyRange → ℕ → ReadError → Type 0} {old mid new : CommitRequest} {F : Map → Type 0} (built : Reading) (error : StoreError) →
-      ((m : Map) → F m → (other.asked m ≡ built.asked m) × (other.added m ≡ built.added m)) → DidRead maps (point key ∷ []) old mid F → HasStopped maps refuses built error mid new → HasNotFound maps refuses opened reading error old new
+      ((m : Map) → F m → (other.asked m ≡ built.asked m) × (other.added m ≡ built.added m)) → DidRead maps (point key ∷ []) old mid F → ReadsHaveStopped maps refuses built error mid new → HasNotFound maps refuses opened reading error old new
   built_unread {refuses = refuses} {old = old} built error so first stop = record {
     added = point key ∷ stop.added;
     ran = ran_then first stop.ran (λ m found says.

@@ -23,17 +23,17 @@ is_asked WriteOnly Count = true
 is_asked WriteOnly Sum = true
 
 -- the number of the type in a primary key
-abbrev pub number_in : List Item → ℕ
-number_in (int (pos number) ∷ cells) = number
-number_in key = 0
+abbrev pub type_number_in : List Item → ℕ
+type_number_in (int (pos number) ∷ cells) = number
+type_number_in key = 0
 
 -- the index is such a one, of the type with this number
 abbrev pub asks : Opened → ℕ → IndexDefinition → Bool
 asks opened number index = index.type_number == number && is_asked (state_in opened.states index.number) index.kind
 
 -- what is asked for then: of the ranges that begin at the position or before it the last one
-abbrev pub asked_of : Opened → ℕ → List ℕ → IndexDefinition → List KeyRange
-asked_of opened number position index =
+abbrev pub asked_ranges : Opened → ℕ → List ℕ → IndexDefinition → List KeyRange
+asked_ranges opened number position index =
     if asks opened number index
     then (last_upto (built_place opened.prefix index.number) position).asked ∷ [] else []
 
@@ -51,7 +51,7 @@ found_of opened number position m index =
 abbrev pub built_reading : Opened → ℕ → List ℕ → List IndexDefinition → Reading
 built_reading opened number position indexes =
     record {
-      asked = λ m. flat_map (asked_of opened number position) indexes;
+      asked = λ m. flat_map (asked_ranges opened number position) indexes;
       added = λ m. flat_map (added_of opened number position m) indexes;
       set = None;
       pairs = λ m. flat_map (found_of opened number position m) indexes;

@@ -35,7 +35,7 @@ use Rattle.record_store.specs.IndexWrites.{drop_writes, index_added_writes, mark
 use Rattle.record_store.specs.IndexWrites.{remove_writes, save_writes}
 use Rattle.range_set.specs.Gaps.{is_whole}
 use Rattle.index_maint.specs.Built.{position_of}
-use Rattle.record_store.specs.BuiltReading.{built_reading, number_in}
+use Rattle.record_store.specs.BuiltReading.{built_reading, type_number_in}
 use Rattle.record_store.specs.Call.{Call, Never, Opened, Service, Where, all_built, first_of, then_reads, where_there}
 use Rattle.record_store.specs.Call.{whole}
 
@@ -88,7 +88,7 @@ remove_service opened key = record {
   reading =
       then_reads (whole (point (record_key opened.prefix key) ∷ []))
       (where_there (record_key opened.prefix key)
-      (built_reading opened (number_in key) (position_of key) opened.schema.indexes));
+      (built_reading opened (type_number_in key) (position_of key) opened.schema.indexes));
   objection = Never;
   answer = λ store. is_some (record_at key store.records);
   after = λ store. removed store key;
@@ -100,9 +100,9 @@ abbrev pub remove_call : Opened → List ℕ → List Cell → Call Bool
 remove_call opened name cells = done_with (remove_service opened) (key_of opened.schema name cells)
 
 -- RECORDS: the records of a type are answered, in the order of their primary keys
-abbrev pub number_of : Option TypeDefinition → Result ℕ Refusal
-number_of None = Err UnknownType
-number_of (Some type) = Ok type.number
+abbrev pub type_number_of : Option TypeDefinition → Result ℕ Refusal
+type_number_of None = Err UnknownType
+type_number_of (Some type) = Ok type.number
 
 abbrev pub records_service : Opened → ℕ → Service (List Record)
 records_service opened number = record {
@@ -115,7 +115,7 @@ records_service opened number = record {
 }
 
 abbrev pub records_call : Opened → List ℕ → Call (List Record)
-records_call opened name = done_with (records_service opened) (number_of (find_type opened.schema name))
+records_call opened name = done_with (records_service opened) (type_number_of (find_type opened.schema name))
 
 -- AGGREGATE: the total of a group is answered, by the index's kind, read as signed; a VALUE index has none
 abbrev pub total_of : IndexKind → IndexDefinition → List Cell → List Record → ℤ

@@ -48,12 +48,12 @@ pub record IsLawful (store : Store) : Type 0 where
   pub listed : AllByRecursion (IsListed store.schema.indexes) store.states
 
 -- the map of pairs
-abbrev pub map_of : List (List ℕ × List ℕ) → Map
-map_of pairs = from_entries pairs
+abbrev pub pairs_map : List (List ℕ × List ℕ) → Map
+pairs_map pairs = from_entries pairs
 
 -- at the keys that begin so the map has just these pairs
 abbrev pub HasPairs : List ℕ → List (List ℕ × List ℕ) → Map → Type 0
-HasPairs begin pairs m = (bytes : List ℕ) → get m (begin ++ bytes) ≡ get (map_of pairs) (begin ++ bytes)
+HasPairs begin pairs m = (bytes : List ℕ) → get m (begin ++ bytes) ≡ get (pairs_map pairs) (begin ++ bytes)
 
 -- no entry and no total of these indexes can have the key
 abbrev pub IsNoEntry : List ℕ → List IndexDefinition → List ℕ → Type 0

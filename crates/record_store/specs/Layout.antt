@@ -2,7 +2,7 @@
 use Rattle.std.specs.Prelude.{ℕ, List, [], ◌∷◌, ◌++◌, pos}
 use Rattle.tuple_codec.specs.Item.{int}
 use Rattle.tuple_codec.specs.Spelling.{spelling}
-use Rattle.tuple_codec.specs.Subspace.{key_of, range_begin, range_end}
+use Rattle.tuple_codec.specs.Subspace.{range_begin, range_end, subspace_key}
 use Rattle.kv_core.specs.Range.{KeyRange}
 use Rattle.metadata.specs.declared.index.State.{State}
 use Rattle.metadata.specs.declared.index.State.TheVariants.{Readable, WriteOnly, Disabled}
@@ -27,7 +27,7 @@ schema_pair prefix schema = (schema_key prefix, schema_bytes schema)
 
 -- the key (5, number) of the state of the index with this number
 abbrev pub state_key : List ℕ → ℕ → List ℕ
-state_key prefix number = key_of prefix (int (pos 5) ∷ int (pos number) ∷ [])
+state_key prefix number = subspace_key prefix (int (pos 5) ∷ int (pos number) ∷ [])
 
 -- states are 1 write-only, 2 disabled; that of an index that is readable is never written
 abbrev pub state_number : State → ℕ

@@ -71,9 +71,9 @@ IsBadSchema prefix bytes (Corrupt key) = (key ≡ schema_key prefix) × AreOfNoS
 IsBadSchema prefix bytes error = ⊥
 
 -- why what was found is no schema: nothing was found, or bytes of no schema
-abbrev pub IsNoSchema : List ℕ → Option (List ℕ) → StoreError → Type 0
-IsNoSchema prefix None error = error ≡ NoStore
-IsNoSchema prefix (Some bytes) error = IsBadSchema prefix bytes error
+abbrev pub IsNoSchemaFound : List ℕ → Option (List ℕ) → StoreError → Type 0
+IsNoSchemaFound prefix None error = error ≡ NoStore
+IsNoSchemaFound prefix (Some bytes) error = IsBadSchema prefix bytes error
 
 -- the state of the index with this number whose pair this is, if it is one: that of a readable index is never written
 abbrev pub state_told : List ℕ → ℕ → List ℕ × List ℕ → Option State
@@ -192,7 +192,7 @@ IsStopped refuses reading (Read error) added m =
 IsStopped refuses reading error added m = ⊥
 
 -- reads stopped
-pub record HasStopped (maps : ℕ → Map) (refuses : KeyRange → ℕ → ReadError → Type 0) (reading : Reading)
+pub record ReadsHaveStopped (maps : ℕ → Map) (refuses : KeyRange → ℕ → ReadError → Type 0) (reading : Reading)
     (error : StoreError) (old new : CommitRequest) : Type 0 where
   pub added : List KeyRange
   pub ran : DidRead maps added old new (IsStopped (λ range. refuses range old.read_version) reading error added)
@@ -275,11 +275,11 @@ IsPairOfNone records_place type pair (Corrupt key) =
 IsPairOfNone records_place type pair error = ⊥
 
 -- records are those of pairs, one for each
-abbrev pub ArePairsOf : List ℕ → TypeDefinition → List (List ℕ × List ℕ) → List Record → Type 0
-ArePairsOf records_place type [] [] = Unit {0}
-ArePairsOf records_place type (pair ∷ pairs) (stored ∷ records) =
-    IsPairOf records_place type pair stored × ArePairsOf records_place type pairs records
-ArePairsOf records_place type pairs records = ⊥
+abbrev pub ArePairsOfRecords : List ℕ → TypeDefinition → List (List ℕ × List ℕ) → List Record → Type 0
+ArePairsOfRecords records_place type [] [] = Unit {0}
+ArePairsOfRecords records_place type (pair ∷ pairs) (stored ∷ records) =
+    IsPairOf records_place type pair stored × ArePairsOfRecords records_place type pairs records
+ArePairsOfRecords records_place type pairs records = ⊥
 
 -- why pairs have no records: memory is wanting, or behind pairs that are those of records one isn't
 pub record IsBadAmong (records_place : List ℕ) (type : TypeDefinition) (pairs : List (List ℕ × List ℕ))
@@ -289,7 +289,7 @@ pub record IsBadAmong (records_place : List ℕ) (type : TypeDefinition) (pairs 
   pub behind : List (List ℕ × List ℕ)
   pub records : List Record
   pub split : pairs ≡ before ++ bad ∷ behind
-  pub good : ArePairsOf records_place type before records
+  pub good : ArePairsOfRecords records_place type before records
   pub none : IsPairOfNone records_place type bad error
 
 abbrev pub HaveNoRecords : List ℕ → TypeDefinition → List (List ℕ × List ℕ) → StoreError → Type 0

@@ -6,7 +6,8 @@ ghost use Rattle.metadata.specs.Record.{key_items};
 ghost use Rattle.metadata.specs.declared.cells.Cell.{Cell};
 ghost use Rattle.index_maint.specs.Built.{position_of};
 ghost use Rattle.record_store.specs.BuiltReading.{asks, built_reading, is_asked};
-ghost use Rattle.record_store.specs.Reading.{HasReadBuilt, HasReadOne, HasStopped, IsToldOf, IsUntoldOf};
+ghost use Rattle.record_store.specs.Reading.{HasReadBuilt, HasReadOne, IsToldOf, IsUntoldOf};
+ghost use Rattle.record_store.specs.Reading.{ReadsHaveStopped};
 
 use crate::error::StoreError;
 use crate::layout::number_tuple;
@@ -72,7 +73,7 @@ impl Store {
         ensures read { IfOk result (λ pairs.
             HasReadOne (S.map_at db.now) self.now number position.now index.now pairs.items tx.old tx.new) }
         ensures refused { IfErr result (λ error.
-            HasStopped (S.map_at db.now) (S.may_refuse db.now)
+            ReadsHaveStopped (S.map_at db.now) (S.may_refuse db.now)
             (built_reading self.now number position.now (index.now ∷ [])) error tx.old tx.new) }
     {
         let alloc = self.alloc();
@@ -97,7 +98,7 @@ impl Store {
             HasReadBuilt (S.map_at db.now) self.now number position.now self.now.schema.indexes
             (map (λ pairs. pairs.items) found.items) tx.old tx.new) }
         ensures refused { IfErr result (λ error.
-            HasStopped (S.map_at db.now) (S.may_refuse db.now)
+            ReadsHaveStopped (S.map_at db.now) (S.may_refuse db.now)
             (built_reading self.now number position.now self.now.schema.indexes) error tx.old tx.new) }
     {
         let mut found = Vec::new(self.alloc());

@@ -7,7 +7,7 @@ ghost use Rattle.kv_core.specs.Map.{pairs_in};
 ghost use Rattle.kv_core.specs.Range.{point};
 ghost use Rattle.record_store.specs.Layout.{schema_key, state_pair, states_range};
 ghost use Rattle.record_store.specs.Opening.{IsOpened, IsUnopened};
-ghost use Rattle.record_store.specs.Reading.{AreStates, HasNotRead, HaveNoStates, IsNoSchema};
+ghost use Rattle.record_store.specs.Reading.{AreStates, HasNotRead, HaveNoStates, IsNoSchemaFound};
 ghost use Rattle.record_store.specs.Reading.{IsNoState, IsPairOfState, IsSchema, same_pair, state_told};
 ghost use Rattle.record_store.specs.Steps.{DidRead};
 
@@ -67,7 +67,7 @@ fn schema_found(
 ) -> Result<Rc<Schema>, StoreError>
     requires { IsTrue (key_lt prefix.now end_of_keys) }
     ensures found { IfOk result (λ schema. IsSchema written schema.value) }
-    ensures refused { IfErr result (IsNoSchema prefix.now written) }
+    ensures refused { IfErr result (IsNoSchemaFound prefix.now written) }
 {
     match written {
         None => Err(StoreError::NoStore),

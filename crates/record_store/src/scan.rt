@@ -4,7 +4,8 @@ ghost use Rattle.std.specs.Prelude.{◌≡◌, ◌++◌, IfOk, IfErr, MatchOptio
 ghost use Rattle.tuple_codec.specs.Subspace.{BeginsWith};
 ghost use Rattle.record_store.specs.Call.{IsAnswered, IsRefused};
 ghost use Rattle.record_store.specs.Calls.{records_call};
-ghost use Rattle.record_store.specs.Reading.{ArePairsOf, HaveNoRecords, IsPairOf, IsPairOfNone};
+ghost use Rattle.record_store.specs.Reading.{ArePairsOfRecords, HaveNoRecords, IsPairOf};
+ghost use Rattle.record_store.specs.Reading.{IsPairOfNone};
 
 use crate::error::StoreError;
 use crate::layout::{place, type_range};
@@ -89,7 +90,7 @@ pub(crate) fn records_in(
     definition: &TypeDefinition,
     pairs: &[Pair],
 ) -> Result<Vec<Record>, StoreError>
-    ensures found { IfOk result (λ records. ArePairsOf place.now definition.now pairs.now records.items) }
+    ensures found { IfOk result (λ records. ArePairsOfRecords place.now definition.now pairs.now records.items) }
     ensures refused { IfErr result (HaveNoRecords place.now definition.now pairs.now) }
 {
     let mut records = Vec::new(alloc);

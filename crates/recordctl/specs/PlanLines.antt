@@ -17,15 +17,15 @@ use Rattle.recordctl.specs.declared.fault.Fault.TheVariants.{OutOfMemory, BadScr
 use Rattle.recordctl.specs.declared.fault.Fault.TheVariants.{SortNotServed}
 
 -- what `explain` prints of a plan: the line of its text, or its tree
-abbrev pub shown : PlanForm → Plan → List ℕ
-shown Line plan = line_of (plan_text plan)
-shown Tree plan = plan_tree plan
+abbrev pub plan_shown : PlanForm → Plan → List ℕ
+plan_shown Line plan = line_of (plan_text plan)
+plan_shown Tree plan = plan_tree plan
 
 -- what `explain` prints of a text: the plan that it asks for
 pub record IsShownPlan (form : PlanForm) (text printed : List ℕ) : Type 0 where
   pub plan : AskedPlan
   pub asked : IsPlanAskedBy text plan
-  pub is : printed ≡ shown form (plan_of plan)
+  pub is : printed ≡ plan_shown form (plan_of plan)
 
 -- the fault by which it is told why there is no plan
 abbrev pub fault_of : ExplainError → Fault

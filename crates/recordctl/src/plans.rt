@@ -3,7 +3,7 @@ ghost use Rattle.std.specs.Prelude.{◌≡◌, ◌≤◌, ◌⊎◌, List, ℕ, 
 ghost use Rattle.std.specs.Io.KnownBytes.{Appends};
 ghost use Rattle.std.specs.Process.{exit_status};
 ghost use Rattle.planner.specs.View.{plan_of};
-ghost use Rattle.recordctl.specs.PlanLines.{IsShownPlan, explains_plan, fault_of, shown};
+ghost use Rattle.recordctl.specs.PlanLines.{IsShownPlan, explains_plan, fault_of, plan_shown};
 
 use crate::fault::Fault;
 use crate::input::read_input;
@@ -33,7 +33,7 @@ fn fault_of(error: ExplainError) -> Fault
 
 // The text of a plan in this form, each line with its end.
 fn shown(alloc: Global, form: PlanForm, plan: &Plan) -> Result<String, AllocError>
-    ensures { IfOk result (λ text. string_bytes text ≡ shown form (plan_of plan.now)) }
+    ensures { IfOk result (λ text. string_bytes text ≡ plan_shown form (plan_of plan.now)) }
 {
     match form {
         PlanForm::Line => {

@@ -2,7 +2,7 @@
 // configuration by `racing`.
 ghost use Rattle.std.specs.Prelude.{◌≡◌, ◌≢◌, ◌≤◌, ◌⊎◌, IfOk, IfErr, IfSome};
 ghost use Rattle.std.specs.Process.{exit_status};
-ghost use Rattle.recordctl.specs.Run.{IsRun, IsTranscriptOf, explains_run};
+ghost use Rattle.recordctl.specs.Run.{IsRunnable, IsTranscriptOf, explains_run};
 ghost use Rattle.recordctl.specs.declared.run.PrintError.TheVariants.{CannotWrite, OutOfMemory};
 
 use crate::fault::Fault;
@@ -126,7 +126,7 @@ pub fn run<R: Read, W: Write, E: Write>(
     errors: &mut E,
 ) -> ExitCode
     ensures status { exit_status result ≤ 1 }
-    ensures script { exit_status result ≡ 0 → IfSome (R.remaining input.old) IsRun }
+    ensures script { exit_status result ≡ 0 → IfSome (R.remaining input.old) IsRunnable }
     ensures quiet { exit_status result ≡ 0 → E.contents errors.new ≡ E.contents errors.old }
 {
     let transcript = match transcript_of(alloc, input) {

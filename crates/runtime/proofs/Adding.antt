@@ -6,7 +6,7 @@ use mathlib.Core.List.{IsPrefix}
 use prog.Atomic.{either}
 use Rattle.logbook.specs.Pages.{Cell, Nib, Moves, Goes, cell, step, keeps}
 use Rattle.runtime.specs.declared.entry.Entry.{Entry}
-use Rattle.runtime.specs.History.{IsKept, Adds}
+use Rattle.runtime.specs.History.{IsBook, Adds}
 use Rattle.runtime.proofs.Beginnings.{prefix_whole}
 
 abbrev Nowhere : List Entry → List Entry → ℕ → Type 0
@@ -22,7 +22,7 @@ module _ (count : ℕ) (ask : Entry) (v : List Entry) (p : Nib) (is : count ≡ 
   abbrev after : ℕ → ℕ
   after n = either (n == count) (count + 1) n
 
-  goes : (log : List Entry) → IsPrefix v log → (b : Bool) → (length log == count) ≡ b → Goes {A = ℕ} IsKept shows Nowhere 0 (v, (p, None)) after (Adds (step 0 count (count + 1) ask) (v, (p, None))) (cells_of log) log
+  goes : (log : List Entry) → IsPrefix v log → (b : Bool) → (length log == count) ≡ b → Goes {A = ℕ} IsBook shows Nowhere 0 (v, (p, None)) after (Adds (step 0 count (count + 1) ask) (v, (p, None))) (cells_of log) log
   goes log begins true found =
       let same : length log ≡ count = eqb-true (length log) count found in
       let whole : v ≡ log = prefix_whole v log begins (omega (arith, same, is)) in
@@ -45,7 +45,7 @@ module _ (count : ℕ) (ask : Entry) (v : List Entry) (p : Nib) (is : count ≡ 
     subst (λ (b : Bool). MatchBool b (log ++ [] ≡ v ++ ask ∷ []) (length (log ++ []) ≡ length log)) (sym found) (ap length (append-nil log)),
   )
 
-  pub adds : Moves {A = ℕ} IsKept shows Nowhere 0 (v, (p, None)) after (Adds (step 0 count (count + 1) ask) (v, (p, None)))
+  pub adds : Moves {A = ℕ} IsBook shows Nowhere 0 (v, (p, None)) after (Adds (step 0 count (count + 1) ask) (v, (p, None)))
   adds cs log kept begins away =
-      subst (λ (c : List Cell). (0 < length c) × ((cell c 0).1 ≡ true) × Goes {A = ℕ} IsKept shows Nowhere 0 (v, (p, None)) after (Adds (step 0 count (count + 1) ask) (v, (p, None))) c log) (sym kept.words)
+      subst (λ (c : List Cell). (0 < length c) × ((cell c 0).1 ≡ true) × Goes {A = ℕ} IsBook shows Nowhere 0 (v, (p, None)) after (Adds (step 0 count (count + 1) ask) (v, (p, None))) c log) (sym kept.words)
       (omega arith, refl, goes log begins (length log == count) refl)

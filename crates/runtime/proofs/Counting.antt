@@ -13,7 +13,7 @@ use Rattle.cluster_core.specs.Decision.{Cause}
 use Rattle.cluster_core.specs.Roles.{told}
 use Rattle.kv_core.specs.Range.{KeyRange}
 use Rattle.runtime.specs.declared.entry.Entry.{Entry}
-use Rattle.runtime.specs.Lists.{cause_next, has_number, is_once, is_same_submission}
+use Rattle.runtime.specs.Lists.{cause_next, has_submission, is_once, is_same_submission}
 use Rattle.runtime.specs.Builds.{committed_behind, is_numbered_in, own_committed}
 use Rattle.runtime.proofs.Lawful.{both_true, left_true, right_true}
 use Rattle.runtime.proofs.Numbers.{is_numbered_so, number_of_last}
@@ -47,34 +47,34 @@ apart e x client number is_client is_number true is other =
     absurd (true≢false (sym same ∙ other))
 apart e x client number is_client is_number false is other = is
 
-none_same : (e : Entry) (client number : ℕ) (xs : List Entry) → e.client ≡ client → e.number ≡ number → list_any (is_same_submission e) xs ≡ false → has_number client number xs ≡ false
+none_same : (e : Entry) (client number : ℕ) (xs : List Entry) → e.client ≡ client → e.number ≡ number → list_any (is_same_submission e) xs ≡ false → has_submission client number xs ≡ false
 none_same e client number [] is_client is_number none = refl
 none_same e client number (x ∷ xs) is_client is_number none =
     let here : is_numbered_so client number x ≡ false = apart e x client number is_client is_number (is_numbered_so client number x) refl (or_left_false (is_same_submission e x) (list_any (is_same_submission e) xs) none) in
-    let others : has_number client number xs ≡ false = none_same e client number xs is_client is_number (or_right_false (is_same_submission e x) (list_any (is_same_submission e) xs) none) in
+    let others : has_submission client number xs ≡ false = none_same e client number xs is_client is_number (or_right_false (is_same_submission e x) (list_any (is_same_submission e) xs) none) in
     (λ i. here i || others i)
 
-once_at : (x : Entry) (xs ys : List Entry) (client number : ℕ) → is_once ((x ∷ xs) ++ ys) ≡ true → has_number client number (x ∷ xs) ≡ true → (has_number client number xs ≡ true → has_number client number ys ≡ false) →
-    (b : Bool) → is_numbered_so client number x ≡ b → has_number client number ys ≡ false
+once_at : (x : Entry) (xs ys : List Entry) (client number : ℕ) → is_once ((x ∷ xs) ++ ys) ≡ true → has_submission client number (x ∷ xs) ≡ true → (has_submission client number xs ≡ true → has_submission client number ys ≡ false) →
+    (b : Bool) → is_numbered_so client number x ≡ b → has_submission client number ys ≡ false
 once_at x xs ys client number once there rest true is =
     let none : list_any (is_same_submission x) (xs ++ ys) ≡ false = not_true (list_any (is_same_submission x) (xs ++ ys)) (left_true (not (list_any (is_same_submission x) (xs ++ ys))) (is_once (xs ++ ys)) once) in
     let behind : list_any (is_same_submission x) ys ≡ false = or_right_false (list_any (is_same_submission x) xs) (list_any (is_same_submission x) ys) (sym (list_any-append (is_same_submission x) xs ys) ∙ none) in
     none_same x client number ys (number_eq x.client client (left_true (x.client == client) (x.number == number) is)) (number_eq x.number number (right_true (x.client == client) (x.number == number) is)) behind
-once_at x xs ys client number once there rest false is = rest (sym (ap (λ b. b || has_number client number xs) is) ∙ there)
+once_at x xs ys client number once there rest false is = rest (sym (ap (λ b. b || has_submission client number xs) is) ∙ there)
 
 -- what stands in a list doesn't stand behind it too
-pub once_apart : (xs ys : List Entry) (client number : ℕ) → is_once (xs ++ ys) ≡ true → has_number client number xs ≡ true → has_number client number ys ≡ false
+pub once_apart : (xs ys : List Entry) (client number : ℕ) → is_once (xs ++ ys) ≡ true → has_submission client number xs ≡ true → has_submission client number ys ≡ false
 once_apart [] ys client number once there = absurd (true≢false (sym there))
 once_apart (x ∷ xs) ys client number once there =
     once_at x xs ys client number once there (once_apart xs ys client number (right_true (not (list_any (is_same_submission x) (xs ++ ys))) (is_once (xs ++ ys)) once)) (is_numbered_so client number x) refl
 
-number_here : (client number : ℕ) (e : Entry) (xs : List Entry) → e.client ≡ client → e.number ≡ number → has_number client number (e ∷ xs) ≡ true
+number_here : (client number : ℕ) (e : Entry) (xs : List Entry) → e.client ≡ client → e.number ≡ number → has_submission client number (e ∷ xs) ≡ true
 number_here client number e xs is_client is_number =
     let one : is_numbered_so client number e ≡ true = both_true (e.client == client) (e.number == number) (number_same e.client client is_client) (number_same e.number number is_number) in
-    ap (λ b. b || has_number client number xs) one
+    ap (λ b. b || has_submission client number xs) one
 
 -- nor before it
-none_before_by : (before more : List Entry) (e : Entry) (client number : ℕ) → e.client ≡ client → e.number ≡ number → is_once (before ++ e ∷ more) ≡ true → (b : Bool) → has_number client number before ≡ b → has_number client number before ≡ false
+none_before_by : (before more : List Entry) (e : Entry) (client number : ℕ) → e.client ≡ client → e.number ≡ number → is_once (before ++ e ∷ more) ≡ true → (b : Bool) → has_submission client number before ≡ b → has_submission client number before ≡ false
 none_before_by before more e client number is_client is_number once true is = absurd (true≢false (sym (number_here client number e more is_client is_number) ∙ once_apart before (e ∷ more) client number once is))
 none_before_by before more e client number is_client is_number once false is = is
 
@@ -105,7 +105,7 @@ none_behind p config log (x ∷ xs) none =
     let others : filter p (committed_behind config (log ++ x ∷ []) xs) ≡ [] = none_behind p config (log ++ x ∷ []) xs (or_right_false (p x) (list_any p xs) none) in
     filter-append p (cond c (x ∷ []) []) (committed_behind config (log ++ x ∷ []) xs) ∙ (λ i. here i ++ others i)
 
-none_in_by : (client above upto : ℕ) (x : Entry) (xs : List Entry) → ((n : ℕ) → above < n → n ≤ upto → has_number client n (x ∷ xs) ≡ false) → (b : Bool) → is_numbered_in client above upto x ≡ b → is_numbered_in client above upto x ≡ false
+none_in_by : (client above upto : ℕ) (x : Entry) (xs : List Entry) → ((n : ℕ) → above < n → n ≤ upto → has_submission client n (x ∷ xs) ≡ false) → (b : Bool) → is_numbered_in client above upto x ≡ b → is_numbered_in client above upto x ≡ false
 none_in_by client above upto x xs none true is =
     let c : x.client ≡ client = number_eq x.client client (left_true (x.client == client) (nat_lt above x.number && nat_le x.number upto) is) in
     let range : (nat_lt above x.number && nat_le x.number upto) ≡ true = right_true (x.client == client) (nat_lt above x.number && nat_le x.number upto) is in
@@ -117,15 +117,15 @@ none_in_by client above upto x xs none true is =
 none_in_by client above upto x xs none false is = is
 
 -- where no number between stands, no entry between does
-none_in : (client above upto : ℕ) (xs : List Entry) → ((n : ℕ) → above < n → n ≤ upto → has_number client n xs ≡ false) → list_any (is_numbered_in client above upto) xs ≡ false
+none_in : (client above upto : ℕ) (xs : List Entry) → ((n : ℕ) → above < n → n ≤ upto → has_submission client n xs ≡ false) → list_any (is_numbered_in client above upto) xs ≡ false
 none_in client above upto [] none = refl
 none_in client above upto (x ∷ xs) none =
     let here : is_numbered_in client above upto x ≡ false = none_in_by client above upto x xs none (is_numbered_in client above upto x) refl in
-    let others : list_any (is_numbered_in client above upto) xs ≡ false = none_in client above upto xs (λ n low high. or_right_false (is_numbered_so client n x) (has_number client n xs) (none n low high)) in
+    let others : list_any (is_numbered_in client above upto) xs ≡ false = none_in client above upto xs (λ n low high. or_right_false (is_numbered_so client n x) (has_submission client n xs) (none n low high)) in
     (λ i. here i || others i)
 
 -- a longer list has no more of a client's entries whose numbers all stand already
-pub own_grown : (config : Config) (client above upto : ℕ) (xs ys : List Entry) → IsPrefix xs ys → is_once ys ≡ true → ((n : ℕ) → above < n → n ≤ upto → has_number client n xs ≡ true) →
+pub own_grown : (config : Config) (client above upto : ℕ) (xs ys : List Entry) → IsPrefix xs ys → is_once ys ≡ true → ((n : ℕ) → above < n → n ≤ upto → has_submission client n xs ≡ true) →
     own_committed config client above upto ys ≡ own_committed config client above upto xs
 own_grown config client above upto xs ys p once given =
     let more : List Entry = p.0 in
@@ -189,9 +189,9 @@ own_next config client last before more e is_client is_number once =
     let low : nat_lt last e.number ≡ true = grind (arith, nat_tests) in
     let high : nat_le e.number (last + 1) ≡ true = grind (arith, nat_tests) in
     let yes : test e ≡ true = both_true (e.client == client) (nat_lt last e.number && nat_le e.number (last + 1)) (number_same e.client client is_client) (both_true (nat_lt last e.number) (nat_le e.number (last + 1)) low high) in
-    let no_before : has_number client (last + 1) before ≡ false = none_before_by before more e client (last + 1) is_client is_number once (has_number client (last + 1) before) refl in
+    let no_before : has_submission client (last + 1) before ≡ false = none_before_by before more e client (last + 1) is_client is_number once (has_submission client (last + 1) before) refl in
     let once_there : is_once ((before ++ e ∷ []) ++ more) ≡ true = subst (λ (l : List Entry). is_once l ≡ true) (sym (append_assoc before (e ∷ []) more)) once in
-    let no_more : has_number client (last + 1) more ≡ false = once_apart (before ++ e ∷ []) more client (last + 1) once_there (number_behind before) in
+    let no_more : has_submission client (last + 1) more ≡ false = once_apart (before ++ e ∷ []) more client (last + 1) once_there (number_behind before) in
     ap (filter test) (behind_append config [] before (e ∷ more))
     ∙ filter-append test (committed_behind config [] before) (committed_behind config before (e ∷ more))
     ∙ (λ i. none_behind test config [] before (only before no_before) i ++ filter test (committed_behind config before (e ∷ more)))
@@ -199,15 +199,15 @@ own_next config client last before more e is_client is_number once =
     ∙ (λ i. filter_one_yes test e c yes i ++ none_behind test config (before ++ e ∷ []) more (only more no_more) i)
     ∙ append-nil (cond c (e ∷ []) [])
   where
-    only : (xs : List Entry) → has_number client (last + 1) xs ≡ false → list_any (is_numbered_in client last (last + 1)) xs ≡ false
-    only xs none = none_in client last (last + 1) xs (λ n low high. let same : last + 1 ≡ n = omega (arith, low, high) in subst (λ (m : ℕ). has_number client m xs ≡ false) same none)
+    only : (xs : List Entry) → has_submission client (last + 1) xs ≡ false → list_any (is_numbered_in client last (last + 1)) xs ≡ false
+    only xs none = none_in client last (last + 1) xs (λ n low high. let same : last + 1 ≡ n = omega (arith, low, high) in subst (λ (m : ℕ). has_submission client m xs ≡ false) same none)
 
-    number_behind : (xs : List Entry) → has_number client (last + 1) (xs ++ e ∷ []) ≡ true
+    number_behind : (xs : List Entry) → has_submission client (last + 1) (xs ++ e ∷ []) ≡ true
     number_behind xs = number_of_last client (last + 1) xs e is_client is_number
 
 -- what the committed entries weigh once the next number stands
 pub sum_next : (f : Entry → ℕ) (config : Config) (client above last : ℕ) (xs ys before : List Entry) (e : Entry) → above ≤ last → IsPrefix xs ys → IsPrefix (before ++ e ∷ []) ys → is_once ys ≡ true → e.client ≡ client → e.number ≡ last + 1 →
-    ((n : ℕ) → above < n → n ≤ last → has_number client n xs ≡ true) →
+    ((n : ℕ) → above < n → n ≤ last → has_submission client n xs ≡ true) →
     sum_by f (own_committed config client above (last + 1) ys) ≡ sum_by f (own_committed config client above last xs) + sum_by f (cond (is_none (cause_next config before e.request)) (e ∷ []) [])
 sum_next f config client above last xs ys before e le grows ends once is_client is_number given =
     let all : ys ≡ before ++ e ∷ ends.0 = sym ends.1 ∙ append_assoc before (e ∷ []) ends.0 in

@@ -14,14 +14,15 @@ use Rattle.cluster_core.specs.Roles.{PipelineState, all_handled, submit, submitt
 use Rattle.kv_core.specs.Map.{Map}
 use Rattle.kv_core.specs.declared.change.CommitRequest.{CommitRequest}
 use Rattle.schedule.specs.Past.{Submission}
-use Rattle.schedule.specs.Turns.{AreSubmitted, fresh}
+use Rattle.schedule.specs.Turns.{AreSubmitted, fresh_request}
 use Rattle.schedule.proofs.Turning.{open_elsewhere, open_fresh, open_later}
 use Rattle.schedule.proofs.Submitting.{submitted_more, submitted_later}
 use Rattle.runtime.specs.declared.entry.Entry.{Entry}
-use Rattle.runtime.specs.Lists.{requests_of, version_of, map_of, pipeline_of, opened, submissions_from, submissions_of, IsOpenOver, is_same_submission, is_once, IsLawful, is_numbered}
+use Rattle.runtime.specs.Lists.{requests_of, version_of, list_map, pipeline_of, opened, submissions_from}
+use Rattle.runtime.specs.Lists.{submissions_of, IsOpenOver, is_same_submission, is_once, IsLawfulList, is_numbered}
 use Rattle.runtime.proofs.Entries.{requests_append, map_begins, version_begins, version_next}
 
-pub lawful_first : (config : Config) → config.start < 2 ^ 64 → IsLawful config []
+pub lawful_first : (config : Config) → config.start < 2 ^ 64 → IsLawfulList config []
 lawful_first config below = record { submitted = tt; once = refl; versions = omega (arith, below) }
 
 -- ---- numbers of submissions
@@ -115,14 +116,14 @@ submissions_more last (x ∷ xs) e =
 -- what was performed over a beginning was performed over the list
 pub open_begins : (config : Config) (log ys : List Entry) (e : Entry) → IsPrefix log ys → IsOpenOver config log e.request e.trace.attempts → IsOpenOver config ys e.request e.trace.attempts
 open_begins config log ys e p is =
-    open_later (map_of config ys) (version_of config log) (version_of config ys) (opened e.request e.trace.attempts) e.request (version_begins config log ys p)
-    (open_elsewhere (map_of config log) (map_of config ys) (version_of config log) (opened e.request e.trace.attempts) e.request (λ v h. sym (map_begins config log ys v p h)) is)
+    open_later (list_map config ys) (version_of config log) (version_of config ys) (opened e.request e.trace.attempts) e.request (version_begins config log ys p)
+    (open_elsewhere (list_map config log) (list_map config ys) (version_of config log) (opened e.request e.trace.attempts) e.request (λ v h. sym (map_begins config log ys v p h)) is)
 
 abbrev next_of : Config → List Entry → Entry → Submission
 next_of config log e = record { version = version_of config log + 1; client = e.client; transaction = opened e.request e.trace.attempts }
 
-submitted_next : (config : Config) (log : List Entry) (e : Entry) → IsLawful config log → IsOpenOver config log e.request e.trace.attempts →
-    AreSubmitted (map_of config (log ++ e ∷ [])) (version_of config (log ++ e ∷ [])) config.start (submissions_of config (log ++ e ∷ [])) (requests_of (log ++ e ∷ []))
+submitted_next : (config : Config) (log : List Entry) (e : Entry) → IsLawfulList config log → IsOpenOver config log e.request e.trace.attempts →
+    AreSubmitted (list_map config (log ++ e ∷ [])) (version_of config (log ++ e ∷ [])) config.start (submissions_of config (log ++ e ∷ [])) (requests_of (log ++ e ∷ []))
 submitted_next config log e law is =
     let next : ℕ = version_of config (log ++ e ∷ []) in
     let below : version_of config log ≤ next = omega (arith, version_next config log e) in
@@ -132,11 +133,11 @@ submitted_next config log e law is =
     submitted_more (pipeline_of config log) (submissions_of config log) (version_of config log + 1) e.client (opened e.request e.trace.attempts) e.request law.submitted (omega arith) refl is in
     let later : AreSubmitted (maps (requests_of log ++ e.request ∷ [])) next config.start subs (requests_of log ++ e.request ∷ []) =
     submitted_later (maps (requests_of log ++ e.request ∷ [])) (version_of config log) next config.start subs (requests_of log ++ e.request ∷ []) below base in
-    subst (λ (ss : List Submission). AreSubmitted (map_of config (log ++ e ∷ [])) next config.start ss (requests_of (log ++ e ∷ []))) (sym (submissions_more config.start log e))
+    subst (λ (ss : List Submission). AreSubmitted (list_map config (log ++ e ∷ [])) next config.start ss (requests_of (log ++ e ∷ []))) (sym (submissions_more config.start log e))
     (subst (λ (qs : List CommitRequest). AreSubmitted (maps qs) next config.start subs qs) (sym (requests_append log (e ∷ []))) later)
 
-pub lawful_next : (config : Config) (last : List ℕ) (log : List Entry) (e : Entry) → IsLawful config log → IsOpenOver config log e.request e.trace.attempts →
-    is_numbered last log ≡ true → slice_index last e.client < e.number → version_of config log + 1 < 2 ^ 64 → IsLawful config (log ++ e ∷ [])
+pub lawful_next : (config : Config) (last : List ℕ) (log : List Entry) (e : Entry) → IsLawfulList config log → IsOpenOver config log e.request e.trace.attempts →
+    is_numbered last log ≡ true → slice_index last e.client < e.number → version_of config log + 1 < 2 ^ 64 → IsLawfulList config (log ++ e ∷ [])
 lawful_next config last log e law is num above room = record {
   submitted = submitted_next config log e law is;
   once = once_more last log e num above law.once;
@@ -172,5 +173,5 @@ pipeline_first config =
     }
 
 -- a transaction that has done nothing yet
-pub open_first : (config : Config) (log : List Entry) → IsOpenOver config log (fresh (version_of config log)) []
-open_first config log = open_fresh (map_of config log) (version_of config log) (version_of config log) (omega arith)
+pub open_first : (config : Config) (log : List Entry) → IsOpenOver config log (fresh_request (version_of config log)) []
+open_first config log = open_fresh (list_map config log) (version_of config log) (version_of config log) (omega arith)

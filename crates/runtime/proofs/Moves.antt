@@ -9,10 +9,10 @@ use Rattle.runtime.specs.declared.entry.Entry.{Entry}
 use Rattle.runtime.specs.declared.published.Published.{Published}
 use Rattle.runtime.specs.declared.published.Step.{Step}
 use Rattle.runtime.specs.declared.published.View.{View}
-use Rattle.runtime.specs.Lists.{tier_of}
-use Rattle.runtime.specs.History.{Name, Reach, entry_of, reach}
+use Rattle.runtime.specs.Lists.{list_tier}
+use Rattle.runtime.specs.History.{Name, Reach, list_reach, note_entry}
 use Rattle.std.specs.Prelude.{Result, Ok, Err, MatchResult, ⊤}
-use Rattle.runtime.specs.State.{shown, newcomer, knows, IsFold, Kept, Sees, Leads, Follow, entries_of, applied}
+use Rattle.runtime.specs.State.{list_shown, newcomer, knows, IsFold, Kept, Sees, Leads, LeadOn, entries_of, applied}
 use Rattle.runtime.proofs.Entries.{tier_next}
 
 off : false ≡ true → ⊥
@@ -52,7 +52,7 @@ merges seat v other w x views h at apart there =
     (h.0, fits_set x.front.name (set views seat w) other newcomer (fits_set x.front.name views seat w h.1 theirs) (λ n. absurd (off n)))
 
 abbrev tier_at : Name → List Entry → TierState
-tier_at b log = tier_of b.config log
+tier_at b log = list_tier b.config log
 
 none_more : (l : List Entry) → l ≡ l ++ []
 none_more [] = refl
@@ -63,59 +63,59 @@ append_one [] e more = refl
 append_one (x ∷ xs) e more = ap (λ ys. x ∷ ys) (append_one xs e more)
 
 -- the pending steps lead from the state of a list to that of the longer list
-pub folded : (b : Name) (log : List Entry) (ss : List Step) → Follow b log ss
-    → fold applied (tier_at b log, reach b log) ss ≡ (tier_at b (log ++ entries_of ss), reach b (log ++ entries_of ss))
-folded b log [] f = ap (λ (l : List Entry). (tier_at b l, reach b l)) (none_more log)
+pub folded : (b : Name) (log : List Entry) (ss : List Step) → LeadOn b log ss
+    → fold applied (tier_at b log, list_reach b log) ss ≡ (tier_at b (log ++ entries_of ss), list_reach b (log ++ entries_of ss))
+folded b log [] f = ap (λ (l : List Entry). (tier_at b l, list_reach b l)) (none_more log)
 folded b log (s ∷ ss) f =
-    let next : List Entry = log ++ entry_of s.note ∷ [] in
-    let tier : absorb_all s.mutations (tier_at b log) ≡ tier_at b next = ap (λ ms. absorb_all ms (tier_at b log)) f.0.1 ∙ tier_next b.config log (entry_of s.note) in
-    let one : applied (tier_at b log, reach b log) s ≡ (tier_at b next, reach b next) = (λ i. (tier i, f.0.0 i)) in
-    ap (λ (z : TierState × Reach). fold applied z ss) one ∙ folded b next ss f.1 ∙ ap (λ (l : List Entry). (tier_at b l, reach b l)) (append_one log (entry_of s.note) (entries_of ss))
+    let next : List Entry = log ++ note_entry s.note ∷ [] in
+    let tier : absorb_all s.mutations (tier_at b log) ≡ tier_at b next = ap (λ ms. absorb_all ms (tier_at b log)) f.0.1 ∙ tier_next b.config log (note_entry s.note) in
+    let one : applied (tier_at b log, list_reach b log) s ≡ (tier_at b next, list_reach b next) = (λ i. (tier i, f.0.0 i)) in
+    ap (λ (z : TierState × Reach). fold applied z ss) one ∙ folded b next ss f.1 ∙ ap (λ (l : List Entry). (tier_at b l, list_reach b l)) (append_one log (note_entry s.note) (entries_of ss))
 
 -- one step more at the end
-pub follow_more : (b : Name) (log : List Entry) (ss : List Step) (s : Step) → Follow b log ss → Leads b (log ++ entries_of ss) s → Follow b log (ss ++ s ∷ [])
+pub follow_more : (b : Name) (log : List Entry) (ss : List Step) (s : Step) → LeadOn b log ss → Leads b (log ++ entries_of ss) s → LeadOn b log (ss ++ s ∷ [])
 follow_more b log [] s f leads = (subst (λ (l : List Entry). Leads b l s) (sym (none_more log)) leads, tt)
-follow_more b log (t ∷ ss) s f leads = (f.0, follow_more b (log ++ entry_of t.note ∷ []) ss s f.1 (subst (λ (l : List Entry). Leads b l s) (sym (append_one log (entry_of t.note) (entries_of ss))) leads))
+follow_more b log (t ∷ ss) s f leads = (f.0, follow_more b (log ++ note_entry t.note ∷ []) ss s f.1 (subst (λ (l : List Entry). Leads b l s) (sym (append_one log (note_entry t.note) (entries_of ss))) leads))
 
-pub entries_more : (ss : List Step) (s : Step) → entries_of (ss ++ s ∷ []) ≡ entries_of ss ++ entry_of s.note ∷ []
+pub entries_more : (ss : List Step) (s : Step) → entries_of (ss ++ s ∷ []) ≡ entries_of ss ++ note_entry s.note ∷ []
 entries_more [] s = refl
-entries_more (t ∷ ss) s = ap (λ es. entry_of t.note ∷ es) (entries_more ss s)
+entries_more (t ∷ ss) s = ap (λ es. note_entry t.note ∷ es) (entries_more ss s)
 
 -- a state that the pending steps lead to
-pub next_is : (x y : Published) (ss : List Step) → IsFold x → Follow x.front.name x.front.list ss → (y.tier, y.front) ≡ fold applied (x.tier, x.front) ss
-    → (y.front ≡ reach x.front.name (x.front.list ++ entries_of ss)) × IsFold y
+pub next_is : (x y : Published) (ss : List Step) → IsFold x → LeadOn x.front.name x.front.list ss → (y.tier, y.front) ≡ fold applied (x.tier, x.front) ss
+    → (y.front ≡ list_reach x.front.name (x.front.list ++ entries_of ss)) × IsFold y
 next_is x y ss f follow is =
-    let p : (y.tier, y.front) ≡ (tier_at x.front.name (x.front.list ++ entries_of ss), reach x.front.name (x.front.list ++ entries_of ss)) = is ∙ ap (λ (t : TierState). fold applied (t, x.front) ss) f ∙ folded x.front.name x.front.list ss follow in
-    let front : y.front ≡ reach x.front.name (x.front.list ++ entries_of ss) = ap (λ (z : TierState × Reach). z.1) p in
+    let p : (y.tier, y.front) ≡ (tier_at x.front.name (x.front.list ++ entries_of ss), list_reach x.front.name (x.front.list ++ entries_of ss)) = is ∙ ap (λ (t : TierState). fold applied (t, x.front) ss) f ∙ folded x.front.name x.front.list ss follow in
+    let front : y.front ≡ list_reach x.front.name (x.front.list ++ entries_of ss) = ap (λ (z : TierState × Reach). z.1) p in
     (front, ap (λ (z : TierState × Reach). z.0) p ∙ sym (ap (λ (r : Reach). tier_at r.name r.list) front))
 
 -- what a publish leaves
 abbrev pub Rests : Published → List Step → View → Type 0
-Rests x ss v = IsFold x × Follow x.front.name x.front.list ss × (v ≡ knows x.front.name)
+Rests x ss v = IsFold x × LeadOn x.front.name x.front.list ss × (v ≡ knows x.front.name)
 
 pub rests_after : {E : Type 0} (x y : Published) (ss ss' : List Step) (v w : View) (r : Result ⊤ E) → Rests x ss v
     → MatchResult r (λ _. ((y.tier, y.front) ≡ fold applied (x.tier, x.front) ss) × (ss' ≡ [])) (λ _. (y ≡ x) × (ss' ≡ ss))
     → MatchResult r (λ _. Sees v x y w) (λ _. w ≡ v) → Rests y ss' w
-rests_after x y ss ss' v w (Ok t) rest values rule = (rule.1, subst (Follow y.front.name y.front.list) (sym values.1) tt, rule.0)
+rests_after x y ss ss' v w (Ok t) rest values rule = (rule.1, subst (LeadOn y.front.name y.front.list) (sym values.1) tt, rule.0)
 rests_after x y ss ss' v w (Err e) rest values rule =
-    (subst IsFold (sym values.0) rest.0, subst (λ (z : Published × List Step). Follow z.0.front.name z.0.front.list z.1) (λ i. (sym values.0 i, sym values.1 i)) rest.1, rule ∙ rest.2 ∙ ap (λ (z : Published). knows z.front.name) (sym values.0))
+    (subst IsFold (sym values.0) rest.0, subst (λ (z : Published × List Step). LeadOn z.0.front.name z.0.front.list z.1) (λ i. (sym values.0 i, sym values.1 i)) rest.1, rule ∙ rest.2 ∙ ap (λ (z : Published). knows z.front.name) (sym values.0))
 
 pub shown_after : {E : Type 0} (x y : Published) (ss ss' : List Step) (v : View) (r : Result ⊤ E) → Rests x ss v
     → MatchResult r (λ _. ((y.tier, y.front) ≡ fold applied (x.tier, x.front) ss) × (ss' ≡ [])) (λ _. (y ≡ x) × (ss' ≡ ss))
-    → MatchResult r (λ _. shown y.front.name y.front.list (entries_of ss') ≡ shown x.front.name (x.front.list ++ entries_of ss) []) (λ _. shown y.front.name y.front.list (entries_of ss') ≡ shown x.front.name x.front.list (entries_of ss))
+    → MatchResult r (λ _. list_shown y.front.name y.front.list (entries_of ss') ≡ list_shown x.front.name (x.front.list ++ entries_of ss) []) (λ _. list_shown y.front.name y.front.list (entries_of ss') ≡ list_shown x.front.name x.front.list (entries_of ss))
 shown_after x y ss ss' v (Ok t) rest values =
     let n = next_is x y ss rest.0 rest.1 values.0 in
-    ap (λ (r : Reach). shown r.name r.list (entries_of ss')) n.0 ∙ ap (λ (l : List Step). shown x.front.name (x.front.list ++ entries_of ss) (entries_of l)) values.1
-shown_after x y ss ss' v (Err e) rest values = (λ i. shown (values.0 i).front.name (values.0 i).front.list (entries_of (values.1 i)))
+    ap (λ (r : Reach). list_shown r.name r.list (entries_of ss')) n.0 ∙ ap (λ (l : List Step). list_shown x.front.name (x.front.list ++ entries_of ss) (entries_of l)) values.1
+shown_after x y ss ss' v (Err e) rest values = (λ i. list_shown (values.0 i).front.name (values.0 i).front.list (entries_of (values.1 i)))
 
 -- what an append leaves
 pub rests_appended : (x : Published) (ss ss' : List Step) (v : View) (s : Step) (r : Result ⊤ Step) → Rests x ss v → Leads x.front.name (x.front.list ++ entries_of ss) s
     → MatchResult r (λ _. ss' ≡ ss ++ s ∷ []) (λ z. (z ≡ s) × (ss' ≡ ss)) → Rests x ss' v
-rests_appended x ss ss' v s (Ok t) rest next more = (rest.0, subst (Follow x.front.name x.front.list) (sym more) (follow_more x.front.name x.front.list ss s rest.1 next), rest.2)
-rests_appended x ss ss' v s (Err z) rest next more = (rest.0, subst (Follow x.front.name x.front.list) (sym more.1) rest.1, rest.2)
+rests_appended x ss ss' v s (Ok t) rest next more = (rest.0, subst (LeadOn x.front.name x.front.list) (sym more) (follow_more x.front.name x.front.list ss s rest.1 next), rest.2)
+rests_appended x ss ss' v s (Err z) rest next more = (rest.0, subst (LeadOn x.front.name x.front.list) (sym more.1) rest.1, rest.2)
 
 pub shown_appended : (x : Published) (ss ss' : List Step) (s : Step) (r : Result ⊤ Step)
     → MatchResult r (λ _. ss' ≡ ss ++ s ∷ []) (λ z. (z ≡ s) × (ss' ≡ ss))
-    → MatchResult r (λ _. shown x.front.name x.front.list (entries_of ss') ≡ shown x.front.name x.front.list (entries_of ss ++ entry_of s.note ∷ [])) (λ z. (z ≡ s) × (shown x.front.name x.front.list (entries_of ss') ≡ shown x.front.name x.front.list (entries_of ss)))
-shown_appended x ss ss' s (Ok t) more = ap (shown x.front.name x.front.list) (ap entries_of more ∙ entries_more ss s)
-shown_appended x ss ss' s (Err z) more = (more.0, ap (λ (l : List Step). shown x.front.name x.front.list (entries_of l)) more.1)
+    → MatchResult r (λ _. list_shown x.front.name x.front.list (entries_of ss') ≡ list_shown x.front.name x.front.list (entries_of ss ++ note_entry s.note ∷ [])) (λ z. (z ≡ s) × (list_shown x.front.name x.front.list (entries_of ss') ≡ list_shown x.front.name x.front.list (entries_of ss)))
+shown_appended x ss ss' s (Ok t) more = ap (list_shown x.front.name x.front.list) (ap entries_of more ∙ entries_more ss s)
+shown_appended x ss ss' s (Err z) more = (more.0, ap (λ (l : List Step). list_shown x.front.name x.front.list (entries_of l)) more.1)

@@ -9,7 +9,7 @@ use Rattle.cluster_core.specs.declared.answers.Config.{Config}
 use Rattle.runtime.specs.declared.entry.Entry.{Entry}
 use Rattle.runtime.specs.declared.flight.Flight.{Flight}
 use Rattle.runtime.specs.declared.flight.Flight.TheVariants.{Idle, Lost, Ruled, Added}
-use Rattle.runtime.specs.Lists.{AreLast, IsExhausted, has_number, version_of}
+use Rattle.runtime.specs.Lists.{AreLast, IsExhausted, has_submission, version_of}
 use Rattle.runtime.specs.Holds.{IsBacked, is_idle}
 use Rattle.runtime.proofs.Entries.{version_begins}
 
@@ -30,13 +30,13 @@ same_number a b h = grind (arith, nat_tests)
 abbrev pub is_numbered_so : ℕ → ℕ → Entry → Bool
 is_numbered_so client number e = (e.client == client) && (e.number == number)
 
-pub number_begins : (client number : ℕ) (xs ys : List Entry) → IsPrefix xs ys → has_number client number xs ≡ true → has_number client number ys ≡ true
-number_begins client number xs ys p h = subst (λ (l : List Entry). has_number client number l ≡ true) p.1 (list_any-append (is_numbered_so client number) xs p.0 ∙ or_left (has_number client number xs) (has_number client number p.0) h)
+pub number_begins : (client number : ℕ) (xs ys : List Entry) → IsPrefix xs ys → has_submission client number xs ≡ true → has_submission client number ys ≡ true
+number_begins client number xs ys p h = subst (λ (l : List Entry). has_submission client number l ≡ true) p.1 (list_any-append (is_numbered_so client number) xs p.0 ∙ or_left (has_submission client number xs) (has_submission client number p.0) h)
 
-pub number_of_last : (client number : ℕ) (xs : List Entry) (e : Entry) → e.client ≡ client → e.number ≡ number → has_number client number (xs ++ e ∷ []) ≡ true
+pub number_of_last : (client number : ℕ) (xs : List Entry) (e : Entry) → e.client ≡ client → e.number ≡ number → has_submission client number (xs ++ e ∷ []) ≡ true
 number_of_last client number xs e is_client is_number =
-    let here : has_number client number (e ∷ []) ≡ true = or_left (is_numbered_so client number e) false (and_both (e.client == client) (e.number == number) (same_number e.client client is_client) (same_number e.number number is_number)) in
-    list_any-append (is_numbered_so client number) xs (e ∷ []) ∙ or_right (has_number client number xs) (has_number client number (e ∷ [])) here
+    let here : has_submission client number (e ∷ []) ≡ true = or_left (is_numbered_so client number e) false (and_both (e.client == client) (e.number == number) (same_number e.client client is_client) (same_number e.number number is_number)) in
+    list_any-append (is_numbered_so client number) xs (e ∷ []) ∙ or_right (has_submission client number xs) (has_submission client number (e ∷ [])) here
 
 -- ---- last numbers
 
@@ -49,11 +49,11 @@ pub last_first : (last : List ℕ) (n : ℕ) → last ≡ replicate n 0 → AreL
 last_first last n is = record { stands = λ client above. absurd (let none : slice_index last client ≡ 0 = ap (λ (l : List ℕ). slice_index l client) is ∙ zero_each n client in omega (arith, above, none)) }
 
 next_at : (last : List ℕ) (client number : ℕ) (log : List Entry) (e : Entry) → client < length last → e.client ≡ client → e.number ≡ number → AreLast last log →
-    (other : ℕ) (b : Bool) → (other == client) ≡ b → 0 < slice_index (slice_set last client number) other → has_number other (slice_index (slice_set last client number) other) (log ++ e ∷ []) ≡ true
+    (other : ℕ) (b : Bool) → (other == client) ≡ b → 0 < slice_index (slice_set last client number) other → has_submission other (slice_index (slice_set last client number) other) (log ++ e ∷ []) ≡ true
 next_at last client number log e inside is_client is_number are other true same above =
     let eq : client ≡ other = grind (arith, nat_tests) in
     let new : slice_index (slice_set last client number) client ≡ number = get_or-set_same last client number 0 inside in
-    subst (λ (c : ℕ). has_number c (slice_index (slice_set last client number) c) (log ++ e ∷ []) ≡ true) eq (rw new (number_of_last client number log e is_client is_number))
+    subst (λ (c : ℕ). has_submission c (slice_index (slice_set last client number) c) (log ++ e ∷ []) ≡ true) eq (rw new (number_of_last client number log e is_client is_number))
 next_at last client number log e inside is_client is_number are other false same above =
     let apart : other ≢ client = grind (arith, nat_tests) in
     let old : slice_index (slice_set last client number) other ≡ slice_index last other = get_or-set_other last client other number 0 apart in

@@ -14,7 +14,8 @@ use Rattle.txn.specs.Holds.{verdict}
 use Rattle.schedule.specs.Standing.{is_told}
 use Rattle.runtime.specs.declared.entry.Entry.{Entry}
 use Rattle.runtime.specs.History.{Name}
-use Rattle.runtime.specs.Lists.{requests_of, version_of, pipeline_of, cause_next, logged_next, IsLawful, IsOpenOver, is_numbered}
+use Rattle.runtime.specs.Lists.{requests_of, version_of, pipeline_of, cause_next, logged_next, IsLawfulList, IsOpenOver}
+use Rattle.runtime.specs.Lists.{is_numbered}
 use Rattle.runtime.proofs.Entries.{requests_append}
 use Rattle.std.specs.Prelude.{slice_index, slice_set, is_some}
 use mathlib.Core.List.{IsPrefix}
@@ -83,11 +84,11 @@ refused_last config log p read_version is below why =
 
 abbrev pub Taken : Name → List ℕ → List Entry → ℕ → ℕ → Trace → PipelineState → List Mutation → CommitRequest → Type 0
 Taken n last log client number trace q ms request =
-    ((q ≡ pipeline_of n.config (log ++ entry client number request trace ∷ [])) × (ms ≡ logged_next n.config log request) × IsLawful n.config (log ++ entry client number request trace ∷ []))
+    ((q ≡ pipeline_of n.config (log ++ entry client number request trace ∷ [])) × (ms ≡ logged_next n.config log request) × IsLawfulList n.config (log ++ entry client number request trace ∷ []))
     × (is_numbered (slice_set last client number) (log ++ entry client number request trace ∷ []) ≡ true)
 
 pub taken_next : (n : Name) (last : List ℕ) (log front : List Entry) (client number : ℕ) (request value : CommitRequest) (trace : Trace) (p q : PipelineState) (r : Reported) (ms : List Mutation) →
-    IsLawful n.config log → IsPrefix front log → IsOpenOver n.config front request trace.attempts → value ≡ request → is_numbered last log ≡ true → client < length last → slice_index last client < number →
+    IsLawfulList n.config log → IsPrefix front log → IsOpenOver n.config front request trace.attempts → value ≡ request → is_numbered last log ≡ true → client < length last → slice_index last client < number →
     p ≡ pipeline_of n.config log → q ≡ all_handled (submit request p) → r ≡ verdict request q → is_some (submit_refusal p request.read_version) ≡ false → ms ≡ cond (is_told r) request.mutations [] →
     Taken n last log client number trace q ms value
 taken_next n last log front client number request value trace p q r ms law begins over same num inside above old new told_so allowed made =

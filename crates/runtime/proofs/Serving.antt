@@ -28,15 +28,17 @@ use Rattle.schedule.specs.declared.refusal.Refusal.TheVariants.{NoSuchClient, No
 use Rattle.schedule.specs.Contract.{IsSerialAt}
 use Rattle.schedule.specs.Holds.{Stands}
 use Rattle.schedule.specs.Past.{Attempt, Open, Submission, is_changed}
-use Rattle.schedule.specs.Performed.{IsPerformed, IsReadRefusal, IsStopped}
+use Rattle.schedule.specs.Performed.{IsCommandStopped, IsPerformed, IsReadRefusal}
 use Rattle.schedule.specs.Standing.{listed}
-use Rattle.schedule.specs.Turns.{AreDone, AreSubmitted, Did, IsOpenAs, fresh}
+use Rattle.schedule.specs.Turns.{AreDone, AreSubmitted, DidAttempt, IsOpenTransaction, fresh_request}
 use Rattle.schedule.proofs.Composed.{holds_committed, serial_all, performed_right}
 use Rattle.schedule.proofs.Submitting.{numbered_length}
 use Rattle.schedule.proofs.Turning.{done_append, open_changed, open_grown}
 use Rattle.runtime.specs.declared.entry.Entry.{Entry}
 use Rattle.runtime.specs.declared.trace.Performed.{Performed}
-use Rattle.runtime.specs.Lists.{requests_of, version_of, numbered_of, history_of, map_of, pipeline_of, log_of, tier_of, attempts_of, opened, submissions_of, committed_at, IsOpenOver, IsLawful}
+use Rattle.runtime.specs.Lists.{requests_of, version_of, numbered_of, history_of, list_map, pipeline_of}
+use Rattle.runtime.specs.Lists.{logged_mutations, list_tier, attempts_of, opened, submissions_of, committed_at}
+use Rattle.runtime.specs.Lists.{IsOpenOver, IsLawfulList}
 use Rattle.runtime.specs.Serves.{IsAnswer, stopped}
 use Rattle.txn.specs.Refusing.{MayRefuse}
 use Rattle.txn.specs.Runs.{Ran}
@@ -52,26 +54,26 @@ reads_below maps reported last [] (request ∷ requests) are = absurd are
 reads_below maps reported last (one ∷ subs) [] are = absurd are
 reads_below maps reported last (one ∷ subs) (request ∷ requests) are = (are.0.below, reads_below maps reported (last + 1) subs requests are.1)
 
-pub legal_of : (config : Config) (log : List Entry) → IsLawful config log → IsLegal (history_of config log)
+pub legal_of : (config : Config) (log : List Entry) → IsLawfulList config log → IsLegal (history_of config log)
 legal_of config log law =
     committed_is_legal config.resolver_splits (numbered_of config log) (rising-numbered config.start (requests_of log))
-    (All-from_recursion (λ (e : histories.Entry). e.request.read_version < e.version) (numbered_of config log) (reads_below (map_of config log) (version_of config log) config.start (submissions_of config log) (requests_of log) law.submitted))
+    (All-from_recursion (λ (e : histories.Entry). e.request.read_version < e.version) (numbered_of config log) (reads_below (list_map config log) (version_of config log) config.start (submissions_of config log) (requests_of log) law.submitted))
 
 -- the map at each version holds what the accepted commands of the committed entries up to there give
-pub holds_of : (config : Config) (log : List Entry) → IsLawful config log → (v : ℕ) → v ≤ version_of config log → Stands (map_of config log v) (committed_at config log v)
+pub holds_of : (config : Config) (log : List Entry) → IsLawfulList config log → (v : ℕ) → v ≤ version_of config log → Stands (list_map config log v) (committed_at config log v)
 holds_of config log law v below = holds_committed (pipeline_of config log) (submissions_of config log) (legal_of config log law) law.submitted v below
 
 -- version order is a serial order
-pub serial_of : (config : Config) (log : List Entry) → IsLawful config log →
+pub serial_of : (config : Config) (log : List Entry) → IsLawfulList config log →
     All (λ (one : Submission). IsSerialAt (committed_at config log (one.version - 1)) one.transaction.attempts) (listed (pipeline_of config log) (submissions_of config log))
 serial_of config log law = serial_all (pipeline_of config log) (submissions_of config log) (legal_of config log law) law.submitted
 
 -- ---- what the servers that have pulled a list answer
 
-log_length : (config : Config) (log : List Entry) → length (log_of config log) ≡ length (requests_of log)
+log_length : (config : Config) (log : List Entry) → length (logged_mutations config log) ≡ length (requests_of log)
 log_length config log = length-map (numbered_of config log) (logged (is_committed config.resolver_splits (numbered_of config log))) ∙ numbered_length config.start (requests_of log)
 
-pub tier_map : (config : Config) (log : List Entry) (v : ℕ) → config.start ≤ v → v ≤ version_of config log → version_of config log - v ≤ config.window → whole_map (tier_of config log) v ≡ map_of config log v
+pub tier_map : (config : Config) (log : List Entry) (v : ℕ) → config.start ≤ v → v ≤ version_of config log → version_of config log - v ≤ config.window → whole_map (list_tier config log) v ≡ list_map config log v
 tier_map config log v from upto near = tier_has_database config (requests_of log) v from upto near
 
 -- the servers of these owners stand at this version
@@ -117,13 +119,13 @@ none_among window n v range (owner ∷ others) (server ∷ servers) at upto near
     by_test false r here rest = rest
 
 -- servers that have pulled a list refuse no read at its versions within the window
-pub tier_answers : (config : Config) (log : List Entry) (range : KeyRange) (v : ℕ) → v ≤ version_of config log → version_of config log - v ≤ config.window → refusal (tier_of config log) range v ≡ None
+pub tier_answers : (config : Config) (log : List Entry) (range : KeyRange) (v : ℕ) → v ≤ version_of config log → version_of config log - v ≤ config.window → refusal (list_tier config log) range v ≡ None
 tier_answers config log range v upto near =
-    let frame = same_frame (log_of config log) (first_tier config) in
+    let frame = same_frame (logged_mutations config log) (first_tier config) in
     let n = log_length config log in
-    (λ i. first_refusal (frame.1 i) range v (owners (frame.0 i)) (tier_of config log).servers)
-    ∙ none_among config.window (config.start + length (log_of config log)) v range (owners config.storage_splits) (tier_of config log).servers
-    (pulled_log (log_of config log) (first_tier config) config.start (first_at config.start (owners config.storage_splits))) (omega (arith, n, upto)) (omega (arith, n, near))
+    (λ i. first_refusal (frame.1 i) range v (owners (frame.0 i)) (list_tier config log).servers)
+    ∙ none_among config.window (config.start + length (logged_mutations config log)) v range (owners config.storage_splits) (list_tier config log).servers
+    (pulled_log (logged_mutations config log) (first_tier config) config.start (first_at config.start (owners config.storage_splits))) (omega (arith, n, upto)) (omega (arith, n, near))
 
 -- ---- a command that was performed over servers that have pulled more than the transaction's list
 
@@ -203,7 +205,7 @@ performed_elsewhere maps maps2 refuses command answer old new same performed = r
 }
 
 -- a command that stopped did what one does whose read was refused
-stopped_did : (maps : ℕ → Map) (command : Command) (old new : CommitRequest) → IsStopped maps command old new → Did maps (record { command = command; reply = Refused TooOld }) old new
+stopped_did : (maps : ℕ → Map) (command : Command) (old new : CommitRequest) → IsCommandStopped maps command old new → DidAttempt maps (record { command = command; reply = Refused TooOld }) old new
 stopped_did maps command old new is = record {
   added = is.added;
   written = [];
@@ -218,7 +220,7 @@ attempts_more (x ∷ xs) one = ap (λ (l : List Attempt). (record { command = x.
 abbrev attempt_of : Performed → Attempt
 attempt_of one = record { command = one.command; reply = one.reply }
 
-did_elsewhere : (maps maps2 : ℕ → Map) (attempt : Attempt) (old new : CommitRequest) → maps old.read_version ≡ maps2 old.read_version → Did maps attempt old new → Did maps2 attempt old new
+did_elsewhere : (maps maps2 : ℕ → Map) (attempt : Attempt) (old new : CommitRequest) → maps old.read_version ≡ maps2 old.read_version → DidAttempt maps attempt old new → DidAttempt maps2 attempt old new
 did_elsewhere maps maps2 attempt old new same did = record { added = did.added; written = did.written; changes = did.changes; ran = ran_elsewhere maps maps2 same did.ran }
 
 none_some : (o : Option ReadError) {e : ReadError} → o ≡ None → o ≡ Some e → ⊥
@@ -227,43 +229,43 @@ none_some (Some x) none some = cc
 
 -- the map of servers that have pulled a longer list is the list's own at a version that they tell
 same_map : (config : Config) (log ys : List Entry) (version : ℕ) → IsPrefix log ys → version ≤ version_of config log → config.start ≤ version → version_of config ys - version ≤ config.window →
-    whole_map (tier_of config ys) version ≡ map_of config log version
+    whole_map (list_tier config ys) version ≡ list_map config log version
 same_map config log ys version begins seen from near =
     tier_map config ys version from (let l = version_begins config log ys begins in omega (arith, seen, l)) near ∙ map_begins config log ys version begins seen
 
 -- the transaction's facts stand over its own list, and the reply is the serial store's for what it sees there
-pub answers_right : (config : Config) (log ys : List Entry) (old new : CommitRequest) (done : List Performed) (command : Command) (answer : Reply) → IsLawful config log → IsPrefix log ys → IsOpenOver config log old done → config.start ≤ old.read_version →
-    version_of config ys - old.read_version ≤ config.window → IsPerformed (whole_map (tier_of config ys)) (λ range. MayRefuse (tier_of config ys) range old.read_version) command answer old new →
+pub answers_right : (config : Config) (log ys : List Entry) (old new : CommitRequest) (done : List Performed) (command : Command) (answer : Reply) → IsLawfulList config log → IsPrefix log ys → IsOpenOver config log old done → config.start ≤ old.read_version →
+    version_of config ys - old.read_version ≤ config.window → IsPerformed (whole_map (list_tier config ys)) (λ range. MayRefuse (list_tier config ys) range old.read_version) command answer old new →
     IsOpenOver config log new (done ++ (record { command = command; reply = answer }) ∷ []) × IsAnswer config log old done command answer × (new.read_version ≡ old.read_version)
 answers_right config log ys old new done command answer law begins over from near performed =
     let seen : old.read_version ≤ version_of config log = over.seen in
     let reached : old.read_version ≤ version_of config ys = let l = version_begins config log ys begins in omega (arith, seen, l) in
-    let same : whole_map (tier_of config ys) old.read_version ≡ map_of config log old.read_version = same_map config log ys old.read_version begins seen from near in
-    let here : IsPerformed (map_of config log) (λ range. MayRefuse (tier_of config ys) range old.read_version) command answer old new = performed_elsewhere (whole_map (tier_of config ys)) (map_of config log) _ command answer old new same performed in
-    let grown = open_grown (map_of config log) (version_of config log) (opened old done) old new (λ range. MayRefuse (tier_of config ys) range old.read_version) command answer over here in
-    let right = performed_right (pipeline_of config log) (submissions_of config log) (legal_of config log law) law.submitted (opened old done) old new (λ v range. MayRefuse (tier_of config ys) range v) command answer over here in
+    let same : whole_map (list_tier config ys) old.read_version ≡ list_map config log old.read_version = same_map config log ys old.read_version begins seen from near in
+    let here : IsPerformed (list_map config log) (λ range. MayRefuse (list_tier config ys) range old.read_version) command answer old new = performed_elsewhere (whole_map (list_tier config ys)) (list_map config log) _ command answer old new same performed in
+    let grown = open_grown (list_map config log) (version_of config log) (opened old done) old new (λ range. MayRefuse (list_tier config ys) range old.read_version) command answer over here in
+    let right = performed_right (pipeline_of config log) (submissions_of config log) (legal_of config log law) law.submitted (opened old done) old new (λ v range. MayRefuse (list_tier config ys) range v) command answer over here in
     let version : new.read_version ≡ old.read_version = performed.ran.version in (
-      subst (λ (o : Open). IsOpenAs (map_of config log) (version_of config log) o new) (λ i. record { read_version = sym version i; attempts = sym (attempts_more done (record { command = command; reply = answer })) i }) grown,
+      subst (λ (o : Open). IsOpenTransaction (list_map config log) (version_of config log) o new) (λ i. record { read_version = sym version i; attempts = sym (attempts_more done (record { command = command; reply = answer })) i }) grown,
       elim right [
         | inl served ↦ served
-        | inr refused ↦ absurd (unrefused (λ range. MayRefuse (tier_of config ys) range old.read_version) _ answer (λ range error is. none_some (refusal (tier_of config ys) range old.read_version) (tier_answers config ys range old.read_version reached near) is) refused.2)
+        | inr refused ↦ absurd (unrefused (λ range. MayRefuse (list_tier config ys) range old.read_version) _ answer (λ range error is. none_some (refusal (list_tier config ys) range old.read_version) (tier_answers config ys range old.read_version reached near) is) refused.2)
       ],
       version,
     )
 
 -- the transaction goes on where a command stopped
 pub stops_right : (config : Config) (log ys : List Entry) (old new : CommitRequest) (done : List Performed) (command : Command) → IsPrefix log ys → IsOpenOver config log old done → config.start ≤ old.read_version →
-    version_of config ys - old.read_version ≤ config.window → IsStopped (whole_map (tier_of config ys)) command old new →
+    version_of config ys - old.read_version ≤ config.window → IsCommandStopped (whole_map (list_tier config ys)) command old new →
     IsOpenOver config log new (done ++ stopped command ∷ []) × (new.mutations ≡ old.mutations) × (new.read_version ≡ old.read_version)
 stops_right config log ys old new done command begins over from near is =
-    let same : whole_map (tier_of config ys) old.read_version ≡ map_of config log old.read_version = same_map config log ys old.read_version begins over.seen from near in
-    let did = did_elsewhere (whole_map (tier_of config ys)) (map_of config log) (attempt_of (stopped command)) old new same (stopped_did (whole_map (tier_of config ys)) command old new is) in
+    let same : whole_map (list_tier config ys) old.read_version ≡ list_map config log old.read_version = same_map config log ys old.read_version begins over.seen from near in
+    let did = did_elsewhere (whole_map (list_tier config ys)) (list_map config log) (attempt_of (stopped command)) old new same (stopped_did (whole_map (list_tier config ys)) command old new is) in
     let version : new.read_version ≡ old.read_version = is.ran.version in (
       record {
         at = refl;
         seen = subst (λ (v : ℕ). v ≤ version_of config log) (sym version) over.seen;
-        done = subst (λ (attempts : List Attempt). AreDone (map_of config log) attempts (fresh new.read_version) new) (sym (attempts_more done (stopped command)))
-            (done_append (map_of config log) (attempts_of done) (attempt_of (stopped command)) (fresh new.read_version) old new (subst (λ (v : ℕ). AreDone (map_of config log) (attempts_of done) (fresh v) old) (sym version) over.done) did);
+        done = subst (λ (attempts : List Attempt). AreDone (list_map config log) attempts (fresh_request new.read_version) new) (sym (attempts_more done (stopped command)))
+            (done_append (list_map config log) (attempts_of done) (attempt_of (stopped command)) (fresh_request new.read_version) old new (subst (λ (v : ℕ). AreDone (list_map config log) (attempts_of done) (fresh_request v) old) (sym version) over.done) did);
       },
       is.ran.wrote ∙ append-nil old.mutations,
       version,
@@ -271,7 +273,7 @@ stops_right config log ys old new done command begins over from near is =
 
 -- a transaction without mutations has changed nothing
 pub unchanged : (config : Config) (log : List Entry) (request : CommitRequest) (done : List Performed) → IsOpenOver config log request done → request.mutations ≡ [] → is_changed (attempts_of done) ≡ false
-unchanged config log request done over none = open_changed (map_of config log) (version_of config log) (opened request done) request over ∙ ap (λ (ms : List Mutation). not (length ms == 0)) none
+unchanged config log request done over none = open_changed (list_map config log) (version_of config log) (opened request done) request over ∙ ap (λ (ms : List Mutation). not (length ms == 0)) none
 
 none_of_none : (ms : List Mutation) → not (length ms == 0) ≡ false → ms ≡ []
 none_of_none [] h = refl
@@ -279,4 +281,4 @@ none_of_none (m ∷ ms) h = let some : (suc (length ms) == 0) ≡ false = grind 
 
 -- one that has changed nothing has none
 pub nothing_written : (config : Config) (log : List Entry) (request : CommitRequest) (done : List Performed) → IsOpenOver config log request done → is_changed (attempts_of done) ≡ false → request.mutations ≡ []
-nothing_written config log request done over none = none_of_none request.mutations (sym (open_changed (map_of config log) (version_of config log) (opened request done) request over) ∙ none)
+nothing_written config log request done over none = none_of_none request.mutations (sym (open_changed (list_map config log) (version_of config log) (opened request done) request over) ∙ none)

@@ -15,14 +15,14 @@ use Rattle.runtime.specs.Lists.{version_of}
 use Rattle.kv_core.specs.Range.{KeyRange}
 use Rattle.runtime.specs.declared.flight.Ruling.{Ruling}
 use Rattle.runtime.specs.declared.flight.HoldError.TheVariants as holds
-use Rattle.runtime.specs.Tells.{EndsWith, IsConcluded, IsOf, Tells}
-use Rattle.runtime.specs.Clients.{Knows}
+use Rattle.runtime.specs.Tells.{EndsWith, IsConcluded, IsListOf, TurnTells}
+use Rattle.runtime.specs.Clients.{Knowledge}
 use Rattle.runtime.specs.Commits.{Answers}
 use Rattle.runtime.proofs.Entries.{version_begins}
 use Rattle.runtime.proofs.Numbers.{exhausted_begins}
 use Rattle.std.proofs.Common.{arith, ◌≤◌}
 
-pub answers_by : (a b : Knows) (r : CommitRequest) (t : Trace) (seen : Option Reach) (result : Result Done CommitError) → IfSome seen (λ f. (f.name ≡ a.name) × IsPrefix f.list b.list × (version_of a.name.config b.list < 2 ^ 64)) →
+pub answers_by : (a b : Knowledge) (r : CommitRequest) (t : Trace) (seen : Option Reach) (result : Result Done CommitError) → IfSome seen (λ f. (f.name ≡ a.name) × IsPrefix f.list b.list × (version_of a.name.config b.list < 2 ^ 64)) →
     IsConcluded a.name a.number a.last r t seen result b.last → Answers a b r t result
 answers_by a b r t (Some f) (Ok (Committed version s)) known is = (
   (is.0.0, (subst (λ (g : Reach). EndsWith a.name.config g.list a.number b.last r t (reported.Committed is.0.0)) (sym is.1) is.0.1, subst (λ (g : Reach). IsPrefix g.list b.list) (sym is.1) known.1, is.3)),
@@ -49,7 +49,7 @@ answers_by a b r t None (Err Memory) known is = is
 
 -- ---- the two answers that tell what was decided
 
-pub committed : (n : Name) (f : Reach) (c own : ℕ) (r : CommitRequest) (t : Trace) (e : Ruling) (v version : ℕ) → IsOf n (Some f) → Tells c own r t (Ok e) (Some f) → e.reported ≡ reported.Committed v → version ≡ version_of f.name.config f.list →
+pub committed : (n : Name) (f : Reach) (c own : ℕ) (r : CommitRequest) (t : Trace) (e : Ruling) (v version : ℕ) → IsListOf n (Some f) → TurnTells c own r t (Ok e) (Some f) → e.reported ≡ reported.Committed v → version ≡ version_of f.name.config f.list →
     IsConcluded n c own r t (Some f) (Ok (Committed version (record { front = f }))) e.number
 committed n f c own r t e v version of tells is at = (
   (v, subst (λ (x : Reported). EndsWith n.config f.list c e.number r t x) is (subst (λ (m : Name). EndsWith m.config f.list c e.number r t e.reported) of tells.0)),
@@ -58,10 +58,10 @@ committed n f c own r t e v version of tells is at = (
   tells.1,
 )
 
-pub conflicting : (n : Name) (f : Reach) (c own : ℕ) (r : CommitRequest) (t : Trace) (e : Ruling) (s : ℕ) (range : KeyRange) → IsOf n (Some f) → Tells c own r t (Ok e) (Some f) → e.reported ≡ reported.Conflict s range →
+pub conflicting : (n : Name) (f : Reach) (c own : ℕ) (r : CommitRequest) (t : Trace) (e : Ruling) (s : ℕ) (range : KeyRange) → IsListOf n (Some f) → TurnTells c own r t (Ok e) (Some f) → e.reported ≡ reported.Conflict s range →
     IsConcluded n c own r t (Some f) (Err (Conflict s range)) e.number
 conflicting n f c own r t e s range of tells is =
     (subst (λ (x : Reported). EndsWith n.config f.list c e.number r t x) is (subst (λ (m : Name). EndsWith m.config f.list c e.number r t e.reported) of tells.0), tells.1)
 
-pub too_old : (n : Name) (f : Reach) (c own : ℕ) (r : CommitRequest) (t : Trace) → IsOf n (Some f) → Tells c own r t (Err holds.TooOld) (Some f) → IsConcluded n c own r t (Some f) (Err TooOld) own
+pub too_old : (n : Name) (f : Reach) (c own : ℕ) (r : CommitRequest) (t : Trace) → IsListOf n (Some f) → TurnTells c own r t (Err holds.TooOld) (Some f) → IsConcluded n c own r t (Some f) (Err TooOld) own
 too_old n f c own r t of tells = (refl, subst (λ (m : Name). m.config.window < version_of m.config f.list - r.read_version) of tells)

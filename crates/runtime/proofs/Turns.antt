@@ -21,29 +21,31 @@ use Rattle.runtime.specs.declared.answers.Done.TheVariants.{Committed, ReadOnly}
 use Rattle.runtime.specs.declared.answers.CommitError.{CommitError}
 use Rattle.runtime.specs.declared.answers.CommitError.TheVariants.{Conflict, TooOld, VersionsExhausted, Unknown, Memory}
 use Rattle.runtime.specs.Commits.{Answers}
-use Rattle.runtime.specs.Clients.{Knows, knows_that}
+use Rattle.runtime.specs.Clients.{Knowledge, knows_that}
 use Rattle.runtime.specs.Holds.{entry}
 use Rattle.runtime.specs.History.{Name}
-use Rattle.runtime.specs.Lists.{cause_next, has_number, is_once, version_of}
-use Rattle.runtime.specs.Builds.{Commits, HasWorked, IsTurn, Submits, has_built, has_ended, has_marked, is_build, is_done, is_mark, own_committed, own_of, records_built, records_by, records_of, steps_of}
-use Rattle.runtime.specs.Runs.{Follows}
+use Rattle.runtime.specs.Lists.{cause_next, has_submission, is_once, version_of}
+use Rattle.runtime.specs.Builds.{Commits, HasWorked, IsSubmission, IsTurn, entry_has_built, has_ended, has_marked}
+use Rattle.runtime.specs.Builds.{is_build, is_committed_result, is_mark, own_committed, own_of, records_built}
+use Rattle.runtime.specs.Builds.{records_by, records_of, steps_of}
+use Rattle.runtime.specs.Runs.{GoesOnFrom}
 use Rattle.runtime.proofs.Numbers.{number_begins, number_of_last}
 use Rattle.runtime.proofs.Counting.{or_left_false, or_right_false, own_grown, own_none, sum_next, told_none, told_some}
 
 -- what has been built so far: each number that was given stands in the list
-pub record Counted (index : List ℕ) (old now : Knows) (s r : ℕ) : Type 0 where
-  pub given : (n : ℕ) → old.last < n → n ≤ now.last → has_number old.number n now.list ≡ true
+pub record Counted (index : List ℕ) (old now : Knowledge) (s r : ℕ) : Type 0 where
+  pub given : (n : ℕ) → old.last < n → n ≤ now.last → has_submission old.number n now.list ≡ true
   pub last : old.last ≤ now.last
-  pub steps : s ≡ count_by (has_built index) (own_of old now)
+  pub steps : s ≡ count_by (entry_has_built index) (own_of old now)
   pub records : r ≡ sum_by (records_built index) (own_of old now)
 
-pub counted_first : (index : List ℕ) (k : Knows) → Counted index k k 0 0
+pub counted_first : (index : List ℕ) (k : Knowledge) → Counted index k k 0 0
 counted_first index k =
     let none : own_of k k ≡ [] = own_none k.name.config k.number k.last k.list in
     record {
       given = λ n low high. absurd (omega (arith, low, high));
       last = omega arith;
-      steps = sym (ap (count_by (has_built index)) none);
+      steps = sym (ap (count_by (entry_has_built index)) none);
       records = sym (ap (sum_by (records_built index)) none);
     }
 
@@ -74,13 +76,13 @@ marked_so index attempts worked =
 
 -- ---- one submission more
 
-abbrev entry_by : Knows → Knows → Work → Entry
+abbrev entry_by : Knowledge → Knowledge → Work → Entry
 entry_by mid new work = entry mid.number new.last work.transaction work.trace
 
-ends_there : (mid new : Knows) (work : Work) (told : Reported) → (submits : Submits mid new work.transaction work.trace told) → IsPrefix (submits.1.0.0 ++ entry_by mid new work ∷ []) new.list
+ends_there : (mid new : Knowledge) (work : Work) (told : Reported) → (submits : IsSubmission mid new work.transaction work.trace told) → IsPrefix (submits.1.0.0 ++ entry_by mid new work ∷ []) new.list
 ends_there mid new work told submits = subst (λ (l : List Entry). IsPrefix l new.list) submits.1.0.1 submits.1.1
 
-sum_after : (f : Entry → ℕ) (index : List ℕ) (old mid new : Knows) (steps records : ℕ) (work : Work) (told : Reported) → Follows old mid → Follows mid new → is_once new.list ≡ true → Counted index old mid steps records → (submits : Submits mid new work.transaction work.trace told) →
+sum_after : (f : Entry → ℕ) (index : List ℕ) (old mid new : Knowledge) (steps records : ℕ) (work : Work) (told : Reported) → GoesOnFrom old mid → GoesOnFrom mid new → is_once new.list ≡ true → Counted index old mid steps records → (submits : IsSubmission mid new work.transaction work.trace told) →
     sum_by f (own_of old new) ≡ sum_by f (own_of old mid) + sum_by f (cond (is_none (cause_next mid.name.config submits.1.0.0 work.transaction)) (entry_by mid new work ∷ []) [])
 sum_after f index old mid new steps records work told before after once counted submits =
     let client : mid.number ≡ old.number = before.number in
@@ -89,8 +91,8 @@ sum_after f index old mid new steps records work told before after once counted 
     ∙ sum
     ∙ ap (λ (n : Name). sum_by f (own_of old mid) + sum_by f (cond (is_none (cause_next n.config submits.1.0.0 work.transaction)) (entry_by mid new work ∷ []) [])) (sym before.name)
 
-given_by : (index : List ℕ) (old mid new : Knows) (steps records : ℕ) (work : Work) (told : Reported) → Follows old mid → Follows mid new → Counted index old mid steps records → Submits mid new work.transaction work.trace told →
-    (n : ℕ) → old.last < n → n ≤ new.last → (b : Bool) → nat_le n mid.last ≡ b → has_number old.number n new.list ≡ true
+given_by : (index : List ℕ) (old mid new : Knowledge) (steps records : ℕ) (work : Work) (told : Reported) → GoesOnFrom old mid → GoesOnFrom mid new → Counted index old mid steps records → IsSubmission mid new work.transaction work.trace told →
+    (n : ℕ) → old.last < n → n ≤ new.last → (b : Bool) → nat_le n mid.last ≡ b → has_submission old.number n new.list ≡ true
 given_by index old mid new steps records work told before after counted submits n low high true is =
     let le : n ≤ mid.last = grind (arith, nat_tests) in
     number_begins old.number n mid.list new.list after.list (counted.given n low le)
@@ -100,78 +102,78 @@ given_by index old mid new steps records work told before after counted submits 
     let same : new.last ≡ n = omega (arith, gt, next, high) in
     number_begins old.number n (submits.1.0.0 ++ entry_by mid new work ∷ []) new.list (ends_there mid new work told submits) (number_of_last old.number n submits.1.0.0 (entry_by mid new work) before.number same)
 
-last_by : (index : List ℕ) (old mid new : Knows) (steps records : ℕ) (work : Work) (told : Reported) → Counted index old mid steps records → Submits mid new work.transaction work.trace told → old.last ≤ new.last
+last_by : (index : List ℕ) (old mid new : Knowledge) (steps records : ℕ) (work : Work) (told : Reported) → Counted index old mid steps records → IsSubmission mid new work.transaction work.trace told → old.last ≤ new.last
 last_by index old mid new steps records work told counted submits = let le : old.last ≤ mid.last = counted.last in let next : new.last ≡ mid.last + 1 = submits.2 in omega (arith, le, next)
 
 -- a committed one adds what it weighs
-committed_sum : (f : Entry → ℕ) (index : List ℕ) (old mid new : Knows) (steps records : ℕ) (work : Work) → Follows old mid → Follows mid new → is_once new.list ≡ true → Counted index old mid steps records → Commits mid new work true →
+committed_sum : (f : Entry → ℕ) (index : List ℕ) (old mid new : Knowledge) (steps records : ℕ) (work : Work) → GoesOnFrom old mid → GoesOnFrom mid new → is_once new.list ≡ true → Counted index old mid steps records → Commits mid new work true →
     sum_by f (own_of old new) ≡ sum_by f (own_of old mid) + f (entry_by mid new work)
 committed_sum f index old mid new steps records work before after once counted commits =
-    let submits : Submits mid new work.transaction work.trace (reported.Committed commits.0) = commits.1 in
+    let submits : IsSubmission mid new work.transaction work.trace (reported.Committed commits.0) = commits.1 in
     let none : is_none (cause_next mid.name.config submits.1.0.0 work.transaction) ≡ true = told_none (cause_next mid.name.config submits.1.0.0 work.transaction) (version_of mid.name.config submits.1.0.0 + 1) commits.0 submits.1.0.2 in
     sum_after f index old mid new steps records work (reported.Committed commits.0) before after once counted submits
     ∙ ap (λ b. sum_by f (own_of old mid) + sum_by f (cond b (entry_by mid new work ∷ []) [])) none
     ∙ (let z : 0 + f (entry_by mid new work) ≡ f (entry_by mid new work) = omega arith in ap (λ n. sum_by f (own_of old mid) + n) z)
 
 -- a refused one adds nothing
-refused_sum : (f : Entry → ℕ) (index : List ℕ) (old mid new : Knows) (steps records : ℕ) (work : Work) (seen : ℕ) (range : KeyRange) → Follows old mid → Follows mid new → is_once new.list ≡ true → Counted index old mid steps records →
-    Submits mid new work.transaction work.trace (reported.Conflict seen range) → sum_by f (own_of old new) ≡ sum_by f (own_of old mid)
+refused_sum : (f : Entry → ℕ) (index : List ℕ) (old mid new : Knowledge) (steps records : ℕ) (work : Work) (seen : ℕ) (range : KeyRange) → GoesOnFrom old mid → GoesOnFrom mid new → is_once new.list ≡ true → Counted index old mid steps records →
+    IsSubmission mid new work.transaction work.trace (reported.Conflict seen range) → sum_by f (own_of old new) ≡ sum_by f (own_of old mid)
 refused_sum f index old mid new steps records work seen range before after once counted submits =
     let some : is_none (cause_next mid.name.config submits.1.0.0 work.transaction) ≡ false = told_some (cause_next mid.name.config submits.1.0.0 work.transaction) (version_of mid.name.config submits.1.0.0 + 1) seen range submits.1.0.2 in
     sum_after f index old mid new steps records work (reported.Conflict seen range) before after once counted submits
     ∙ ap (λ b. sum_by f (own_of old mid) + sum_by f (cond b (entry_by mid new work ∷ []) [])) some
     ∙ (let z : sum_by f (own_of old mid) + 0 ≡ sum_by f (own_of old mid) = omega arith in z)
 
-committed_next : (index : List ℕ) (old mid new : Knows) (steps records : ℕ) (work : Work) → Follows old mid → Follows mid new → is_once new.list ≡ true → Counted index old mid steps records → Commits mid new work true →
-    Counted index old new (steps + cond (has_built index (entry_by mid new work)) 1 0) (records + records_built index (entry_by mid new work))
+committed_next : (index : List ℕ) (old mid new : Knowledge) (steps records : ℕ) (work : Work) → GoesOnFrom old mid → GoesOnFrom mid new → is_once new.list ≡ true → Counted index old mid steps records → Commits mid new work true →
+    Counted index old new (steps + cond (entry_has_built index (entry_by mid new work)) 1 0) (records + records_built index (entry_by mid new work))
 committed_next index old mid new steps records work before after once counted commits = record {
   given = λ n low high. given_by index old mid new steps records work (reported.Committed commits.0) before after counted commits.1 n low high (nat_le n mid.last) refl;
   last = last_by index old mid new steps records work (reported.Committed commits.0) counted commits.1;
-  steps = ap (λ n. n + cond (has_built index (entry_by mid new work)) 1 0) counted.steps ∙ sym (committed_sum (λ (e : Entry). cond (has_built index e) 1 0) index old mid new steps records work before after once counted commits);
+  steps = ap (λ n. n + cond (entry_has_built index (entry_by mid new work)) 1 0) counted.steps ∙ sym (committed_sum (λ (e : Entry). cond (entry_has_built index e) 1 0) index old mid new steps records work before after once counted commits);
   records = ap (λ n. n + records_built index (entry_by mid new work)) counted.records ∙ sym (committed_sum (records_built index) index old mid new steps records work before after once counted commits);
 }
 
 -- where no number was given the list may only have grown
-stayed_next : (index : List ℕ) (old mid new : Knows) (steps records : ℕ) → Follows mid new → is_once new.list ≡ true → Counted index old mid steps records → new.last ≡ mid.last → Counted index old new steps records
+stayed_next : (index : List ℕ) (old mid new : Knowledge) (steps records : ℕ) → GoesOnFrom mid new → is_once new.list ≡ true → Counted index old mid steps records → new.last ≡ mid.last → Counted index old new steps records
 stayed_next index old mid new steps records after once counted same =
     let own : own_of old new ≡ own_of old mid = ap (λ (n : ℕ). own_committed old.name.config old.number old.last n new.list) same ∙ own_grown old.name.config old.number old.last mid.last mid.list new.list after.list once counted.given in
     record {
       given = λ n low high. number_begins old.number n mid.list new.list after.list (counted.given n low (omega (arith, high, same)));
       last = let le : old.last ≤ mid.last = counted.last in omega (arith, le, same);
-      steps = counted.steps ∙ sym (ap (count_by (has_built index)) own);
+      steps = counted.steps ∙ sym (ap (count_by (entry_has_built index)) own);
       records = counted.records ∙ sym (ap (sum_by (records_built index)) own);
     }
 
-refused_next : (index : List ℕ) (old mid new : Knows) (steps records : ℕ) (work : Work) → Follows old mid → Follows mid new → is_once new.list ≡ true → Counted index old mid steps records → Commits mid new work false →
+refused_next : (index : List ℕ) (old mid new : Knowledge) (steps records : ℕ) (work : Work) → GoesOnFrom old mid → GoesOnFrom mid new → is_once new.list ≡ true → Counted index old mid steps records → Commits mid new work false →
     Counted index old new steps records
 refused_next index old mid new steps records work before after once counted commits = elim commits [
   | inl same ↦ stayed_next index old mid new steps records after once counted same
   | inr told ↦ record {
     given = λ n low high. given_by index old mid new steps records work (reported.Conflict told.0 told.1.0) before after counted told.1.1 n low high (nat_le n mid.last) refl;
     last = last_by index old mid new steps records work (reported.Conflict told.0 told.1.0) counted told.1.1;
-    steps = counted.steps ∙ sym (refused_sum (λ (e : Entry). cond (has_built index e) 1 0) index old mid new steps records work told.0 told.1.0 before after once counted told.1.1);
+    steps = counted.steps ∙ sym (refused_sum (λ (e : Entry). cond (entry_has_built index e) 1 0) index old mid new steps records work told.0 told.1.0 before after once counted told.1.1);
     records = counted.records ∙ sym (refused_sum (records_built index) index old mid new steps records work told.0 told.1.0 before after once counted told.1.1);
   }
 ]
 
 -- ---- one turn more
 
-nothing_next : (index : List ℕ) (old mid new : Knows) (steps records : ℕ) → Follows old mid → Follows mid new → is_once new.list ≡ true → Counted index old mid steps records → IsTurn index Nothing mid new → Counted index old new steps records
+nothing_next : (index : List ℕ) (old mid new : Knowledge) (steps records : ℕ) → GoesOnFrom old mid → GoesOnFrom mid new → is_once new.list ≡ true → Counted index old mid steps records → IsTurn index Nothing mid new → Counted index old new steps records
 nothing_next index old mid new steps records before after once counted is = elim is [
   | inl same ↦ stayed_next index old mid new steps records after once counted same
   | inr told ↦ refused_next index old mid new steps records told.0 before after once counted told.1
 ]
 
-pub counted_next : (index : List ℕ) (turn : Turn) (old mid new : Knows) (steps records : ℕ) → Follows old mid → Follows mid new → is_once new.list ≡ true → Counted index old mid steps records → IsTurn index turn mid new →
+pub counted_next : (index : List ℕ) (turn : Turn) (old mid new : Knowledge) (steps records : ℕ) → GoesOnFrom old mid → GoesOnFrom mid new → is_once new.list ≡ true → Counted index old mid steps records → IsTurn index turn mid new →
     Counted index old new (steps + steps_of turn) (records + records_of turn)
 counted_next index (Built more) old mid new steps records before after once counted is =
     let e : Entry = entry_by mid new is.0 in
-    let weighs : has_built index e ≡ true = built_steps index more is.0.trace.attempts is.1 in
+    let weighs : entry_has_built index e ≡ true = built_steps index more is.0.trace.attempts is.1 in
     let adds : records_built index e ≡ more = built_records index more is.0.trace.attempts is.1 in
     subst (λ (n : ℕ). Counted index old new (steps + 1) (records + n)) adds (subst (λ (b : Bool). Counted index old new (steps + cond b 1 0) (records + records_built index e)) weighs (committed_next index old mid new steps records is.0 before after once counted is.2))
 counted_next index Marked old mid new steps records before after once counted is =
     let e : Entry = entry_by mid new is.0 in
-    let weighs : has_built index e ≡ false = marked_steps index is.0.trace.attempts is.1 in
+    let weighs : entry_has_built index e ≡ false = marked_steps index is.0.trace.attempts is.1 in
     let adds : records_built index e ≡ 0 = marked_records index is.0.trace.attempts is.1 in
     subst (λ (n : ℕ). Counted index old new (steps + 0) (records + n)) adds (subst (λ (b : Bool). Counted index old new (steps + cond b 1 0) (records + records_built index e)) weighs (committed_next index old mid new steps records is.0 before after once counted is.2))
 counted_next index Nothing old mid new steps records before after once counted is =
@@ -179,7 +181,7 @@ counted_next index Nothing old mid new steps records before after once counted i
     let r : records ≡ records + 0 = omega arith in
     subst (λ (n : ℕ). Counted index old new n (records + 0)) s (subst (λ (n : ℕ). Counted index old new steps n) r (nothing_next index old mid new steps records before after once counted is))
 
-pub counted_by : (index : List ℕ) (turn : Turn) (old mid new : Knows) (steps records more all : ℕ) → Follows old mid → Follows mid new → is_once new.list ≡ true → Counted index old mid steps records → IsTurn index turn mid new →
+pub counted_by : (index : List ℕ) (turn : Turn) (old mid new : Knowledge) (steps records more all : ℕ) → GoesOnFrom old mid → GoesOnFrom mid new → is_once new.list ≡ true → Counted index old mid steps records → IsTurn index turn mid new →
     more ≡ steps + steps_of turn → all ≡ records + records_of turn → Counted index old new more all
 counted_by index turn old mid new steps records more all before after once counted is s r =
     subst (λ (n : ℕ). Counted index old new n all) (sym s) (subst (λ (n : ℕ). Counted index old new (steps + steps_of turn) n) (sym r) (counted_next index turn old mid new steps records before after once counted is))
@@ -199,7 +201,7 @@ positive true is = omega arith
 positive false is = absurd (cc)
 
 -- the last turn marks the index
-pub marked_next : (index : List ℕ) (old mid new : Knows) (steps records : ℕ) → Follows old mid → Follows mid new → is_once new.list ≡ true → Counted index old mid steps records → IsTurn index Marked mid new →
+pub marked_next : (index : List ℕ) (old mid new : Knowledge) (steps records : ℕ) → GoesOnFrom old mid → GoesOnFrom mid new → is_once new.list ≡ true → Counted index old mid steps records → IsTurn index Marked mid new →
     list_any (has_marked index) (own_of old new) ≡ true
 marked_next index old mid new steps records before after once counted is =
     let e : Entry = entry_by mid new is.0 in
@@ -211,7 +213,7 @@ marked_next index old mid new steps records before after once counted is =
 -- ---- the commit of a turn
 
 -- what a commit was told is, by the number that came behind the last one
-pub commits_by : (old new : Knows) (work : Work) (ended : Result Done CommitError) (told : Bool) → told ≡ is_done ended → has_ended ended ≡ true → Answers old new work.transaction work.trace ended → new.last ≤ old.last + 1 → Commits old new work told
+pub commits_by : (old new : Knowledge) (work : Work) (ended : Result Done CommitError) (told : Bool) → told ≡ is_committed_result ended → has_ended ended ≡ true → Answers old new work.transaction work.trace ended → new.last ≤ old.last + 1 → Commits old new work told
 commits_by old new work (Ok (Committed version seen)) told is known a le =
     let above : old.last < new.last = a.0.1.2 in
     subst (Commits old new work) (sym is) (a.0.0, (seen.front.list, a.0.1, omega (arith, le, above)))
@@ -225,23 +227,23 @@ commits_by old new work (Err Unknown) told is known a le = absurd (cc)
 commits_by old new work (Err Memory) told is known a le = absurd (cc)
 
 -- what a client is told stays where its name, number and last number were the same before
-submits_from : (a b c : Knows) (work : Work) (told : Reported) → b.name ≡ a.name → b.number ≡ a.number → b.last ≡ a.last → Submits b c work.transaction work.trace told → Submits a c work.transaction work.trace told
+submits_from : (a b c : Knowledge) (work : Work) (told : Reported) → b.name ≡ a.name → b.number ≡ a.number → b.last ≡ a.last → IsSubmission b c work.transaction work.trace told → IsSubmission a c work.transaction work.trace told
 submits_from a b c work told name number last submits =
-    let with_name : Submits (knows_that a.name b.list b.number b.last b.begun) c work.transaction work.trace told = subst (λ (n : Name). Submits (knows_that n b.list b.number b.last b.begun) c work.transaction work.trace told) name submits in
-    let with_number : Submits (knows_that a.name b.list a.number b.last b.begun) c work.transaction work.trace told = subst (λ (n : ℕ). Submits (knows_that a.name b.list n b.last b.begun) c work.transaction work.trace told) number with_name in
-    subst (λ (n : ℕ). Submits (knows_that a.name b.list a.number n b.begun) c work.transaction work.trace told) last with_number
+    let with_name : IsSubmission (knows_that a.name b.list b.number b.last b.begun) c work.transaction work.trace told = subst (λ (n : Name). IsSubmission (knows_that n b.list b.number b.last b.begun) c work.transaction work.trace told) name submits in
+    let with_number : IsSubmission (knows_that a.name b.list a.number b.last b.begun) c work.transaction work.trace told = subst (λ (n : ℕ). IsSubmission (knows_that a.name b.list n b.last b.begun) c work.transaction work.trace told) number with_name in
+    subst (λ (n : ℕ). IsSubmission (knows_that a.name b.list a.number n b.begun) c work.transaction work.trace told) last with_number
 
-pub commits_from : (a b c : Knows) (work : Work) (yes : Bool) → b.name ≡ a.name → b.number ≡ a.number → b.last ≡ a.last → Commits b c work yes → Commits a c work yes
+pub commits_from : (a b c : Knowledge) (work : Work) (yes : Bool) → b.name ≡ a.name → b.number ≡ a.number → b.last ≡ a.last → Commits b c work yes → Commits a c work yes
 commits_from a b c work true name number last commits = (commits.0, submits_from a b c work (reported.Committed commits.0) name number last commits.1)
 commits_from a b c work false name number last commits = elim commits [
   | inl same ↦ inl (same ∙ last)
   | inr told ↦ inr (told.0, (told.1.0, submits_from a b c work (reported.Conflict told.0 told.1.0) name number last told.1.1))
 ]
 
-pub turn_yes : (index : List ℕ) (turn : Turn) (old new : Knows) (work : Work) → (turn ≡ Nothing → ⊥) → HasWorked index turn work.trace.attempts → Commits old new work true → IsTurn index turn old new
+pub turn_yes : (index : List ℕ) (turn : Turn) (old new : Knowledge) (work : Work) → (turn ≡ Nothing → ⊥) → HasWorked index turn work.trace.attempts → Commits old new work true → IsTurn index turn old new
 turn_yes index (Built records) old new work some worked commits = (work, worked, commits)
 turn_yes index Marked old new work some worked commits = (work, worked, commits)
 turn_yes index Nothing old new work some worked commits = absurd (some refl)
 
-pub turn_no : (index : List ℕ) (old new : Knows) (work : Work) → Commits old new work false → IsTurn index Nothing old new
+pub turn_no : (index : List ℕ) (old new : Knowledge) (work : Work) → Commits old new work false → IsTurn index Nothing old new
 turn_no index old new work commits = inr (work, commits)

@@ -26,7 +26,7 @@ use Rattle.runtime.specs.declared.answers.Done.TheVariants.{Committed, ReadOnly}
 use Rattle.runtime.specs.declared.answers.CommitError.{CommitError}
 use Rattle.runtime.specs.declared.answers.CommitError.TheVariants.{Conflict, TooOld, VersionsExhausted}
 use Rattle.runtime.specs.declared.answers.CommitError.TheVariants.{Unknown, Memory}
-use Rattle.runtime.specs.Clients.{Knows}
+use Rattle.runtime.specs.Clients.{Knowledge}
 use Rattle.runtime.specs.Commits.{Learnt}
 use Rattle.runtime.specs.Lists.{cause_next}
 
@@ -65,8 +65,8 @@ is_mark index (Readable name) reply = bytes_eq name index && is_accepted reply
 is_mark index command reply = false
 
 -- the same of the commands that an entry's transaction performed
-abbrev pub has_built : List ℕ → Entry → Bool
-has_built index e = list_any (λ (one : Performed). is_build index one.command one.reply) e.trace.attempts
+abbrev pub entry_has_built : List ℕ → Entry → Bool
+entry_has_built index e = list_any (λ (one : Performed). is_build index one.command one.reply) e.trace.attempts
 
 abbrev pub records_built : List ℕ → Entry → ℕ
 records_built index e = sum_by (λ (one : Performed). records_by index one.command one.reply) e.trace.attempts
@@ -76,12 +76,12 @@ has_marked index e = list_any (λ (one : Performed). is_mark index one.command o
 
 -- what a worker built: of the committed entries in its client's list at the end, those of its submissions in between.
 -- One marked the index readable; `steps` counts those that built a part of it, and `records` adds up what they built
-abbrev pub own_of : Knows → Knows → List Entry
+abbrev pub own_of : Knowledge → Knowledge → List Entry
 own_of old new = own_committed old.name.config old.number old.last new.last new.list
 
-pub record IsBuilt (index : List ℕ) (old new : Knows) (totals : Totals) : Type 0 where
+pub record IsBuilt (index : List ℕ) (old new : Knowledge) (totals : Totals) : Type 0 where
   pub marked : list_any (has_marked index) (own_of old new) ≡ true
-  pub steps : totals.steps ≡ count_by (has_built index) (own_of old new)
+  pub steps : totals.steps ≡ count_by (entry_has_built index) (own_of old new)
   pub records : totals.records ≡ sum_by (records_built index) (own_of old new)
 
 -- ---- turns of a worker
@@ -105,24 +105,24 @@ HasWorked index Marked attempts =
 HasWorked index Nothing attempts = Unit {0}
 
 -- a submission was told this, and the client knows its entry; its number is the next one
-abbrev pub Submits : Knows → Knows → CommitRequest → Trace → Reported → Type 0
-Submits old new request trace told =
+abbrev pub IsSubmission : Knowledge → Knowledge → CommitRequest → Trace → Reported → Type 0
+IsSubmission old new request trace told =
     (log : List Entry) × Learnt old new request trace told log × (new.last ≡ old.last + 1)
 
 -- a commit was told to be one, or the submission was refused, or there was none
-abbrev pub Commits : Knows → Knows → Work → Bool → Type 0
+abbrev pub Commits : Knowledge → Knowledge → Work → Bool → Type 0
 Commits old new work true =
-    (version : ℕ) × Submits old new work.transaction work.trace (reported.Committed version)
+    (version : ℕ) × IsSubmission old new work.transaction work.trace (reported.Committed version)
 Commits old new work false =
     (new.last ≡ old.last)
     ⊎ ((seen : ℕ) × ((range : KeyRange)
-    × Submits old new work.transaction work.trace (reported.Conflict seen range)))
+    × IsSubmission old new work.transaction work.trace (reported.Conflict seen range)))
 
 -- the commit was told to be one; another turn may follow it
-abbrev pub is_done : Result Done CommitError → Bool
-is_done (Ok (Committed version seen)) = true
-is_done (Ok ReadOnly) = false
-is_done (Err error) = false
+abbrev pub is_committed_result : Result Done CommitError → Bool
+is_committed_result (Ok (Committed version seen)) = true
+is_committed_result (Ok ReadOnly) = false
+is_committed_result (Err error) = false
 
 abbrev pub has_ended : Result Done CommitError → Bool
 has_ended (Ok done) = true
@@ -133,7 +133,7 @@ has_ended (Err Unknown) = false
 has_ended (Err Memory) = false
 
 -- a turn came to this: its entry is committed, or it has none, or a refused one
-abbrev pub IsTurn : List ℕ → Turn → Knows → Knows → Type 0
+abbrev pub IsTurn : List ℕ → Turn → Knowledge → Knowledge → Type 0
 IsTurn index Nothing old new =
     (new.last ≡ old.last) ⊎ ((work : Work) × Commits old new work false)
 IsTurn index (Built records) old new =

@@ -4,12 +4,12 @@ use Rattle.schedule.specs.declared.step.Command.{Command}
 use Rattle.schedule.specs.declared.reply.Reply.{Reply}
 use Rattle.runtime.specs.declared.entering.EnterError.{EnterError}
 use Rattle.runtime.specs.declared.work.Work.{Work}
-use Rattle.runtime.specs.Clients.{Knows, knows_that}
+use Rattle.runtime.specs.Clients.{Knowledge, knows_that}
 use Rattle.runtime.specs.Runs.{Continues}
 use Rattle.runtime.specs.Serves.{IsAnswer, IsUnanswered, KeepsList}
 
 -- the command was performed in the client's open transaction, with this result
-pub record HasPerformed (command : Command) (old : Knows) (result : Result Reply EnterError) (new : Knows) :
+pub record HasPerformed (command : Command) (old : Knowledge) (result : Result Reply EnterError) (new : Knowledge) :
     Type 0 where
   -- the transaction goes on, and nothing else of the client changes, but for its list behind `TooOld`
   pub continues : Continues old new

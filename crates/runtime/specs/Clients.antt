@@ -8,14 +8,14 @@ use Rattle.runtime.specs.Lists.{IsOpenOver, version_of}
 
 -- which database is the client's, the longest list that it has entered or learnt, its number, the last number of its
 -- submissions, and its open transaction
-pub record Knows : Type 0 where
+pub record Knowledge : Type 0 where
   pub name : Name
   pub list : List Entry
   pub number : ℕ
   pub last : ℕ
   pub begun : Option Work
 
-abbrev pub knows_that : Name → List Entry → ℕ → ℕ → Option Work → Knows
+abbrev pub knows_that : Name → List Entry → ℕ → ℕ → Option Work → Knowledge
 knows_that name list number last begun =
     record { name = name; list = list; number = number; last = last; begun = begun }
 
@@ -34,6 +34,6 @@ IfReader Fact (Some reader) = Fact reader
 IfReader Fact None = Unit {0}
 
 -- the clients of a new database: numbered from 0, each with the empty list
-abbrev pub fresh : Name → ℕ → List Knows
-fresh name zero = []
-fresh name (suc n) = fresh name n ++ knows_that name [] n 0 None ∷ []
+abbrev pub fresh_clients : Name → ℕ → List Knowledge
+fresh_clients name zero = []
+fresh_clients name (suc n) = fresh_clients name n ++ knows_that name [] n 0 None ∷ []

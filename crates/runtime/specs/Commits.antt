@@ -13,10 +13,10 @@ use Rattle.runtime.specs.declared.answers.CommitError.{CommitError}
 use Rattle.runtime.specs.declared.answers.CommitError.TheVariants.{Conflict, TooOld, VersionsExhausted, Unknown, Memory}
 use Rattle.runtime.specs.Lists.{IsExhausted, attempts_of, version_of}
 use Rattle.runtime.specs.Tells.{EndsWith}
-use Rattle.runtime.specs.Clients.{Knows}
+use Rattle.runtime.specs.Clients.{Knowledge}
 
 -- the client knows a list that ends with its submission of its last number, a new one, of which this is told
-abbrev pub Learnt : Knows → Knows → CommitRequest → Trace → Reported → List Entry → Type 0
+abbrev pub Learnt : Knowledge → Knowledge → CommitRequest → Trace → Reported → List Entry → Type 0
 Learnt old new request trace told log =
     EndsWith old.name.config log old.number new.last request trace told × IsPrefix log new.list
     × (old.last < new.last)
@@ -25,7 +25,7 @@ Learnt old new request trace told log =
 -- that ends with this submission, refused with that cause. TooOld: it knows a list that is more than the window above
 -- the transaction. VersionsExhausted: it knows a list behind which there is no version, or no number for this client. A
 -- number is given in the first two cases and with Unknown, and else none
-abbrev pub Answers : Knows → Knows → CommitRequest → Trace → Result Done CommitError → Type 0
+abbrev pub Answers : Knowledge → Knowledge → CommitRequest → Trace → Result Done CommitError → Type 0
 Answers old new request trace (Ok (Committed version seen)) =
     ((v : ℕ) × Learnt old new request trace (reported.Committed v) seen.front.list)
     × (version ≡ version_of old.name.config seen.front.list) × (seen.front.name ≡ old.name)

@@ -15,5 +15,5 @@ config_error configs.BadCount = Config configs.BadCount
 config_error configs.BadSplits = Config configs.BadSplits
 
 -- a transaction wasn't performed for want of memory
-abbrev pub no_memory : RunError
-no_memory = Refused (Entry entries.Memory)
+abbrev pub run_memory : RunError
+run_memory = Refused (Entry entries.Memory)

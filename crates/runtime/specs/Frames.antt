@@ -7,6 +7,6 @@ abbrev pub no_config : Config
 no_config = record { resolver_splits = []; storage_splits = []; logs = 0; window = 0; start = 0; places = 0 }
 
 -- the first of the list
-abbrev pub config_in : List Config → Config
-config_in [] = no_config
-config_in (config ∷ others) = config
+abbrev pub first_config : List Config → Config
+first_config [] = no_config
+first_config (config ∷ others) = config

@@ -6,12 +6,12 @@ use Rattle.runtime.specs.declared.entry.Entry.{Entry}
 use Rattle.runtime.specs.declared.entry.Note.{Note}
 
 -- the entry of a submission
-abbrev pub entry_of : Note → Entry
-entry_of note =
+abbrev pub note_entry : Note → Entry
+note_entry note =
     record { client = note.client; number = note.number; request = note.request.value; trace = note.trace }
 
 -- the first word is the length of the history. A book has two words; the second stays 0
-pub record IsKept (cells : List Cell) (log : List Entry) : Type 0 where
+pub record IsBook (cells : List Cell) (log : List Entry) : Type 0 where
   pub words : cells ≡ (length log, true) ∷ (0, true) ∷ []
 
 -- the word of a book that has the length of its history
@@ -27,13 +27,13 @@ pub record Name : Type 0 where
   pub book : Book
   pub config : Config
 
-abbrev pub name_of : Book → Config → Name
-name_of book config = record { book = book; config = config }
+abbrev pub book_name : Book → Config → Name
+book_name book config = record { book = book; config = config }
 
 -- a beginning of the history of one database, which some thread has seen
 pub record Reach : Type 0 where
   pub name : Name
   pub list : List Entry
 
-abbrev pub reach : Name → List Entry → Reach
-reach name list = record { name = name; list = list }
+abbrev pub list_reach : Name → List Entry → Reach
+list_reach name list = record { name = name; list = list }

@@ -10,8 +10,8 @@ use Rattle.runtime.specs.declared.flight.Flight.TheVariants.{Idle, Lost, Ruled, 
 use Rattle.runtime.specs.declared.flight.Ruling.{Ruling}
 use Rattle.runtime.specs.declared.flight.HoldError.{HoldError}
 use Rattle.runtime.specs.declared.flight.HoldError.TheVariants.{TooOld, VersionsExhausted, Memory, Unknown}
-use Rattle.runtime.specs.History.{Name, entry_of}
-use Rattle.runtime.specs.Lists.{AreLast, IsLawful, cause_next, has_number, logged_next, pipeline_of, version_of}
+use Rattle.runtime.specs.History.{Name, note_entry}
+use Rattle.runtime.specs.Lists.{AreLast, IsLawfulList, cause_next, has_submission, logged_next, pipeline_of, version_of}
 use Rattle.runtime.specs.State.{Leads}
 
 -- the entry of a client's submission
@@ -23,8 +23,8 @@ entry client number request trace =
 abbrev pub due_of : Flight → List Entry → List Entry
 due_of Idle log = log
 due_of Lost log = log
-due_of (Ruled ruled) log = log ++ entry_of ruled.note ∷ []
-due_of (Added step) log = log ++ entry_of step.note ∷ []
+due_of (Ruled ruled) log = log ++ note_entry ruled.note ∷ []
+due_of (Added step) log = log ++ note_entry step.note ∷ []
 
 -- nothing is in flight
 abbrev pub is_idle : Flight → Bool
@@ -38,18 +38,18 @@ abbrev pub IsInFlight : Name → List Entry → PipelineState → Flight → Typ
 IsInFlight name log p Idle = p ≡ pipeline_of name.config log
 IsInFlight name log p Lost = Unit {0}
 IsInFlight name log p (Ruled ruled) =
-    (p ≡ pipeline_of name.config (log ++ entry_of ruled.note ∷ []))
+    (p ≡ pipeline_of name.config (log ++ note_entry ruled.note ∷ []))
     × (ruled.mutations ≡ logged_next name.config log ruled.note.request.value)
-    × IsLawful name.config (log ++ entry_of ruled.note ∷ [])
+    × IsLawfulList name.config (log ++ note_entry ruled.note ∷ [])
 IsInFlight name log p (Added step) =
-    (p ≡ pipeline_of name.config (log ++ entry_of step.note ∷ [])) × Leads name log step
+    (p ≡ pipeline_of name.config (log ++ note_entry step.note ∷ [])) × Leads name log step
 
 -- each client's last number is that of a submission which the list has or will have, unless one is lost
 abbrev pub IsBacked : List ℕ → List Entry → Flight → Type 0
 IsBacked last log Idle = AreLast last log
 IsBacked last log Lost = Unit {0}
-IsBacked last log (Ruled ruled) = AreLast last (log ++ entry_of ruled.note ∷ [])
-IsBacked last log (Added step) = AreLast last (log ++ entry_of step.note ∷ [])
+IsBacked last log (Ruled ruled) = AreLast last (log ++ note_entry ruled.note ∷ [])
+IsBacked last log (Added step) = AreLast last (log ++ note_entry step.note ∷ [])
 
 -- the locked state: which database it is, the published list, the list of all entries that were added, that list once
 -- what is reported is added, whether nothing is in flight, and the last submission number of each client
@@ -79,7 +79,7 @@ Asks old new client own request trace (Err TooOld) =
 Asks old new client own request trace (Err VersionsExhausted) =
     (new ≡ old)
     × ((version_of old.name.config old.log ≡ 2 ^ 64 - 1)
-    ⊎ ((slice_index old.last client ≡ 2 ^ 64 - 1) × (has_number client (2 ^ 64 - 1) old.log ≡ true))
+    ⊎ ((slice_index old.last client ≡ 2 ^ 64 - 1) × (has_submission client (2 ^ 64 - 1) old.log ≡ true))
     ⊎ (own ≡ 2 ^ 64 - 1))
 Asks old new client own request trace (Err Memory) = new ≡ old
 Asks old new client own request trace (Err (Unknown number)) =

@@ -18,8 +18,8 @@ use Rattle.schedule.specs.Past.{Attempt, Open, Submission}
 use Rattle.schedule.specs.Contract.{IsSerialAt}
 use Rattle.schedule.specs.Holds.{Stands}
 use Rattle.schedule.specs.Standing.{commits_of, listed}
-use Rattle.schedule.specs.Commits.{committed}
-use Rattle.schedule.specs.Turns.{AreSubmitted, IsOpenAs}
+use Rattle.schedule.specs.Commits.{committed_store}
+use Rattle.schedule.specs.Turns.{AreSubmitted, IsOpenTransaction}
 use Rattle.runtime.specs.declared.trace.Performed.{Performed}
 use Rattle.runtime.specs.declared.entry.Entry.{Entry}
 
@@ -42,20 +42,20 @@ abbrev pub history_of : Config → List Entry → List histories.Entry
 history_of config log = committed_of config.resolver_splits (numbered_of config log)
 
 -- the map at a version
-abbrev pub map_of : Config → List Entry → ℕ → Map
-map_of config log version = map_at (history_of config log) version
+abbrev pub list_map : Config → List Entry → ℕ → Map
+list_map config log version = map_at (history_of config log) version
 
 -- the pipeline where every role has handled just the list
 abbrev pub pipeline_of : Config → List Entry → PipelineState
 pipeline_of config log = all_handled (record (first_pipeline config) { requests = requests_of log })
 
 -- what the logs have of a list
-abbrev pub log_of : Config → List Entry → List (List Mutation)
-log_of config log = decision.log config.resolver_splits (numbered_of config log)
+abbrev pub logged_mutations : Config → List Entry → List (List Mutation)
+logged_mutations config log = decision.log config.resolver_splits (numbered_of config log)
 
 -- the servers that have pulled all of it
-abbrev pub tier_of : Config → List Entry → TierState
-tier_of config log = after_log (log_of config log) (first_tier config)
+abbrev pub list_tier : Config → List Entry → TierState
+list_tier config log = after_log (logged_mutations config log) (first_tier config)
 
 -- why a request that comes next is refused, or None where it is committed
 abbrev pub cause_next : Config → List Entry → CommitRequest → Option Cause
@@ -89,12 +89,13 @@ submissions_of config log = submissions_from config.start log
 
 -- what the accepted commands of the committed entries up to a version give
 abbrev pub committed_at : Config → List Entry → ℕ → Serial
-committed_at config log version = committed (commits_of (pipeline_of config log) (submissions_of config log)) version
+committed_at config log version =
+    committed_store (commits_of (pipeline_of config log) (submissions_of config log)) version
 
 -- a transaction over a list performed these commands, which came to this request
 abbrev pub IsOpenOver : Config → List Entry → CommitRequest → List Performed → Type 0
 IsOpenOver config log request done =
-    IsOpenAs (map_of config log) (version_of config log) (opened request done) request
+    IsOpenTransaction (list_map config log) (version_of config log) (opened request done) request
 
 -- ---- lawful lists
 
@@ -109,9 +110,9 @@ is_once (e ∷ es) = not (list_any (is_same_submission e) es) && is_once es
 
 -- each request came of commands that its transaction performed over the maps of the list, below its version; no
 -- submission stands twice
-pub record IsLawful (config : Config) (log : List Entry) : Type 0 where
+pub record IsLawfulList (config : Config) (log : List Entry) : Type 0 where
   pub submitted :
-      AreSubmitted (map_of config log) (version_of config log) config.start (submissions_of config log)
+      AreSubmitted (list_map config log) (version_of config log) config.start (submissions_of config log)
       (requests_of log)
   pub once : is_once log ≡ true
   pub versions : version_of config log < 2 ^ 64
@@ -121,29 +122,29 @@ abbrev pub is_numbered : List ℕ → List Entry → Bool
 is_numbered last log = list_all (λ e. nat_le e.number (slice_index last e.client)) log
 
 -- the list has the entry of a client's submission of this number
-abbrev pub has_number : ℕ → ℕ → List Entry → Bool
-has_number client number log = list_any (λ e. (e.client == client) && (e.number == number)) log
+abbrev pub has_submission : ℕ → ℕ → List Entry → Bool
+has_submission client number log = list_any (λ e. (e.client == client) && (e.number == number)) log
 
 -- the last number of each client that has one is that of an entry in the list
 pub record AreLast (last : List ℕ) (log : List Entry) : Type 0 where
   pub stands :
-      (client : ℕ) → 0 < slice_index last client → has_number client (slice_index last client) log ≡ true
+      (client : ℕ) → 0 < slice_index last client → has_submission client (slice_index last client) log ≡ true
 
 -- no version is left behind the list, or no number for this client: the list has its submission of the last number
 -- that there is, or its last number by its own account is that
 abbrev pub IsExhausted : Config → List Entry → ℕ → ℕ → Type 0
 IsExhausted config log client own =
-    (version_of config log ≡ 2 ^ 64 - 1) ⊎ ((has_number client (2 ^ 64 - 1) log ≡ true) ⊎ (own ≡ 2 ^ 64 - 1))
+    (version_of config log ≡ 2 ^ 64 - 1) ⊎ ((has_submission client (2 ^ 64 - 1) log ≡ true) ⊎ (own ≡ 2 ^ 64 - 1))
 
 -- the map at each version of the list holds what the accepted commands of the committed entries up to there give
 abbrev pub HoldsEach : Config → List Entry → Type 0
 HoldsEach config log =
     (version : ℕ) → version ≤ version_of config log →
-    Stands (map_of config log version) (committed_at config log version)
+    Stands (list_map config log version) (committed_at config log version)
 
 -- each accepted command of a committed entry has its reply just before the entry's version, after the entry's earlier
 -- ones
-abbrev pub IsSerial : Config → List Entry → Type 0
-IsSerial config log =
+abbrev pub IsSerialList : Config → List Entry → Type 0
+IsSerialList config log =
     All (λ (one : Submission). IsSerialAt (committed_at config log (one.version - 1)) one.transaction.attempts)
     (listed (pipeline_of config log) (submissions_of config log))

@@ -19,33 +19,33 @@ use Rattle.runtime.specs.declared.answers.RunError.{RunError}
 use Rattle.runtime.specs.declared.answers.RunError.TheVariants as runs
 use Rattle.runtime.specs.declared.running.Failure.{Failure}
 use Rattle.runtime.specs.declared.running.Failure.TheVariants as failures
-use Rattle.runtime.specs.Clients.{Knows}
+use Rattle.runtime.specs.Clients.{Knowledge}
 use Rattle.runtime.specs.Commits.{Answers}
 
 -- the client is the same, and its list begins with the one before
-pub record Follows (old new : Knows) : Type 0 where
+pub record GoesOnFrom (old new : Knowledge) : Type 0 where
   pub name : new.name ≡ old.name
   pub number : new.number ≡ old.number
   pub list : IsPrefix old.list new.list
 
 -- the transaction goes on: only its client's list may have grown, and commands may have been performed
-pub record Continues (old new : Knows) : Type 0 where
-  pub follows : Follows old new
+pub record Continues (old new : Knowledge) : Type 0 where
+  pub follows : GoesOnFrom old new
   pub last : new.last ≡ old.last
   pub begun :
       (work : Work) → old.begun ≡ Some work →
       (after : Work) × (new.begun ≡ Some after) × (after.front ≡ work.front)
 
 -- a transaction of the client begins, over a list that begins with its own, which is its own then
-pub record Starts (old new : Knows) : Type 0 where
-  pub follows : Follows old new
+pub record Starts (old new : Knowledge) : Type 0 where
+  pub follows : GoesOnFrom old new
   pub last : new.last ≡ old.last
   pub begun :
       (work : Work) × (new.begun ≡ Some work) × (work.front.list ≡ new.list) × (work.trace.attempts ≡ [])
 
 -- the client's transaction is committed, or not, so
-pub record Ends (old : Knows) (result : Result Done CommitError) (new : Knows) : Type 0 where
-  pub follows : Follows old new
+pub record Ends (old : Knowledge) (result : Result Done CommitError) (new : Knowledge) : Type 0 where
+  pub follows : GoesOnFrom old new
   pub answer :
       (work : Work) × (old.begun ≡ Some work) × Answers old new work.transaction work.trace result
 
@@ -85,37 +85,37 @@ ended_by VersionsExhausted = ends.Other
 ended_by Unknown = ends.Other
 ended_by Memory = ends.Other
 
-module _ {B A : Type 0} (did : B → Knows → Result A BodyError → Knows → B → Type 0) where
+module _ {B A : Type 0} (did : B → Knowledge → Result A BodyError → Knowledge → B → Type 0) where
   -- a transaction began, and the body had this answer in it
-  abbrev pub Tries : B × Knows → Result A BodyError → B × Knows → Type 0
-  Tries old answer new = (start : Knows) × Starts old.1 start × did old.0 start answer new.1 new.0
+  abbrev pub Tries : B × Knowledge → Result A BodyError → B × Knowledge → Type 0
+  Tries old answer new = (start : Knowledge) × Starts old.1 start × did old.0 start answer new.1 new.0
 
   -- the body had this answer, and its transaction was committed, or not, so
-  abbrev pub TriesAndEnds : B × Knows → A → Result Done CommitError → B × Knows → Type 0
-  TriesAndEnds old answer result new = (mid : Knows) × Tries old (Ok answer) (new.0, mid) × Ends mid result new.1
+  abbrev pub TriesAndEnds : B × Knowledge → A → Result Done CommitError → B × Knowledge → Type 0
+  TriesAndEnds old answer result new = (mid : Knowledge) × Tries old (Ok answer) (new.0, mid) × Ends mid result new.1
 
   -- an attempt that another one may follow: it read too long ago, or was refused with a conflict
-  abbrev pub Fails : B × Knows → B × Knows → Type 0
-  Fails old new =
+  abbrev pub AttemptFails : B × Knowledge → B × Knowledge → Type 0
+  AttemptFails old new =
       ((error : BodyError) × (is_too_old error ≡ true) × Tries old (Err error) new)
       ⊎ ((answer : A) × ((error : CommitError) × (may_follow error ≡ true) × TriesAndEnds old answer (Err error) new))
 
   -- the transaction wasn't begun, or its body gave it up for another reason
-  abbrev pub IsRefusal : B × Knows → BodyError → B × Knows → Type 0
+  abbrev pub IsRefusal : B × Knowledge → BodyError → B × Knowledge → Type 0
   IsRefusal old error new =
       ((entry : EnterError) × (error ≡ Entry entry) × (new ≡ old))
       ⊎ ((is_too_old error ≡ false) × Tries old (Err error) new)
 
   -- the commit was refused for another reason
-  abbrev pub Stops : B × Knows → B × Knows → Type 0
+  abbrev pub Stops : B × Knowledge → B × Knowledge → Type 0
   Stops old new =
       (answer : A) × ((error : CommitError) × (may_follow error ≡ false) × TriesAndEnds old answer (Err error) new)
 
   -- how an attempt failed
-  abbrev pub FailsSo : B × Knows → Failure → B × Knows → Type 0
+  abbrev pub FailsSo : B × Knowledge → Failure → B × Knowledge → Type 0
   FailsSo old (failures.Refused error) new = IsRefusal old error new
-  FailsSo old (failures.Ended ends.Conflict) new = Fails old new
-  FailsSo old (failures.Ended ends.TooOld) new = Fails old new
+  FailsSo old (failures.Ended ends.Conflict) new = AttemptFails old new
+  FailsSo old (failures.Ended ends.TooOld) new = AttemptFails old new
   FailsSo old (failures.Ended ends.Other) new = Stops old new
   FailsSo old (failures.Ended ends.Committed) new = ⊥
   FailsSo old (failures.Ended ends.ReadOnly) new = ⊥
@@ -124,13 +124,14 @@ module _ {B A : Type 0} (did : B → Knows → Result A BodyError → Knows → 
 
   -- what a run comes to, of at most so many attempts, and one at least. It answers what the body did in the very
   -- transaction that ended so; before it were only attempts that another one may follow
-  abbrev pub IsRun : ℕ → B × Knows → Result (A × Done) RunError → B × Knows → Type 0
+  abbrev pub IsRun : ℕ → B × Knowledge → Result (A × Done) RunError → B × Knowledge → Type 0
   IsRun limit old (Ok both) new =
-      (before : ℕ) × (before < max 1 limit) × ((mid : B × Knows) × InTurn Fails before old mid
+      (before : ℕ) × (before < max 1 limit) × ((mid : B × Knowledge) × InTurn AttemptFails before old mid
       × TriesAndEnds mid both.0 (Ok both.1) new)
   IsRun limit old (Err (runs.Refused error)) new =
-      (before : ℕ) × (before < max 1 limit) × ((mid : B × Knows) × InTurn Fails before old mid
+      (before : ℕ) × (before < max 1 limit) × ((mid : B × Knowledge) × InTurn AttemptFails before old mid
       × IsRefusal mid error new)
   IsRun limit old (Err runs.GaveUp) new =
-      InTurn Fails (max 1 limit) old new
-      ⊎ ((before : ℕ) × (before < max 1 limit) × ((mid : B × Knows) × InTurn Fails before old mid × Stops mid new))
+      InTurn AttemptFails (max 1 limit) old new
+      ⊎ ((before : ℕ) × (before < max 1 limit)
+      × ((mid : B × Knowledge) × InTurn AttemptFails before old mid × Stops mid new))

@@ -8,7 +8,7 @@ use Rattle.schedule.specs.declared.step.Command.{Command}
 use Rattle.schedule.specs.declared.reply.Reply.{Reply}
 use Rattle.schedule.specs.declared.reply.Reply.TheVariants.{Refused}
 use Rattle.schedule.specs.Commits.{view}
-use Rattle.schedule.specs.Contract.{written}
+use Rattle.schedule.specs.Contract.{commands_written}
 use Rattle.schedule.specs.Past.{accepted}
 use Rattle.schedule.specs.Performed.{IsServed}
 use Rattle.schedule.specs.Standing.{commits_of}
@@ -24,7 +24,7 @@ use Rattle.runtime.specs.Lists.{attempts_of, committed_at, opened, pipeline_of, 
 -- accepted commands change it; or a write limit
 abbrev pub IsAnswer : Config → List Entry → CommitRequest → List Performed → Command → Reply → Type 0
 IsAnswer config log request done command reply =
-    IsServed (written (committed_at config log request.read_version) (accepted (attempts_of done)))
+    IsServed (commands_written (committed_at config log request.read_version) (accepted (attempts_of done)))
     (view (commits_of (pipeline_of config log) (submissions_of config log)) (opened request done)) command reply
 
 -- a command that stopped for want of memory stands among those performed as one whose read was refused: it has read

@@ -9,23 +9,23 @@ use Rattle.runtime.specs.declared.published.Published.{Published}
 use Rattle.runtime.specs.declared.published.Step.{Step}
 use Rattle.runtime.specs.declared.published.View.{View}
 use Rattle.runtime.specs.Frames.{no_config}
-use Rattle.runtime.specs.Lists.{tier_of, logged_next}
-use Rattle.runtime.specs.History.{Name, Reach, entry_of, name_of, reach}
+use Rattle.runtime.specs.Lists.{list_tier, logged_next}
+use Rattle.runtime.specs.History.{Name, Reach, book_name, list_reach, note_entry}
 
 abbrev pub no_name : Name
-no_name = name_of (record { number = 0; log_name = 0; cells_name = 0 }) no_config
+no_name = book_name (record { number = 0; log_name = 0; cells_name = 0 }) no_config
 
 -- the view of a thread that hasn't seen the state
 abbrev pub newcomer : View
-newcomer = record { named = false; front = reach no_name [] }
+newcomer = record { named = false; front = list_reach no_name [] }
 
 -- the view of a thread that has seen that the state is of this database
 abbrev pub knows : Name → View
-knows name = record { named = true; front = reach name [] }
+knows name = record { named = true; front = list_reach name [] }
 
 -- the servers have pulled just the published list
 abbrev pub IsFold : Published → Type 0
-IsFold x = x.tier ≡ tier_of x.front.name.config x.front.list
+IsFold x = x.tier ≡ list_tier x.front.name.config x.front.list
 
 -- the servers have pulled just the list, and the state is of the database that each thread has seen it to be of
 abbrev pub Kept : Published → List View → Type 0
@@ -40,16 +40,16 @@ Sees v x y w = (w ≡ knows y.front.name) × IsFold y × (v.named ≡ true → v
 -- the step leads from a list to the next: it has the entry's mutations where that is committed, and else none
 abbrev pub Leads : Name → List Entry → Step → Type 0
 Leads name log step =
-    (step.front ≡ reach name (log ++ entry_of step.note ∷ []))
+    (step.front ≡ list_reach name (log ++ note_entry step.note ∷ []))
     × (step.mutations ≡ logged_next name.config log step.note.request.value)
 
 -- the steps behind a list lead on from it, one after another
-abbrev pub Follow : Name → List Entry → List Step → Type 0
-Follow name log [] = Unit {0}
-Follow name log (step ∷ steps) = Leads name log step × Follow name (log ++ entry_of step.note ∷ []) steps
+abbrev pub LeadOn : Name → List Entry → List Step → Type 0
+LeadOn name log [] = Unit {0}
+LeadOn name log (step ∷ steps) = Leads name log step × LeadOn name (log ++ note_entry step.note ∷ []) steps
 
 abbrev pub entries_of : List Step → List Entry
-entries_of steps = map (λ step. entry_of step.note) steps
+entries_of steps = map (λ step. note_entry step.note) steps
 
 -- the servers and the list after a step
 abbrev pub applied : TierState × Reach → Step → TierState × Reach
@@ -61,5 +61,5 @@ pub record Shown : Type 0 where
   pub published : List Entry
   pub pending : List Entry
 
-abbrev pub shown : Name → List Entry → List Entry → Shown
-shown name published pending = record { name = name; published = published; pending = pending }
+abbrev pub list_shown : Name → List Entry → List Entry → Shown
+list_shown name published pending = record { name = name; published = published; pending = pending }

@@ -27,21 +27,21 @@ EndsWith config log client number request trace reported =
     × (reported ≡ told (cause_next config before request) (version_of config before + 1))
 
 -- what a turn tells of a request: what is reported of it, or why nothing is, and the list that was then published
-abbrev pub Tells : ℕ → ℕ → CommitRequest → Trace → Result Ruling HoldError → Option Reach → Type 0
-Tells client own request trace (Ok ruling) (Some front) =
+abbrev pub TurnTells : ℕ → ℕ → CommitRequest → Trace → Result Ruling HoldError → Option Reach → Type 0
+TurnTells client own request trace (Ok ruling) (Some front) =
     EndsWith front.name.config front.list client ruling.number request trace ruling.reported × (own < ruling.number)
-Tells client own request trace (Ok ruling) None = own < ruling.number
-Tells client own request trace (Err TooOld) (Some front) =
+TurnTells client own request trace (Ok ruling) None = own < ruling.number
+TurnTells client own request trace (Err TooOld) (Some front) =
     front.name.config.window < version_of front.name.config front.list - request.read_version
-Tells client own request trace (Err holds.VersionsExhausted) (Some front) =
+TurnTells client own request trace (Err holds.VersionsExhausted) (Some front) =
     IsExhausted front.name.config front.list client own
-Tells client own request trace (Err (Unknown number)) front = own < number
-Tells client own request trace _ _ = Unit {0}
+TurnTells client own request trace (Err (Unknown number)) front = own < number
+TurnTells client own request trace _ _ = Unit {0}
 
 -- the list is of this database
-abbrev pub IsOf : Name → Option Reach → Type 0
-IsOf name (Some front) = front.name ≡ name
-IsOf name None = Unit {0}
+abbrev pub IsListOf : Name → Option Reach → Type 0
+IsListOf name (Some front) = front.name ≡ name
+IsListOf name None = Unit {0}
 
 -- what that comes to for the client: its answer, and its last number then
 abbrev pub IsConcluded :

@@ -2,7 +2,7 @@
 // `running` and `building`, and by whoever calls these.
 ghost use Rattle.std.specs.Prelude.{◌≡◌};
 ghost use Rattle.runtime.specs.declared.answers.OpenError.TheVariants.{Memory as OpenMemory};
-ghost use Rattle.runtime.specs.Errors.{config_error, no_memory};
+ghost use Rattle.runtime.specs.Errors.{config_error, run_memory};
 
 use crate::entering::EnterError;
 use crate::front::Front;
@@ -114,7 +114,7 @@ pub enum RunError {
 }
 
 impl From<AllocError> for RunError {
-    ghost from_gives = { λ _ made. made ≡ no_memory };
+    ghost from_gives = { λ _ made. made ≡ run_memory };
 
     fn from(_error: AllocError) -> RunError {
         RunError::Refused(BodyError::Entry(EnterError::Memory))

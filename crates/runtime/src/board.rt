@@ -2,8 +2,8 @@
 ghost use Rattle.std.specs.Prelude.{◌≡◌, ◌^◌, ◌<◌, [], ◌∷◌, ◌++◌, ◌⊎◌, Some, IfOk, IfErr, MatchResult};
 ghost use Rattle.cluster_core.specs.Configuration.{config_refusal};
 ghost use Rattle.left_right.specs.Sides.{view};
-ghost use Rattle.runtime.specs.History.{entry_of, name_of, reach};
-ghost use Rattle.runtime.specs.State.{Leads, knows, shown};
+ghost use Rattle.runtime.specs.History.{book_name, list_reach, note_entry};
+ghost use Rattle.runtime.specs.State.{Leads, knows, list_shown};
 
 use crate::front::{Front, Head, opened};
 use crate::law::{See, StateReader, StateWriter, Tell};
@@ -21,7 +21,7 @@ pub struct Board {
 impl Model for Board {
     ghost use Rattle.std.specs.Prelude.{◌≡◌, drop};
     ghost use Rattle.left_right.specs.Sides.{view as knowledge};
-    ghost use Rattle.runtime.specs.State.{Shown, shown, IsFold, Follow, entries_of, knows};
+    ghost use Rattle.runtime.specs.State.{Shown, list_shown, IsFold, LeadOn, entries_of, knows};
     ghost use Rattle.std.specs.Coded.{codes};
     ghost use Rattle.runtime.specs.contracts.entry.Entry as entries;
 
@@ -29,11 +29,11 @@ impl Model for Board {
 
     ghost coded = { Prim.hlevel (codes, entries.the_row.coded) };
 
-    ghost view = { λ s. shown s.writer.desk.shown.value.front.name s.writer.desk.shown.value.front.list
+    ghost view = { λ s. list_shown s.writer.desk.shown.value.front.name s.writer.desk.shown.value.front.list
         (entries_of (drop s.writer.behind s.writer.log.items)) };
 
     ghost invariant = { λ s. IsFold s.writer.desk.shown.value
-        × Follow s.writer.desk.shown.value.front.name s.writer.desk.shown.value.front.list
+        × LeadOn s.writer.desk.shown.value.front.name s.writer.desk.shown.value.front.list
         (drop s.writer.behind s.writer.log.items)
         × (knowledge s.writer.desk.place ≡ knows s.writer.desk.shown.value.front.name) };
 }
@@ -48,7 +48,7 @@ impl Board {
         readers: usize,
     ) -> Result<(Board, Head), ConfigError>
         requires { (0 < readers) × (readers < 2 ^ 32) }
-        ensures made { IfOk result (λ r. r.0 ≡ shown (name_of r.1 config.now) [] []) }
+        ensures made { IfOk result (λ r. r.0 ≡ list_shown (book_name r.1 config.now) [] []) }
         ensures refused { IfErr result (λ error.
             (error ≡ ConfigError.Memory) ⊎ (config_refusal config.now ≡ Some error)) }
     {
@@ -68,7 +68,8 @@ impl Board {
     pub fn append(&mut self, step: Step) -> Result<(), Step>
         requires { Leads self.old.name (self.old.published ++ self.old.pending) step }
         ensures { MatchResult result
-            (λ _. self.new ≡ shown self.old.name self.old.published (self.old.pending ++ entry_of step.note ∷ []))
+            (λ _. self.new ≡ list_shown self.old.name self.old.published
+            (self.old.pending ++ note_entry step.note ∷ []))
             (λ back. (back ≡ step) × (self.new ≡ self.old)) }
     {
         self.writer.append(step)
@@ -76,7 +77,7 @@ impl Board {
 
     /// Shows readers all entries. Where memory runs out they see what they saw.
     pub fn publish<R: Wait>(self, rt: &R) -> (Board, Result<(), AllocError>)
-        ensures { MatchResult result.1 (λ _. result.0 ≡ shown self.name (self.published ++ self.pending) [])
+        ensures { MatchResult result.1 (λ _. result.0 ≡ list_shown self.name (self.published ++ self.pending) [])
             (λ _. result.0 ≡ self) }
     {
         let Board { writer } = self;
@@ -96,7 +97,7 @@ impl Board {
 
     /// The published list.
     pub fn front(&self) -> Front
-        ensures { result ≡ reach self.now.name self.now.published }
+        ensures { result ≡ list_reach self.now.name self.now.published }
     {
         self.writer.published().front.again()
     }

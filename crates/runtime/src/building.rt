@@ -2,8 +2,8 @@
 ghost use Rattle.std.specs.Prelude.{◌≡◌, ◌+◌, ◌<◌, ◌⊎◌, [], Some, Ok, true, IfOk, IfSome, MatchOption};
 ghost use Rattle.kv_core.specs.Range.{KeyRange};
 ghost use Rattle.runtime.specs.Builds.{Adds, Commits, HasWorked, IsBuilt, IsTurn};
-ghost use Rattle.runtime.specs.Builds.{has_ended, is_done, records_of, steps_of};
-ghost use Rattle.runtime.specs.Runs.{Continues, Follows};
+ghost use Rattle.runtime.specs.Builds.{has_ended, is_committed_result, records_of, steps_of};
+ghost use Rattle.runtime.specs.Runs.{Continues, GoesOnFrom};
 ghost use Rattle.runtime.specs.declared.work.Work.{Work as TheWork};
 
 use crate::answers::{BodyError, CommitError, Done, RunError};
@@ -158,7 +158,7 @@ fn work<E: End>(client: &mut Client<E>, index: &Text, limit: u32) -> Result<Turn
 
 /// Whether a commit was told to be one. It is refused where another turn doesn't help.
 fn is_committed(ended: Result<Done, CommitError>) -> Result<bool, RunError>
-    ensures { IfOk result (λ yes. (yes ≡ is_done ended) × (has_ended ended ≡ true)) }
+    ensures { IfOk result (λ yes. (yes ≡ is_committed_result ended) × (has_ended ended ≡ true)) }
 {
     match ended {
         Ok(
@@ -177,7 +177,7 @@ fn is_committed(ended: Result<Done, CommitError>) -> Result<bool, RunError>
 /// Commits the open transaction, and says whether it is committed. A client alone submits under its
 /// number, so that its numbers follow one another; where one is left out, nothing is said of it.
 fn commit<E: End, R: Wait>(rt: &R, client: &mut Client<E>) -> Result<bool, RunError>
-    ensures follows { Follows client.old client.new }
+    ensures follows { GoesOnFrom client.old client.new }
     ensures commits { (work : TheWork) → client.old.begun ≡ Some work →
         IfOk result (λ yes. Commits client.old client.new work yes) }
 {
@@ -198,7 +198,7 @@ fn take_turn<E: End, R: Wait, G: Gate>(
     limit: u32,
     gate: &mut G,
 ) -> Result<Turn, RunError>
-    ensures follows { Follows client.old client.new }
+    ensures follows { GoesOnFrom client.old client.new }
     ensures turn { IfOk result (λ turn. IsTurn index.now turn client.old client.new) }
 {
     if let Err(error) = client.begin_here() {
@@ -232,7 +232,7 @@ pub fn build_worker<E: End, R: Wait, G: Gate>(
     gate: &mut G,
 ) -> Result<Built, RunError>
     requires { 0 < limit }
-    ensures follows { Follows client.old client.new }
+    ensures follows { GoesOnFrom client.old client.new }
     ensures built { IfOk result (λ built. IsBuilt index.now client.old client.new built) }
 {
     let mut built = Built {

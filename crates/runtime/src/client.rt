@@ -9,10 +9,10 @@ ghost use Rattle.schedule.specs.Past.{is_changed};
 ghost use Rattle.runtime.specs.Clients.{knows_that};
 ghost use Rattle.runtime.specs.Commits.{Answers};
 ghost use Rattle.runtime.specs.History.{Name as TheName};
-ghost use Rattle.runtime.specs.Lists.{IsLawful, attempts_of, version_of};
+ghost use Rattle.runtime.specs.Lists.{IsLawfulList, attempts_of, version_of};
 ghost use Rattle.runtime.specs.Serves.{IsAnswer, IsUnanswered, KeepsList};
 ghost use Rattle.runtime.specs.State.{knows};
-ghost use Rattle.runtime.specs.Tells.{IsConcluded, IsOf, Tells};
+ghost use Rattle.runtime.specs.Tells.{IsConcluded, IsListOf, TurnTells};
 ghost use Rattle.kv_core.specs.declared.change.CommitRequest.{CommitRequest as Request};
 ghost use Rattle.runtime.specs.declared.trace.Trace.{Trace as Traced};
 
@@ -48,12 +48,12 @@ impl<E: End> Model for Client<E> {
     ghost use Rattle.std.specs.Arc.{arc_value};
     ghost use Rattle.left_right.specs.Sides.{view as knowledge};
     ghost use Rattle.runtime.specs.State.{knows};
-    ghost use Rattle.runtime.specs.Clients.{Knows, knows_that, IsBegun, IfReader};
+    ghost use Rattle.runtime.specs.Clients.{Knowledge, knows_that, IsBegun, IfReader};
     ghost use Rattle.std.specs.Coded.{codes};
     ghost use Rattle.runtime.specs.contracts.entry.Entry as entries;
     ghost use Rattle.runtime.specs.contracts.work.Work as works;
 
-    ghost Value = { Knows };
+    ghost Value = { Knowledge };
 
     ghost coded = { Prim.hlevel (codes, entries.the_row.coded, works.the_row.coded) };
 
@@ -97,7 +97,7 @@ impl<E: End> Client<E> {
     /// The last number of the client's submissions, 0 before the first one.
     pub fn last_number(&self) -> u64
         ensures number { result ≡ self.now.last }
-        ensures lawful { IsLawful self.now.name.config self.now.list }
+        ensures lawful { IsLawfulList self.now.name.config self.now.list }
     {
         let last = self.last;
         self.me.len();
@@ -241,7 +241,7 @@ fn performed(me: &Front, seen: &Front, answer: &Result<Reply, EnterError>) -> Fr
 
 /// What is known with the list that was published.
 fn learnt(me: &Front, seen: &Option<Front>) -> Front
-    requires { IsOf me.now.name seen.now }
+    requires { IsListOf me.now.name seen.now }
     ensures name { result.name ≡ me.now.name }
     ensures list { IsPrefix me.now.list result.list }
     ensures seen { IfSome seen.now (λ front. (front.name ≡ me.now.name)
@@ -266,7 +266,7 @@ fn concluded(
     own: u64,
 ) -> (Result<Done, CommitError>, u64)
     ensures { (name : TheName) (client : ℕ) (request : Request) (trace : Traced) →
-        IsOf name seen → Tells client own request trace answer seen →
+        IsListOf name seen → TurnTells client own request trace answer seen →
         IsConcluded name client own request trace seen result.0 result.1 }
 {
     match answer {

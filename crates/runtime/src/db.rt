@@ -6,7 +6,7 @@ ghost use Rattle.cluster_core.specs.Configuration.{config_refusal};
 ghost use Rattle.cluster_core.specs.declared.answers.ConfigError.{ConfigError as ConfigRefusal};
 ghost use Rattle.runtime.specs.State.{knows};
 ghost use Rattle.runtime.specs.History.{Name};
-ghost use Rattle.runtime.specs.Clients.{knows_that, fresh};
+ghost use Rattle.runtime.specs.Clients.{knows_that, fresh_clients};
 
 use crate::answers::OpenError;
 use crate::client::Client;
@@ -76,7 +76,7 @@ fn clients<E: End, R: Wait>(
     places: usize,
 ) -> Result<Vec<Client<E>>, OpenError>
     requires { hold.published ≡ [] }
-    ensures clients { IfOk result (λ clients. clients.items ≡ fresh hold.name places) }
+    ensures clients { IfOk result (λ clients. clients.items ≡ fresh_clients hold.name places) }
     ensures refused { IfErr result (λ error.
         (error ≡ OpenError.NoPlace) ⊎ (error ≡ OpenError.Memory)) }
 {
@@ -103,7 +103,7 @@ pub fn open<E: End, R: Wait>(
     config: &Config,
 ) -> Result<Vec<Client<E>>, OpenError>
     ensures clients { IfOk result (λ clients.
-        (name : Name) × (name.config ≡ config.now) × (clients.items ≡ fresh name config.now.places)) }
+        (name : Name) × (name.config ≡ config.now) × (clients.items ≡ fresh_clients name config.now.places)) }
     ensures allowed { OnOk result (IsNone (config_refusal config.now)) }
     ensures refused { IfErr result (λ error.
         (error ≡ OpenError.NoPlace) ⊎ (error ≡ OpenError.Memory)

@@ -46,15 +46,16 @@ pub struct Frame {
 
 impl Model for Frame {
     ghost use Rattle.std.specs.Prelude.{◌≡◌};
-    ghost use Rattle.runtime.specs.Frames.{config_in};
+    ghost use Rattle.runtime.specs.Frames.{first_config};
     ghost use Rattle.cluster_core.specs.declared.answers.Config.{Config};
 
     ghost Value = { Config };
 
-    ghost view = { λ f. config_in f.seen.log };
+    ghost view = { λ f. first_config f.seen.log };
 
     ghost invariant = { λ f.
-        (f.start ≡ (config_in f.seen.log).start) × (f.window ≡ (config_in f.seen.log).window) };
+        (f.start ≡ (first_config f.seen.log).start)
+        × (f.window ≡ (first_config f.seen.log).window) };
 }
 
 impl Frame {

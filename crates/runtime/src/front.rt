@@ -4,9 +4,10 @@ ghost use Rattle.std.specs.Prelude.{◌≡◌, ◌↔◌, IsTrue, ◌-◌, ◌<�
 ghost use Rattle.std.specs.Prelude.{MatchBool};
 ghost use Rattle.std.specs.Bool.{OnTrue, OnFalse};
 ghost use mathlib.Core.List.{IsPrefix};
-ghost use Rattle.runtime.specs.Lists.{HoldsEach, IsLawful, IsSerial, history_of, is_once, version_of};
+ghost use Rattle.runtime.specs.Lists.{HoldsEach, IsLawfulList, IsSerialList, history_of, is_once};
+ghost use Rattle.runtime.specs.Lists.{version_of};
 ghost use Rattle.cluster_core.specs.History.{IsLegal};
-ghost use Rattle.runtime.specs.History.{entry_of, reach};
+ghost use Rattle.runtime.specs.History.{list_reach, note_entry};
 
 use crate::entry::{Entry, Note};
 use crate::frame::Frame;
@@ -20,9 +21,9 @@ pub struct Law;
 impl Rule<Entry, u64> for Law {
     ghost use Rattle.std.specs.Prelude.{[]};
     ghost use base.Fml.{ftrue};
-    ghost use Rattle.runtime.specs.History.{IsKept};
+    ghost use Rattle.runtime.specs.History.{IsBook};
 
-    ghost holds = { λ cells log. IsKept cells log };
+    ghost holds = { λ cells log. IsBook cells log };
 
     ghost first = { [] };
 
@@ -55,9 +56,9 @@ impl Play<Entry, u64> for Add {
 
 impl Plain<Note, Entry, u64> for Add {
     ghost use Rattle.std.specs.Prelude.{None};
-    ghost use Rattle.runtime.specs.History.{entry_of};
+    ghost use Rattle.runtime.specs.History.{note_entry};
 
-    ghost ask = { λ note. entry_of note };
+    ghost ask = { λ note. note_entry note };
 
     ghost state = { λ note. None };
 }
@@ -92,8 +93,8 @@ pub struct Front {
 
 impl Model for Front {
     ghost use Rattle.std.specs.Prelude.{◌≡◌, length};
-    ghost use Rattle.runtime.specs.Lists.{IsLawful};
-    ghost use Rattle.runtime.specs.History.{Reach, name_of, reach};
+    ghost use Rattle.runtime.specs.Lists.{IsLawfulList};
+    ghost use Rattle.runtime.specs.History.{Reach, book_name, list_reach};
     ghost use Rattle.std.specs.Coded.{codes};
     ghost use Rattle.runtime.specs.contracts.entry.Entry as entries;
 
@@ -101,9 +102,9 @@ impl Model for Front {
 
     ghost coded = { Prim.hlevel (codes, entries.the_row.coded) };
 
-    ghost view = { λ f. reach (name_of f.seen.book f.frame) f.seen.log };
+    ghost view = { λ f. list_reach (book_name f.seen.book f.frame) f.seen.log };
 
-    ghost invariant = { λ f. (f.count ≡ length f.seen.log) × IsLawful f.frame f.seen.log };
+    ghost invariant = { λ f. (f.count ≡ length f.seen.log) × IsLawfulList f.frame f.seen.log };
 }
 
 /// A new history, which is empty, of a database of this configuration.
@@ -132,7 +133,7 @@ impl Front {
     /// The number of entries.
     pub fn len(&self) -> u64
         ensures length { result ≡ length self.now.list }
-        ensures lawful { IsLawful self.now.name.config self.now.list }
+        ensures lawful { IsLawfulList self.now.name.config self.now.list }
     {
         self.count
     }
@@ -141,7 +142,7 @@ impl Front {
     #[tactic(auto, using(crate::proofs::Entries::requests_length))]
     pub fn version(&self) -> u64
         ensures value { result ≡ version_of self.now.name.config self.now.list }
-        ensures lawful { IsLawful self.now.name.config self.now.list }
+        ensures lawful { IsLawfulList self.now.name.config self.now.list }
     {
         self.frame.start() + self.count
     }
@@ -165,7 +166,7 @@ impl Front {
     pub fn stands(&self)
         ensures legal { IsLegal (history_of self.now.name.config self.now.list) }
         ensures holds { HoldsEach self.now.name.config self.now.list }
-        ensures serial { IsSerial self.now.name.config self.now.list }
+        ensures serial { IsSerialList self.now.name.config self.now.list }
         ensures once { is_once self.now.list ≡ true }
     {
         self.len();
@@ -211,8 +212,10 @@ impl Front {
     pub(crate) fn add(&mut self, head: &Head, note: &Note) -> bool
         requires book { head.now ≡ self.old.name.book }
         requires room { length self.old.list < 2 ^ 62 }
-        requires lawful { IsLawful self.old.name.config (self.old.list ++ entry_of note.now ∷ []) }
-        ensures added { OnTrue result (self.new ≡ reach self.old.name (self.old.list ++ entry_of note.now ∷ [])) }
+        requires lawful { IsLawfulList self.old.name.config
+            (self.old.list ++ note_entry note.now ∷ []) }
+        ensures added { OnTrue result (self.new ≡ list_reach self.old.name
+            (self.old.list ++ note_entry note.now ∷ [])) }
         ensures not { OnFalse result (self.new ≡ self.old) }
     {
         let mut seen = self.seen.again();

@@ -7,8 +7,8 @@ ghost use Rattle.cluster_core.specs.Configuration.{config_refusal};
 ghost use Rattle.cluster_core.specs.Roles.{told};
 ghost use Rattle.schedule.specs.Standing.{is_told};
 ghost use Rattle.runtime.specs.Holds.{held, entry, Asks};
-ghost use Rattle.runtime.specs.History.{reach};
-ghost use Rattle.runtime.specs.Lists.{IsOpenOver, cause_next, has_number, version_of};
+ghost use Rattle.runtime.specs.History.{list_reach};
+ghost use Rattle.runtime.specs.Lists.{IsOpenOver, cause_next, has_submission, version_of};
 ghost use Rattle.runtime.specs.State.{knows};
 
 use crate::board::Board;
@@ -44,7 +44,7 @@ pub struct Hold {
 
 impl Model for Hold {
     ghost use Rattle.std.specs.Prelude.{◌≡◌, ◌++◌, true};
-    ghost use Rattle.runtime.specs.History.{reach};
+    ghost use Rattle.runtime.specs.History.{list_reach};
     ghost use Rattle.runtime.specs.Lists.{is_numbered};
     ghost use Rattle.runtime.specs.Holds.{Held, held, due_of, is_idle, IsBacked, IsInFlight};
     ghost use Rattle.std.specs.Coded.{codes};
@@ -60,7 +60,7 @@ impl Model for Hold {
 
     ghost invariant = { λ h.
         (h.head ≡ h.board.name.book)
-        × (h.front ≡ reach h.board.name (h.board.published ++ h.board.pending))
+        × (h.front ≡ list_reach h.board.name (h.board.published ++ h.board.pending))
         × IsInFlight h.board.name (h.board.published ++ h.board.pending) h.pipeline h.flight
         × (is_numbered h.last.items (due_of h.flight (h.board.published ++ h.board.pending)) ≡ true)
         × IsBacked h.last.items (h.board.published ++ h.board.pending) h.flight };
@@ -142,7 +142,7 @@ impl Hold {
         ensures above { IfOk result (λ number. (own < number) × (slice_index self.now.last client < number)) }
         ensures client { IfOk result (λ number. client < length self.now.last) }
         ensures backed { self.now.idle ≡ true → 0 < slice_index self.now.last client
-            → has_number client (slice_index self.now.last client) self.now.log ≡ true }
+            → has_submission client (slice_index self.now.last client) self.now.log ≡ true }
         ensures refused { IfErr result (λ error. (error ≡ HoldError.Memory) ⊎ ((error ≡ HoldError.VersionsExhausted)
             × ((slice_index self.now.last client ≡ 2 ^ 64 - 1) ⊎ (own ≡ 2 ^ 64 - 1)))) }
     {
@@ -273,7 +273,7 @@ impl Hold {
 
     /// The published list.
     pub fn front(&self) -> Front
-        ensures { result ≡ reach self.now.name self.now.published }
+        ensures { result ≡ list_reach self.now.name self.now.published }
     {
         self.board.front()
     }

@@ -1,6 +1,7 @@
 // Transactions that are tried again. Called by `race` and `embed_threads`.
 ghost use Rattle.std.specs.Prelude.{◌≡◌, IfOk, IfErr};
-ghost use Rattle.runtime.specs.Runs.{Continues, FailsSo, Follows, IsRun, TriesAndEnds, ended_by, failure_by};
+ghost use Rattle.runtime.specs.Runs.{Continues, FailsSo, GoesOnFrom, IsRun, TriesAndEnds, ended_by};
+ghost use Rattle.runtime.specs.Runs.{failure_by};
 
 use crate::answers::{BodyError, CommitError, Done, RunError};
 use crate::client::Client;
@@ -14,7 +15,7 @@ use txn::{Ended, Next, Retry};
 /// What a transaction does, which may be tried again.
 pub trait Body<E: End> {
     ghost use Rattle.std.specs.Prelude.{◌≡◌, Result};
-    ghost use Rattle.runtime.specs.Clients.{Knows};
+    ghost use Rattle.runtime.specs.Clients.{Knowledge};
     ghost use Rattle.runtime.specs.Runs.{Continues};
     ghost use Rattle.runtime.specs.declared.answers.BodyError.{BodyError};
 
@@ -22,7 +23,7 @@ pub trait Body<E: End> {
     type Answer: Drop;
 
     /// What an attempt does, by the body and its client before and after it.
-    ghost did: { Self → Knows → Result Self.Answer BodyError → Knows → Self → Type 0 };
+    ghost did: { Self → Knowledge → Result Self.Answer BodyError → Knowledge → Self → Type 0 };
 
     /// Performs the commands of one attempt. The transaction is left to the caller, who commits it.
     fn attempt(&mut self, tx: &mut Txn<'_, E>) -> Result<Self::Answer, BodyError>
@@ -81,7 +82,7 @@ fn attempt<E: End, R: Wait, B: Body<E>>(
     client: &mut Client<E>,
     body: &mut B,
 ) -> Result<(B::Answer, Done), Failure>
-    ensures follows { Follows client.old client.new }
+    ensures follows { GoesOnFrom client.old client.new }
     ensures done { IfOk result (λ both.
         TriesAndEnds B.did (body.old, client.old) both.0 (Ok both.1) (body.new, client.new)) }
     ensures failed { IfErr result (λ failure.
@@ -111,7 +112,7 @@ impl<E: End> Client<E> {
         repeatable: bool,
         body: &mut B,
     ) -> Result<(B::Answer, Done), RunError>
-        ensures follows { Follows self.old self.new }
+        ensures follows { GoesOnFrom self.old self.new }
         ensures run { IsRun B.did retry.limit (body.old, self.old) result (body.new, self.new) }
     {
         let mut number = 1u64;

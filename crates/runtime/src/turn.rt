@@ -1,7 +1,7 @@
 // One turn at the lock. Called by `client`. Also what closes a database, which `db` is given.
 ghost use Rattle.std.specs.Prelude.{◌≡◌, []};
 ghost use Rattle.runtime.specs.Lists.{IsOpenOver};
-ghost use Rattle.runtime.specs.Tells.{Tells, IsOf};
+ghost use Rattle.runtime.specs.Tells.{TurnTells, IsListOf};
 
 use crate::flight::{HoldError, Ruling};
 use crate::front::Front;
@@ -69,8 +69,8 @@ fn hold_and_publish<R: Wait>(
     requires name { front.now.name ≡ hold.name }
     requires over { IsOpenOver hold.name.config front.now.list request trace.attempts }
     ensures name { result.0.name ≡ hold.name }
-    ensures front { IsOf hold.name result.2 }
-    ensures tells { Tells client own request trace result.1 result.2 }
+    ensures front { IsListOf hold.name result.2 }
+    ensures tells { TurnTells client own request trace result.1 result.2 }
 {
     let mut hold = hold;
     let answer = hold.request(client, own, front, request, trace);
@@ -101,8 +101,8 @@ pub fn turn<E: End, R: Wait>(
     requires name { front.now.name ≡ key.old.me.0.value.hold.name }
     requires over { IsOpenOver front.now.name.config front.now.list request trace.attempts }
     ensures key { (key.new.table_id ≡ key.old.table_id) × (key.new.me ≡ key.old.me) }
-    ensures front { IsOf key.old.me.0.value.hold.name result.1 }
-    ensures tells { Tells client own request trace result.0 result.1 }
+    ensures front { IsListOf key.old.me.0.value.hold.name result.1 }
+    ensures tells { TurnTells client own request trace result.0 result.1 }
 {
     let guard = vault.wait(rt);
     let (hold, end) = vault.take(rt, key).into_parts();

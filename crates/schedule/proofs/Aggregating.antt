@@ -21,7 +21,7 @@ use Rattle.schedule.specs.declared.reply.Reply.{Reply}
 use Rattle.schedule.specs.declared.reply.Reply.TheVariants as reply
 use Rattle.schedule.specs.declared.step.Command.TheVariants.{Aggregate}
 use Rattle.schedule.specs.Reach.{call_reading}
-use Rattle.schedule.specs.Refusals.{own_refusal}
+use Rattle.schedule.specs.Refusals.{step_refusal}
 use Rattle.schedule.specs.Serve.{Served, served_aggregate, served_total}
 use Rattle.schedule.proofs.Outcomes.{Meets, Refuses, Serves}
 use Rattle.schedule.proofs.Stops.{at}
@@ -30,16 +30,16 @@ abbrev pub told_total : ℤ → Reply
 told_total total = reply.Total total
 
 -- each refusal of a total is one of a step
-refusal_told : (kind : IndexKind) (fits : Bool) (state : State) (error : StoreError) → total_refusal kind fits state ≡ Some error → (refusal : Refusal) × (own_refusal error ≡ Some refusal)
-refusal_told Value fits state error is = let same : store.NotAggregate ≡ error = cc in (NotAggregate, ap own_refusal (sym same))
-refusal_told Count false state error is = let same : store.Refused schema.WrongKind ≡ error = cc in (WrongKind, ap own_refusal (sym same))
-refusal_told Sum false state error is = let same : store.Refused schema.WrongKind ≡ error = cc in (WrongKind, ap own_refusal (sym same))
+refusal_told : (kind : IndexKind) (fits : Bool) (state : State) (error : StoreError) → total_refusal kind fits state ≡ Some error → (refusal : Refusal) × (step_refusal error ≡ Some refusal)
+refusal_told Value fits state error is = let same : store.NotAggregate ≡ error = cc in (NotAggregate, ap step_refusal (sym same))
+refusal_told Count false state error is = let same : store.Refused schema.WrongKind ≡ error = cc in (WrongKind, ap step_refusal (sym same))
+refusal_told Sum false state error is = let same : store.Refused schema.WrongKind ≡ error = cc in (WrongKind, ap step_refusal (sym same))
 refusal_told Count true Readable error is = absurd (cc)
 refusal_told Sum true Readable error is = absurd (cc)
-refusal_told Count true WriteOnly error is = let same : store.NotReadable ≡ error = cc in (NotReadable, ap own_refusal (sym same))
-refusal_told Sum true WriteOnly error is = let same : store.NotReadable ≡ error = cc in (NotReadable, ap own_refusal (sym same))
-refusal_told Count true Disabled error is = let same : store.NotReadable ≡ error = cc in (NotReadable, ap own_refusal (sym same))
-refusal_told Sum true Disabled error is = let same : store.NotReadable ≡ error = cc in (NotReadable, ap own_refusal (sym same))
+refusal_told Count true WriteOnly error is = let same : store.NotReadable ≡ error = cc in (NotReadable, ap step_refusal (sym same))
+refusal_told Sum true WriteOnly error is = let same : store.NotReadable ≡ error = cc in (NotReadable, ap step_refusal (sym same))
+refusal_told Count true Disabled error is = let same : store.NotReadable ≡ error = cc in (NotReadable, ap step_refusal (sym same))
+refusal_told Sum true Disabled error is = let same : store.NotReadable ≡ error = cc in (NotReadable, ap step_refusal (sym same))
 
 module _ (opened : Opened) (name : List ℕ) (group : List Cell) where
   -- the index of the name at a store that was opened so
@@ -58,8 +58,8 @@ module _ (opened : Opened) (name : List ℕ) (group : List Cell) where
 
   -- what the serial store does
   served_so : {o : Option StoreError} (index : IndexDefinition) (s : Store) → IsOpenAs (at opened) s → find_index opened.schema name ≡ Some index → why index ≡ o →
-      served_aggregate s group (find_index s.schema name) ≡ served_total s index group (option_and_then own_refusal o)
-  served_so index s same is none = ap (served_aggregate s group) (found s same is) ∙ ap (λ o. served_total s index group (option_and_then own_refusal o)) (alike index s same none)
+      served_aggregate s group (find_index s.schema name) ≡ served_total s index group (option_and_then step_refusal o)
+  served_so index s same is none = ap (served_aggregate s group) (found s same is) ∙ ap (λ o. served_total s index group (option_and_then step_refusal o)) (alike index s same none)
 
   -- what is read where the index is known, and whether a refusal stands against it
   read_so : {o : Option StoreError} (index : IndexDefinition) → find_index opened.schema name ≡ Some index → why index ≡ o →

@@ -16,7 +16,7 @@ use Rattle.record_store.specs.Calls.{done_or_refused, in_write_only, write_only_
 use Rattle.record_store.specs.Opening.{opening_reach}
 use Rattle.online_builder.specs.declared.progress.Progress.{Progress}
 use Rattle.online_builder.specs.declared.progress.Progress.TheVariants as progress
-use Rattle.online_builder.specs.Stepping.{Plan, has_built, step_call, step_service}
+use Rattle.online_builder.specs.Stepping.{BuildTask, has_built, step_call, step_service}
 use Rattle.schedule.specs.declared.refusal.Refusal.TheVariants.{BadLimit, NoStore, UnknownIndex, WrongState}
 use Rattle.schedule.specs.declared.reply.Reply.TheVariants as reply
 use Rattle.schedule.specs.declared.step.Command.TheVariants.{Build}
@@ -76,7 +76,7 @@ build_reads name limit (progress.Built records range) = refl
 build_reads name limit progress.Finished = refl
 
 module _ (opened : Opened) (name : List ℕ) (more : ℕ) where
-  abbrev plan : Plan
+  abbrev plan : BuildTask
   plan = record { name = name; limit = suc more }
 
   -- the index of the name at a store that was opened so

@@ -17,8 +17,8 @@ use Rattle.schedule.specs.declared.database.Unreported.{Unreported}
 use Rattle.schedule.specs.declared.transcript.CommitEntry.{CommitEntry}
 use Rattle.schedule.specs.Past.{Past, Attempt, Open, Submission, grown, open_of, submitted_in, is_accepted, submission, submitted_after}
 use Rattle.schedule.specs.Contract.{InTransaction, IsCommandReply, begin_reply, commit_reply}
-use Rattle.schedule.specs.Standing.{commits_of, stepped}
-use Rattle.schedule.specs.Turns.{IsOpenAs, fresh}
+use Rattle.schedule.specs.Standing.{cluster_stepped, commits_of}
+use Rattle.schedule.specs.Turns.{IsOpenTransaction, fresh_request}
 use Rattle.schedule.specs.Running.{ArePlaces, IsOpen, IsPlace, IsPerformedBy, IsStanding, IsStandingAt, IsStepped, IsSubmit, submitted_by}
 use Rattle.schedule.proofs.Places.{accepted-append, changed_at, client_there, place_found, place_none, place_some, places_same, places_set}
 use Rattle.schedule.proofs.Composed.{command_right}
@@ -83,14 +83,14 @@ same_requests old new same = ap (λ (c : ClusterState). c.pipeline.requests) sam
 -- ---- begin
 
 pub begin_steps : (old new : Database) (client version : ℕ) (found : Option OpenTransaction) (transaction : OpenTransaction) → client < CLIENTS →
-    found ≡ get_or old.transactions.items client found → found ≡ None → version ≡ old.cluster.pipeline.reported → transaction.transaction ≡ fresh version → transaction.commands.items ≡ [] →
+    found ≡ get_or old.transactions.items client found → found ≡ None → version ≡ old.cluster.pipeline.reported → transaction.transaction ≡ fresh_request version → transaction.commands.items ≡ [] →
     IsSet old new client (Some transaction) → IsStepped (Begin client) (Begun version) old new
 begin_steps old new client version found transaction there is closed at is_fresh none set past s =
     let maps = database_at old.cluster in
     let placed : IsPlace maps old.cluster.pipeline.reported (open_of client past) None = subst (λ (o : Option OpenTransaction). IsPlace maps old.cluster.pipeline.reported (open_of client past) o) closed (placed_at _ _ old client found there is s) in
     let begun : Open = record { read_version = version; attempts = [] } in
     let now_open : IsOpen maps old.cluster.pipeline.reported begun transaction = record {
-      done = subst (IsOpenAs maps old.cluster.pipeline.reported begun) (sym is_fresh) (open_fresh maps old.cluster.pipeline.reported version (omega (arith, at)));
+      done = subst (IsOpenTransaction maps old.cluster.pipeline.reported begun) (sym is_fresh) (open_fresh maps old.cluster.pipeline.reported version (omega (arith, at)));
       commands = none;
     } in
     record {
@@ -220,7 +220,7 @@ commit_steps old mid new client reply found ended there is opened set submits pa
     let done = submits (changed_at client (λ _. None) (λ who. open_of who past)) (submitted_in past) open_now between (subst (λ (c : ClusterState). IsOpen (database_at c) c.pipeline.reported open_now ended) (sym set.cluster) is_open) in
     record {
       right = client_there client reply _ there (subst (λ o. InTransaction o (λ now. reply ≡ commit_reply old.cluster now) reply) (sym e) (done.right ∙ ap (λ c. commit_reply c open_now) set.cluster));
-      moved = λ more. ap (stepped (new.cluster.pipeline.requests ++ more) (Commit client) reply) (sym set.cluster) ∙ done.moved more;
+      moved = λ more. ap (cluster_stepped (new.cluster.pipeline.requests ++ more) (Commit client) reply) (sym set.cluster) ∙ done.moved more;
       added = done.added;
       grown = done.grown ∙ ap (λ (c : ClusterState). c.pipeline.requests ++ done.added) set.cluster;
       after = subst (λ subs. IsStanding (changed_at client (λ _. None) (λ who. open_of who past)) subs new) (submitted_same client past open_now reply (submitted_in past) e) done.after;

@@ -29,10 +29,11 @@ use Rattle.schedule.specs.Past.{Attempt, Open, Submission, accepted, is_accepted
 use Rattle.schedule.specs.Holds.{Stands}
 use Rattle.schedule.specs.Reach.{opened_in, reach}
 use Rattle.schedule.specs.Performed.{IsServed, IsReadRefusal, IsPerformed}
-use Rattle.schedule.specs.Commits.{committed, view}
+use Rattle.schedule.specs.Commits.{committed_store, view}
 use Rattle.schedule.specs.Standing.{is_told, is_listed, listed, commit_entry, commits_of}
-use Rattle.schedule.specs.Contract.{attempted, written, AreReads, IsSerialAt, IsSerial, HoldsCommitted, AreRequestsOf, IsCommandReply, IsUnread}
-use Rattle.schedule.specs.Turns.{fresh, IsOpenAs, AreSubmitted}
+use Rattle.schedule.specs.Contract.{attempted, commands_written, AreReads, IsSerialAt, IsSerial, HoldsCommitted}
+use Rattle.schedule.specs.Contract.{AreRequestsOf, IsCommandReply, IsReadRefused}
+use Rattle.schedule.specs.Turns.{fresh_request, IsOpenTransaction, AreSubmitted}
 use Rattle.schedule.proofs.Turning.{after_attempts, attempts_effects, done_serve, done_writes, done_reads}
 
 -- an attempt has its reply, where it was accepted
@@ -68,7 +69,7 @@ module _ (p : PipelineState) (subs : List Submission) where
   record IsPair (entry : Entry) (one : Submission) : Type 0 where
     same_version : entry.version ≡ one.version
     commands : commands_of entry ≡ one.transaction.attempts
-    open_as : IsOpenAs maps p.reported one.transaction entry.request
+    open_as : IsOpenTransaction maps p.reported one.transaction entry.request
     same_end : is_told (outcome p one.version) ≡ is_committed p.splits (entries p) entry
 
   abbrev ArePairs : List Entry → List Submission → Type 0
@@ -180,7 +181,7 @@ module _ (p : PipelineState) (subs : List Submission) where
 
     one_replays : (entry : Entry) (one : Submission) → IsPair entry one → Replays Stands Replied attempted commands_of (history p) entry
     one_replays entry one pair m serial holds agree =
-        let served = done_serve maps one.transaction.attempts (fresh one.transaction.read_version) entry.request pair.open_as.done m serial agree holds in (
+        let served = done_serve maps one.transaction.attempts (fresh_request one.transaction.read_version) entry.request pair.open_as.done m serial agree holds in (
           subst (AllReplied Stands Replied attempted serial) (sym pair.commands) (serial_replied serial one.transaction.attempts served.0),
           subst (λ attempts. Stands (after_all entry.request.mutations m) (after_attempts serial attempts)) (sym pair.commands) served.1,
         )
@@ -202,17 +203,17 @@ module _ (p : PipelineState) (subs : List Submission) where
     rising : IsRising (history p)
     rising = rising-filter (is_committed p.splits (entries p)) (entries p) (rising-numbered p.start p.requests)
 
-    state_is : (v : ℕ) → v ≤ p.reported → state_at Stands Replied attempted commands_of None (history p) v ≡ committed (commits_of p subs) v
+    state_is : (v : ℕ) → v ≤ p.reported → state_at Stands Replied attempted commands_of None (history p) v ≡ committed_store (commits_of p subs) v
     state_is v below = states_same v below (entries p) subs pairs_now None
 
     -- HOLDS: the map at each version up to the last reported one holds what is committed there
-    pub holds_committed : (v : ℕ) → v ≤ p.reported → Stands (maps v) (committed (commits_of p subs) v)
+    pub holds_committed : (v : ℕ) → v ≤ p.reported → Stands (maps v) (committed_store (commits_of p subs) v)
     holds_committed v below = subst (Stands (maps v)) (state_is v below) (holds_at Stands Replied attempted commands_of None holds_nothing (history p) rising legal replays v)
 
     -- SERIAL: each listed transaction has its replies just before its version
     serial_each : (es : List Entry) (ss : List Submission) → ArePairs es ss →
         AllByRecursion (λ (e : Entry). AllReplied Stands Replied attempted (state_at Stands Replied attempted commands_of None (history p) (e.version - 1)) (commands_of e)) (passing es) →
-        AllByRecursion (λ (one : Submission). IsSerialAt (committed (commits_of p subs) (one.version - 1)) one.transaction.attempts) (filter (is_listed p) ss)
+        AllByRecursion (λ (one : Submission). IsSerialAt (committed_store (commits_of p subs) (one.version - 1)) one.transaction.attempts) (filter (is_listed p) ss)
     serial_each [] [] pairs all = tt
     serial_each [] (one ∷ ss) pairs all = absurd pairs
     serial_each (entry ∷ es) [] pairs all = absurd pairs
@@ -224,14 +225,14 @@ module _ (p : PipelineState) (subs : List Submission) where
         X e = AllReplied Stands Replied attempted (state_at Stands Replied attempted commands_of None (history p) (e.version - 1)) (commands_of e)
 
         Y : Submission → Type 0
-        Y s = IsSerialAt (committed (commits_of p subs) (s.version - 1)) s.transaction.attempts
+        Y s = IsSerialAt (committed_store (commits_of p subs) (s.version - 1)) s.transaction.attempts
 
         here : nat_le one.version p.reported ≡ true → X entry → Y one
         here h x =
             let below : one.version ≤ p.reported = leb-true one.version p.reported h in
             let at : entry.version ≡ one.version = pair.same_version in
-            replied_serial (committed (commits_of p subs) (one.version - 1)) one.transaction.attempts
-            (subst (AllReplied Stands Replied attempted (committed (commits_of p subs) (one.version - 1))) pair.commands
+            replied_serial (committed_store (commits_of p subs) (one.version - 1)) one.transaction.attempts
+            (subst (AllReplied Stands Replied attempted (committed_store (commits_of p subs) (one.version - 1))) pair.commands
             (subst (λ s. AllReplied Stands Replied attempted s (commands_of entry)) (ap (λ v. state_at Stands Replied attempted commands_of None (history p) (v - 1)) at ∙ state_is (one.version - 1) (omega (arith, below))) x))
 
         by_test : (b r : Bool) → nat_le one.version p.reported ≡ r → AllByRecursion X (cond b (entry ∷ passing es) (passing es)) → (AllByRecursion X (passing es) → AllByRecursion Y (filter (is_listed p) ss)) →
@@ -241,28 +242,28 @@ module _ (p : PipelineState) (subs : List Submission) where
         by_test true true is every rest = (here is every.0, rest every.1)
         by_test true false is every rest = rest every.1
 
-    pub serial_all : All (λ (one : Submission). IsSerialAt (committed (commits_of p subs) (one.version - 1)) one.transaction.attempts) (listed p subs)
-    serial_all = All-from_recursion (λ (one : Submission). IsSerialAt (committed (commits_of p subs) (one.version - 1)) one.transaction.attempts) (listed p subs)
+    pub serial_all : All (λ (one : Submission). IsSerialAt (committed_store (commits_of p subs) (one.version - 1)) one.transaction.attempts) (listed p subs)
+    serial_all = All-from_recursion (λ (one : Submission). IsSerialAt (committed_store (commits_of p subs) (one.version - 1)) one.transaction.attempts) (listed p subs)
         (serial_each (entries p) subs pairs_now
         (recursion_from_All (λ (e : Entry). AllReplied Stands Replied attempted (state_at Stands Replied attempted commands_of None (history p) (e.version - 1)) (commands_of e)) (history p)
         (replied_at Stands Replied attempted commands_of None holds_nothing (history p) rising legal replays)))
 
     -- OPEN: what an open transaction wrote and read, and what it sees
-    open_writes : (open_now : Open) (request : CommitRequest) → IsOpenAs maps p.reported open_now request → request.mutations ≡ written (committed (commits_of p subs) open_now.read_version) (accepted open_now.attempts)
+    open_writes : (open_now : Open) (request : CommitRequest) → IsOpenTransaction maps p.reported open_now request → request.mutations ≡ commands_written (committed_store (commits_of p subs) open_now.read_version) (accepted open_now.attempts)
     open_writes open_now request is =
-        done_writes maps open_now.attempts (fresh open_now.read_version) request is.done (maps open_now.read_version) (committed (commits_of p subs) open_now.read_version)
+        done_writes maps open_now.attempts (fresh_request open_now.read_version) request is.done (maps open_now.read_version) (committed_store (commits_of p subs) open_now.read_version)
         (λ key h. ap (λ v. Rattle.std.specs.FinMap.get (maps v) key) is.at) (holds_committed open_now.read_version is.seen)
 
-    open_reads : (open_now : Open) (request : CommitRequest) → IsOpenAs maps p.reported open_now request → AreReads (committed (commits_of p subs) open_now.read_version) open_now.attempts request.reads
+    open_reads : (open_now : Open) (request : CommitRequest) → IsOpenTransaction maps p.reported open_now request → AreReads (committed_store (commits_of p subs) open_now.read_version) open_now.attempts request.reads
     open_reads open_now request is =
-        let (ranges, have, are_these) = done_reads maps open_now.attempts (fresh open_now.read_version) request is.done (maps open_now.read_version) (committed (commits_of p subs) open_now.read_version)
+        let (ranges, have, are_these) = done_reads maps open_now.attempts (fresh_request open_now.read_version) request is.done (maps open_now.read_version) (committed_store (commits_of p subs) open_now.read_version)
         (λ k h. ap (λ v. Rattle.std.specs.FinMap.get (maps v) k) is.at) (holds_committed open_now.read_version is.seen) in
         record { added = ranges; each = have; are = are_these }
 
-    open_sees : (open_now : Open) (request : CommitRequest) → IsOpenAs maps p.reported open_now request → Stands (seen request (maps open_now.read_version)) (view (commits_of p subs) open_now)
+    open_sees : (open_now : Open) (request : CommitRequest) → IsOpenTransaction maps p.reported open_now request → Stands (seen request (maps open_now.read_version)) (view (commits_of p subs) open_now)
     open_sees open_now request is =
-        subst (Stands (seen request (maps open_now.read_version))) (attempts_effects (committed (commits_of p subs) open_now.read_version) open_now.attempts)
-        (done_serve maps open_now.attempts (fresh open_now.read_version) request is.done (maps open_now.read_version) (committed (commits_of p subs) open_now.read_version)
+        subst (Stands (seen request (maps open_now.read_version))) (attempts_effects (committed_store (commits_of p subs) open_now.read_version) open_now.attempts)
+        (done_serve maps open_now.attempts (fresh_request open_now.read_version) request is.done (maps open_now.read_version) (committed_store (commits_of p subs) open_now.read_version)
         (λ key h. ap (λ v. Rattle.std.specs.FinMap.get (maps v) key) is.at) (holds_committed open_now.read_version is.seen)).1
 
     -- REQUESTS: each is that of its submission
@@ -284,9 +285,9 @@ module _ (p : PipelineState) (subs : List Submission) where
 
     -- a reply that was right over every map is right by what the transaction sees
     pub performed_right : (open_now : Open) (request new : CommitRequest) (refuses : ℕ → KeyRange → Rattle.cluster_core.specs.declared.answers.ReadError.ReadError → Type 0) (command : Command) (answer : Reply) →
-        IsOpenAs maps p.reported open_now request → IsPerformed maps (refuses request.read_version) command answer request new →
-        IsServed (written (committed (commits_of p subs) open_now.read_version) (accepted open_now.attempts)) (view (commits_of p subs) open_now) command answer
-        ⊎ IsUnread (refuses open_now.read_version) (view (commits_of p subs) open_now) command answer
+        IsOpenTransaction maps p.reported open_now request → IsPerformed maps (refuses request.read_version) command answer request new →
+        IsServed (commands_written (committed_store (commits_of p subs) open_now.read_version) (accepted open_now.attempts)) (view (commits_of p subs) open_now) command answer
+        ⊎ IsReadRefused (refuses open_now.read_version) (view (commits_of p subs) open_now) command answer
     performed_right open_now request new refuses command answer is performed =
         let base : maps request.read_version ≡ maps open_now.read_version = ap maps is.at in
         let over = performed.ran.over (maps open_now.read_version) (λ key h. ap (λ m. Rattle.std.specs.FinMap.get m key) base) in
@@ -303,7 +304,7 @@ module _ (p : PipelineState) (subs : List Submission) where
 -- ---- as the clauses of a schedule say it
 
 pub command_right : (c : ClusterState) (subs : List Submission) (open_now : Open) (request new : CommitRequest) (command : Command) (answer : Reply) →
-    IsLegal (history c.pipeline) → AreSubmitted (database_at c) c.pipeline.reported c.pipeline.start subs c.pipeline.requests → IsOpenAs (database_at c) c.pipeline.reported open_now request →
+    IsLegal (history c.pipeline) → AreSubmitted (database_at c) c.pipeline.reported c.pipeline.start subs c.pipeline.requests → IsOpenTransaction (database_at c) c.pipeline.reported open_now request →
     IsPerformed (database_at c) (λ range. MayRefuse (tier_of c) range request.read_version) command answer request new →
     IsCommandReply c (commits_of c.pipeline subs) open_now command answer
 command_right c subs open_now request new command answer legal are is performed =

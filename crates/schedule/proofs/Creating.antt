@@ -35,8 +35,8 @@ use Rattle.schedule.specs.Layout.{store_prefix}
 use Rattle.schedule.specs.Serve.{IsReply, served_create}
 use Rattle.schedule.specs.Holds.{Stands}
 use Rattle.schedule.specs.Reach.{opened_in, added_by, make_reach, open_reach, reach, schema_written, writes}
-use Rattle.schedule.specs.Performed.{IsLimited, IsMade, IsMadeOf, IsPerformed, IsPerformedAt, IsSound, IsTold}
-use Rattle.schedule.specs.Calls.{IsRefused, reply_of}
+use Rattle.schedule.specs.Performed.{IsCommandSound, IsLimited, IsMade, IsMadeOf, IsPerformed, IsPerformedAt, IsTold}
+use Rattle.schedule.specs.Calls.{IsCommandRefused, reply_of}
 use Rattle.schedule.proofs.Reached.{begin_open, next_within, opening_asked}
 use Rattle.schedule.proofs.Stops.{IsRight, IsStop, limit_right, own_right, read_right, refused_by, refused_memory, stop_memory, told_read, told_refused}
 
@@ -49,7 +49,7 @@ refusal_replies : (request : SchemaRequest) (serial : Serial) (refusal : SchemaR
 refusal_replies request None refusal is = (sym (ap (λ o. (served_create None o).0) is), ap schema_written is)
 refusal_replies request (Some store) refusal is = (sym (ap (λ o. (served_create (Some store) o).0) is), refl)
 
-pub refused_request : {maps : ℕ → Map} {refuses : KeyRange → ℕ → ReadError → Type 0} {old : CommitRequest} (request : SchemaRequest) (error : MetadataError) → IsRefusedAs error (schema_asked request) → IsRefused maps refuses (Create request) (of_metadata error) old old
+pub refused_request : {maps : ℕ → Map} {refuses : KeyRange → ℕ → ReadError → Type 0} {old : CommitRequest} (request : SchemaRequest) (error : MetadataError) → IsRefusedAs error (schema_asked request) → IsCommandRefused maps refuses (Create request) (of_metadata error) old old
 refused_request request meta.Memory is = refused_memory (Create request)
 refused_request {refuses = refuses} {old = old} request (meta.Refused refusal) is =
     refused_by (Create request) None (Refused refusal) [] (ran_still refl (λ m. record {
@@ -83,7 +83,7 @@ writes_none request schema is = ap schema_written is
 
 -- NOT MADE
 uncreated_at : {maps : ℕ → Map} {refuses : KeyRange → ℕ → ReadError → Type 0} {old new : CommitRequest} (request : SchemaRequest) (schema : Schema) (error : StoreError) → schema_asked request ≡ Ok schema →
-    IsUncreated maps refuses (fresh_at schema) error old new → IsRefused maps refuses (Create request) error old new
+    IsUncreated maps refuses (fresh_at schema) error old new → IsCommandRefused maps refuses (Create request) error old new
 uncreated_at {refuses = refuses} {old = old} request schema error made is = refused_by (Create request) None error is.added (ran_because is.ran (λ m says. stop error is.added m says))
   where
     refused : KeyRange → ReadError → Type 0
@@ -95,7 +95,7 @@ uncreated_at {refuses = refuses} {old = old} request schema error made is = refu
     all : (ranges : List KeyRange) → ranges ≡ opening_reach store_prefix → ranges ≡ open_reach (Create request) ++ []
     all ranges same = same ∙ sym opened ∙ sym (append-nil (open_reach (Create request)))
 
-    sound : (m : Map) (refusal : Refusal) → IsMade (reply.Refused refusal) m → IsSound None (Create request) (reply.Refused refusal) m
+    sound : (m : Map) (refusal : Refusal) → IsMade (reply.Refused refusal) m → IsCommandSound None (Create request) (reply.Refused refusal) m
     sound m refusal is_made = subst (λ o. IsMadeOf o (reply.Refused refusal) m) (sym made) is_made
 
     limited : (m : Map) → get m (schema_key store_prefix) ≡ None → (error : WriteError) (answer : Reply) → reply_of (Write error) ≡ Some answer → IsTold None (Create request) answer m
@@ -155,7 +155,7 @@ uncreated_at {refuses = refuses} {old = old} request schema error made is = refu
     }
 
 pub uncreated : {maps : ℕ → Map} {refuses : KeyRange → ℕ → ReadError → Type 0} {old new : CommitRequest} (request : SchemaRequest) (prefix : List ℕ) (schema : Schema) (error : StoreError) → prefix ≡ store_prefix → schema_asked request ≡ Ok schema →
-    IsUncreated maps refuses (record { prefix = prefix; schema = schema; states = [] }) error old new → IsRefused maps refuses (Create request) error old new
+    IsUncreated maps refuses (record { prefix = prefix; schema = schema; states = [] }) error old new → IsCommandRefused maps refuses (Create request) error old new
 uncreated {maps = maps} {refuses = refuses} {old = old} {new = new} request prefix schema error here made is =
     uncreated_at request schema error made (subst (λ p. IsUncreated maps refuses (record { prefix = p; schema = schema; states = [] }) error old new) here is)
 

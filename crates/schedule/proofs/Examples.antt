@@ -19,7 +19,7 @@ use Rattle.record_store.specs.Store.{Serial}
 use Rattle.record_store.specs.Layout.{place, record_key, record_value, schema_key, states_range}
 use Rattle.schedule.specs.Serve.{served, effects}
 use Rattle.schedule.specs.Past.{Past, open_of, submitted_in}
-use Rattle.schedule.specs.Commits.{committed}
+use Rattle.schedule.specs.Commits.{committed_store}
 use Rattle.schedule.specs.Standing.{cluster_after, commits_of}
 use Rattle.schedule.specs.Contract.{begin_reply, commit_reply, past_of, role_reply, settle_reply}
 use Rattle.schedule.specs.Reach.{opened_in, own_reading, writes}
@@ -172,7 +172,7 @@ listed_two : commits
     ∷ record { version = 2; client = 0; read_version = 1; commands = Load t (i 2 ∷ []) ∷ save 1 1 ∷ [] } ∷ []
 listed_two = refl
 
-before_and_after : (committed commits 1 ≡ effects None (create ∷ save 1 0 ∷ save 2 0 ∷ [])) × (committed commits 3 ≡ effects None (create ∷ save 1 1 ∷ save 2 0 ∷ []))
+before_and_after : (committed_store commits 1 ≡ effects None (create ∷ save 1 0 ∷ save 2 0 ∷ [])) × (committed_store commits 3 ≡ effects None (create ∷ save 1 1 ∷ save 2 0 ∷ []))
 before_and_after = (refl, refl)
 
 -- a commit of a transaction that only read is read only, and one that read too long ago is refused

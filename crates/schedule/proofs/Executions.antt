@@ -53,8 +53,8 @@ use Rattle.schedule.specs.Executed.{PlanSteps, plan_steps, steps_damage, steps_r
 use Rattle.schedule.specs.Executions.{IsExecution, IsNoExecution, found, other_schema, unreadable}
 use Rattle.schedule.specs.Query.{opened_as}
 use Rattle.schedule.specs.Reach.{opened_in, added_by, open_reach, own_damage, own_reading, reach, writes}
-use Rattle.schedule.specs.Performed.{IsPerformed, IsPerformedAt, IsReadRefusedAs, IsSound}
-use Rattle.schedule.specs.Calls.{IsRefused}
+use Rattle.schedule.specs.Performed.{IsCommandSound, IsPerformed, IsPerformedAt, IsReadRefusedAs}
+use Rattle.schedule.specs.Calls.{IsCommandRefused}
 use Rattle.schedule.proofs.Outcomes.{answered_as, at_serial, begin_serial, located}
 use Rattle.schedule.proofs.Looking.{Looks, looked}
 use Rattle.schedule.proofs.Reached.{all_added, next_within, own_asked, told_refusal}
@@ -105,7 +105,7 @@ executed_at {refuses = refuses} {old = old} opened command plan rows executes is
     so : Executes (at opened) command plan is.type
     so = executes is.type is.accepted
 
-    sound : (m : Map) → HasRows (at opened) plan is.type rows is.added m → IsSound (Some (at opened)) command answer m
+    sound : (m : Map) → HasRows (at opened) plan is.type rows is.added m → IsCommandSound (Some (at opened)) command answer m
     sound m fact = (
       subst (λ (r : Reading). call.IsSound (at opened) r m) (sym so.reads) tt,
       so.damage m ∙ no_damage (node_reading store_prefix (entries m) is.type (plan_of plan).root).found rows (node_ok store_prefix (entries m) is.type (plan_of plan).root ∙ fact.meaning),
@@ -124,7 +124,7 @@ executed_at {refuses = refuses} {old = old} opened command plan rows executes is
 -- NOT EXECUTED: a store was opened, and a plan wasn't executed
 unexecuted_at : {maps : ℕ → Map} {refuses : KeyRange → ℕ → ReadError → Type 0} {old mid new : CommitRequest} (opened : Opened) (command : Command) (plan : AskedPlan) (error : StoreError) →
     ((t : TypeDefinition) → Accepts (at opened) (plan_of plan) t → Executes (at opened) command plan t) → IsOpened maps (at opened) old mid → IsNoExecution maps refuses (at opened) plan error mid new →
-    IsRefused maps refuses command error old new
+    IsCommandRefused maps refuses command error old new
 unexecuted_at {maps = maps} {refuses = refuses} {old = old} {mid = mid} {new = new} opened command plan error executes is_opened met_error = by_error error met_error
   where
     refused : KeyRange → ReadError → Type 0
@@ -170,7 +170,7 @@ unexecuted_at {maps = maps} {refuses = refuses} {old = old} {mid = mid} {new = n
         none None holds not = absurd not
         none (Some store) holds same = absurd (met.damage.1 store holds same)
 
-    by_error : (error : StoreError) → IsNoExecution maps refuses (at opened) plan error mid new → IsRefused maps refuses command error old new
+    by_error : (error : StoreError) → IsNoExecution maps refuses (at opened) plan error mid new → IsCommandRefused maps refuses command error old new
     by_error fault.Memory is = refused_by command (Some (at opened)) fault.Memory (opening_reach store_prefix ++ is.added) (ran_then is_opened.ran is.ran (λ m has met. memory is.type (executes is.type is.accepted) is.added m has met))
     by_error (fault.Read reason) is = refused_by command (Some (at opened)) (fault.Read reason) (opening_reach store_prefix ++ is.added) (ran_then is_opened.ran is.ran (λ m has met. unread is.type (executes is.type is.accepted) reason is.added m has met))
     by_error (fault.Corrupt key) is = refused_by command (Some (at opened)) (fault.Corrupt key) (opening_reach store_prefix ++ is.added) (ran_then is_opened.ran is.ran (λ m has met. damaged is.type (executes is.type is.accepted) key is.added m has met))
@@ -194,7 +194,7 @@ module _ {maps : ℕ → Map} {old mid new : CommitRequest} (opened : Opened) (c
       executed_at opened command plan rows executes (subst (λ o. IsOpened maps o old mid) (located opened here) is_opened) (subst (λ o. IsExecuted maps o plan rows mid new) (located opened here) is)
 
   -- NOT EXECUTED
-  pub unexecuted : {refuses : KeyRange → ℕ → ReadError → Type 0} (error : StoreError) → IsNoExecution maps refuses opened plan error mid new → IsRefused maps refuses command error old new
+  pub unexecuted : {refuses : KeyRange → ℕ → ReadError → Type 0} (error : StoreError) → IsNoExecution maps refuses opened plan error mid new → IsCommandRefused maps refuses command error old new
   unexecuted {refuses = refuses} error is =
       unexecuted_at opened command plan error executes (subst (λ o. IsOpened maps o old mid) (located opened here) is_opened) (subst (λ o. IsNoExecution maps refuses o plan error mid new) (located opened here) is)
 

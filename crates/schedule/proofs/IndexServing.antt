@@ -23,7 +23,7 @@ use Rattle.schedule.specs.declared.reply.Reply.{Reply}
 use Rattle.schedule.specs.declared.reply.Reply.TheVariants as reply
 use Rattle.schedule.specs.Serve.{served_by, served_disable, served_drop, served_index, served_state, served_write_only}
 use Rattle.schedule.specs.Reach.{call_reading, dropping, indexing, marking}
-use Rattle.schedule.specs.Calls.{IsRefused}
+use Rattle.schedule.specs.Calls.{IsCommandRefused}
 use Rattle.schedule.specs.Refusals.{of_schema}
 use Rattle.schedule.specs.Performed.{IsPerformed}
 use Rattle.schedule.specs.Layout.{store_prefix}
@@ -220,7 +220,7 @@ state_performed opened name state here is_opened is =
     performed opened (State name) (λ o. state_call o name) told_index state here (state_meets opened name) is_opened (state_answered opened name state is)
 
 pub state_refused : {maps : ℕ → Map} {refuses : KeyRange → ℕ → ReadError → Type 0} {old new : CommitRequest} (opened : Opened) (name : List ℕ) (refusal : Refusal) → opened.prefix ≡ store_prefix → IsOpened maps opened old new →
-    state_named opened name ≡ Err refusal → IsRefused maps refuses (State name) (Refused refusal) old new
+    state_named opened name ≡ Err refusal → IsCommandRefused maps refuses (State name) (Refused refusal) old new
 state_refused {maps = maps} {old = old} {new = new} opened name refusal here is_opened is =
     refused_own opened (State name) (of_schema refusal) (state_refuses opened name refusal (state_unknown opened.states (find_index opened.schema name) refusal is))
     (subst (λ o. IsOpened maps o old new) (located opened here) is_opened) (Refused refusal) refl

@@ -12,7 +12,7 @@ use Rattle.txn.proofs.Running.{ran_because, ran_then}
 use Rattle.metadata.specs.declared.refusal.MetadataError.{MetadataError}
 use Rattle.metadata.specs.declared.refusal.MetadataError.TheVariants as meta
 use Rattle.metadata.specs.declared.refusal.Refusal.{Refusal as SchemaRefusal}
-use Rattle.schedule.specs.Refusals.{of_schema, own_refusal}
+use Rattle.schedule.specs.Refusals.{of_schema, step_refusal}
 use Rattle.schedule.specs.declared.refusal.Refusal.{Refusal}
 use Rattle.schedule.specs.declared.refusal.Refusal.TheVariants.{NoStore}
 use Rattle.metadata.specs.Answers.{IsRefusedAs}
@@ -34,8 +34,9 @@ use Rattle.schedule.specs.Serve.{IsReply, effect}
 use Rattle.schedule.specs.Past.{is_accepted, is_reading}
 use Rattle.schedule.specs.Holds.{Stands}
 use Rattle.schedule.specs.Reach.{opened_in, added_by, open_reach, own_damage, own_reading, reach, writes}
-use Rattle.schedule.specs.Performed.{IsLimited, IsPerformed, IsPerformedAt, IsReadAs, IsReadRefusedAs, IsSound, IsTold}
-use Rattle.schedule.specs.Calls.{IsRefused, reply_of}
+use Rattle.schedule.specs.Performed.{IsCommandSound, IsLimited, IsPerformed, IsPerformedAt, IsReadAs, IsReadRefusedAs}
+use Rattle.schedule.specs.Performed.{IsTold}
+use Rattle.schedule.specs.Calls.{IsCommandRefused, reply_of}
 use Rattle.schedule.proofs.Reached.{added_begin, all_added, alone, begin_open, next_within, opening_added, opening_asked, own_asked, sound_by, sound_none, told_accepted}
 use Rattle.schedule.proofs.Stops.{HasStopped, IsRight, IsStop, at, limit_right, memory_opened, own_right, read_right, refused_by, served_idle, opened_is, stop_memory, told_damage, told_limit, told_read, told_refused}
 use Rattle.schedule.proofs.Outcomes.{at_serial, located}
@@ -46,7 +47,7 @@ pub record Looks (opened : Opened) (command : Command) (answer : Reply) : Type 0
   pub reads : own_reading (Some opened) command ≡ whole []
   pub undamaged : (m : Map) → own_damage (Some opened) command m ≡ None
   pub reading : is_reading command answer ≡ true
-  pub told : (m : Map) → IsSound (Some opened) command answer m → IsTold (Some opened) command answer m
+  pub told : (m : Map) → IsCommandSound (Some opened) command answer m → IsTold (Some opened) command answer m
   pub replies : (store : Store) → IsOpenAs opened store → IsReply (Some store) command answer
   pub idle : (store : Store) → IsOpenAs opened store → writes (Some store) command ≡ []
   pub leaves : (store : Store) → IsOpenAs opened store → effect (Some store) command ≡ Some store
@@ -89,6 +90,6 @@ looked {maps = maps} {old = old} {new = new} opened command answer here looks is
 
 -- LOOKED: memory is wanting
 pub looked_memory : {maps : ℕ → Map} {refuses : KeyRange → ℕ → ReadError → Type 0} {old new : CommitRequest} (opened : Opened) (command : Command) → opened.prefix ≡ store_prefix →
-    open_reach command ≡ opening_reach store_prefix → IsOpened maps opened old new → IsRefused maps refuses command Memory old new
+    open_reach command ≡ opening_reach store_prefix → IsOpened maps opened old new → IsCommandRefused maps refuses command Memory old new
 looked_memory {maps = maps} {old = old} {new = new} opened command here opens is_opened =
     memory_opened opened command opens (subst (λ o. IsOpened maps o old new) (located opened here) is_opened)

@@ -12,7 +12,7 @@ use Rattle.txn.proofs.Running.{ran_because, ran_then}
 use Rattle.metadata.specs.declared.refusal.MetadataError.{MetadataError}
 use Rattle.metadata.specs.declared.refusal.MetadataError.TheVariants as meta
 use Rattle.metadata.specs.declared.refusal.Refusal.{Refusal as SchemaRefusal}
-use Rattle.schedule.specs.Refusals.{of_schema, own_refusal}
+use Rattle.schedule.specs.Refusals.{of_schema, step_refusal}
 use Rattle.schedule.specs.declared.refusal.Refusal.{Refusal}
 use Rattle.schedule.specs.declared.refusal.Refusal.TheVariants.{NoStore}
 use Rattle.metadata.specs.Answers.{IsRefusedAs}
@@ -34,14 +34,15 @@ use Rattle.schedule.specs.Serve.{IsReply, effect}
 use Rattle.schedule.specs.Past.{is_accepted, is_reading}
 use Rattle.schedule.specs.Holds.{Stands}
 use Rattle.schedule.specs.Reach.{opened_in, added_by, open_reach, own_damage, own_reading, reach, writes}
-use Rattle.schedule.specs.Performed.{IsLimited, IsPerformed, IsPerformedAt, IsReadAs, IsReadRefusedAs, IsSound, IsTold}
-use Rattle.schedule.specs.Calls.{IsRefused, reply_of}
+use Rattle.schedule.specs.Performed.{IsCommandSound, IsLimited, IsPerformed, IsPerformedAt, IsReadAs, IsReadRefusedAs}
+use Rattle.schedule.specs.Performed.{IsTold}
+use Rattle.schedule.specs.Calls.{IsCommandRefused, reply_of}
 use Rattle.schedule.proofs.Reached.{added_begin, all_added, alone, begin_open, next_within, opening_added, opening_asked, own_asked, sound_by, sound_none, told_accepted}
 use Rattle.schedule.proofs.Stops.{HasStopped, IsRight, IsStop, at, limit_right, memory_opened, own_right, read_right, refused_by, served_idle, opened_is, stop_memory, told_damage, told_limit, told_read, told_refused}
 
 -- UNOPENED: no store was opened
 pub refused_unopened : {maps : ℕ → Map} {refuses : KeyRange → ℕ → ReadError → Type 0} {old new : CommitRequest} (command : Command) (error : StoreError) → open_reach command ≡ opening_reach store_prefix → IsReply None command (reply.Refused NoStore) →
-    writes None command ≡ [] → IsUnopened maps refuses store_prefix error old new → IsRefused maps refuses command error old new
+    writes None command ≡ [] → IsUnopened maps refuses store_prefix error old new → IsCommandRefused maps refuses command error old new
 refused_unopened {refuses = refuses} {old = old} command error opens is none unopened = refused_by command None error unopened.added (ran_because unopened.ran (λ m says. stop error unopened.added m says))
   where
     refused : KeyRange → ReadError → Type 0
@@ -92,7 +93,7 @@ refused_unopened {refuses = refuses} {old = old} command error opens is none uno
 abbrev pub Objects : Opened → Command → Objection → Type 0
 Objects opened command Never = Unit {0}
 Objects opened command (Where error test) =
-    (refusal : Refusal) × (own_refusal error ≡ Some refusal)
+    (refusal : Refusal) × (step_refusal error ≡ Some refusal)
     × ((store : Store) → IsOpenAs opened store → test store ≡ true → IsReply (Some store) command (reply.Refused refusal) × (writes (Some store) command ≡ []))
 
 -- what a command is by the service that it asks of the store: it reads the same behind the opening, and at each store that was opened so and isn't objected to it replies as the service answers, leaves what that leaves, and writes the same
@@ -118,7 +119,7 @@ pub record Refuses (opened : Opened) (command : Command) (refusal : Refusal) : T
 -- what a command is by its call
 abbrev pub Meets : {A : Type 0} → Opened → Command → Call A → (A → Reply) → Type 0
 Meets opened command (Ok service) told = Serves opened command service told
-Meets opened command (Err error) told = (refusal : Refusal) × (own_refusal error ≡ Some refusal) × Refuses opened command refusal
+Meets opened command (Err error) told = (refusal : Refusal) × (step_refusal error ≡ Some refusal) × Refuses opened command refusal
 
 -- nothing is written when a store is opened
 unwritten : {maps : ℕ → Map} {old new : CommitRequest} (opened : Opened) → IsOpened maps (at opened) old new → new.mutations ≡ old.mutations
@@ -134,7 +135,7 @@ begin_serial opened command m serial ranges holds has begin = subst (IsBeginning
 
 -- OWN: a store was opened, and the command has its own refusal, which is told by an error behind all reads
 module _ {maps : ℕ → Map} {refuses : KeyRange → ℕ → ReadError → Type 0} {old mid : CommitRequest} (opened : Opened) (command : Command) (refusal : Refusal) (so : Refuses (at opened) command refusal) (is : IsOpened maps (at opened) old mid) where
-  own_stopped : (error : StoreError) → reply_of error ≡ Some (reply.Refused refusal) → ((all ranges : List KeyRange) → ranges ≡ all → HasStopped error all ranges) → IsRefused maps refuses command error old mid
+  own_stopped : (error : StoreError) → reply_of error ≡ Some (reply.Refused refusal) → ((all ranges : List KeyRange) → ranges ≡ all → HasStopped error all ranges) → IsCommandRefused maps refuses command error old mid
   own_stopped error replied stopped =
       refused_by command (Some (at opened)) error (opening_reach store_prefix) (ran_because is.ran (λ m has. record {
         there = (refl, has.0);
@@ -150,7 +151,7 @@ module _ {maps : ℕ → Map} {refuses : KeyRange → ℕ → ReadError → Type
       right m None has = absurd has
       right m (Some store) has = own_right (λ range. refuses range old.read_version) command old.mutations error refusal m (Some store) replied (so.replies store has) (so.idle store has)
 
-  pub refused_own : (error : StoreError) → own_refusal error ≡ Some refusal → IsRefused maps refuses command error old mid
+  pub refused_own : (error : StoreError) → step_refusal error ≡ Some refusal → IsCommandRefused maps refuses command error old mid
   refused_own (Refused why) own = own_stopped (Refused why) (ap (option_map reply.Refused) own) (λ all ranges same. same)
   refused_own fault.NotAggregate own = own_stopped fault.NotAggregate (ap (option_map reply.Refused) own) (λ all ranges same. same)
   refused_own fault.NotReadable own = own_stopped fault.NotReadable (ap (option_map reply.Refused) own) (λ all ranges same. same)
@@ -212,11 +213,11 @@ performed_at {refuses = refuses} {old = old} {mid = mid} {A = A} opened command 
 
 -- NOT ANSWERED: a store was opened, and a call on it was refused
 refused_at : {maps : ℕ → Map} {refuses : KeyRange → ℕ → ReadError → Type 0} {old mid new : CommitRequest} {A : Type 0} (opened : Opened) (command : Command) (asked : Call A) (told : A → Reply) (error : StoreError) →
-    open_reach command ≡ opening_reach store_prefix → Meets (at opened) command asked told → IsOpened maps (at opened) old mid → call.IsRefused maps refuses (at opened) asked error mid new → IsRefused maps refuses command error old new
+    open_reach command ≡ opening_reach store_prefix → Meets (at opened) command asked told → IsOpened maps (at opened) old mid → call.IsRefused maps refuses (at opened) asked error mid new → IsCommandRefused maps refuses command error old new
 refused_at {maps = maps} {refuses = refuses} {old = old} {mid = mid} {new = new} opened command (Err refusal) told error opens (asked, same, meets) is_opened is =
-    subst (λ (t : CommitRequest). IsRefused maps refuses command error old t) (sym is.1) (elim is.0 [
-      | inl memory ↦ subst (λ e. IsRefused maps refuses command e old mid) (sym memory) (memory_opened opened command opens is_opened)
-      | inr own ↦ subst (λ e. IsRefused maps refuses command e old mid) (sym own) (refused_own opened command asked meets is_opened refusal same)
+    subst (λ (t : CommitRequest). IsCommandRefused maps refuses command error old t) (sym is.1) (elim is.0 [
+      | inl memory ↦ subst (λ e. IsCommandRefused maps refuses command e old mid) (sym memory) (memory_opened opened command opens is_opened)
+      | inr own ↦ subst (λ e. IsCommandRefused maps refuses command e old mid) (sym own) (refused_own opened command asked meets is_opened refusal same)
     ])
 refused_at {refuses = refuses} {old = old} {mid = mid} opened command (Ok service) told error opens serves is_opened is =
     refused_by command (Some (at opened)) error (opening_reach store_prefix ++ is.added) (ran_then is_opened.ran is.ran (λ m has says. stop error is.added m has says))
@@ -228,12 +229,12 @@ refused_at {refuses = refuses} {old = old} {mid = mid} opened command (Ok servic
     same_version = is_opened.ran.version
 
     -- the store that is there is objected to
-    objected : (error : StoreError) → ((refusal : Refusal) → own_refusal error ≡ Some refusal → reply_of error ≡ Some (reply.Refused refusal)) → ((all added : List KeyRange) → added ≡ all → HasStopped error all added) → (ranges : List KeyRange) (m : Map) →
+    objected : (error : StoreError) → ((refusal : Refusal) → step_refusal error ≡ Some refusal → reply_of error ≡ Some (reply.Refused refusal)) → ((all added : List KeyRange) → added ≡ all → HasStopped error all added) → (ranges : List KeyRange) (m : Map) →
         HasSchema (at opened) m × AtSerials store_prefix m (IsThereAs (at opened)) → (objection : Objection) → Objects (at opened) command objection → IsObjectedTo (at opened) service.reading objection error ranges m →
         IsStop refused (Some (at opened)) command old.mutations error (opening_reach store_prefix ++ ranges) m
     objected error replied stopped ranges m has Never objects says = absurd says
     objected error replied stopped ranges m has (Where own test) objects says =
-        let is_reply : reply_of error ≡ Some (reply.Refused objects.0) = replied objects.0 (ap own_refusal says.0 ∙ objects.1) in record {
+        let is_reply : reply_of error ≡ Some (reply.Refused objects.0) = replied objects.0 (ap step_refusal says.0 ∙ objects.1) in record {
           there = (refl, has.0);
           reads = stopped _ _ (all_ranges opened command service told serves ranges m says.1);
           told = λ answer same. told_refused (Some (at opened)) command objects.0 answer m (sym is_reply ∙ same) (sound_by (at opened) command (reply.Refused objects.0) m service.reading serves.reads (serves.undamaged m) says.2);
@@ -247,7 +248,7 @@ refused_at {refuses = refuses} {old = old} {mid = mid} opened command (Ok servic
         right None holds none = absurd none
         right (Some store) holds same =
             let so = objects.2 store same (says.3 store holds same) in
-            own_right refused command old.mutations error objects.0 m (Some store) (replied objects.0 (ap own_refusal says.0 ∙ objects.1)) so.0 so.1
+            own_right refused command old.mutations error objects.0 m (Some store) (replied objects.0 (ap step_refusal says.0 ∙ objects.1)) so.0 so.1
 
     stop : (error : StoreError) (ranges : List KeyRange) (m : Map) → HasSchema (at opened) m × AtSerials store_prefix m (IsThereAs (at opened)) → IsFailure (λ range. refuses range mid.read_version) (at opened) service error mid.mutations ranges m →
         IsStop refused (Some (at opened)) command old.mutations error (opening_reach store_prefix ++ ranges) m
@@ -315,7 +316,7 @@ performed {maps = maps} {old = old} {mid = mid} {new = new} opened command asked
 -- NOT ANSWERED
 pub refused : {maps : ℕ → Map} {refuses : KeyRange → ℕ → ReadError → Type 0} {old mid new : CommitRequest} {A : Type 0} (opened : Opened) (command : Command) (asked : Opened → Call A) (told : A → Reply) (error : StoreError) →
     open_reach command ≡ opening_reach store_prefix → opened.prefix ≡ store_prefix →
-    Meets (at opened) command (asked (at opened)) told → IsOpened maps opened old mid → call.IsRefused maps refuses opened (asked opened) error mid new → IsRefused maps refuses command error old new
+    Meets (at opened) command (asked (at opened)) told → IsOpened maps opened old mid → call.IsRefused maps refuses opened (asked opened) error mid new → IsCommandRefused maps refuses command error old new
 refused {maps = maps} {refuses = refuses} {old = old} {mid = mid} {new = new} opened command asked told error opens here meets is_opened is =
     refused_at opened command (asked (at opened)) told error opens meets (subst (λ o. IsOpened maps o old mid) (located opened here) is_opened)
     (subst (λ o. call.IsRefused maps refuses o (asked o) error mid new) (located opened here) is)
@@ -323,7 +324,7 @@ refused {maps = maps} {refuses = refuses} {old = old} {mid = mid} {new = new} op
 -- OWN REFUSAL: what the command asks for is refused by the schema, before a call is made
 pub refused_asked : {maps : ℕ → Map} {refuses : KeyRange → ℕ → ReadError → Type 0} {old mid : CommitRequest} {A : Type 0} (opened : Opened) (command : Command) (outcome : Result A SchemaRefusal) (error : MetadataError) →
     open_reach command ≡ opening_reach store_prefix → opened.prefix ≡ store_prefix →
-    ((refusal : SchemaRefusal) → outcome ≡ Err refusal → Refuses (at opened) command (of_schema refusal)) → IsOpened maps opened old mid → IsRefusedAs error outcome → IsRefused maps refuses command (of_metadata error) old mid
+    ((refusal : SchemaRefusal) → outcome ≡ Err refusal → Refuses (at opened) command (of_schema refusal)) → IsOpened maps opened old mid → IsRefusedAs error outcome → IsCommandRefused maps refuses command (of_metadata error) old mid
 refused_asked {maps = maps} {old = old} {mid = mid} opened command outcome meta.Memory opens here so is_opened is = memory_opened opened command opens (subst (λ o. IsOpened maps o old mid) (located opened here) is_opened)
 refused_asked {maps = maps} {old = old} {mid = mid} opened command outcome (meta.Refused refusal) opens here so is_opened is =
     refused_own opened command (of_schema refusal) (so refusal is) (subst (λ o. IsOpened maps o old mid) (located opened here) is_opened) (Refused refusal) refl
@@ -331,7 +332,7 @@ refused_asked {maps = maps} {old = old} {mid = mid} opened command outcome (meta
 -- MEMORY: it is wanting after a call that changed nothing
 pub refused_behind : {maps : ℕ → Map} {refuses : KeyRange → ℕ → ReadError → Type 0} {old mid new : CommitRequest} {A : Type 0} (opened : Opened) (command : Command) (asked : Opened → Call A) (told : A → Reply) (answer : A) → opened.prefix ≡ store_prefix →
     Meets (at opened) command (asked (at opened)) told → is_reading command (told answer) ≡ true → IsOpened maps opened old mid → IsAnswered maps opened (asked opened) answer mid new →
-    IsRefused maps refuses command Memory old new
+    IsCommandRefused maps refuses command Memory old new
 refused_behind {maps = maps} {refuses = refuses} {old = old} {new = new} opened command asked told answer here meets reads is_opened is =
     refused_by command so.opened Memory so.added (ran_because
     (subst (λ ms. Ran maps so.added old new ms (λ m. IsReadAs so.opened command (told answer) so.added m × ((serial : Serial) → Stands m serial → IsPerformedAt (λ range error. ⊥) command (told answer) old.mutations so.written so.added m serial)))

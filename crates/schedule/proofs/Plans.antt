@@ -11,7 +11,7 @@ use Rattle.record_store.specs.Call.{IsOpenAs, Opened}
 use Rattle.record_store.specs.Calls.{index_states}
 use Rattle.record_store.specs.Opening.{IsOpened}
 use Rattle.query.specs.declared.error.QueryError.{QueryError}
-use Rattle.query.specs.Checked.{refusal}
+use Rattle.query.specs.Checked.{query_refusal}
 use Rattle.query.specs.Query.{Query}
 use Rattle.query.specs.View.{query_of}
 use Rattle.planner.specs.Asked.{AskedPlan}
@@ -27,7 +27,7 @@ use Rattle.schedule.specs.declared.reply.Reply.TheVariants as reply
 use Rattle.schedule.specs.Layout.{store_prefix}
 use Rattle.schedule.specs.Planning.{IsPlanReply, IsPlanned}
 use Rattle.schedule.specs.Query.{Unrefused, states_of}
-use Rattle.schedule.specs.Performed.{IsPerformed, IsSound, IsTold}
+use Rattle.schedule.specs.Performed.{IsCommandSound, IsPerformed, IsTold}
 use Rattle.schedule.specs.Past.{is_reading}
 use Rattle.schedule.specs.Refusals.{of_query}
 use Rattle.schedule.proofs.Looking.{Looks, looked}
@@ -35,7 +35,7 @@ use Rattle.schedule.proofs.Reached.{told_accepted, told_refusal}
 use Rattle.schedule.proofs.Stops.{at}
 
 -- PLANNED: the planner's plan is the reply
-pub plan_told : (schema : Schema) (states : List (ℕ × State)) (query : Query) (plan : AskedPlan) → refusal schema query ≡ None → is_served schema states query ≡ true → query_of plan.query ≡ query → find_type schema query.record_type ≡ Some plan.definition →
+pub plan_told : (schema : Schema) (states : List (ℕ × State)) (query : Query) (plan : AskedPlan) → query_refusal schema query ≡ None → is_served schema states query ≡ true → query_of plan.query ≡ query → find_type schema query.record_type ≡ Some plan.definition →
     planned plan.definition (usable schema states plan.definition) query ≡ Some (plan_of plan).root → IsPlanReply schema states query (reply.Planned plan)
 plan_told schema states query plan none served asked typed is =
     subst (λ why. Unrefused why (is_served schema states query) (IsPlanned schema states query) (reply.Planned plan)) (sym none)
@@ -44,7 +44,7 @@ plan_told schema states query plan none served asked typed is =
 -- what the reply to a plan tells, whatever is there
 record IsLook (opened : Opened) (query : Query) (answer : Reply) : Type 0 where
   reading : is_reading (Plan query) answer ≡ true
-  told : (m : Map) → IsSound (Some opened) (Plan query) answer m → IsTold (Some opened) (Plan query) answer m
+  told : (m : Map) → IsCommandSound (Some opened) (Plan query) answer m → IsTold (Some opened) (Plan query) answer m
 
 look_refused : (opened : Opened) (query : Query) (refusal : Refusal) (answer : Reply) → answer ≡ reply.Refused refusal → IsLook opened query answer
 look_refused opened query refusal answer is = subst (IsLook opened query) (sym is) (record { reading = refl; told = told_refusal (Some opened) (Plan query) refusal })
@@ -53,7 +53,7 @@ look_planned : (opened : Opened) (query : Query) (answer : Reply) → IsPlanned 
 look_planned opened query answer is = subst (IsLook opened query) (sym is.shown) (record { reading = refl; told = λ m sound. told_accepted (Some opened) (Plan query) (reply.Planned is.plan) m refl sound })
 
 look : (opened : Opened) (query : Query) (answer : Reply) → IsPlanReply opened.schema (index_states opened) query answer → IsLook opened query answer
-look opened query answer is = by_refusal (refusal opened.schema query) (is_served opened.schema (index_states opened) query) is
+look opened query answer is = by_refusal (query_refusal opened.schema query) (is_served opened.schema (index_states opened) query) is
   where
     by_refusal : (why : Option QueryError) (served : Bool) → Unrefused why served (IsPlanned opened.schema (index_states opened) query) answer → IsLook opened query answer
     by_refusal (Some error) served refused = look_refused opened query (of_query error) answer refused

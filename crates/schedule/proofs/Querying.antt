@@ -20,7 +20,7 @@ use Rattle.record_store.specs.Opening.{IsOpened}
 use Rattle.record_store.specs.Store.{Store}
 use Rattle.query.specs.declared.error.QueryError.{QueryError}
 use Rattle.query.specs.declared.filter.Query as declared
-use Rattle.query.specs.Checked.{refusal}
+use Rattle.query.specs.Checked.{query_refusal}
 use Rattle.query.specs.Query.{Allows, Query as Asked}
 use Rattle.query.specs.View.{query_of}
 use Rattle.planner.specs.Asked.{AskedPlan}
@@ -41,7 +41,7 @@ use Rattle.schedule.specs.Layout.{store_prefix}
 use Rattle.schedule.specs.Executed.{query_steps, steps_damage, steps_for, steps_reading, unless_refused}
 use Rattle.schedule.specs.Executions.{IsExecution, IsNoExecution, IsPlanOf, IsQueried, IsUnqueried, bad, found, other_schema, planned_so, unexecuted, unplanned, unreadable, unserved}
 use Rattle.schedule.specs.Performed.{IsPerformed}
-use Rattle.schedule.specs.Calls.{IsRefused}
+use Rattle.schedule.specs.Calls.{IsCommandRefused}
 use Rattle.schedule.specs.Query.{IsQueryReply, IsRowsReply, Unrefused, states_of}
 use Rattle.schedule.specs.Refusals.{of_query}
 use Rattle.schedule.proofs.Executions as run
@@ -54,8 +54,8 @@ use Rattle.schedule.proofs.Stops.{at}
 
 -- what decides about a query is the same at each store that was opened so
 module _ (opened : Opened) (q : Asked) (store : Store) (same : IsOpenAs (at opened) store) where
-  refusal_there : {why : Option QueryError} → refusal opened.schema q ≡ why → refusal store.schema q ≡ why
-  refusal_there is = ap (λ s. refusal s q) same.schema ∙ is
+  refusal_there : {why : Option QueryError} → query_refusal opened.schema q ≡ why → query_refusal store.schema q ≡ why
+  refusal_there is = ap (λ s. query_refusal s q) same.schema ∙ is
 
   served_there : {b : Bool} → is_served opened.schema (index_states opened) q ≡ b → is_served store.schema (states_of store) q ≡ b
   served_there is =
@@ -75,13 +75,13 @@ module _ (opened : Opened) (q : Asked) where
     leaves = λ store same. refl;
   }
 
-  bad_looks : (error : QueryError) → refusal opened.schema q ≡ Some error → Looks (at opened) (Query q) (reply.Refused (of_query error))
+  bad_looks : (error : QueryError) → query_refusal opened.schema q ≡ Some error → Looks (at opened) (Query q) (reply.Refused (of_query error))
   bad_looks error is =
       refused_looks (of_query error)
       (ap (λ why. unless_refused why (is_served opened.schema (index_states (at opened)) q) (option_and_then (steps_for (at opened) q) (find_type opened.schema q.record_type))) is)
       (λ store same. subst (λ why. Unrefused why (is_served store.schema (states_of store) q) (IsRowsReply store q) (reply.Refused (of_query error))) (sym (refusal_there opened q store same is)) refl)
 
-  unserved_looks : refusal opened.schema q ≡ None → is_served opened.schema (index_states opened) q ≡ false → Looks (at opened) (Query q) (reply.Refused SortNotServed)
+  unserved_looks : query_refusal opened.schema q ≡ None → is_served opened.schema (index_states opened) q ≡ false → Looks (at opened) (Query q) (reply.Refused SortNotServed)
   unserved_looks none not =
       refused_looks SortNotServed
       (λ i. unless_refused (none i) (not i) (option_and_then (steps_for (at opened) q) (find_type opened.schema q.record_type)))
@@ -165,8 +165,8 @@ query_performed {maps = maps} {refuses = refuses} {old = old} {mid = mid} {new =
 
 -- NOT ANSWERED
 pub query_refused : {maps : ℕ → Map} {refuses : KeyRange → ℕ → ReadError → Type 0} {old mid new : CommitRequest} (opened : Opened) (query : declared.Query) (error : StoreError) → opened.prefix ≡ store_prefix →
-    IsOpened maps opened old mid → IsUnqueried maps refuses opened query error mid new → IsRefused maps refuses (Query (query_of query)) error old new
+    IsOpened maps opened old mid → IsUnqueried maps refuses opened query error mid new → IsCommandRefused maps refuses (Query (query_of query)) error old new
 query_refused {maps = maps} {refuses = refuses} {old = old} {mid = mid} opened query error here is_opened (unplanned memory unread) =
-    subst (λ t. IsRefused maps refuses (Query (query_of query)) error old t) (sym unread) (subst (λ e. IsRefused maps refuses (Query (query_of query)) e old mid) (sym memory) (looked_memory opened (Query (query_of query)) here refl is_opened))
+    subst (λ t. IsCommandRefused maps refuses (Query (query_of query)) error old t) (sym unread) (subst (λ e. IsCommandRefused maps refuses (Query (query_of query)) e old mid) (sym memory) (looked_memory opened (Query (query_of query)) here refl is_opened))
 query_refused opened query error here is_opened (unexecuted plan is_plan failed) =
     run.unexecuted opened (Query (query_of query)) plan here (query_executes opened query plan (plan_at opened query plan here is_plan)) is_opened error failed

@@ -24,7 +24,8 @@ use Rattle.schedule.specs.declared.reply.Reply.{Reply}
 use Rattle.schedule.specs.declared.reply.Reply.TheVariants as reply
 use Rattle.schedule.specs.Layout.{store_prefix}
 use Rattle.schedule.specs.Past.{is_accepted}
-use Rattle.schedule.specs.Performed.{HasAdded, HasAddedSo, IsMadeOf, IsReadRefusedAs, IsSound, IsSoundSo, IsTold, is_unread}
+use Rattle.schedule.specs.Performed.{HasAdded, HasAddedSo, IsCommandSound, IsMadeOf, IsReadRefusedAs, IsSoundSo, IsTold}
+use Rattle.schedule.specs.Performed.{is_unread}
 use Rattle.schedule.specs.Reach.{added_by, open_reach, own_damage, own_reading, reach}
 
 -- without an open store a command reads nothing of its own
@@ -99,14 +100,14 @@ opening_added opened command m opens none = sym (append-nil (opening_reach store
 -- ---- what a reply tells
 
 -- that all pairs are of the written form
-pub told_refusal : (opened : Option Opened) (command : Command) (refusal : Refusal) (m : Map) → IsSound opened command (reply.Refused refusal) m → IsTold opened command (reply.Refused refusal) m
+pub told_refusal : (opened : Option Opened) (command : Command) (refusal : Refusal) (m : Map) → IsCommandSound opened command (reply.Refused refusal) m → IsTold opened command (reply.Refused refusal) m
 told_refusal opened command refusal m sound = by_test (is_unread (reply.Refused refusal))
   where
     by_test : (b : Bool) → IsSoundSo b opened command (reply.Refused refusal) m
     by_test true = tt
     by_test false = sound
 
-pub told_accepted : (opened : Option Opened) (command : Command) (answer : Reply) (m : Map) → is_accepted answer ≡ true → IsSound opened command answer m → IsTold opened command answer m
+pub told_accepted : (opened : Option Opened) (command : Command) (answer : Reply) (m : Map) → is_accepted answer ≡ true → IsCommandSound opened command answer m → IsTold opened command answer m
 told_accepted opened command (reply.Refused refusal) m is sound = absurd (cc)
 told_accepted opened command (reply.Corrupt key) m is sound = absurd (cc)
 told_accepted opened command (reply.Begun version) m is sound = sound
@@ -128,7 +129,7 @@ told_accepted opened command reply.Nothing m is sound = sound
 told_accepted opened command (reply.Reported reports) m is sound = sound
 
 -- that no schema stands there
-pub sound_none : (command : Command) (m : Map) → get m (schema_key store_prefix) ≡ None → IsSound None command (reply.Refused NoStore) m
+pub sound_none : (command : Command) (m : Map) → get m (schema_key store_prefix) ≡ None → IsCommandSound None command (reply.Refused NoStore) m
 sound_none (Create request) m none = by_schema (schema_asked request)
   where
     by_schema : (o : Result Schema SchemaRefusal) → IsMadeOf o (reply.Refused NoStore) m
@@ -152,5 +153,5 @@ sound_none (State name) m none = none
 sound_none (Aggregate name group) m none = none
 
 -- that all pairs of a reading are, and that there is no damage
-pub sound_by : (opened : Opened) (command : Command) (answer : Reply) (m : Map) (reading : Reading) → own_reading (Some opened) command ≡ reading → own_damage (Some opened) command m ≡ None → call.IsSound opened reading m → IsSound (Some opened) command answer m
+pub sound_by : (opened : Opened) (command : Command) (answer : Reply) (m : Map) (reading : Reading) → own_reading (Some opened) command ≡ reading → own_damage (Some opened) command m ≡ None → call.IsSound opened reading m → IsCommandSound (Some opened) command answer m
 sound_by opened command answer m reading is undamaged good = (subst (λ (r : Reading). call.IsSound opened r m) (sym is) good, undamaged)

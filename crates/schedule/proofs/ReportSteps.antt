@@ -21,7 +21,8 @@ use Rattle.schedule.specs.declared.transcript.CommitEntry.{CommitEntry}
 use Rattle.schedule.specs.Past.{Open, Submission, open_of, submitted_in}
 use Rattle.schedule.specs.Contract.{client_of, report_reply, report_to, reports_reply}
 use Rattle.schedule.specs.Standing.{is_reported, is_told}
-use Rattle.schedule.specs.Running.{IsIdle, IsPlace, IsReported, IsReportedAs, IsStanding, IsStandingAt, IsStepped, IsTelling, IsTold, Steps, Tells, entry_of, kept}
+use Rattle.schedule.specs.Running.{IsIdle, IsPlace, IsReported, IsReportedAs, IsStanding, IsStandingAt, IsStepped}
+use Rattle.schedule.specs.Running.{IsTelling, IsTold, Steps, Tells, kept, unreported_entry}
 use Rattle.schedule.proofs.ClientSteps.{none_added, same_requests, standing_as}
 use Rattle.schedule.proofs.RoleSteps.{OnlyCluster, log_given, standing_moved}
 use Rattle.schedule.proofs.Submitting.{client_here, commits_reported, numbered_length, submitted_later, submitted_length, submitted_versions, version_here}
@@ -119,7 +120,7 @@ standing_reported : (opens : ℕ → Option Open) (submissions : List Submission
     IsStandingAt c opens submissions transactions waiting entries → c.pipeline.reported + 1 ≤ submitted c.pipeline → slice_get submissions (c.pipeline.reported - c.pipeline.start) ≡ Some one →
     next ≡ kept one → left ≡ map kept (drop (c.pipeline.reported - c.pipeline.start + 1) submissions) →
     IsStandingAt (with_pipeline (report c.pipeline) c) opens submissions transactions left
-    (entries ++ cond (is_told (outcome c.pipeline (c.pipeline.reported + 1))) (entry_of (c.pipeline.reported + 1) next ∷ []) [])
+    (entries ++ cond (is_told (outcome c.pipeline (c.pipeline.reported + 1))) (unreported_entry (c.pipeline.reported + 1) next ∷ []) [])
 standing_reported opens submissions c transactions waiting left entries next one s given at is rest =
     let p = c.pipeline in
     let from : p.start ≤ p.reported = s.begun in
@@ -133,7 +134,7 @@ standing_reported opens submissions c transactions waiting left entries next one
       places = λ who there. place_later (database_at c) p.reported (p.reported + 1) (opens who) (get_or transactions who None) (omega arith) (s.places who there);
       unreported = rest ∙ ap (λ n. map kept (drop n submissions)) places;
       commits =
-          (λ i. s.commits i ++ cond (is_told (outcome p (p.reported + 1))) (entry_of (sym version i) (is i) ∷ []) [])
+          (λ i. s.commits i ++ cond (is_told (outcome p (p.reported + 1))) (unreported_entry (sym version i) (is i) ∷ []) [])
           ∙ sym (commits_reported p submissions one versions from at);
       submitted = submitted_later (database_at c) p.reported (p.reported + 1) p.start submissions p.requests (omega arith) s.submitted;
     }
@@ -141,7 +142,7 @@ standing_reported opens submissions c transactions waiting left entries next one
 pub report_told : (opens : ℕ → Option Open) (submissions : List Submission) (old new : Database) (result : Reported) (version : ℕ) (next : Unreported) → IsStanding opens submissions old → AreInOrder new.cluster.pipeline →
     result ≡ cond (may_report old.cluster.pipeline) (outcome old.cluster.pipeline (old.cluster.pipeline.reported + 1)) NothingToDo →
     new.cluster ≡ cond (may_report old.cluster.pipeline) (with_pipeline (report old.cluster.pipeline) old.cluster) old.cluster → (result ≡ NothingToDo → ⊥) → version ≡ new.cluster.pipeline.reported →
-    new.transactions.items ≡ old.transactions.items → old.unreported.items ≡ next ∷ new.unreported.items → new.commits.items ≡ old.commits.items ++ cond (is_told result) (entry_of version next ∷ []) [] →
+    new.transactions.items ≡ old.transactions.items → old.unreported.items ≡ next ∷ new.unreported.items → new.commits.items ≡ old.commits.items ++ cond (is_told result) (unreported_entry version next ∷ []) [] →
     IsTold opens submissions (record { client = next.client; reported = result }) old new
 report_told opens submissions old new result version next s ordered is moved something at transactions popped entries =
     let p = old.cluster.pipeline in
@@ -164,8 +165,8 @@ report_told opens submissions old new result version next s ordered is moved som
       something = something;
       cluster = cluster;
       after = standing_as opens submissions new (with_pipeline (report p) old.cluster) old.transactions.items new.unreported.items
-          (old.commits.items ++ cond (is_told (outcome p (p.reported + 1))) (entry_of (p.reported + 1) next ∷ []) []) cluster transactions refl
-          (entries ∙ (λ i. old.commits.items ++ cond (is_told (told_so i)) (entry_of (is_version i) next ∷ []) []))
+          (old.commits.items ++ cond (is_told (outcome p (p.reported + 1))) (unreported_entry (p.reported + 1) next ∷ []) []) cluster transactions refl
+          (entries ∙ (λ i. old.commits.items ++ cond (is_told (told_so i)) (unreported_entry (is_version i) next ∷ []) []))
           (standing_reported opens submissions old.cluster old.transactions.items old.unreported.items new.unreported.items old.commits.items next one s given here first others);
     }
 

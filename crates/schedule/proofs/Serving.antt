@@ -32,7 +32,8 @@ use Rattle.schedule.specs.declared.step.Command.TheVariants.{«Type», Save, Loa
 use Rattle.schedule.specs.declared.reply.Reply.{Reply}
 use Rattle.schedule.specs.declared.reply.Reply.TheVariants as reply
 use Rattle.schedule.specs.Refusals.{of_schema}
-use Rattle.schedule.specs.Serve.{served_by, served_save, served_load, served_remove, served_type, cells_in, reply_to_save, reply_to_load, reply_to_remove}
+use Rattle.schedule.specs.Serve.{served_by, served_save, served_load, served_remove, served_type, cells_there}
+use Rattle.schedule.specs.Serve.{reply_to_save, reply_to_load, reply_to_remove}
 use Rattle.schedule.specs.Past.{is_accepted, is_reading}
 use Rattle.schedule.specs.Layout.{store_prefix}
 use Rattle.schedule.specs.Reach.{call_reading, schema_written, saving, removing}
@@ -50,7 +51,7 @@ done_meets opened command service told (Err refusal) serves refuses = (of_schema
 -- ---- load
 
 abbrev pub told_load : Option Record → Reply
-told_load found = reply_to_load (cells_in found)
+told_load found = reply_to_load (cells_there found)
 
 load_accepted : (found : Option (List Cell)) → is_accepted (reply_to_load found) ≡ true
 load_accepted None = refl
@@ -72,8 +73,8 @@ load_meets opened name cells = done_meets (at opened) (Load name cells) (load_se
       undamaged = λ m. refl;
       reads = ap (λ o. call_reading (done_with (load_service (at opened)) o)) is;
       objects = tt;
-      accepted = λ found. load_accepted (cells_in found);
-      reading = λ found. load_reads name cells (cells_in found);
+      accepted = λ found. load_accepted (cells_there found);
+      reading = λ found. load_reads name cells (cells_there found);
       replies = λ store lawful same accepted. sym (ap (λ o. (served_by store (served_load store) o).0) (here store same is));
       leaves = λ store same accepted. ap (λ o. (served_by store (served_load store) o).1) (here store same is);
       wrote = λ store same accepted. refl;
@@ -98,7 +99,7 @@ remove_reads : (name : List ℕ) (cells : List Cell) (was_there : Bool) → not 
 remove_reads name cells true = refl
 remove_reads name cells false = refl
 
-removed_reply : (o : Option Record) → removal_reply (is_some o) ≡ reply_to_remove (cells_in o)
+removed_reply : (o : Option Record) → removal_reply (is_some o) ≡ reply_to_remove (cells_there o)
 removed_reply None = refl
 removed_reply (Some r) = refl
 
@@ -133,7 +134,7 @@ remove_meets opened name cells = done_meets (at opened) (Remove name cells) (rem
 -- ---- save
 
 abbrev pub told_save : Option Record → Reply
-told_save old = reply_to_save (cells_in old)
+told_save old = reply_to_save (cells_there old)
 
 save_accepted : (found : Option (List Cell)) → is_accepted (reply_to_save found) ≡ true
 save_accepted None = refl
@@ -206,8 +207,8 @@ save_meets opened name cells r is = subst (λ b. Meets (at opened) (Save name ce
       undamaged = λ m. refl;
       reads = ap (λ o. call_reading (done_with (save_service (at opened)) o)) is;
       objects = tt;
-      accepted = λ old. save_accepted (cells_in old);
-      reading = λ old. save_changes name cells (cells_in old);
+      accepted = λ old. save_accepted (cells_there old);
+      reading = λ old. save_changes name cells (cells_there old);
       replies = λ store lawful same accepted. sym (ap (λ o. (served_by store (served_save store) o).0) (here store same));
       leaves = λ store same accepted. ap (λ o. (served_by store (served_save store) o).1) (here store same);
       wrote = λ store same accepted. ap (saving store) (here store same);

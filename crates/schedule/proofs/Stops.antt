@@ -33,9 +33,10 @@ use Rattle.schedule.specs.Serve.{IsReply, effect}
 use Rattle.schedule.specs.Past.{is_accepted, is_reading}
 use Rattle.schedule.specs.Holds.{Stands}
 use Rattle.schedule.specs.Reach.{opened_in, added_by, open_reach, own_reading, reach, writes}
-use Rattle.schedule.specs.Performed.{HasAdded, HasRead, IsDamaged, IsLimit, IsLimited, IsReadRefusal, IsReadRefusedAs, IsServed, IsSound, IsTold}
+use Rattle.schedule.specs.Performed.{HasAdded, HasOpened, IsCommandSound, IsDamaged, IsLimit, IsLimited, IsReadRefusal}
+use Rattle.schedule.specs.Performed.{IsReadRefusedAs, IsServed, IsTold}
 use Rattle.schedule.specs.Refusals.{of_schema}
-use Rattle.schedule.specs.Calls.{IsRefused, reply_of}
+use Rattle.schedule.specs.Calls.{IsCommandRefused, reply_of}
 use Rattle.schedule.proofs.Reached.{all_added, begin_open, told_refusal}
 
 -- EXIT: the clause on refusals at the exit of a `?`, from the one for the error that it makes
@@ -161,14 +162,14 @@ IsRight refuses command before error m serial = (answer : Reply) → reply_of er
 
 -- what is so of a map, and of all that it holds, where a command stopped with an error
 pub record IsStop (refuses : KeyRange → ReadError → Type 0) (opened : Option Opened) (command : Command) (before : List Mutation) (error : StoreError) (ranges : List KeyRange) (m : Map) : Type 0 where
-  pub there : HasRead opened m
+  pub there : HasOpened opened m
   pub reads : HasStopped error (added_by opened command m) ranges
   pub told : (answer : Reply) → reply_of error ≡ Some answer → IsTold opened command answer m
   pub held : (serial : Serial) → Stands m serial → IsRight refuses command before error m serial × HasStopped error (added_by (opened_in serial) command m) ranges
 
 -- REFUSED: reads, and then an error that is right at all that may be there
 pub refused_by : {maps : ℕ → Map} {refuses : KeyRange → ℕ → ReadError → Type 0} {old new : CommitRequest} (command : Command) (opened : Option Opened) (error : StoreError) (ranges : List KeyRange) →
-    Ran maps ranges old new [] (IsStop (λ range. refuses range old.read_version) opened command old.mutations error ranges) → IsRefused maps refuses command error old new
+    Ran maps ranges old new [] (IsStop (λ range. refuses range old.read_version) opened command old.mutations error ranges) → IsCommandRefused maps refuses command error old new
 refused_by {refuses = refuses} {old = old} {new = new} command opened error ranges ran = record {
   stopped = record {
     opened = opened;
@@ -195,18 +196,18 @@ refused_by {refuses = refuses} {old = old} {new = new} command opened error rang
 }
 
 -- MEMORY: want of memory is no reply
-pub stop_memory : (refuses : KeyRange → ReadError → Type 0) (opened : Option Opened) (command : Command) (before : List Mutation) (ranges : List KeyRange) (m : Map) → HasRead opened m → IsBeginning ranges (added_by opened command m) →
+pub stop_memory : (refuses : KeyRange → ReadError → Type 0) (opened : Option Opened) (command : Command) (before : List Mutation) (ranges : List KeyRange) (m : Map) → HasOpened opened m → IsBeginning ranges (added_by opened command m) →
     ((serial : Serial) → Stands m serial → IsBeginning ranges (added_by (opened_in serial) command m)) → IsStop refuses opened command before Memory ranges m
 stop_memory refuses opened command before ranges m has begin held = record { there = has; reads = begin; told = λ answer is. absurd (cc); held = λ serial stands. (λ answer is. absurd (cc), held serial stands) }
 
 -- it was wanting before anything was read
-pub refused_memory : {maps : ℕ → Map} {refuses : KeyRange → ℕ → ReadError → Type 0} {old : CommitRequest} (command : Command) → IsRefused maps refuses command Memory old old
+pub refused_memory : {maps : ℕ → Map} {refuses : KeyRange → ℕ → ReadError → Type 0} {old : CommitRequest} (command : Command) → IsCommandRefused maps refuses command Memory old old
 refused_memory {refuses = refuses} {old = old} command =
     refused_by command None Memory [] (ran_still refl (λ m.
     stop_memory (λ range. refuses range old.read_version) None command old.mutations [] m tt (none_begin (added_by None command m)) (λ serial stands. none_begin (added_by (opened_in serial) command m))))
 
 -- it was wanting behind the opening
-pub memory_opened : {maps : ℕ → Map} {refuses : KeyRange → ℕ → ReadError → Type 0} {old mid : CommitRequest} (opened : Opened) (command : Command) → open_reach command ≡ opening_reach store_prefix → IsOpened maps (at opened) old mid → IsRefused maps refuses command Memory old mid
+pub memory_opened : {maps : ℕ → Map} {refuses : KeyRange → ℕ → ReadError → Type 0} {old mid : CommitRequest} (opened : Opened) (command : Command) → open_reach command ≡ opening_reach store_prefix → IsOpened maps (at opened) old mid → IsCommandRefused maps refuses command Memory old mid
 memory_opened {refuses = refuses} {old = old} opened command opens is =
     refused_by command None Memory (opening_reach store_prefix) (ran_because is.ran (λ m has.
     stop_memory (λ range. refuses range old.read_version) None command old.mutations (opening_reach store_prefix) m tt
@@ -230,11 +231,11 @@ pub told_damage : (opened : Option Opened) (command : Command) (key : List ℕ) 
 told_damage opened command key answer m is damaged = let same : reply.Corrupt key ≡ answer = cc in subst (λ a. IsTold opened command a m) same damaged
 
 -- the reply that a refusal is
-pub told_refused : (opened : Option Opened) (command : Command) (refusal : Refusal) (answer : Reply) (m : Map) → ◌≡◌ {A = Option Reply} (Some (reply.Refused refusal)) (Some answer) → IsSound opened command (reply.Refused refusal) m → IsTold opened command answer m
+pub told_refused : (opened : Option Opened) (command : Command) (refusal : Refusal) (answer : Reply) (m : Map) → ◌≡◌ {A = Option Reply} (Some (reply.Refused refusal)) (Some answer) → IsCommandSound opened command (reply.Refused refusal) m → IsTold opened command answer m
 told_refused opened command refusal answer m is sound = let same : reply.Refused refusal ≡ answer = cc in subst (λ a. IsTold opened command a m) same (told_refusal opened command refusal m sound)
 
 -- the reply that a limit is
-pub told_limit : (opened : Option Opened) (command : Command) (error : WriteError) (answer : Reply) (m : Map) → reply_of (Write error) ≡ Some answer → ((refusal : Refusal) → (refusal ≡ AlreadyThere → ⊥) → IsSound opened command (reply.Refused refusal) m) → IsTold opened command answer m
+pub told_limit : (opened : Option Opened) (command : Command) (error : WriteError) (answer : Reply) (m : Map) → reply_of (Write error) ≡ Some answer → ((refusal : Refusal) → (refusal ≡ AlreadyThere → ⊥) → IsCommandSound opened command (reply.Refused refusal) m) → IsTold opened command answer m
 told_limit opened command write.KeyOutside answer m is sound = let same : reply.Refused KeyOutside ≡ answer = cc in subst (λ a. IsTold opened command a m) same (sound KeyOutside (λ none. absurd (cc)))
 told_limit opened command write.KeyTooLarge answer m is sound = let same : reply.Refused KeyTooLarge ≡ answer = cc in subst (λ a. IsTold opened command a m) same (sound KeyTooLarge (λ none. absurd (cc)))
 told_limit opened command write.ValueTooLarge answer m is sound = let same : reply.Refused ValueTooLarge ≡ answer = cc in subst (λ a. IsTold opened command a m) same (sound ValueTooLarge (λ none. absurd (cc)))

@@ -15,7 +15,7 @@ use Rattle.cluster_core.proofs.Bridge.{version_at}
 use Rattle.schedule.specs.Past.{Open, Submission}
 use Rattle.schedule.specs.Standing.{is_told, is_listed, commit_entry, commits_of}
 use Rattle.schedule.specs.Contract.{client_of}
-use Rattle.schedule.specs.Turns.{IsOpenAs, IsSubmitted, AreSubmitted}
+use Rattle.schedule.specs.Turns.{IsOpenTransaction, IsSubmitted, AreSubmitted}
 use Rattle.schedule.proofs.Turning.{open_elsewhere, open_later}
 
 -- ---- tests of numbers
@@ -90,7 +90,7 @@ maps_submitted p request v below = sym (maps_stay p.splits p.start p.requests re
 
 -- a request that is submitted next
 pub submitted_more : (p : PipelineState) (subs : List Submission) (version client : ℕ) (open_now : Open) (request : CommitRequest) →
-    AreSubmitted (map_at (history p)) p.reported p.start subs p.requests → p.reported ≤ submitted p → version ≡ submitted p + 1 → IsOpenAs (map_at (history p)) p.reported open_now request →
+    AreSubmitted (map_at (history p)) p.reported p.start subs p.requests → p.reported ≤ submitted p → version ≡ submitted p + 1 → IsOpenTransaction (map_at (history p)) p.reported open_now request →
     AreSubmitted (map_at (history (submit request p))) p.reported p.start (subs ++ (record { version = version; client = client; transaction = open_now }) ∷ []) (p.requests ++ request ∷ [])
 submitted_more p subs version client open_now request are below is_next is =
     let stay : (v : ℕ) → v ≤ p.reported → map_at (history p) v ≡ map_at (history (submit request p)) v = λ v h. maps_submitted p request v (omega (arith, h, below)) in

@@ -23,8 +23,8 @@ use Rattle.schedule.specs.Past.{Attempt, Open, accepted, is_accepted, is_reading
 use Rattle.schedule.specs.Holds.{Stands}
 use Rattle.schedule.specs.Reach.{opened_in, reach, writes}
 use Rattle.schedule.specs.Performed.{IsLimit, IsLimited, IsReadRefusal, IsPerformedAt, IsPerformed}
-use Rattle.schedule.specs.Contract.{attempted, written, HaveAdded, IsSerialAt}
-use Rattle.schedule.specs.Turns.{fresh, DidAt, Did, AreDone, IsOpenAs}
+use Rattle.schedule.specs.Contract.{attempted, commands_written, HaveAdded, IsSerialAt}
+use Rattle.schedule.specs.Turns.{fresh_request, DidAt, DidAttempt, AreDone, IsOpenTransaction}
 
 -- ---- one attempt
 
@@ -76,7 +76,7 @@ did_at {refuses = refuses} {before = before} command answer wrote ranges m seria
 
 -- a command that was performed is an attempt that was made
 pub performed_did : (maps : ℕ → Map) (refuses : KeyRange → ReadError → Type 0) (command : Command) (answer : Reply) (old new : CommitRequest) →
-    IsPerformed maps refuses command answer old new → Did maps (record { command = command; reply = answer }) old new
+    IsPerformed maps refuses command answer old new → DidAttempt maps (record { command = command; reply = answer }) old new
 performed_did maps refuses command answer old new performed = record {
   added = performed.added;
   written = performed.written;
@@ -88,8 +88,8 @@ performed_did maps refuses command answer old new performed = record {
 
 -- one more attempt
 pub done_append : (maps : ℕ → Map) (attempts : List Attempt) (attempt : Attempt) (old mid new : CommitRequest) →
-    AreDone maps attempts old mid → Did maps attempt mid new → AreDone maps (attempts ++ attempt ∷ []) old new
-done_append maps [] attempt old mid new same did = (new, subst (λ (t : CommitRequest). Did maps attempt t new) (sym same) did, refl)
+    AreDone maps attempts old mid → DidAttempt maps attempt mid new → AreDone maps (attempts ++ attempt ∷ []) old new
+done_append maps [] attempt old mid new same did = (new, subst (λ (t : CommitRequest). DidAttempt maps attempt t new) (sym same) did, refl)
 done_append maps (first ∷ attempts) attempt old mid new (next, one, rest) did = (next, one, done_append maps attempts attempt next mid new rest did)
 
 -- the read version stays
@@ -98,7 +98,7 @@ done_version maps [] old new same = ap (λ (t : CommitRequest). t.read_version) 
 done_version maps (attempt ∷ attempts) old new (mid, did, rest) = done_version maps attempts mid new rest ∙ did.ran.version
 
 -- the map at the read version alone matters
-did_elsewhere : (maps maps2 : ℕ → Map) (attempt : Attempt) (old new : CommitRequest) → maps old.read_version ≡ maps2 old.read_version → Did maps attempt old new → Did maps2 attempt old new
+did_elsewhere : (maps maps2 : ℕ → Map) (attempt : Attempt) (old new : CommitRequest) → maps old.read_version ≡ maps2 old.read_version → DidAttempt maps attempt old new → DidAttempt maps2 attempt old new
 did_elsewhere maps maps2 attempt old new same did = record {
   added = did.added;
   written = did.written;
@@ -184,19 +184,19 @@ attempts_effects serial (attempt ∷ attempts) = by_test (is_accepted attempt.re
 
 -- what was written is what the accepted commands write, over each map that agrees with what was read
 pub done_writes : (maps : ℕ → Map) (attempts : List Attempt) (old new : CommitRequest) → AreDone maps attempts old new →
-    (m : Map) (serial : Serial) → Agree new.reads (maps new.read_version) m → Stands (seen old m) serial → new.mutations ≡ old.mutations ++ written serial (accepted attempts)
+    (m : Map) (serial : Serial) → Agree new.reads (maps new.read_version) m → Stands (seen old m) serial → new.mutations ≡ old.mutations ++ commands_written serial (accepted attempts)
 done_writes maps [] old new same m serial agree holds = ap (λ (t : CommitRequest). t.mutations) (sym same) ∙ sym (append-nil old.mutations)
 done_writes maps (attempt ∷ attempts) old new (mid, did, rest) m serial agree holds =
     let later = keeps_all maps attempts mid new rest m agree in
     let at = did.ran.over m (subst (λ v. Agree mid.reads (maps v) m) did.ran.version later) serial holds in
     let is_seen : after_all did.written (seen old m) ≡ seen mid m = sym (ap (λ ms. after_all ms m) did.ran.wrote ∙ after_all-append old.mutations did.written m) in
     done_writes maps attempts mid new rest m (attempted serial attempt) agree (subst (λ (n : Map). Stands n (attempted serial attempt)) is_seen at.holds)
-    ∙ ap (λ ms. ms ++ written (attempted serial attempt) (accepted attempts)) (did.ran.wrote ∙ ap (λ ms. old.mutations ++ ms) at.wrote)
-    ∙ append_assoc old.mutations (cond (is_accepted attempt.reply) (writes serial attempt.command) []) (written (attempted serial attempt) (accepted attempts))
+    ∙ ap (λ ms. ms ++ commands_written (attempted serial attempt) (accepted attempts)) (did.ran.wrote ∙ ap (λ ms. old.mutations ++ ms) at.wrote)
+    ∙ append_assoc old.mutations (cond (is_accepted attempt.reply) (writes serial attempt.command) []) (commands_written (attempted serial attempt) (accepted attempts))
     ∙ ap (λ ms. old.mutations ++ ms) (by_test (is_accepted attempt.reply))
   where
-    by_test : (b : Bool) → cond b (writes serial attempt.command) [] ++ written (cond b (effect serial attempt.command) serial) (accepted attempts)
-        ≡ written serial (map (λ (a : Attempt). a.command) (cond b (attempt ∷ filter (λ (a : Attempt). is_accepted a.reply) attempts) (filter (λ (a : Attempt). is_accepted a.reply) attempts)))
+    by_test : (b : Bool) → cond b (writes serial attempt.command) [] ++ commands_written (cond b (effect serial attempt.command) serial) (accepted attempts)
+        ≡ commands_written serial (map (λ (a : Attempt). a.command) (cond b (attempt ∷ filter (λ (a : Attempt). is_accepted a.reply) attempts) (filter (λ (a : Attempt). is_accepted a.reply) attempts)))
     by_test true = refl
     by_test false = refl
 
@@ -217,28 +217,28 @@ done_reads maps (attempt ∷ attempts) old new (mid, did, rest) m serial agree h
 
 -- ---- open transactions
 
-pub open_fresh : (maps : ℕ → Map) (reported version : ℕ) → version ≤ reported → IsOpenAs maps reported (record { read_version = version; attempts = [] }) (fresh version)
+pub open_fresh : (maps : ℕ → Map) (reported version : ℕ) → version ≤ reported → IsOpenTransaction maps reported (record { read_version = version; attempts = [] }) (fresh_request version)
 open_fresh maps reported version below = record { at = refl; seen = below; done = refl }
 
 pub open_grown : (maps : ℕ → Map) (reported : ℕ) (open_now : Open) (request new : CommitRequest) (refuses : KeyRange → ReadError → Type 0) (command : Command) (answer : Reply) →
-    IsOpenAs maps reported open_now request → IsPerformed maps refuses command answer request new →
-    IsOpenAs maps reported (record { read_version = open_now.read_version; attempts = open_now.attempts ++ (record { command = command; reply = answer }) ∷ [] }) new
+    IsOpenTransaction maps reported open_now request → IsPerformed maps refuses command answer request new →
+    IsOpenTransaction maps reported (record { read_version = open_now.read_version; attempts = open_now.attempts ++ (record { command = command; reply = answer }) ∷ [] }) new
 open_grown maps reported open_now request new refuses command answer is performed = record {
   at = performed.ran.version ∙ is.at;
   seen = is.seen;
-  done = done_append maps open_now.attempts (record { command = command; reply = answer }) (fresh open_now.read_version) request new is.done (performed_did maps refuses command answer request new performed);
+  done = done_append maps open_now.attempts (record { command = command; reply = answer }) (fresh_request open_now.read_version) request new is.done (performed_did maps refuses command answer request new performed);
 }
 
-pub open_changed : (maps : ℕ → Map) (reported : ℕ) (open_now : Open) (request : CommitRequest) → IsOpenAs maps reported open_now request → is_changed open_now.attempts ≡ not (length request.mutations == 0)
-open_changed maps reported open_now request is = sym (done_changed maps open_now.attempts (fresh open_now.read_version) request is.done)
+pub open_changed : (maps : ℕ → Map) (reported : ℕ) (open_now : Open) (request : CommitRequest) → IsOpenTransaction maps reported open_now request → is_changed open_now.attempts ≡ not (length request.mutations == 0)
+open_changed maps reported open_now request is = sym (done_changed maps open_now.attempts (fresh_request open_now.read_version) request is.done)
 
 pub open_elsewhere : (maps maps2 : ℕ → Map) (reported : ℕ) (open_now : Open) (request : CommitRequest) → ((v : ℕ) → v ≤ reported → maps v ≡ maps2 v) →
-    IsOpenAs maps reported open_now request → IsOpenAs maps2 reported open_now request
+    IsOpenTransaction maps reported open_now request → IsOpenTransaction maps2 reported open_now request
 open_elsewhere maps maps2 reported open_now request same is = record {
   at = is.at;
   seen = is.seen;
-  done = done_elsewhere maps maps2 open_now.attempts (fresh open_now.read_version) request (same open_now.read_version is.seen) is.done;
+  done = done_elsewhere maps maps2 open_now.attempts (fresh_request open_now.read_version) request (same open_now.read_version is.seen) is.done;
 }
 
-pub open_later : (maps : ℕ → Map) (reported later : ℕ) (open_now : Open) (request : CommitRequest) → reported ≤ later → IsOpenAs maps reported open_now request → IsOpenAs maps later open_now request
+pub open_later : (maps : ℕ → Map) (reported later : ℕ) (open_now : Open) (request : CommitRequest) → reported ≤ later → IsOpenTransaction maps reported open_now request → IsOpenTransaction maps later open_now request
 open_later maps reported later open_now request below is = record { at = is.at; seen = omega (arith, is.seen, below); done = is.done }

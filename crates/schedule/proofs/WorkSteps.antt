@@ -13,15 +13,15 @@ use Rattle.cluster_core.specs.Roles.{AreInOrder, append, may_append, may_resolve
 use Rattle.schedule.specs.declared.database.Database.{Database}
 use Rattle.schedule.specs.Past.{Open, Submission}
 use Rattle.schedule.specs.Running.{IsStanding}
-use Rattle.schedule.specs.Settling.{HaveWorked, IsMoved, IsNearer, behind, has_worked, left, moved}
+use Rattle.schedule.specs.Settling.{HaveWorked, IsMoved, IsNearer, has_worked, left, moved, versions_behind}
 use Rattle.schedule.proofs.RoleSteps.{OnlyCluster, log_there, other_clocks, pulled_given, log_given, standing_moved}
 
 -- ---- clocks that move
 
 -- a clock that is raised is less behind
-behind_raised : (last : ℕ) (clocks : List ℕ) (i : ℕ) → i < length clocks → slice_index clocks i < last → behind last (raised clocks i) + 1 ≡ behind last clocks
+behind_raised : (last : ℕ) (clocks : List ℕ) (i : ℕ) → i < length clocks → slice_index clocks i < last → versions_behind last (raised clocks i) + 1 ≡ versions_behind last clocks
 behind_raised last clocks i within low =
-    let s : behind last (raised clocks i) + (last - get_or clocks i 0) ≡ behind last clocks + (last - (get_or clocks i 0 + 1)) = sum_by-set (λ clock. last - clock) clocks i (get_or clocks i 0 + 1) 0 within in
+    let s : versions_behind last (raised clocks i) + (last - get_or clocks i 0) ≡ versions_behind last clocks + (last - (get_or clocks i 0 + 1)) = sum_by-set (λ clock. last - clock) clocks i (get_or clocks i 0 + 1) 0 within in
     let below : get_or clocks i 0 < last = low in
     omega (arith, s, below)
 
@@ -82,7 +82,7 @@ idle_worked may old new none same only = record {
 resolve_nearer : (c : ClusterState) (r : ℕ) → r < length c.pipeline.resolved → may_resolve c.pipeline r ≡ true → IsNearer true c (with_pipeline (resolve r c.pipeline) c)
 resolve_nearer c r within may =
     let low : slice_index c.pipeline.resolved r < submitted c.pipeline = ltb-true (slice_index c.pipeline.resolved r) (submitted c.pipeline) may in
-    let less : behind (submitted c.pipeline) (raised c.pipeline.resolved r) + 1 ≡ behind (submitted c.pipeline) c.pipeline.resolved = behind_raised (submitted c.pipeline) c.pipeline.resolved r within low in
+    let less : versions_behind (submitted c.pipeline) (raised c.pipeline.resolved r) + 1 ≡ versions_behind (submitted c.pipeline) c.pipeline.resolved = behind_raised (submitted c.pipeline) c.pipeline.resolved r within low in
     record {
       moved = record { frame = refl; resolvers = length-set c.pipeline.resolved r (slice_index c.pipeline.resolved r + 1); logs = refl; servers = refl; onward = omega arith };
       less = omega (arith, less);
@@ -119,7 +119,7 @@ append_nearer c l within ordered may =
     let some : 0 < length c.pipeline.resolved = (let h : 1 ≤ length c.pipeline.resolved = ordered.some_resolver in omega (arith, h)) in
     let past : slice_index c.pipeline.logged l < get_or c.pipeline.resolved 0 0 = past_resolvers (slice_index c.pipeline.logged l) c.pipeline.resolved 0 0 some may in
     let given : get_or c.pipeline.resolved 0 0 ≤ submitted c.pipeline = All-get_or (λ clock. clock ≤ submitted c.pipeline) c.pipeline.resolved 0 0 some ordered.given in
-    let less : behind (submitted c.pipeline) (raised c.pipeline.logged l) + 1 ≡ behind (submitted c.pipeline) c.pipeline.logged = behind_raised (submitted c.pipeline) c.pipeline.logged l within (omega (arith, past, given)) in
+    let less : versions_behind (submitted c.pipeline) (raised c.pipeline.logged l) + 1 ≡ versions_behind (submitted c.pipeline) c.pipeline.logged = behind_raised (submitted c.pipeline) c.pipeline.logged l within (omega (arith, past, given)) in
     record {
       moved = record { frame = refl; resolvers = refl; logs = length-set c.pipeline.logged l (slice_index c.pipeline.logged l + 1); servers = refl; onward = omega arith };
       less = omega (arith, less);
@@ -141,7 +141,7 @@ pull_nearer : (c : ClusterState) (s : ℕ) → s < length c.pulled → AreInOrde
 pull_nearer c s within ordered may =
     let past : slice_index c.pulled s < log_of c s = ltb-true (slice_index c.pulled s) (log_of c s) may in
     let given : log_of c s ≤ submitted c.pipeline = log_given c.pipeline (s % length c.pipeline.logged) ordered (log_there c s ordered) in
-    let less : behind (submitted c.pipeline) (raised c.pulled s) + 1 ≡ behind (submitted c.pipeline) c.pulled = behind_raised (submitted c.pipeline) c.pulled s within (omega (arith, past, given)) in
+    let less : versions_behind (submitted c.pipeline) (raised c.pulled s) + 1 ≡ versions_behind (submitted c.pipeline) c.pulled = behind_raised (submitted c.pipeline) c.pulled s within (omega (arith, past, given)) in
     record {
       moved = record { frame = refl; resolvers = refl; logs = refl; servers = length-set c.pulled s (slice_index c.pulled s + 1); onward = omega arith };
       less = omega (arith, less);

@@ -17,7 +17,7 @@ use Rattle.record_store.specs.declared.error.StoreError.TheVariants as store
 use Rattle.schedule.specs.declared.step.Command.{Command}
 use Rattle.schedule.specs.declared.reply.Reply.{Reply}
 use Rattle.schedule.specs.declared.reply.Reply.TheVariants as reply
-use Rattle.schedule.specs.Performed.{IsPerformed, IsStopped}
+use Rattle.schedule.specs.Performed.{IsCommandStopped, IsPerformed}
 use Rattle.schedule.specs.Refusals.{of_schema}
 
 -- the reply that a refused read is; want of memory is none
@@ -56,9 +56,9 @@ removal_reply false = reply.Absent
 
 -- why a command was refused: it stopped before it wrote anything, and where the error is a reply it was performed with
 -- this reply
-pub record IsRefused (maps : ℕ → Map) (refuses : KeyRange → ℕ → ReadError → Type 0) (command : Command)
+pub record IsCommandRefused (maps : ℕ → Map) (refuses : KeyRange → ℕ → ReadError → Type 0) (command : Command)
     (error : StoreError) (old new : CommitRequest) : Type 0 where
-  pub stopped : IsStopped maps command old new
+  pub stopped : IsCommandStopped maps command old new
   pub replied :
       (answer : Reply) → reply_of error ≡ Some answer →
       IsPerformed maps (λ range. refuses range old.read_version) command answer old new

@@ -41,7 +41,7 @@ use Rattle.schedule.specs.Holds.{Stands}
 use Rattle.schedule.specs.Reach.{opened_in, added_by, reach, writes}
 use Rattle.schedule.specs.Performed.{HasAdded, IsServed, IsReadRefusal}
 use Rattle.txn.specs.Runs.{with_ranges}
-use Rattle.schedule.specs.Commits.{committed, view}
+use Rattle.schedule.specs.Commits.{committed_store, view}
 use Rattle.schedule.specs.Standing.{cluster_after, commits_of, listed}
 
 -- ---- replies
@@ -79,13 +79,14 @@ begin_reply c (Some open_now) = Refused Busy
 begin_reply c None = Begun c.pipeline.reported
 
 -- what commands write one after another
-abbrev pub written : Serial → List Command → List Mutation
-written serial [] = []
-written serial (command ∷ commands) = writes serial command ++ written (effect serial command) commands
+abbrev pub commands_written : Serial → List Command → List Mutation
+commands_written serial [] = []
+commands_written serial (command ∷ commands) =
+    writes serial command ++ commands_written (effect serial command) commands
 
 -- the reply tells that a read is refused, one of those that the command asks for of a map that holds what it sees
-abbrev pub IsUnread : (KeyRange → ReadError → Type 0) → Serial → Command → Reply → Type 0
-IsUnread refuses seen command reply =
+abbrev pub IsReadRefused : (KeyRange → ReadError → Type 0) → Serial → Command → Reply → Type 0
+IsReadRefused refuses seen command reply =
     (m : Map) × Stands m seen × IsReadRefusal refuses (reach (opened_in seen) command m) reply
 
 -- the reply to a command: the serial store's for what the transaction sees, or the limit that its writes meet, or that
@@ -93,8 +94,9 @@ IsUnread refuses seen command reply =
 abbrev pub IsCommandReply : ClusterState → List CommitEntry → Open → Command → Reply → Type 0
 IsCommandReply c commits open_now command reply =
     let seen = view commits open_now in
-    IsServed (written (committed commits open_now.read_version) (accepted open_now.attempts)) seen command reply
-    ⊎ IsUnread (λ range. MayRefuse (tier_of c) range open_now.read_version) seen command reply
+    IsServed (commands_written (committed_store commits open_now.read_version) (accepted open_now.attempts)) seen
+    command reply
+    ⊎ IsReadRefused (λ range. MayRefuse (tier_of c) range open_now.read_version) seen command reply
 
 -- the reply to `commit`: there was nothing to submit, or no version was left, or the transaction read too long ago, or
 -- the next version
@@ -204,7 +206,7 @@ LeavesAll config requests past step reply = Unit {0}
 abbrev pub HoldsCommitted : ClusterState → List CommitEntry → Type 0
 HoldsCommitted c commits =
     (version : ℕ) → c.pipeline.start ≤ version → version ≤ c.pipeline.reported →
-    Stands (database_at c version) (committed commits version)
+    Stands (database_at c version) (committed_store commits version)
 
 -- what is there after an attempt at a command
 abbrev pub attempted : Serial → Attempt → Serial
@@ -220,7 +222,7 @@ IsSerialAt serial (attempt ∷ attempts) =
 
 abbrev pub IsSerial : ClusterState → List CommitEntry → List Submission → Type 0
 IsSerial c commits submissions =
-    All (λ one. IsSerialAt (committed commits (one.version - 1)) one.transaction.attempts)
+    All (λ one. IsSerialAt (committed_store commits (one.version - 1)) one.transaction.attempts)
     (listed c.pipeline submissions)
 
 -- what attempts add to the ranges read, one after another, over maps that hold what is there
@@ -241,9 +243,10 @@ pub record AreReads (serial : Serial) (attempts : List Attempt) (reads : List Ke
 -- and it writes just what the accepted commands write
 pub record IsRequestOf (commits : List CommitEntry) (one : Submission) (request : CommitRequest) : Type 0 where
   pub read_version : request.read_version ≡ one.transaction.read_version
-  pub reads : AreReads (committed commits one.transaction.read_version) one.transaction.attempts request.reads
+  pub reads : AreReads (committed_store commits one.transaction.read_version) one.transaction.attempts request.reads
   pub mutations :
-      request.mutations ≡ written (committed commits one.transaction.read_version) (accepted one.transaction.attempts)
+      request.mutations
+      ≡ commands_written (committed_store commits one.transaction.read_version) (accepted one.transaction.attempts)
 
 abbrev pub AreRequestsOf : List CommitEntry → List Submission → List CommitRequest → Type 0
 AreRequestsOf commits [] [] = Unit {0}

@@ -9,7 +9,7 @@ use Rattle.metadata.specs.Schema.{find_type}
 use Rattle.record_store.specs.Call.{Opened, Reading, whole}
 use Rattle.record_store.specs.Calls.{index_states}
 use Rattle.query.specs.declared.error.QueryError.{QueryError}
-use Rattle.query.specs.Checked.{refusal}
+use Rattle.query.specs.Checked.{query_refusal}
 use Rattle.query.specs.Query.{Query}
 use Rattle.planner.specs.Plan.{Node, Plan}
 use Rattle.planner.specs.Planned.{planned}
@@ -36,7 +36,7 @@ unless_refused None true steps = steps
 -- the steps of a query by what was opened
 abbrev pub query_steps : Opened → Query → Option PlanSteps
 query_steps opened query =
-    unless_refused (refusal opened.schema query) (is_served opened.schema (index_states opened) query)
+    unless_refused (query_refusal opened.schema query) (is_served opened.schema (index_states opened) query)
     (option_and_then (steps_for opened query) (find_type opened.schema query.record_type))
 
 -- the steps of a plan, where the store that was opened has its type, which is t, and may read its indexes

@@ -12,7 +12,7 @@ use Rattle.record_store.specs.Call.{Opened}
 use Rattle.record_store.specs.Calls.{index_states}
 use Rattle.query.specs.declared.error.QueryError.{QueryError}
 use Rattle.query.specs.declared.filter.Query as declared
-use Rattle.query.specs.Checked.{refusal}
+use Rattle.query.specs.Checked.{query_refusal}
 use Rattle.query.specs.View.{query_of}
 use Rattle.planner.specs.Asked.{AskedPlan}
 use Rattle.planner.specs.Planned.{planned}
@@ -54,7 +54,7 @@ IsNoExecution maps refuses opened plan error old new = ⊥
 
 -- the plan is the planner's for a query that isn't refused and whose sort is served
 pub record IsPlanOf (opened : Opened) (query : declared.Query) (plan : AskedPlan) : Type 0 where
-  pub unrefused : refusal opened.schema (query_of query) ≡ None
+  pub unrefused : query_refusal opened.schema (query_of query) ≡ None
   pub served : is_served opened.schema (index_states opened) (query_of query) ≡ true
   pub asked : query_of plan.query ≡ query_of query
   pub typed : find_type opened.schema query.record_type ≡ Some plan.definition
@@ -67,10 +67,10 @@ pub record IsPlanOf (opened : Opened) (query : declared.Query) (plan : AskedPlan
 pub data IsQueried (maps : ℕ → Map) (opened : Opened) (query : declared.Query) (answer : Reply)
     (old new : CommitRequest) : Type 0 where
   bad :
-      (error : QueryError) → refusal opened.schema (query_of query) ≡ Some error →
+      (error : QueryError) → query_refusal opened.schema (query_of query) ≡ Some error →
       answer ≡ Refused (of_query error) → new ≡ old → IsQueried maps opened query answer old new
   unserved :
-      refusal opened.schema (query_of query) ≡ None →
+      query_refusal opened.schema (query_of query) ≡ None →
       is_served opened.schema (index_states opened) (query_of query) ≡ false → answer ≡ Refused SortNotServed →
       new ≡ old → IsQueried maps opened query answer old new
   planned_so :

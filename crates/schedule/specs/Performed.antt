@@ -92,9 +92,9 @@ pub record IsPerformedAt (refuses : KeyRange → ReadError → Type 0) (command 
 -- ---- the same over a map that may be damaged
 
 -- the map has what was opened, as far as a store was
-abbrev pub HasRead : Option Opened → Map → Type 0
-HasRead None m = Unit {0}
-HasRead (Some opened) m = (opened.prefix ≡ store_prefix) × HasSchema opened m
+abbrev pub HasOpened : Option Opened → Map → Type 0
+HasOpened None m = Unit {0}
+HasOpened (Some opened) m = (opened.prefix ≡ store_prefix) × HasSchema opened m
 
 -- a store may be made where no pair stands at the schema's key
 abbrev pub IsMade : Reply → Map → Type 0
@@ -107,13 +107,13 @@ IsMadeOf (Err refusal) answer m = Unit {0}
 
 -- all pairs that the command read of the map are of the written form, and its plan met no damage; where no store was
 -- opened, no pair stands where a schema does
-abbrev pub IsSound : Option Opened → Command → Reply → Map → Type 0
-IsSound (Some opened) command answer m =
+abbrev pub IsCommandSound : Option Opened → Command → Reply → Map → Type 0
+IsCommandSound (Some opened) command answer m =
     call.IsSound opened (own_reading (Some opened) command) m
     × (own_damage (Some opened) command m ≡ None)
-IsSound None (Create request) answer m = IsMadeOf (schema_asked request) answer m
-IsSound None (Build name zero) answer m = Unit {0}
-IsSound None command answer m = get m (schema_key store_prefix) ≡ None
+IsCommandSound None (Create request) answer m = IsMadeOf (schema_asked request) answer m
+IsCommandSound None (Build name zero) answer m = Unit {0}
+IsCommandSound None command answer m = get m (schema_key store_prefix) ≡ None
 
 -- the first pair read that isn't of the written form has this key: one that opening the store reads, where a pair
 -- stands at the schema's key, or behind it one of the command's own, or the first damaged one that its plan met
@@ -128,7 +128,7 @@ IsDamaged (Some opened) command key m =
 -- the pairs are sound, unless a read was refused
 abbrev pub IsSoundSo : Bool → Option Opened → Command → Reply → Map → Type 0
 IsSoundSo true opened command answer m = Unit {0}
-IsSoundSo false opened command answer m = IsSound opened command answer m
+IsSoundSo false opened command answer m = IsCommandSound opened command answer m
 
 -- what the reply tells of the pairs that were read
 abbrev pub IsTold : Option Opened → Command → Reply → Map → Type 0
@@ -139,7 +139,7 @@ IsTold opened command answer m = IsSoundSo (is_unread answer) opened command ans
 -- where it is
 pub record IsReadAs (opened : Option Opened) (command : Command) (answer : Reply) (added : List KeyRange) (m : Map) :
     Type 0 where
-  pub there : HasRead opened m
+  pub there : HasOpened opened m
   pub reads : HasAdded answer (added_by opened command m) added
   pub told : IsTold opened command answer m
 
@@ -159,13 +159,13 @@ pub record IsPerformed (maps : ℕ → Map) (refuses : KeyRange → ReadError �
 -- by what was opened, which the map has, the command read the first ones of its ranges, and so it did for all that this
 -- map holds
 pub record IsPartlyRead (opened : Option Opened) (command : Command) (added : List KeyRange) (m : Map) : Type 0 where
-  pub there : HasRead opened m
+  pub there : HasOpened opened m
   pub reads : IsBeginning added (added_by opened command m)
   pub held : (serial : Serial) → Stands m serial → IsBeginning added (added_by (opened_in serial) command m)
 
 -- a command stopped for want of memory: it wrote nothing, and read the first ones of its ranges; a transaction can go
 -- on from there
-pub record IsStopped (maps : ℕ → Map) (command : Command) (old new : CommitRequest) : Type 0 where
+pub record IsCommandStopped (maps : ℕ → Map) (command : Command) (old new : CommitRequest) : Type 0 where
   pub opened : Option Opened
   pub added : List KeyRange
   pub ran : Ran maps added old new [] (IsPartlyRead opened command added)

@@ -2,7 +2,7 @@
 use Rattle.std.specs.Prelude.{◌≡◌, ℕ, List, Some}
 use Rattle.metadata.specs.declared.index.State.{State}
 use Rattle.metadata.specs.Schema.{Schema, find_type}
-use Rattle.query.specs.Checked.{refusal}
+use Rattle.query.specs.Checked.{query_refusal}
 use Rattle.query.specs.Query.{Query}
 use Rattle.query.specs.View.{query_of}
 use Rattle.planner.specs.Asked.{AskedPlan}
@@ -25,4 +25,4 @@ pub record IsPlanned (schema : Schema) (states : List (ℕ × State)) (query : Q
 -- PLAN: the reply is the query's refusal, or that no path serves its sort, or its plan
 abbrev pub IsPlanReply : Schema → List (ℕ × State) → Query → Reply → Type 0
 IsPlanReply schema states query answer =
-    Unrefused (refusal schema query) (is_served schema states query) (IsPlanned schema states query) answer
+    Unrefused (query_refusal schema query) (is_served schema states query) (IsPlanned schema states query) answer

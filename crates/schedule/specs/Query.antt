@@ -9,7 +9,7 @@ use Rattle.metadata.specs.Schema.{find_type}
 use Rattle.record_store.specs.Call.{Opened}
 use Rattle.record_store.specs.Store.{Store, state_of}
 use Rattle.query.specs.declared.error.QueryError.{QueryError}
-use Rattle.query.specs.Checked.{refusal}
+use Rattle.query.specs.Checked.{query_refusal}
 use Rattle.query.specs.Query.{Query, Allows}
 use Rattle.query.specs.View.{query_of}
 use Rattle.planner.specs.Asked.{AskedPlan}
@@ -49,7 +49,7 @@ IsRowsReply store query answer = ⊥
 -- QUERY: the reply is the query's refusal, or that no path serves its sort, or rows that answer it
 abbrev pub IsQueryReply : Store → Query → Reply → Type 0
 IsQueryReply store query answer =
-    Unrefused (refusal store.schema query) (is_served store.schema (states_of store) query)
+    Unrefused (query_refusal store.schema query) (is_served store.schema (states_of store) query)
     (IsRowsReply store query) answer
 
 -- the store as it is opened

@@ -31,13 +31,13 @@ of_schema schema.BadSchema = BadSchema
 of_schema schema.TooMany = TooMany
 
 -- the refusal of a step whose call on an open store is refused so before it reads, or for what it read, if it is
-abbrev pub own_refusal : StoreError → Option Refusal
-own_refusal (store.Refused refusal) = Some (of_schema refusal)
-own_refusal store.NotAggregate = Some NotAggregate
-own_refusal store.NotReadable = Some NotReadable
-own_refusal store.WrongState = Some WrongState
-own_refusal store.NotBuilt = Some NotBuilt
-own_refusal error = None
+abbrev pub step_refusal : StoreError → Option Refusal
+step_refusal (store.Refused refusal) = Some (of_schema refusal)
+step_refusal store.NotAggregate = Some NotAggregate
+step_refusal store.NotReadable = Some NotReadable
+step_refusal store.WrongState = Some WrongState
+step_refusal store.NotBuilt = Some NotBuilt
+step_refusal error = None
 
 -- the refusal of a step whose query is refused so
 abbrev pub of_query : QueryError → Refusal
@@ -49,38 +49,38 @@ of_query query.WrongKind = WrongKind
 of_query query.SortTwice = SortTwice
 
 -- the name that is printed
-abbrev pub name_of : Refusal → List ℕ
-name_of NoSuchClient = codes "NoSuchClient"
-name_of NoSuchRole = codes "NoSuchRole"
-name_of Busy = codes "Busy"
-name_of NoTransaction = codes "NoTransaction"
-name_of NoPlan = codes "NoPlan"
-name_of BadName = codes "BadName"
-name_of NameTaken = codes "NameTaken"
-name_of UnknownType = codes "UnknownType"
-name_of UnknownIndex = codes "UnknownIndex"
-name_of UnknownField = codes "UnknownField"
-name_of WrongKind = codes "WrongKind"
-name_of NullKey = codes "NullKey"
-name_of BadSchema = codes "BadSchema"
-name_of TooMany = codes "TooMany"
-name_of TooDeep = codes "TooDeep"
-name_of TooLarge = codes "TooLarge"
-name_of SortTwice = codes "SortTwice"
-name_of SortNotServed = codes "SortNotServed"
-name_of AlreadyThere = codes "AlreadyThere"
-name_of NoStore = codes "NoStore"
-name_of OtherSchema = codes "OtherSchema"
-name_of IndexNotReadable = codes "IndexNotReadable"
-name_of NotAggregate = codes "NotAggregate"
-name_of NotReadable = codes "NotReadable"
-name_of WrongState = codes "WrongState"
-name_of NotBuilt = codes "NotBuilt"
-name_of BadLimit = codes "BadLimit"
-name_of FutureVersion = codes "FutureVersion"
-name_of TooOld = codes "TooOld"
-name_of VersionsExhausted = codes "VersionsExhausted"
-name_of KeyOutside = codes "KeyOutside"
-name_of KeyTooLarge = codes "KeyTooLarge"
-name_of ValueTooLarge = codes "ValueTooLarge"
-name_of TransactionTooLarge = codes "TransactionTooLarge"
+abbrev pub refusal_name : Refusal → List ℕ
+refusal_name NoSuchClient = codes "NoSuchClient"
+refusal_name NoSuchRole = codes "NoSuchRole"
+refusal_name Busy = codes "Busy"
+refusal_name NoTransaction = codes "NoTransaction"
+refusal_name NoPlan = codes "NoPlan"
+refusal_name BadName = codes "BadName"
+refusal_name NameTaken = codes "NameTaken"
+refusal_name UnknownType = codes "UnknownType"
+refusal_name UnknownIndex = codes "UnknownIndex"
+refusal_name UnknownField = codes "UnknownField"
+refusal_name WrongKind = codes "WrongKind"
+refusal_name NullKey = codes "NullKey"
+refusal_name BadSchema = codes "BadSchema"
+refusal_name TooMany = codes "TooMany"
+refusal_name TooDeep = codes "TooDeep"
+refusal_name TooLarge = codes "TooLarge"
+refusal_name SortTwice = codes "SortTwice"
+refusal_name SortNotServed = codes "SortNotServed"
+refusal_name AlreadyThere = codes "AlreadyThere"
+refusal_name NoStore = codes "NoStore"
+refusal_name OtherSchema = codes "OtherSchema"
+refusal_name IndexNotReadable = codes "IndexNotReadable"
+refusal_name NotAggregate = codes "NotAggregate"
+refusal_name NotReadable = codes "NotReadable"
+refusal_name WrongState = codes "WrongState"
+refusal_name NotBuilt = codes "NotBuilt"
+refusal_name BadLimit = codes "BadLimit"
+refusal_name FutureVersion = codes "FutureVersion"
+refusal_name TooOld = codes "TooOld"
+refusal_name VersionsExhausted = codes "VersionsExhausted"
+refusal_name KeyOutside = codes "KeyOutside"
+refusal_name KeyTooLarge = codes "KeyTooLarge"
+refusal_name ValueTooLarge = codes "ValueTooLarge"
+refusal_name TransactionTooLarge = codes "TransactionTooLarge"

@@ -27,10 +27,10 @@ use Rattle.schedule.specs.declared.database.Unreported.{Unreported}
 use Rattle.schedule.specs.Past.{Past, Open, Submission, accepted, is_accepted, kept_plan, open_of, submitted_in}
 use Rattle.planner.specs.Asked.{AskedPlan}
 use Rattle.schedule.specs.Performed.{IsPerformed}
-use Rattle.schedule.specs.Standing.{cluster_after, commits_of, stepped}
+use Rattle.schedule.specs.Standing.{cluster_after, cluster_stepped, commits_of}
 use Rattle.schedule.specs.Contract.{HasRightReplies, InTransaction, IsReplyTo, OfClient, client_of, commit_reply}
 use Rattle.schedule.specs.Contract.{past_of, report_to}
-use Rattle.schedule.specs.Turns.{AreSubmitted, IsOpenAs}
+use Rattle.schedule.specs.Turns.{AreSubmitted, IsOpenTransaction}
 
 -- what is kept of a submission until it is reported
 abbrev pub kept : Submission → Unreported
@@ -43,7 +43,7 @@ kept one =
 
 -- the transaction is the open one, and has its accepted commands
 pub record IsOpen (maps : ℕ → Map) (reported : ℕ) (open_now : Open) (transaction : OpenTransaction) : Type 0 where
-  pub done : IsOpenAs maps reported open_now transaction.transaction
+  pub done : IsOpenTransaction maps reported open_now transaction.transaction
   pub commands : transaction.commands.items ≡ accepted open_now.attempts
 
 -- a client's place has its open transaction, where there is one
@@ -90,7 +90,8 @@ pub record IsFirst (config : Config) (database : Database) : Type 0 where
 pub record Steps (past : Past) (step : Step) (reply : Reply) (old new : Database) : Type 0 where
   pub right : IsReplyTo old.cluster past step reply
   pub moved :
-      (more : List CommitRequest) → stepped (new.cluster.pipeline.requests ++ more) step reply old.cluster ≡ new.cluster
+      (more : List CommitRequest) → cluster_stepped (new.cluster.pipeline.requests ++ more) step reply old.cluster
+      ≡ new.cluster
   pub added : List CommitRequest
   pub grown : new.cluster.pipeline.requests ≡ old.cluster.pipeline.requests ++ added
   pub after : Stands ((step, reply) ∷ past) new
@@ -134,7 +135,8 @@ pub record Submits (opens : ℕ → Option Open) (submissions : List Submission)
     (old new : Database) : Type 0 where
   pub right : reply ≡ commit_reply old.cluster ended
   pub moved :
-      (more : List CommitRequest) → stepped (new.cluster.pipeline.requests ++ more) (Commit client) reply old.cluster
+      (more : List CommitRequest) →
+      cluster_stepped (new.cluster.pipeline.requests ++ more) (Commit client) reply old.cluster
       ≡ new.cluster
   pub added : List CommitRequest
   pub grown : new.cluster.pipeline.requests ≡ old.cluster.pipeline.requests ++ added
@@ -197,8 +199,8 @@ IsTelling before done after old new =
     Tells opens submissions before done after old new
 
 -- what is listed of a submission that is committed at a version
-abbrev pub entry_of : ℕ → Unreported → CommitEntry
-entry_of version next =
+abbrev pub unreported_entry : ℕ → Unreported → CommitEntry
+unreported_entry version next =
     record { version = version; client = next.client; read_version = next.read_version; commands = next.commands }
 
 -- the steps were done one after another from the start: each reply is right however many requests come later, and the

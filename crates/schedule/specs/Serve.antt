@@ -8,7 +8,7 @@ use Rattle.metadata.specs.declared.index.State.{State as IndexState}
 use Rattle.metadata.specs.declared.index.State.TheVariants as states
 use Rattle.metadata.specs.declared.refusal.Refusal.{Refusal as SchemaRefusal}
 use Rattle.schedule.specs.declared.refusal.Refusal.{Refusal}
-use Rattle.schedule.specs.Refusals.{of_schema, own_refusal}
+use Rattle.schedule.specs.Refusals.{of_schema, step_refusal}
 use Rattle.schedule.specs.declared.refusal.Refusal.TheVariants.{AlreadyThere, BadLimit, NoStore, NotBuilt}
 use Rattle.schedule.specs.declared.refusal.Refusal.TheVariants.{UnknownIndex, WrongState}
 use Rattle.metadata.specs.Schema.{Schema, find_index}
@@ -50,8 +50,8 @@ served_by store accepted (Ok value) = accepted value
 served_by store accepted (Err refusal) = refused (Some store) (of_schema refusal)
 
 -- the cells of a record that may be there
-abbrev pub cells_in : Option Record → Option (List Cell)
-cells_in found = option_map (λ r. r.cells) found
+abbrev pub cells_there : Option Record → Option (List Cell)
+cells_there found = option_map (λ r. r.cells) found
 
 -- what a save, a load and a removal reply, by the cells of the record that was there
 abbrev pub reply_to_save : Option (List Cell) → Reply
@@ -68,13 +68,14 @@ reply_to_remove (Some old) = reply.Removed
 
 -- a record is saved; the record of a key is loaded, and removed
 abbrev pub served_save : Store → Record → Served
-served_save store new = (reply_to_save (cells_in (record_at (primary_key new) store.records)), Some (saved store new))
+served_save store new =
+    (reply_to_save (cells_there (record_at (primary_key new) store.records)), Some (saved store new))
 
 abbrev pub served_load : Store → List Item → Served
-served_load store key = (reply_to_load (cells_in (record_at key store.records)), Some store)
+served_load store key = (reply_to_load (cells_there (record_at key store.records)), Some store)
 
 abbrev pub served_remove : Store → List Item → Served
-served_remove store key = (reply_to_remove (cells_in (record_at key store.records)), Some (removed store key))
+served_remove store key = (reply_to_remove (cells_there (record_at key store.records)), Some (removed store key))
 
 -- a type is added
 abbrev pub served_type : Store → Schema → Served
@@ -135,7 +136,7 @@ abbrev pub served_aggregate : Store → List Cell → Option IndexDefinition →
 served_aggregate store group None = refused (Some store) UnknownIndex
 served_aggregate store group (Some index) =
     served_total store index group
-    (option_and_then own_refusal
+    (option_and_then step_refusal
     (total_refusal index.kind (fits_group store.schema index group) (state_of store index.number)))
 
 -- a command on a store. A query, its plan and its execution aren't served here, since more than one value may be the

@@ -36,15 +36,15 @@ pub record IsMoved (old new : ClusterState) : Type 0 where
   pub onward : old.pipeline.reported ≤ new.pipeline.reported
 
 -- how far clocks are behind a version, in all
-abbrev pub behind : ℕ → List ℕ → ℕ
-behind version clocks = sum_by (λ clock. version - clock) clocks
+abbrev pub versions_behind : ℕ → List ℕ → ℕ
+versions_behind version clocks = sum_by (λ clock. version - clock) clocks
 
 -- what is left to do
 abbrev pub left : ClusterState → ℕ
 left c =
     let last = submitted c.pipeline in
-    behind last c.pipeline.resolved + behind last c.pipeline.logged + (last - c.pipeline.reported)
-    + behind last c.pulled
+    versions_behind last c.pipeline.resolved + versions_behind last c.pipeline.logged + (last - c.pipeline.reported)
+    + versions_behind last c.pulled
 
 -- the cluster moved, and where something was done, less is left
 pub record IsNearer (done : Bool) (old new : ClusterState) : Type 0 where

@@ -38,21 +38,22 @@ is_reported (answers.Reported reports) = true
 is_reported reply = false
 
 -- the cluster after one more step: what its reply says was done. The requests are those of the whole schedule
-abbrev pub stepped : List CommitRequest → Step → Reply → ClusterState → ClusterState
-stepped requests (Commit client) reply c =
+abbrev pub cluster_stepped : List CommitRequest → Step → Reply → ClusterState → ClusterState
+cluster_stepped requests (Commit client) reply c =
     if is_submitted reply then with_pipeline (with_next requests c.pipeline) c else c
-stepped requests (Resolve r) reply c = if is_done reply then with_pipeline (resolve r c.pipeline) c else c
-stepped requests (Log l) reply c = if is_done reply then with_pipeline (append l c.pipeline) c else c
-stepped requests (Pull s) reply c = if is_done reply then pull s c else c
-stepped requests Report reply c = if is_reported reply then with_pipeline (report c.pipeline) c else c
-stepped requests Lost reply c = if is_reported reply then with_pipeline (report c.pipeline) c else c
-stepped requests Settle reply c = settled c
-stepped requests step reply c = c
+cluster_stepped requests (Resolve r) reply c = if is_done reply then with_pipeline (resolve r c.pipeline) c else c
+cluster_stepped requests (Log l) reply c = if is_done reply then with_pipeline (append l c.pipeline) c else c
+cluster_stepped requests (Pull s) reply c = if is_done reply then pull s c else c
+cluster_stepped requests Report reply c = if is_reported reply then with_pipeline (report c.pipeline) c else c
+cluster_stepped requests Lost reply c = if is_reported reply then with_pipeline (report c.pipeline) c else c
+cluster_stepped requests Settle reply c = settled c
+cluster_stepped requests step reply c = c
 
 -- the cluster after the steps so far
 abbrev pub cluster_after : Config → List CommitRequest → Past → ClusterState
 cluster_after config requests [] = first_cluster config
-cluster_after config requests (event ∷ past) = stepped requests event.0 event.1 (cluster_after config requests past)
+cluster_after config requests (event ∷ past) =
+    cluster_stepped requests event.0 event.1 (cluster_after config requests past)
 
 -- a report tells that its request is committed
 abbrev pub is_told : Reported → Bool

@@ -14,8 +14,8 @@ use Rattle.schedule.specs.Reach.{opened_in, added_by, writes}
 use Rattle.schedule.specs.Contract.{attempted}
 
 -- a transaction that has done nothing yet
-abbrev pub fresh : ℕ → CommitRequest
-fresh read_version = record { read_version = read_version; reads = []; mutations = [] }
+abbrev pub fresh_request : ℕ → CommitRequest
+fresh_request read_version = record { read_version = read_version; reads = []; mutations = [] }
 
 -- what an attempt at a command came to where the map seen before it holds this: the part of `IsPerformedAt` that
 -- doesn't depend on how far the servers were
@@ -27,7 +27,7 @@ pub record DidAt (attempt : Attempt) (written : List Mutation) (added : List Key
   pub reads : HasAdded attempt.reply (added_by (opened_in serial) attempt.command m) added
 
 -- an attempt at a command was made, which led from one state of the transaction to another
-pub record Did (maps : ℕ → Map) (attempt : Attempt) (old new : CommitRequest) : Type 0 where
+pub record DidAttempt (maps : ℕ → Map) (attempt : Attempt) (old new : CommitRequest) : Type 0 where
   pub added : List KeyRange
   pub written : List Mutation
   pub changes : (length written == 0) ≡ is_reading attempt.command attempt.reply
@@ -38,20 +38,20 @@ pub record Did (maps : ℕ → Map) (attempt : Attempt) (old new : CommitRequest
 abbrev pub AreDone : (ℕ → Map) → List Attempt → CommitRequest → CommitRequest → Type 0
 AreDone maps [] old new = old ≡ new
 AreDone maps (attempt ∷ attempts) old new =
-    (mid : CommitRequest) × Did maps attempt old mid × AreDone maps attempts mid new
+    (mid : CommitRequest) × DidAttempt maps attempt old mid × AreDone maps attempts mid new
 
 -- the transaction is what its attempts made of a fresh one, which reads at a version that was reported
-pub record IsOpenAs (maps : ℕ → Map) (reported : ℕ) (open_now : Open) (request : CommitRequest) : Type 0 where
+pub record IsOpenTransaction (maps : ℕ → Map) (reported : ℕ) (open_now : Open) (request : CommitRequest) : Type 0 where
   pub at : request.read_version ≡ open_now.read_version
   pub seen : open_now.read_version ≤ reported
-  pub done : AreDone maps open_now.attempts (fresh open_now.read_version) request
+  pub done : AreDone maps open_now.attempts (fresh_request open_now.read_version) request
 
 -- the request was submitted as this submission
 pub record IsSubmitted (maps : ℕ → Map) (reported version : ℕ) (one : Submission) (request : CommitRequest) :
     Type 0 where
   pub given : one.version ≡ version
   pub below : request.read_version < version
-  pub open_as : IsOpenAs maps reported one.transaction request
+  pub open_as : IsOpenTransaction maps reported one.transaction request
 
 -- the requests were submitted as these submissions, in version order from the version after this one on
 abbrev pub AreSubmitted : (ℕ → Map) → ℕ → ℕ → List Submission → List CommitRequest → Type 0

@@ -1,7 +1,7 @@
 // The command that has a builder build a part of an index. Called by `performing`.
 ghost use Rattle.std.specs.Prelude.{◌≡◌, IfOk, IfErr};
 ghost use Rattle.schedule.specs.declared.step.Command.{Command};
-ghost use Rattle.schedule.specs.Calls.{IsRefused};
+ghost use Rattle.schedule.specs.Calls.{IsCommandRefused};
 ghost use Rattle.schedule.specs.Performed.{IsPerformed};
 ghost use Rattle.schedule.specs.Serve.{reply_to_build};
 
@@ -37,7 +37,7 @@ pub(crate) fn build<S: Snapshot>(
         IsPerformed (S.map_at db.now) (λ range. S.may_refuse db.now range tx.old.read_version)
         (Command.Build name.now limit) answer tx.old tx.new) }
     ensures refused { IfErr result (λ error.
-        IsRefused (S.map_at db.now) (S.may_refuse db.now) (Command.Build name.now limit) error tx.old tx.new) }
+        IsCommandRefused (S.map_at db.now) (S.may_refuse db.now) (Command.Build name.now limit) error tx.old tx.new) }
 {
     if limit == 0 {
         return Ok(Reply::Refused(Refusal::BadLimit));

@@ -6,9 +6,9 @@ ghost use Rattle.metadata.specs.Record.{record_of};
 ghost use Rattle.record_store.specs.Opening.{IsOpened, IsUnopened};
 ghost use Rattle.schedule.specs.declared.step.Command.{Command};
 ghost use Rattle.schedule.specs.Layout.{store_prefix};
-ghost use Rattle.schedule.specs.Serve.{cells_in, reply_to_load, reply_to_save};
+ghost use Rattle.schedule.specs.Serve.{cells_there, reply_to_load, reply_to_save};
 ghost use Rattle.schedule.specs.Performed.{IsPerformed};
-ghost use Rattle.schedule.specs.Calls.{IsRefused, removal_reply};
+ghost use Rattle.schedule.specs.Calls.{IsCommandRefused, removal_reply};
 
 use crate::reply::Reply;
 use metadata::{Cells, MetadataError, Record, Schema, SchemaRequest, TypeRequest};
@@ -46,7 +46,7 @@ pub(crate) fn create<S: Snapshot>(
         IsPerformed (S.map_at db.now) (λ range. S.may_refuse db.now range tx.old.read_version)
         (Command.Create request.now) answer tx.old tx.new) }
     ensures refused { IfErr result (λ error.
-        IsRefused (S.map_at db.now) (S.may_refuse db.now) (Command.Create request.now) error tx.old tx.new) }
+        IsCommandRefused (S.map_at db.now) (S.may_refuse db.now) (Command.Create request.now) error tx.old tx.new) }
 {
     let schema = Schema::of_request(alloc, request)?;
     let _store = Store::create(alloc, &PREFIX, tx, db, &schema)?;
@@ -65,7 +65,7 @@ pub(crate) fn add_type<S: Snapshot>(
         IsPerformed (S.map_at db.now) (λ range. S.may_refuse db.now range tx.old.read_version)
         (Command.«Type» request.now) answer tx.old tx.new) }
     ensures refused { IfErr result (λ error.
-        IsRefused (S.map_at db.now) (S.may_refuse db.now) (Command.«Type» request.now) error tx.old tx.new) }
+        IsCommandRefused (S.map_at db.now) (S.may_refuse db.now) (Command.«Type» request.now) error tx.old tx.new) }
 {
     let mut store = open(alloc, tx, db, known)?;
     store.add_type(tx, request)?;
@@ -88,7 +88,7 @@ fn record_asked(
 
 /// The reply to a save, by the record that was there.
 fn saved_reply(old: Option<Record>) -> Reply
-    ensures { result ≡ reply_to_save (cells_in old) }
+    ensures { result ≡ reply_to_save (cells_there old) }
 {
     match old {
         Some(old) => Reply::SavedOver(old.into_cells()),
@@ -109,7 +109,8 @@ pub(crate) fn save<S: Snapshot>(
         IsPerformed (S.map_at db.now) (λ range. S.may_refuse db.now range tx.old.read_version)
         (Command.Save type_name.now cells.now) answer tx.old tx.new) }
     ensures refused { IfErr result (λ error.
-        IsRefused (S.map_at db.now) (S.may_refuse db.now) (Command.Save type_name.now cells.now) error tx.old tx.new) }
+        IsCommandRefused (S.map_at db.now) (S.may_refuse db.now)
+        (Command.Save type_name.now cells.now) error tx.old tx.new) }
 {
     let store = open(alloc, tx, db, known)?;
     let new = record_asked(alloc, store.schema(), type_name, cells)?;
@@ -119,7 +120,7 @@ pub(crate) fn save<S: Snapshot>(
 
 /// The reply to a load, by the record that was found.
 fn loaded_reply(found: Option<Record>) -> Reply
-    ensures { result ≡ reply_to_load (cells_in found) }
+    ensures { result ≡ reply_to_load (cells_there found) }
 {
     match found {
         Some(found) => Reply::Found(found.into_cells()),
@@ -140,7 +141,8 @@ pub(crate) fn load<S: Snapshot>(
         IsPerformed (S.map_at db.now) (λ range. S.may_refuse db.now range tx.old.read_version)
         (Command.Load type_name.now cells.now) answer tx.old tx.new) }
     ensures refused { IfErr result (λ error.
-        IsRefused (S.map_at db.now) (S.may_refuse db.now) (Command.Load type_name.now cells.now) error tx.old tx.new) }
+        IsCommandRefused (S.map_at db.now) (S.may_refuse db.now)
+        (Command.Load type_name.now cells.now) error tx.old tx.new) }
 {
     let store = open(alloc, tx, db, known)?;
     let found = store.load(tx, db, type_name, cells)?;
@@ -171,7 +173,7 @@ pub(crate) fn remove<S: Snapshot>(
         IsPerformed (S.map_at db.now) (λ range. S.may_refuse db.now range tx.old.read_version)
         (Command.Remove type_name.now cells.now) answer tx.old tx.new) }
     ensures refused { IfErr result (λ error.
-        IsRefused (S.map_at db.now) (S.may_refuse db.now)
+        IsCommandRefused (S.map_at db.now) (S.may_refuse db.now)
         (Command.Remove type_name.now cells.now) error tx.old tx.new) }
 {
     let store = open(alloc, tx, db, known)?;

@@ -1,7 +1,7 @@
 //! The commands that execute plans: that of a query, and one that is given. Called by `performing`.
 ghost use Rattle.std.specs.Prelude.{◌≡◌, IfOk, IfErr, map};
 ghost use Rattle.schedule.specs.declared.step.Command.{Command};
-ghost use Rattle.schedule.specs.Calls.{IsRefused};
+ghost use Rattle.schedule.specs.Calls.{IsCommandRefused};
 ghost use Rattle.schedule.specs.Executions.{IsExecution, IsNoExecution, IsQueried, IsUnqueried};
 ghost use Rattle.schedule.specs.Performed.{IsPerformed};
 
@@ -65,7 +65,7 @@ pub(crate) fn execute<S: Snapshot>(
         IsPerformed (S.map_at db.now) (λ range. S.may_refuse db.now range tx.old.read_version)
         (Command.Execute plan.now) answer tx.old tx.new) }
     ensures refused { IfErr result (λ error.
-        IsRefused (S.map_at db.now) (S.may_refuse db.now) (Command.Execute plan.now) error tx.old tx.new) }
+        IsCommandRefused (S.map_at db.now) (S.may_refuse db.now) (Command.Execute plan.now) error tx.old tx.new) }
 {
     let plan = plan.plan();
     plan.query();
@@ -112,7 +112,7 @@ pub(crate) fn query<S: Snapshot>(
         IsPerformed (S.map_at db.now) (λ range. S.may_refuse db.now range tx.old.read_version)
         (Command.Query asked.now) answer tx.old tx.new) }
     ensures refused { IfErr result (λ error.
-        IsRefused (S.map_at db.now) (S.may_refuse db.now) (Command.Query asked.now) error tx.old tx.new) }
+        IsCommandRefused (S.map_at db.now) (S.may_refuse db.now) (Command.Query asked.now) error tx.old tx.new) }
 {
     let store = open(alloc, tx, db, known)?;
     let reply = query_reply(alloc, &store, tx, db, asked.query())?;

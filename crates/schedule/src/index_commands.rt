@@ -1,7 +1,7 @@
 // The commands on indexes. Called by `performing`.
 ghost use Rattle.std.specs.Prelude.{IfOk, IfErr};
 ghost use Rattle.schedule.specs.declared.step.Command.{Command};
-ghost use Rattle.schedule.specs.Calls.{IsRefused};
+ghost use Rattle.schedule.specs.Calls.{IsCommandRefused};
 ghost use Rattle.schedule.specs.Performed.{IsPerformed};
 
 use crate::commands::open;
@@ -24,7 +24,7 @@ pub(crate) fn add_index<S: Snapshot>(
         IsPerformed (S.map_at db.now) (λ range. S.may_refuse db.now range tx.old.read_version)
         (Command.Index request.now) answer tx.old tx.new) }
     ensures refused { IfErr result (λ error.
-        IsRefused (S.map_at db.now) (S.may_refuse db.now) (Command.Index request.now) error tx.old tx.new) }
+        IsCommandRefused (S.map_at db.now) (S.may_refuse db.now) (Command.Index request.now) error tx.old tx.new) }
 {
     let mut store = open(alloc, tx, db, known)?;
     let state = store.add_index(tx, db, request)?;
@@ -43,7 +43,7 @@ pub(crate) fn drop_index<S: Snapshot>(
         IsPerformed (S.map_at db.now) (λ range. S.may_refuse db.now range tx.old.read_version)
         (Command.Drop name.now) answer tx.old tx.new) }
     ensures refused { IfErr result (λ error.
-        IsRefused (S.map_at db.now) (S.may_refuse db.now) (Command.Drop name.now) error tx.old tx.new) }
+        IsCommandRefused (S.map_at db.now) (S.may_refuse db.now) (Command.Drop name.now) error tx.old tx.new) }
 {
     let mut store = open(alloc, tx, db, known)?;
     store.drop_index(tx, name)?;
@@ -62,7 +62,7 @@ pub(crate) fn disable_index<S: Snapshot>(
         IsPerformed (S.map_at db.now) (λ range. S.may_refuse db.now range tx.old.read_version)
         (Command.Disable name.now) answer tx.old tx.new) }
     ensures refused { IfErr result (λ error.
-        IsRefused (S.map_at db.now) (S.may_refuse db.now) (Command.Disable name.now) error tx.old tx.new) }
+        IsCommandRefused (S.map_at db.now) (S.may_refuse db.now) (Command.Disable name.now) error tx.old tx.new) }
 {
     let mut store = open(alloc, tx, db, known)?;
     store.mark_disabled(tx, name)?;
@@ -81,7 +81,7 @@ pub(crate) fn mark_write_only<S: Snapshot>(
         IsPerformed (S.map_at db.now) (λ range. S.may_refuse db.now range tx.old.read_version)
         (Command.WriteOnly name.now) answer tx.old tx.new) }
     ensures refused { IfErr result (λ error.
-        IsRefused (S.map_at db.now) (S.may_refuse db.now) (Command.WriteOnly name.now) error tx.old tx.new) }
+        IsCommandRefused (S.map_at db.now) (S.may_refuse db.now) (Command.WriteOnly name.now) error tx.old tx.new) }
 {
     let mut store = open(alloc, tx, db, known)?;
     store.mark_write_only(tx, name)?;
@@ -100,7 +100,7 @@ pub(crate) fn mark_readable<S: Snapshot>(
         IsPerformed (S.map_at db.now) (λ range. S.may_refuse db.now range tx.old.read_version)
         (Command.Readable name.now) answer tx.old tx.new) }
     ensures refused { IfErr result (λ error.
-        IsRefused (S.map_at db.now) (S.may_refuse db.now) (Command.Readable name.now) error tx.old tx.new) }
+        IsCommandRefused (S.map_at db.now) (S.may_refuse db.now) (Command.Readable name.now) error tx.old tx.new) }
 {
     let mut store = open(alloc, tx, db, known)?;
     store.mark_readable(tx, db, name)?;
@@ -119,7 +119,7 @@ pub(crate) fn index_state<S: Snapshot>(
         IsPerformed (S.map_at db.now) (λ range. S.may_refuse db.now range tx.old.read_version)
         (Command.State name.now) answer tx.old tx.new) }
     ensures refused { IfErr result (λ error.
-        IsRefused (S.map_at db.now) (S.may_refuse db.now) (Command.State name.now) error tx.old tx.new) }
+        IsCommandRefused (S.map_at db.now) (S.may_refuse db.now) (Command.State name.now) error tx.old tx.new) }
 {
     let store = open(alloc, tx, db, known)?;
     match store.state(name) {
@@ -141,7 +141,8 @@ pub(crate) fn aggregate<S: Snapshot>(
         IsPerformed (S.map_at db.now) (λ range. S.may_refuse db.now range tx.old.read_version)
         (Command.Aggregate name.now group.now) answer tx.old tx.new) }
     ensures refused { IfErr result (λ error.
-        IsRefused (S.map_at db.now) (S.may_refuse db.now) (Command.Aggregate name.now group.now) error tx.old tx.new) }
+        IsCommandRefused (S.map_at db.now) (S.may_refuse db.now)
+        (Command.Aggregate name.now group.now) error tx.old tx.new) }
 {
     let store = open(alloc, tx, db, known)?;
     let total = store.aggregate(tx, db, name, group)?;

@@ -1,7 +1,7 @@
 // The dispatch of commands. Called by `clients` and, for transactions on threads, by `runtime`.
 ghost use Rattle.std.specs.Prelude.{◌≡◌, None, Some, IfOk, IfErr, OnErr};
-ghost use Rattle.schedule.specs.Performed.{IsPerformed, IsStopped};
-ghost use Rattle.schedule.specs.Calls.{IsRefused, read_reply, reply_of, write_reply};
+ghost use Rattle.schedule.specs.Performed.{IsCommandStopped, IsPerformed};
+ghost use Rattle.schedule.specs.Calls.{IsCommandRefused, read_reply, reply_of, write_reply};
 
 use crate::building::build;
 use crate::commands::{add_type, create, load, remove, save};
@@ -78,7 +78,7 @@ fn answer<S: Snapshot>(
         IsPerformed (S.map_at db.now) (λ range. S.may_refuse db.now range tx.old.read_version) command.now answer
         tx.old tx.new) }
     ensures refused { IfErr result (λ error.
-        IsRefused (S.map_at db.now) (S.may_refuse db.now) command.now error tx.old tx.new) }
+        IsCommandRefused (S.map_at db.now) (S.may_refuse db.now) command.now error tx.old tx.new) }
 {
     match command {
         Command::Create(request) => create(alloc, tx, db, request),
@@ -115,7 +115,7 @@ pub fn perform<S: Snapshot>(
     ensures performed { IfOk result (λ answer.
         IsPerformed (S.map_at db.now) (λ range. S.may_refuse db.now range tx.old.read_version) command.now answer
         tx.old tx.new) }
-    ensures stopped { OnErr result (IsStopped (S.map_at db.now) command.now tx.old tx.new) }
+    ensures stopped { OnErr result (IsCommandStopped (S.map_at db.now) command.now tx.old tx.new) }
 {
     let mut known = KnownSchema::new();
     perform_knowing(alloc, command, tx, db, &mut known)
@@ -133,7 +133,7 @@ pub fn perform_knowing<S: Snapshot>(
     ensures performed { IfOk result (λ answer.
         IsPerformed (S.map_at db.now) (λ range. S.may_refuse db.now range tx.old.read_version) command.now answer
         tx.old tx.new) }
-    ensures stopped { OnErr result (IsStopped (S.map_at db.now) command.now tx.old tx.new) }
+    ensures stopped { OnErr result (IsCommandStopped (S.map_at db.now) command.now tx.old tx.new) }
 {
     match answer(alloc, command, tx, db, known) {
         Ok(reply) => Ok(reply),

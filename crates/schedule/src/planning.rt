@@ -2,7 +2,7 @@
 ghost use Rattle.std.specs.Prelude.{IfOk, IfErr};
 ghost use Rattle.record_store.specs.Calls.{index_states};
 ghost use Rattle.schedule.specs.declared.step.Command.{Command};
-ghost use Rattle.schedule.specs.Calls.{IsRefused};
+ghost use Rattle.schedule.specs.Calls.{IsCommandRefused};
 ghost use Rattle.schedule.specs.Performed.{IsPerformed};
 ghost use Rattle.schedule.specs.Planning.{IsPlanReply};
 
@@ -45,7 +45,7 @@ pub(crate) fn plan<S: Snapshot>(
         IsPerformed (S.map_at db.now) (λ range. S.may_refuse db.now range tx.old.read_version)
         (Command.Plan asked.now) answer tx.old tx.new) }
     ensures refused { IfErr result (λ error.
-        IsRefused (S.map_at db.now) (S.may_refuse db.now) (Command.Plan asked.now) error tx.old tx.new) }
+        IsCommandRefused (S.map_at db.now) (S.may_refuse db.now) (Command.Plan asked.now) error tx.old tx.new) }
 {
     let store = open(alloc, tx, db, known)?;
     let reply = plan_reply(alloc, &store, asked)?;

@@ -1,7 +1,7 @@
 // The refusals of steps and commands. Used by the modules here that reply, and by `runtime`, `race`
 // and `recordctl`; `script` prints their names.
 ghost use Rattle.std.specs.Prelude.{◌≡◌};
-ghost use Rattle.schedule.specs.Refusals.{name_of, of_query, of_schema};
+ghost use Rattle.schedule.specs.Refusals.{of_query, of_schema, refusal_name};
 
 use metadata::Refusal as SchemaRefusal;
 use query::QueryError;
@@ -119,7 +119,7 @@ impl From<QueryError> for Refusal {
 impl Refusal {
     /// The name of the refusal, as it is printed.
     pub fn name(self) -> &'static str
-        ensures { result.now ≡ name_of self }
+        ensures { result.now ≡ refusal_name self }
     {
         match self {
             Refusal::NoSuchClient => "NoSuchClient",

@@ -1,7 +1,7 @@
 // The steps that report a version, to its client or to nobody. Called by `running` and `settle`.
 ghost use Rattle.std.specs.Prelude.{◌≡◌, ◌++◌, ◌∷◌, [], IfOk, OnOk, if◌then◌else◌};
 ghost use Rattle.schedule.specs.Contract.{report_to, reports_reply};
-ghost use Rattle.schedule.specs.Running.{IsReported, IsStepped, IsTelling, entry_of};
+ghost use Rattle.schedule.specs.Running.{IsReported, IsStepped, IsTelling, unreported_entry};
 ghost use Rattle.schedule.specs.Standing.{is_told};
 
 use crate::database::{Database, Told, Unreported};
@@ -46,7 +46,8 @@ fn list_commit(
     reported: &Reported,
 ) -> Result<(), AllocError>
     ensures { OnOk result (commits.new.items
-        ≡ commits.old.items ++ (if is_told reported.now then entry_of version next ∷ [] else [])) }
+        ≡ commits.old.items ++ (if is_told reported.now then unreported_entry version next ∷ []
+        else [])) }
 {
     if let Reported::Committed(_) = reported {
         commits.push(CommitEntry {

@@ -5,7 +5,7 @@ use Rattle.serde_json.specs.Data.{Data}
 use Rattle.serde_json.specs.Find.{as_str}
 use Rattle.json_forms.specs.CellJson.{rows_in}
 use Rattle.json_forms.specs.Json.{has_only, list_in, member_in, value_in}
-use Rattle.json_forms.specs.SchemaJson.{index_in, schema_in}
+use Rattle.json_forms.specs.SchemaJson.{json_index, json_schema}
 use Rattle.script.specs.Script.{script_config}
 use Rattle.script.specs.Steps.{limit_in}
 use Rattle.script.specs.declared.error.ScriptError.{ScriptError}
@@ -50,8 +50,8 @@ race_in d =
       clients = clients;
     })
     (member_in racers_in (codes "clients") d)) (member_in turn_limit_in (codes "limit") d))
-    (member_in index_in (codes "index") d)) (member_in rows_in (codes "before") d))
-    (member_in as_str (codes "type") d)) (member_in schema_in (codes "schema") d)) (script_config d)
+    (member_in json_index (codes "index") d)) (member_in rows_in (codes "before") d))
+    (member_in as_str (codes "type") d)) (member_in json_schema (codes "schema") d)) (script_config d)
     else None
 
 -- the race that a text of JSON stands for

@@ -11,17 +11,17 @@ use Rattle.serde_json.specs.Find.{as_str}
 use Rattle.json_forms.specs.CellJson.{cells_in}
 use Rattle.json_forms.specs.Json.{list_in, named, number_in}
 use Rattle.json_forms.specs.QueryJson.{query_in}
-use Rattle.json_forms.specs.SchemaJson.{index_in, schema_in, type_in}
+use Rattle.json_forms.specs.SchemaJson.{json_index, json_schema, type_in}
 
 -- the command of this name with one part
 abbrev pub command_with : List ℕ → Data → Option Command
 command_with name part =
     option_and_then (λ (reads : Data → Option Command). reads part)
-    (named ((codes "create", λ d. option_map commands.Create (schema_in d))
+    (named ((codes "create", λ d. option_map commands.Create (json_schema d))
     ∷ (codes "type", λ d. option_map commands.«Type» (type_in d))
     ∷ (codes "query", λ d. option_map commands.Query (query_in d))
     ∷ (codes "plan", λ d. option_map commands.Plan (query_in d))
-    ∷ (codes "index", λ d. option_map commands.Index (index_in d))
+    ∷ (codes "index", λ d. option_map commands.Index (json_index d))
     ∷ (codes "drop", λ d. option_map commands.Drop (as_str d))
     ∷ (codes "disable", λ d. option_map commands.Disable (as_str d))
     ∷ (codes "write_only", λ d. option_map commands.WriteOnly (as_str d))

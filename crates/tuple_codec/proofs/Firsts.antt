@@ -2,7 +2,7 @@
 use Rattle.std.specs.Prelude.{◌≡◌, refl, ℕ, List, [], ◌∷◌, ◌++◌, length, drop, Result, Ok, Err}
 use Rattle.std.proofs.Common.{arith, sym, ap, subst, ◌∙◌}
 use Rattle.std.specs.Borrow.{Bor}
-use Rattle.tuple_codec.specs.Item.{Item, AreBytes, AreItems, items_of, max_nesting}
+use Rattle.tuple_codec.specs.Item.{Item, AreBytes, AreItems, items_from, max_nesting}
 use Rattle.tuple_codec.specs.Elements.{item_in}
 use Rattle.tuple_codec.specs.declared.Element.{Element}
 use Rattle.tuple_codec.specs.Spelling.{outer, item_spelling, spelling}
@@ -55,6 +55,6 @@ module _ (bs : List ℕ) (c : ℕ) (behind : List ℕ) (is : bs ≡ c ∷ behind
   first_refused f x rest read first = let again = first_again x rest first in cc
 
 -- a pack may follow any element
-pub pack_follows : (t : List Item) → AreItems (items_of t) → NoEscapeFirst (spelling t)
+pub pack_follows : (t : List Item) → AreItems (items_from t) → NoEscapeFirst (spelling t)
 pack_follows [] are = tt
 pack_follows (x ∷ t) are = subst (λ s. NoEscapeFirst (s ++ spelling t)) (sym (begins outer x)) (omega (arith, code_low x are.0))

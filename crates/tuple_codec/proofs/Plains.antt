@@ -5,7 +5,7 @@ use Rattle.std.proofs.lemmas.Grind.{flat_map-append}
 use Rattle.std.proofs.lemmas.List.{take-append-drop}
 use Rattle.std.proofs.lemmas.List.Elements.{All-head, All-tail}
 use Rattle.tuple_codec.specs.Spelling.{closed, escape, escaped}
-use Rattle.tuple_codec.specs.Reading.{closed_at, in_front}
+use Rattle.tuple_codec.specs.Reading.{bytes_in_front, closed_at}
 use Rattle.tuple_codec.proofs.Digits.{in_front_twice}
 
 abbrev pub IsPlain : ℕ → Type 0
@@ -33,17 +33,17 @@ closed_in_parts out code s plain tail a b d new n h is_plain is_tail coded plain
 
 -- ---- read
 
-front_nil : (o : Option (List ℕ × List ℕ)) → in_front [] o ≡ o
+front_nil : (o : Option (List ℕ × List ℕ)) → bytes_in_front [] o ≡ o
 front_nil None = refl
 front_nil (Some x) = refl
 
-plain_front : (s r : List ℕ) → All IsPlain s → in_front s (closed_at r) ≡ closed_at (s ++ r)
+plain_front : (s r : List ℕ) → All IsPlain s → bytes_in_front s (closed_at r) ≡ closed_at (s ++ r)
 unfolding closed_at
 plain_front [] r h = front_nil (closed_at r)
 plain_front (zero ∷ s) r h = absurd (All-head IsPlain zero s h refl)
-plain_front (suc b ∷ s) r h = sym (in_front_twice (suc b ∷ []) s (closed_at r)) ∙ ap (in_front (suc b ∷ [])) (plain_front s r (All-tail IsPlain (suc b) s h))
+plain_front (suc b ∷ s) r h = sym (in_front_twice (suc b ∷ []) s (closed_at r)) ∙ ap (bytes_in_front (suc b ∷ [])) (plain_front s r (All-tail IsPlain (suc b) s h))
 
 -- reading on behind the plain bytes
-pub reads_behind : (bs plain tail content : List ℕ) (n : ℕ) → All IsPlain (take n bs) → plain ≡ take n bs → tail ≡ drop n bs → content ≡ plain → in_front content (closed_at tail) ≡ closed_at bs
+pub reads_behind : (bs plain tail content : List ℕ) (n : ℕ) → All IsPlain (take n bs) → plain ≡ take n bs → tail ≡ drop n bs → content ≡ plain → bytes_in_front content (closed_at tail) ≡ closed_at bs
 reads_behind bs plain tail content n h is_plain is_tail is =
-    ap (λ s. in_front s (closed_at tail)) (is ∙ is_plain) ∙ ap (λ r. in_front (take n bs) (closed_at r)) is_tail ∙ plain_front (take n bs) (drop n bs) h ∙ ap closed_at (take-append-drop n bs)
+    ap (λ s. bytes_in_front s (closed_at tail)) (is ∙ is_plain) ∙ ap (λ r. bytes_in_front (take n bs) (closed_at r)) is_tail ∙ plain_front (take n bs) (drop n bs) h ∙ ap closed_at (take-append-drop n bs)

@@ -6,8 +6,9 @@ use Rattle.std.proofs.lemmas.Cmp.{ranked, by_ranked}
 use Rattle.std.proofs.Common.{arith, inl, inr, subst, sym, ap, ◌∙◌, append_assoc}
 use Rattle.std.proofs.lemmas.Bool.{cases_lt}
 use Rattle.std.proofs.lemmas.Bool.Decides.{nat_tests}
-use Rattle.tuple_codec.specs.Item.{Item, null, bytes, text, nested, int, bool, uuid, stamp, Items, no_items, item, items_of, IsItem, AreItems, magnitude}
-use Rattle.tuple_codec.specs.Order.{rank, bytes_cmp, same_kind_cmp, item_cmp, items_cmp, tuple_cmp}
+use Rattle.tuple_codec.specs.Item.{Item, null, bytes, text, nested, int, bool, uuid, stamp, Items, no_items, item}
+use Rattle.tuple_codec.specs.Item.{items_from, IsItem, AreItems, magnitude}
+use Rattle.tuple_codec.specs.Order.{item_rank, bytes_cmp, same_kind_cmp, item_cmp, items_cmp, tuple_cmp}
 use Rattle.tuple_codec.specs.Spelling.{Place, outer, inner, null_spelling, item_spelling, items_spelling, spelling, int_spelling, byte_count}
 use Rattle.tuple_codec.specs.Refusal.{NoEscapeFirst}
 use Rattle.tuple_codec.proofs.ByteOrder.{less, greater, then_assoc, cmp_same_length, cmp_closed, before_escape, after_escape}
@@ -67,7 +68,7 @@ code_of (bool true) = 39
 code_of (uuid u) = 48
 code_of (stamp v) = 51
 
-rank_is : (x : Item) → IsItem x → rank_at (code_of x) ≡ rank x
+rank_is : (x : Item) → IsItem x → rank_at (code_of x) ≡ item_rank x
 rank_is null h = refl
 rank_is (bytes s) h = refl
 rank_is (text s) h = refl
@@ -100,7 +101,7 @@ begins p (bool true) = refl
 begins p (uuid u) = refl
 begins p (stamp v) = refl
 
-codes_rise : (x y : Item) → IsItem x → IsItem y → rank x < rank y → code_of x < code_of y
+codes_rise : (x y : Item) → IsItem x → IsItem y → item_rank x < item_rank y → code_of x < code_of y
 codes_rise x y h g below =
     elim (cases_lt (code_of x) (code_of y)) [
       | inl low ↦ low
@@ -126,9 +127,9 @@ apart_greater p x y r q h =
     ∙ first_greater (code_of x) (code_of y) (drop 1 (item_spelling p x)) (drop 1 (item_spelling p y)) r q h
 
 -- the ranks decide, and within a kind what same says
-by_ranks : (p : Place) (x y : Item) (r q : List ℕ) → IsItem x → IsItem y → (rank x ≡ rank y → bytes_cmp (item_spelling p x ++ r) (item_spelling p y ++ q) ≡ ordering_then (same_kind_cmp x y) (bytes_cmp r q)) → bytes_cmp (item_spelling p x ++ r) (item_spelling p y ++ q) ≡ ordering_then (item_cmp x y) (bytes_cmp r q)
+by_ranks : (p : Place) (x y : Item) (r q : List ℕ) → IsItem x → IsItem y → (item_rank x ≡ item_rank y → bytes_cmp (item_spelling p x ++ r) (item_spelling p y ++ q) ≡ ordering_then (same_kind_cmp x y) (bytes_cmp r q)) → bytes_cmp (item_spelling p x ++ r) (item_spelling p y ++ q) ≡ ordering_then (item_cmp x y) (bytes_cmp r q)
 by_ranks p x y r q h g same =
-    by_ranked _ _ _ (nat_cmp (rank x) (rank y)) (ranked (rank x) (rank y) (nat_cmp (rank x) (rank y)) refl)
+    by_ranked _ _ _ (nat_cmp (item_rank x) (item_rank y)) (ranked (item_rank x) (item_rank y) (nat_cmp (item_rank x) (item_rank y)) refl)
     (λ e k. apart_less p x y r q (codes_rise x y h g k) ∙ sym (ap (λ o. ordering_then (ordering_then o (same_kind_cmp x y)) (bytes_cmp r q)) e))
     (λ e k. same k ∙ sym (ap (λ o. ordering_then (ordering_then o (same_kind_cmp x y)) (bytes_cmp r q)) e))
     (λ e k. apart_greater p x y r q (codes_rise y x g h k) ∙ sym (ap (λ o. ordering_then (ordering_then o (same_kind_cmp x y)) (bytes_cmp r q)) e))
@@ -155,7 +156,7 @@ kind (stamp v) = 7
 abbrev pub kind_at : ℕ → ℕ
 kind_at r = if nat_lt r 6 then r else r - 1
 
-pub kind_is : (x : Item) → kind_at (rank x) ≡ kind x
+pub kind_is : (x : Item) → kind_at (item_rank x) ≡ kind x
 kind_is null = refl
 kind_is (bytes s) = refl
 kind_is (text s) = refl
@@ -195,7 +196,7 @@ same_null inner r q = refl
 
 -- Items of one kind, and nested tuples with their closing 00, with anything behind them that may stand there: they decide, and then what is behind them.
 mutual
-  same_kind : (p : Place) (x y : Item) (r q : List ℕ) → IsItem x → IsItem y → NoEscapeFirst r → NoEscapeFirst q → rank x ≡ rank y → kind x ≡ kind y → bytes_cmp (item_spelling p x ++ r) (item_spelling p y ++ q) ≡ ordering_then (same_kind_cmp x y) (bytes_cmp r q)
+  same_kind : (p : Place) (x y : Item) (r q : List ℕ) → IsItem x → IsItem y → NoEscapeFirst r → NoEscapeFirst q → item_rank x ≡ item_rank y → kind x ≡ kind y → bytes_cmp (item_spelling p x ++ r) (item_spelling p y ++ q) ≡ ordering_then (same_kind_cmp x y) (bytes_cmp r q)
   same_kind p null null r q h g a b e k = same_null p r q
   same_kind p (bytes s) (bytes t) r q h g a b e k = cmp_closed s t r q a b
   same_kind p (text s) (text t) r q h g a b e k = cmp_closed s t r q a b
@@ -228,12 +229,12 @@ item_order p x y r q h g a b = by_ranks p x y r q h g (λ e. same_kind p x y r q
 
 -- ---- tuples
 
-pub outer_tail : (t : List Item) → AreItems (items_of t) → NoEscapeFirst (spelling t)
+pub outer_tail : (t : List Item) → AreItems (items_from t) → NoEscapeFirst (spelling t)
 outer_tail [] h = tt
 outer_tail (x ∷ t) h = no_escape outer x (spelling t) h.0
 
 -- The byte order of the packs of two tuples is the order of the tuples.
-pub tuple_order : (t u : List Item) → AreItems (items_of t) → AreItems (items_of u) → bytes_cmp (spelling t) (spelling u) ≡ tuple_cmp t u
+pub tuple_order : (t u : List Item) → AreItems (items_from t) → AreItems (items_from u) → bytes_cmp (spelling t) (spelling u) ≡ tuple_cmp t u
 tuple_order [] [] h g = refl
 tuple_order [] (y ∷ u) h g = ap (bytes_cmp []) (ap (λ s. s ++ spelling u) (begins outer y))
 tuple_order (x ∷ t) [] h g = ap (λ s. bytes_cmp (s ++ spelling t) []) (begins outer x)

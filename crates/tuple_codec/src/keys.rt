@@ -5,7 +5,8 @@ ghost use Rattle.std.specs.Prelude.{Err, None, Some, option_map, true, MatchBool
 ghost use Rattle.tuple_codec.specs.Item.{Item, int, magnitude, IsTuple, AreBytes};
 ghost use Rattle.tuple_codec.specs.Spelling.{spelling};
 ghost use Rattle.tuple_codec.specs.Order.{bytes_cmp, tuple_cmp};
-ghost use Rattle.tuple_codec.specs.Subspace.{BeginsWith, key_of, range_begin, range_end, strinc, IsWithin};
+ghost use Rattle.tuple_codec.specs.Subspace.{BeginsWith, subspace_key, range_begin, range_end};
+ghost use Rattle.tuple_codec.specs.Subspace.{strinc, IsWithin};
 ghost use Rattle.tuple_codec.specs.Subspace.{SpellsUnder, RefusesUnder, StripFails, StripsTuple, StripsRefusal};
 ghost use Rattle.tuple_codec.specs.declared.UnpackErrorKind.{UnpackErrorKind};
 ghost use Rattle.tuple_codec.specs.declared.StripError.TheVariants.{Outside};
@@ -25,7 +26,7 @@ impl Subspace {
 
     /// The key of a tuple.
     pub fn key(&self, alloc: Global, tuple: &Tuple) -> Result<Vec<u8>, AllocError>
-        ensures { IfOk result (λ key. key.items ≡ key_of self.now tuple.now) }
+        ensures { IfOk result (λ key. key.items ≡ subspace_key self.now tuple.now) }
     {
         let mut key = Vec::from_slice(alloc, &self.prefix)?;
         pack_into(tuple, &mut key)?;
@@ -97,11 +98,12 @@ pub fn strinc(alloc: Global, bytes: &[u8]) -> Result<Option<Vec<u8>>, AllocError
 /// A key spells its tuple behind the prefix, and keys are ordered as their tuples. A subspace's
 /// range has the key of every tuple but the empty one.
 pub fn keys_are_tuples()
-    ensures spelled { (prefix : List ℕ) (t : List Item) → IsTuple t → SpellsUnder prefix t (key_of prefix t) }
+    ensures spelled { (prefix : List ℕ) (t : List Item) → IsTuple t → SpellsUnder prefix t (subspace_key prefix t) }
     ensures ordered { (prefix : List ℕ) (t u : List Item) → IsTuple t → IsTuple u
-        → bytes_cmp (key_of prefix t) (key_of prefix u) ≡ tuple_cmp t u }
+        → bytes_cmp (subspace_key prefix t) (subspace_key prefix u) ≡ tuple_cmp t u }
     ensures within { (prefix : List ℕ) (t : List Item) → IsTuple t
-        → IsWithin (range_begin prefix) (Some (range_end prefix)) (key_of prefix t) ↔ (t ≡ [] → ⊥) }
+        → IsWithin (range_begin prefix) (Some (range_end prefix))
+        (subspace_key prefix t) ↔ (t ≡ [] → ⊥) }
 {}
 
 /// Of the packs of two different whole numbers neither begins the other.

@@ -10,7 +10,7 @@ use Rattle.kv_core.specs.Range.{KeyRange, contains, covers, point, is_same_range
 use Rattle.kv_core.specs.Map.{Map, Agree, after_all, value_after_all}
 use Rattle.kv_core.specs.declared.change.Mutation.{Mutation}
 use Rattle.txn.specs.declared.own.OwnWrites.{OwnWrites}
-use Rattle.txn.specs.Own.{IsUnder, state_of}
+use Rattle.txn.specs.Own.{IsUnder, own_state}
 use Rattle.kv_core.specs.Read.{read_of, range_read, last_key}
 use Rattle.kv_core.specs.declared.change.CommitRequest.{CommitRequest}
 use Rattle.kv_core.proofs.Order.{tied_keys, contains-point}
@@ -72,7 +72,7 @@ range_answer maps request tx range read limit b pairs kept same some is is_read 
     subst (λ (t : CommitRequest). pairs ≡ read_of (seen t m) range limit b) same (is ∙ range_decides request range limit b base m some agree')
 
 -- the map that a transaction sees is its snapshot's under own writes that follow its mutations
-pub seen_under : (own : OwnWrites) (mutations slice : List Mutation) (base : Map) → slice ≡ mutations → Follow own slice → IsUnder (state_of own) base (after_all mutations base)
+pub seen_under : (own : OwnWrites) (mutations slice : List Mutation) (base : Map) → slice ≡ mutations → Follow own slice → IsUnder (own_state own) base (after_all mutations base)
 seen_under own mutations slice base is follow = λ key.
     get-after_all-value mutations base key ∙ ap (λ ms. value_after_all ms key (get base key)) (sym is) ∙ sym (follow key (get base key))
 

@@ -17,7 +17,7 @@ use Rattle.txn.specs.declared.own.OwnWrites.{OwnWrites}
 use Rattle.std.proofs.Math.Seq.{take-length}
 use Rattle.std.proofs.lemmas.List.{length-drop, take-append-drop}
 use Rattle.txn.specs.Reads.{Follow, IsNoted}
-use Rattle.txn.specs.Own.{state_of, sum_at, sum_over, worth, worth_of, left_of, under}
+use Rattle.txn.specs.Own.{own_state, sum_at, sum_over, worth, worth_of, left_of, under}
 
 -- one more operand is added to the sum of the others
 pub sum-pushed : (operands : List (List ℕ)) (operand : List ℕ) (before : Option (List ℕ)) → sum_over (operands ++ operand ∷ []) before ≡ added (Some (sum_over operands before)) operand
@@ -87,32 +87,32 @@ from_nothing (x ∷ operands) before = refl
 pub with_set : (self own : OwnWrites) (written : Map) (mutation : Mutation) (k v : List ℕ) (sums : BTreeMap (List ℕ) (List (List ℕ))) → mutation ≡ Set k v → own ≡ record self { sums = sums } →
     written ≡ after mutation own.written → ((q : List ℕ) → sum_at sums.entries q ≡ cond (is_eq (key_cmp k q)) None (sum_at self.sums.entries q)) →
     (key : List ℕ) (before : Option (List ℕ)) →
-    under (record { written = written; cleared = own.cleared; sums = own.sums.entries }) key before ≡ value_after mutation key (under (state_of self) key before)
+    under (record { written = written; cleared = own.cleared; sums = own.sums.entries }) key before ≡ value_after mutation key (under (own_state self) key before)
 with_set self own written mutation k v sums is_set own_is now gone key before =
     (λ i. worth_of (get ((now ∙ (λ j. after (is_set j) (own_is j).written)) i) key) (sum_at (own_is i).sums.entries key) (left_of (own_is i).cleared key before))
     ∙ set_under self.written self.cleared k v key (sum_at self.sums.entries key) (sum_at sums.entries key) before (gone key)
-    ∙ ap (λ m. value_after m key (under (state_of self) key before)) (sym is_set)
+    ∙ ap (λ m. value_after m key (under (own_state self) key before)) (sym is_set)
 
 pub with_clear : (self own : OwnWrites) (written : Map) (mutation : Mutation) (range : KeyRange) (cleared : List KeyRange) → mutation ≡ ClearRange range → own ≡ record self { cleared = cleared } →
     written ≡ after mutation own.written → ((q : List ℕ) → covers cleared q ≡ (covers self.cleared q || contains range q)) →
     (key : List ℕ) (before : Option (List ℕ)) →
-    under (record { written = written; cleared = own.cleared; sums = own.sums.entries }) key before ≡ value_after mutation key (under (state_of self) key before)
+    under (record { written = written; cleared = own.cleared; sums = own.sums.entries }) key before ≡ value_after mutation key (under (own_state self) key before)
 with_clear self own written mutation range cleared is_clear own_is now more key before =
     (λ i. worth_of (get ((now ∙ (λ j. after (is_clear j) (own_is j).written)) i) key) (sum_at (own_is i).sums.entries key) (left_of (own_is i).cleared key before))
     ∙ clear_under self.written self.cleared cleared range key (sum_at self.sums.entries key) before (more key)
-    ∙ ap (λ m. value_after m key (under (state_of self) key before)) (sym is_clear)
+    ∙ ap (λ m. value_after m key (under (own_state self) key before)) (sym is_clear)
 
 pub with_add : (self own added_to : OwnWrites) (written : Map) (mutation : Mutation) (k o : List ℕ) → mutation ≡ Add k o → own ≡ added_to →
     written ≡ after mutation own.written → added_to.written ≡ self.written → added_to.cleared ≡ self.cleared →
     ((q : List ℕ) → is_eq (key_cmp k q) ≡ false → sum_at added_to.sums.entries q ≡ sum_at self.sums.entries q) →
     ((before : Option (List ℕ)) → worth (added (get self.written k) o) (sum_at added_to.sums.entries k) before ≡ added (worth_of (get self.written k) (sum_at self.sums.entries k) before) o) →
     (key : List ℕ) (before : Option (List ℕ)) →
-    under (record { written = written; cleared = own.cleared; sums = own.sums.entries }) key before ≡ value_after mutation key (under (state_of self) key before)
+    under (record { written = written; cleared = own.cleared; sums = own.sums.entries }) key before ≡ value_after mutation key (under (own_state self) key before)
 with_add self own added_to written mutation k o is_add own_is now same_written same_cleared others at key before =
     (λ i. worth_of (get ((now ∙ (λ j. after (is_add j) ((ap (λ x. x.written) own_is ∙ same_written) j))) i) key) (sum_at (own_is i).sums.entries key)
     (left_of ((ap (λ x. x.cleared) own_is ∙ same_cleared) i) key before))
     ∙ add_under self.written self.cleared k o key (sum_at self.sums.entries) (sum_at added_to.sums.entries) before others at
-    ∙ ap (λ m. value_after m key (under (state_of self) key before)) (sym is_add)
+    ∙ ap (λ m. value_after m key (under (own_state self) key before)) (sym is_add)
 
 -- one operand earlier is added to the last one
 pub plus_turn : (operands rest : List (List ℕ)) (earlier last next : List ℕ) (sum : Option (List ℕ) → List ℕ) → length last ≤ length earlier → operands ≡ rest ++ earlier ∷ [] →
@@ -129,7 +129,7 @@ value_after_all-append (mutation ∷ mutations) more key before = value_after_al
 
 -- own writes that have noted the first mutations, with the others noted after them
 pub caught_up : (own noted : OwnWrites) (mutations rest : List Mutation) → IsNoted own mutations → rest ≡ drop own.noted mutations →
-    ((key : List ℕ) (before : Option (List ℕ)) → under (state_of noted) key before ≡ value_after_all rest key (under (state_of own) key before)) → Follow noted mutations
+    ((key : List ℕ) (before : Option (List ℕ)) → under (own_state noted) key before ≡ value_after_all rest key (under (own_state own) key before)) → Follow noted mutations
 caught_up own noted mutations rest is rest_is on key before =
     on key before ∙ (λ i. value_after_all (rest_is i) key (is.1 key before i))
     ∙ sym (value_after_all-append (take own.noted mutations) (drop own.noted mutations) key before)

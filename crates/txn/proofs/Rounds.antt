@@ -16,7 +16,7 @@ use Rattle.kv_core.proofs.Order.{cases_key, has_keys-from, le_trans, lt_le_trans
 use Rattle.kv_core.proofs.Pairs.{directed, inside_read, last_inside, read_of-part}
 use Rattle.kv_core.proofs.Parts.{contains-before, contains-from, directed-parts, far, near, part_before-next, part_from-inside}
 use Rattle.txn.specs.Own.{left_of}
-use Rattle.txn.specs.Reading.{CoversTo, Gives, IsBehind, IsLeft, Tell}
+use Rattle.txn.specs.Reading.{CoversTo, IsPlaceBehind, IsReadSoFar, IsRestOf, Tell}
 use Rattle.txn.specs.Parts.{IsPart}
 use Rattle.txn.proofs.Merging.{Pairs, length-directed, stored_at, whole_read}
 
@@ -108,7 +108,7 @@ far_part true place range q h = (and_parts (contains range q) (key_lt q place) (
 far_part false place range q h = (and_parts (contains range q) (key_le place q) (sym (contains-from range place q) ∙ h)).0
 
 -- the range that decided the stored pairs lies before a place behind the last of them
-stored_near : (b : Bool) (range : KeyRange) (asked : ℕ) (stored : Pairs) (place : List ℕ) → asked ≤ length stored → IsBehind b (last_key range.begin stored) place →
+stored_near : (b : Bool) (range : KeyRange) (asked : ℕ) (stored : Pairs) (place : List ℕ) → asked ≤ length stored → IsPlaceBehind b (last_key range.begin stored) place →
     (q : List ℕ) → contains (range_read range asked b stored) q ≡ true → nearer b place q ≡ true
 stored_near true range asked stored place full behind q h =
     let last = last_key range.begin stored in
@@ -122,7 +122,7 @@ stored_near false range asked stored place full behind q h =
 
 -- behind stored pairs fewer are left
 pub fewer_left : (b : Bool) (base : Map) (range : KeyRange) (asked : ℕ) (stored : Pairs) (place : List ℕ) → 1 ≤ asked → asked ≤ length stored → stored ≡ read_of base range asked b →
-    IsBehind b (last_key range.begin stored) place → length (pairs_in base (far b place range)) < length (pairs_in base range)
+    IsPlaceBehind b (last_key range.begin stored) place → length (pairs_in base (far b place range)) < length (pairs_in base range)
 fewer_left b base range asked stored place some full is behind =
     let part = range_read range asked b stored in
     let in_near : IsPart part (near b place range) =
@@ -156,8 +156,8 @@ no_pairs m range b none = by (directed b (pairs_in m range)) refl
 -- after a round the rest is to be read where pairs are wanting and there are keys left
 module _ (b : Bool) (range : KeyRange) (place : List ℕ) (limit : ℕ) (pairs : Pairs) (rest : Option KeyRange) (wanted : Bool) (rest_is : rest ≡ cond wanted (Some (far b place range)) None)
     (wanting : wanted ≡ true → length pairs < limit) where
-  pub gives_round : (m : Map) → pairs ≡ read_of m (near b place range) limit b → (wanted ≡ false → (limit ≤ length pairs) ⊎ (has_keys (far b place range) ≡ false)) → Gives m range limit b pairs rest
-  gives_round m is done = subst (Gives m range limit b pairs) (sym rest_is) (by wanted refl)
+  pub gives_round : (m : Map) → pairs ≡ read_of m (near b place range) limit b → (wanted ≡ false → (limit ≤ length pairs) ⊎ (has_keys (far b place range) ≡ false)) → IsReadSoFar m range limit b pairs rest
+  gives_round m is done = subst (IsReadSoFar m range limit b pairs) (sym rest_is) (by wanted refl)
     where
       first : Pairs
       first = directed b (pairs_in m (near b place range))
@@ -168,7 +168,7 @@ module _ (b : Bool) (range : KeyRange) (place : List ℕ) (limit : ℕ) (pairs :
       split : directed b (pairs_in m range) ≡ first ++ second
       split = directed-parts m b range place
 
-      by : (t : Bool) → wanted ≡ t → Gives m range limit b pairs (cond t (Some (far b place range)) None)
+      by : (t : Bool) → wanted ≡ t → IsReadSoFar m range limit b pairs (cond t (Some (far b place range)) None)
       by true e =
           let less : length (take limit first) < limit = subst (λ ps. length ps < limit) is (wanting e) in
           ap (take limit) split ∙ take-both limit first second less ∙ ap (λ ps. ps ++ take (limit - length ps) second) (sym is)
@@ -177,10 +177,10 @@ module _ (b : Bool) (range : KeyRange) (place : List ℕ) (limit : ℕ) (pairs :
         | inr none ↦ ap (λ es. take limit (first ++ es)) (no_pairs m (far b place range) b none) ∙ ap (take limit) (append-nil first)
       ])
 
-  pub left_round : (base : Map) → length (pairs_in base (far b place range)) < length (pairs_in base range) → IsLeft base range limit pairs rest
-  left_round base fewer = subst (IsLeft base range limit pairs) (sym rest_is) (by wanted refl)
+  pub left_round : (base : Map) → length (pairs_in base (far b place range)) < length (pairs_in base range) → IsRestOf base range limit pairs rest
+  left_round base fewer = subst (IsRestOf base range limit pairs) (sym rest_is) (by wanted refl)
     where
-      by : (t : Bool) → wanted ≡ t → IsLeft base range limit pairs (cond t (Some (far b place range)) None)
+      by : (t : Bool) → wanted ≡ t → IsRestOf base range limit pairs (cond t (Some (far b place range)) None)
       by true e = (wanting e, fewer, far_part b place range)
       by false e = tt
 
@@ -189,17 +189,17 @@ module _ (range part : KeyRange) (limit count : ℕ) (pairs more all : Pairs) (l
   both : length all ≡ length pairs + length more
   both = ap length all_is ∙ length-append pairs more
 
-  pub gives_on : (m : Map) (b : Bool) (rest : Option KeyRange) → Gives m range limit b pairs left → Gives m part (limit - count) b more rest → Gives m range limit b all rest
-  gives_on m b None so on = all_is ∙ sym (subst (Gives m range limit b pairs) left_is so ∙ ap (λ n. pairs ++ read_of m part (limit - n) b) (sym counted) ∙ ap (λ ps. pairs ++ ps) (sym on))
+  pub gives_on : (m : Map) (b : Bool) (rest : Option KeyRange) → IsReadSoFar m range limit b pairs left → IsReadSoFar m part (limit - count) b more rest → IsReadSoFar m range limit b all rest
+  gives_on m b None so on = all_is ∙ sym (subst (IsReadSoFar m range limit b pairs) left_is so ∙ ap (λ n. pairs ++ read_of m part (limit - n) b) (sym counted) ∙ ap (λ ps. pairs ++ ps) (sym on))
   gives_on m b (Some rest) so on =
       let counts : (limit - count) - length more ≡ limit - length all = omega (arith, both, counted) in
-      subst (Gives m range limit b pairs) left_is so ∙ ap (λ n. pairs ++ read_of m part (limit - n) b) (sym counted) ∙ ap (λ ps. pairs ++ ps) on
+      subst (IsReadSoFar m range limit b pairs) left_is so ∙ ap (λ n. pairs ++ read_of m part (limit - n) b) (sym counted) ∙ ap (λ ps. pairs ++ ps) on
       ∙ sym (append_assoc pairs more (read_of m rest ((limit - count) - length more) b)) ∙ (λ i. sym all_is i ++ read_of m rest (counts i) b)
 
-  pub left_on : (base : Map) (rest : Option KeyRange) → IsLeft base range limit pairs left → IsLeft base part (limit - count) more rest → IsLeft base range limit all rest
+  pub left_on : (base : Map) (rest : Option KeyRange) → IsRestOf base range limit pairs left → IsRestOf base part (limit - count) more rest → IsRestOf base range limit all rest
   left_on base None so on = tt
   left_on base (Some rest) so on =
-      let before = subst (IsLeft base range limit pairs) left_is so in
+      let before = subst (IsRestOf base range limit pairs) left_is so in
       (omega (arith, both, counted, before.0, on.0), omega (arith, before.1, on.1), λ q h. before.2 q (on.2 q h))
 
 -- the pair that stands last has the last key

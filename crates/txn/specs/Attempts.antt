@@ -11,8 +11,8 @@ abbrev pub HasSucceeded : Ended → Type 0
 HasSucceeded ended = (ended ≡ Committed) ⊎ (ended ≡ ReadOnly)
 
 -- another attempt does no harm: this one wrote nothing, or it may have written what may be written twice
-abbrev pub MayFollow : Ended → Bool → Type 0
-MayFollow ended repeatable =
+abbrev pub MayTryAgain : Ended → Bool → Type 0
+MayTryAgain ended repeatable =
     (ended ≡ Conflict) ⊎ ((ended ≡ TooOld) ⊎ ((ended ≡ FutureVersion) ⊎ ((ended ≡ Unknown) × IsTrue repeatable)))
 
 -- another attempt where there is one left, and else no more

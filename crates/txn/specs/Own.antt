@@ -22,8 +22,8 @@ pub record OwnState : Type 0 where
   pub sums : List (List ℕ × List (List ℕ))
 
 -- what own writes stand for
-abbrev pub state_of : OwnWrites → OwnState
-state_of own = record { written = own.written; cleared = own.cleared; sums = own.sums.entries }
+abbrev pub own_state : OwnWrites → OwnState
+own_state own = record { written = own.written; cleared = own.cleared; sums = own.sums.entries }
 
 -- a value that own mutations make of nothing, or the sum over the value before where they only add to it
 abbrev pub worth : List ℕ → Option (List (List ℕ)) → Option (List ℕ) → List ℕ

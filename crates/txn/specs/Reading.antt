@@ -17,9 +17,9 @@ CoversTo cleared false last place =
     (key : List ℕ) → IsTrue (key_le (next_key last) key) → IsTrue (key_lt key place) → IsTrue (covers cleared key)
 
 -- the place lies behind the last pair, in the direction of the read
-abbrev pub IsBehind : Bool → List ℕ → List ℕ → Type 0
-IsBehind true last place = IsTrue (key_le place last)
-IsBehind false last place = IsTrue (key_le (next_key last) place)
+abbrev pub IsPlaceBehind : Bool → List ℕ → List ℕ → Type 0
+IsPlaceBehind true last place = IsTrue (key_le place last)
+IsPlaceBehind false last place = IsTrue (key_le (next_key last) place)
 
 -- stored pairs tell what own mutations leave of a map in a range
 abbrev pub Tell : List KeyRange → List (List ℕ × List ℕ) → Map → KeyRange → Type 0
@@ -28,15 +28,15 @@ Tell cleared stored base part =
     left_of cleared key (find key_cmp key stored) ≡ left_of cleared key (get base key)
 
 -- pairs are a read of a map, or its beginning where the rest of the range is still to be read
-abbrev pub Gives : Map → KeyRange → ℕ → Bool → List (List ℕ × List ℕ) → Option KeyRange → Type 0
-Gives m range limit reversed pairs None = pairs ≡ read_of m range limit reversed
-Gives m range limit reversed pairs (Some rest) =
+abbrev pub IsReadSoFar : Map → KeyRange → ℕ → Bool → List (List ℕ × List ℕ) → Option KeyRange → Type 0
+IsReadSoFar m range limit reversed pairs None = pairs ≡ read_of m range limit reversed
+IsReadSoFar m range limit reversed pairs (Some rest) =
     read_of m range limit reversed ≡ pairs ++ read_of m rest (limit - length pairs) reversed
 
 -- what is left of a range is a part of it with fewer stored pairs, and is left only where pairs are wanting
-abbrev pub IsLeft : Map → KeyRange → ℕ → List (List ℕ × List ℕ) → Option KeyRange → Type 0
-IsLeft base range limit pairs None = Unit {0}
-IsLeft base range limit pairs (Some rest) =
+abbrev pub IsRestOf : Map → KeyRange → ℕ → List (List ℕ × List ℕ) → Option KeyRange → Type 0
+IsRestOf base range limit pairs None = Unit {0}
+IsRestOf base range limit pairs (Some rest) =
     (length pairs < limit) × (length (pairs_in base rest) < length (pairs_in base range)) × IsPart rest range
 
 -- how many stored pairs are left, and one more where a range is

@@ -6,7 +6,7 @@ use Rattle.kv_core.specs.Limits.{size_of_all}
 use Rattle.kv_core.specs.declared.limits.TheConstants.{MAX_TRANSACTION_BYTES}
 use Rattle.kv_core.specs.Map.{Map, after_all, value_after_all, Agree}
 use Rattle.txn.specs.declared.own.OwnWrites.{OwnWrites}
-use Rattle.txn.specs.Own.{state_of, under}
+use Rattle.txn.specs.Own.{own_state, under}
 use Rattle.kv_core.specs.Read.{read_of, range_read}
 use Rattle.kv_core.specs.declared.change.CommitRequest.{CommitRequest}
 use Rattle.kv_core.specs.declared.change.Mutation.{Mutation}
@@ -43,7 +43,7 @@ RangeDecides =
 -- own writes that stand for a list of mutations: they make of each value what the mutations make of it
 abbrev pub Follow : OwnWrites → List Mutation → Type 0
 Follow own mutations =
-    (key : List ℕ) (before : Option (List ℕ)) → under (state_of own) key before ≡ value_after_all mutations key before
+    (key : List ℕ) (before : Option (List ℕ)) → under (own_state own) key before ≡ value_after_all mutations key before
 
 -- own writes that stand for the first mutations of a list, as far as they have been noted
 abbrev pub IsNoted : OwnWrites → List Mutation → Type 0

@@ -6,7 +6,7 @@ ghost use Rattle.std.specs.Option.{option_copied};
 ghost use Rattle.kv_core.specs.Map.{Map};
 ghost use Rattle.kv_core.specs.Range.{covers};
 ghost use Rattle.kv_core.specs.Read.{read_of};
-ghost use Rattle.txn.specs.Own.{IsUnder, laid_over, state_of, sum_at, under, worth};
+ghost use Rattle.txn.specs.Own.{IsUnder, laid_over, own_state, sum_at, under, worth};
 ghost use Rattle.txn.specs.Reading.{Tell};
 
 use crate::own::OwnWrites;
@@ -31,7 +31,7 @@ impl OwnWrites {
         key: &Bytes,
         before: Option<Bytes>,
     ) -> Result<Option<Bytes>, AllocError>
-        ensures { IfOk result (λ value. value ≡ under (state_of self.now) key.now before) }
+        ensures { IfOk result (λ value. value ≡ under (own_state self.now) key.now before) }
     {
         let left = if self.cleared.covers(key) {
             None
@@ -82,7 +82,7 @@ impl OwnWrites {
     ) -> Result<Vec<Pair>, AllocError>
         requires { 1 ≤ limit }
         ensures { IfOk result (λ pairs.
-            (base m : Map) → IsUnder (state_of self.now) base m → Tell self.now.cleared stored.items base range.now →
+            (base m : Map) → IsUnder (own_state self.now) base m → Tell self.now.cleared stored.items base range.now →
             pairs.items ≡ read_of m range.now limit reverse) }
     {
         let own = self.written.range(range, limit, reverse)?;

@@ -3,7 +3,7 @@
 ghost use Rattle.std.specs.Prelude.{◌≡◌, ℕ, List, Option, IfOk, OnOk, false};
 ghost use Rattle.kv_core.specs.Map.{value_after, value_after_all};
 ghost use Rattle.txn.specs.Reads.{Follow, IsNoted};
-ghost use Rattle.txn.specs.Own.{state_of, sum_at, under, worth, worth_of};
+ghost use Rattle.txn.specs.Own.{own_state, sum_at, under, worth, worth_of};
 ghost use Rattle.std.specs.FinMap.{get};
 ghost use Rattle.std.specs.Ordering.{is_eq};
 ghost use Rattle.kv_core.specs.Addition.{added};
@@ -32,7 +32,7 @@ impl OwnWrites {
     /// What no mutation comes to, which takes no memory.
     pub(crate) fn new(alloc: Global) -> OwnWrites
         ensures none { result.noted ≡ 0 }
-        ensures same { (key : List ℕ) (before : Option (List ℕ)) → under (state_of result) key before ≡ before }
+        ensures same { (key : List ℕ) (before : Option (List ℕ)) → under (own_state result) key before ≡ before }
     {
         OwnWrites {
             alloc,
@@ -47,7 +47,7 @@ impl OwnWrites {
     fn with(self, mutation: &Mutation) -> Result<OwnWrites, AllocError>
         ensures { IfOk result (λ own.
             (key : List ℕ) (before : Option (List ℕ)) →
-            under (state_of own) key before ≡ value_after mutation.now key (under (state_of self) key before)) }
+            under (own_state own) key before ≡ value_after mutation.now key (under (own_state self) key before)) }
     {
         let mut own = self;
         match mutation {
@@ -87,7 +87,7 @@ impl OwnWrites {
     fn with_all(self, mutations: &[Mutation]) -> Result<OwnWrites, AllocError>
         ensures { IfOk result (λ own.
             (key : List ℕ) (before : Option (List ℕ)) →
-            under (state_of own) key before ≡ value_after_all mutations.now key (under (state_of self) key before)) }
+            under (own_state own) key before ≡ value_after_all mutations.now key (under (own_state self) key before)) }
     {
         let mut own = self;
         for mutation in mutations {

@@ -5,8 +5,8 @@ ghost use Rattle.std.specs.Prelude.{IfErr, OnOk, if◌then◌else◌, length, na
 ghost use Rattle.kv_core.specs.Map.{Map};
 ghost use Rattle.kv_core.specs.Range.{contains, has_keys, part_before, part_from};
 ghost use Rattle.kv_core.specs.Read.{last_key, range_read, read_of};
-ghost use Rattle.txn.specs.Own.{IsUnder, state_of};
-ghost use Rattle.txn.specs.Reading.{CoversTo, Gives, IsBehind, IsLeft};
+ghost use Rattle.txn.specs.Own.{IsUnder, own_state};
+ghost use Rattle.txn.specs.Reading.{CoversTo, IsPlaceBehind, IsReadSoFar, IsRestOf};
 
 use crate::own::OwnWrites;
 use crate::snapshot::Snapshot;
@@ -55,7 +55,7 @@ fn stop(
 ) -> Result<Bytes, AllocError>
     ensures covers { IfOk result (λ place.
         CoversTo own.now.cleared reverse (last_key range.now.begin stored.now) place) }
-    ensures behind { IfOk result (λ place. IsBehind reverse (last_key range.now.begin stored.now) place) }
+    ensures behind { IfOk result (λ place. IsPlaceBehind reverse (last_key range.now.begin stored.now) place) }
 {
     let last = last_key(range.begin(), stored);
     if reverse {
@@ -115,10 +115,10 @@ fn merge_part(
     ensures left { IfOk result (λ round.
         (base : Map) (asked : ℕ) → 1 ≤ asked → asked ≤ length stored.items →
         stored.items ≡ read_of base range.now asked reverse →
-        IsLeft base range.now limit round.pairs.items round.rest) }
+        IsRestOf base range.now limit round.pairs.items round.rest) }
     ensures gives { IfOk result (λ round. (base m : Map) (asked : ℕ) → 1 ≤ asked → asked ≤ length stored.items →
         stored.items ≡ read_of base range.now asked reverse →
-        IsUnder (state_of own.now) base m → Gives m range.now limit reverse round.pairs.items round.rest) }
+        IsUnder (own_state own.now) base m → IsReadSoFar m range.now limit reverse round.pairs.items round.rest) }
 {
     let place = stop(own, range, stored.as_slice(), reverse)?;
     let (near, far) = parts_at(range, &place, reverse)?;
@@ -140,10 +140,10 @@ fn read_round<S: Snapshot>(
     requires limit { 1 ≤ limit }
     requires asked { 1 ≤ asked }
     ensures left { IfOk result (λ round.
-        IsLeft (S.map_at db.now version) range.now limit round.pairs.items round.rest) }
+        IsRestOf (S.map_at db.now version) range.now limit round.pairs.items round.rest) }
     ensures gives { IfOk result (λ round.
-        (m : Map) → IsUnder (state_of own.now) (S.map_at db.now version) m →
-        Gives m range.now limit reverse round.pairs.items round.rest) }
+        (m : Map) → IsUnder (own_state own.now) (S.map_at db.now version) m →
+        IsReadSoFar m range.now limit reverse round.pairs.items round.rest) }
     ensures allowed { OnOk result (S.must_refuse db.now range.now version → ⊥) }
     ensures refused { IfErr result (λ error. (error ≡ ReadError.Memory) ⊎ S.may_refuse db.now range.now version error) }
 {
@@ -172,7 +172,7 @@ pub(crate) fn read_under<S: Snapshot>(
 ) -> Result<Vec<Pair>, ReadError>
     requires { 1 ≤ limit }
     ensures pairs { IfOk result (λ pairs.
-        (m : Map) → IsUnder (state_of own.now) (S.map_at db.now version) m →
+        (m : Map) → IsUnder (own_state own.now) (S.map_at db.now version) m →
         pairs.items ≡ read_of m range.now limit reverse) }
     ensures allowed { OnOk result (S.must_refuse db.now range.now version → ⊥) }
     ensures refused { IfErr result (λ error. (error ≡ ReadError.Memory) ⊎ S.may_refuse db.now range.now version error) }

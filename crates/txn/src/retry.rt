@@ -1,7 +1,7 @@
 // The decision of a retry loop. Called by `runtime` and `embed`; `race` and `embed_threads` set its
 // limits.
 ghost use Rattle.std.specs.Prelude.{◌≡◌, ◌<◌, ◌↔◌};
-ghost use Rattle.txn.specs.Attempts.{HasSucceeded, MayFollow, again_below, next_after};
+ghost use Rattle.txn.specs.Attempts.{HasSucceeded, MayTryAgain, again_below, next_after};
 
 /// How an attempt ended.
 #[derive(Clone, Copy, Debug, PartialEq, Eq)]
@@ -46,7 +46,7 @@ impl Retry {
     pub fn next(self, ended: Ended, attempt: u64, repeatable: bool) -> Next
         ensures table { result ≡ next_after self.limit ended attempt repeatable }
         ensures done { (result ≡ Next.Done) ↔ HasSucceeded ended }
-        ensures again { (result ≡ Next.Again) ↔ ((attempt < self.limit) × MayFollow ended repeatable) }
+        ensures again { (result ≡ Next.Again) ↔ ((attempt < self.limit) × MayTryAgain ended repeatable) }
     {
         match ended {
             Ended::Committed | Ended::ReadOnly => Next::Done,

@@ -1,10 +1,10 @@
 use Rattle.std.proofs.Common.{All, take}
 use Rattle.metadata.specs.Cell.{IsCell}
-use Rattle.json_forms.specs.RowText.{IsBegun, row_json}
+use Rattle.json_forms.specs.RowText.{IsListBegun, row_json}
 use Rattle.json_forms.proofs.row_text.write_rows.Given as goal
 
 abbrev pub invariant-loop-cells : goal.invariant-loop-cells
 invariant-loop-cells l = record {
-  written : IsBegun row_json (take l.cells-index l.rows) l.fn.out l.out;
+  written : IsListBegun row_json (take l.cells-index l.rows) l.fn.out l.out;
   known : All (All IsCell) (take l.cells-index l.rows);
 }

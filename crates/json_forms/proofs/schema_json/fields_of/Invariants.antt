@@ -1,8 +1,8 @@
 use Rattle.std.proofs.Common.{◌≡◌, Some, take, map}
-use Rattle.json_forms.specs.SchemaJson.{field_in}
+use Rattle.json_forms.specs.SchemaJson.{json_field}
 use Rattle.serde_json.specs.View.{view}
 use Rattle.json_forms.specs.Json.{each_in}
 use Rattle.json_forms.proofs.schema_json.fields_of.Given as goal
 
 abbrev pub invariant-loop-item : goal.invariant-loop-item
-invariant-loop-item l = each_in field_in (map view (take l.item-index l.item-items)) ≡ Some l.fields.items
+invariant-loop-item l = each_in json_field (map view (take l.item-index l.item-items)) ≡ Some l.fields.items

@@ -1,13 +1,13 @@
 use Rattle.std.proofs.Common.{◌≡◌, None, rules}
 use Rattle.serde_json.specs.View.{view}
-use Rattle.json_forms.specs.SchemaJson.{type_in, types_in}
+use Rattle.json_forms.specs.SchemaJson.{json_types, type_in}
 use Rattle.json_forms.specs.declared.error.PartError.TheVariants.{BadForm}
 use Rattle.json_forms.proofs.Each.{each_more, each_none}
 use Rattle.json_forms.proofs.schema_json.types_of.Goals as goal
 
 pub returns-in_err-type_of-clause-err : goal.returns-in_err-type_of-clause-err
 returns-in_err-type_of-clause-err c =
-    let none : c.in_err-type_of.field-0.0 ≡ BadForm → types_in (view c.args.value.now) ≡ None =
+    let none : c.in_err-type_of.field-0.0 ≡ BadForm → json_types (view c.args.value.now) ≡ None =
     λ e. rw c.in_ok-item-items.ensures.ok (each_none type_in c.in_ok-item-items.item-items.now c.loop-item.item-index c.item-item.result c.loop-item-test.true c.item-item.is (c.in_err-type_of.ensures.err e)) in
     search (rules, none)
 

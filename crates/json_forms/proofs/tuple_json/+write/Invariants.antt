@@ -3,7 +3,7 @@ use Rattle.serde_json.specs.Data.{items_depth}
 use Rattle.serde_json.specs.View.{view, items_view}
 use Rattle.tuple_codec.specs.Elements.{items_in}
 use Rattle.json_forms.specs.Json.{each_in}
-use Rattle.json_forms.specs.TupleJson.{item_in}
+use Rattle.json_forms.specs.TupleJson.{json_item}
 use Rattle.json_forms.proofs.tuple_json.+write.Given as goal
 
 -- a nested tuple has a level less; within one level the elements come above each of them
@@ -18,6 +18,6 @@ decreases-element_values l = 3 * l.levels + 2
 
 abbrev pub invariant-element_values-loop-element : goal.invariant-element_values-loop-element
 invariant-element_values-loop-element l = record {
-  read : each_in (item_in l.levels) (map view l.values.items) ≡ Some (items_in (take l.element-index l.elements));
+  read : each_in (json_item l.levels) (map view l.values.items) ≡ Some (items_in (take l.element-index l.elements));
   depth : items_depth (items_view l.values.items) ≤ l.levels + 1;
 }

@@ -6,12 +6,12 @@ use Rattle.metadata.specs.Record.{Record}
 use Rattle.metadata.specs.Stored.{IsOfNoRecord, IsStoredAs}
 use Rattle.record_store.specs.Layout.{place}
 use Rattle.metadata.specs.Layout.{Pair}
-use Rattle.planner.specs.Layout.{record_of}
+use Rattle.planner.specs.Layout.{stored_record}
 use Rattle.plan_exec.proofs.ReadAs.{decoded, read_elsewhere}
 use Rattle.plan_exec.proofs.decoding.record_in.Goals as goal
 
 so : {E : Type 0} (prefix : List ℕ) (t : TypeDefinition) (pair : Pair) (rest value : List ℕ) (result : Result (Option Record) E) → value ≡ pair.1 → AreBytes value → pair.0 ≡ place prefix 1 ++ rest →
-    IfOk result (λ found. IfSome found (IsStoredAs t rest value)) → IfOk result (λ found. IfNone found (IsOfNoRecord t rest value)) → IfOk result (λ found. found ≡ record_of prefix t pair)
+    IfOk result (λ found. IfSome found (IsStoredAs t rest value)) → IfOk result (λ found. IfNone found (IsOfNoRecord t rest value)) → IfOk result (λ found. found ≡ stored_record prefix t pair)
 so prefix t pair rest value (Ok found) same are begins some none =
     decoded prefix t pair rest found (subst AreBytes same are) begins (subst (λ v. IfSome found (IsStoredAs t rest v)) same some) (subst (λ v. IfNone found (IsOfNoRecord t rest v)) same none)
 so prefix t pair rest value (Err e) same are begins some none = tt

@@ -8,7 +8,7 @@ use Rattle.query.specs.View.{filter_of}
 use Rattle.planner.specs.Layout.{primary_cells}
 use Rattle.planner.specs.Meaning.{first_of_each, in_key_order}
 use Rattle.planner.specs.View.{node_of}
-use Rattle.plan_exec.specs.Errors.{no_memory}
+use Rattle.plan_exec.specs.Errors.{exec_memory}
 use Rattle.plan_exec.specs.Reads.{node_reading, nodes_reading}
 use Rattle.plan_exec.proofs.Composing.{stopped_behind, stopped_made}
 use Rattle.plan_exec.proofs.SingleReads.{exit_with}
@@ -22,7 +22,7 @@ distinct_rows-returns-in_err-rows-clause-stopped g t c =
 
 pub distinct_rows-returns-in_err-first-clause-stopped : goal.distinct_rows-returns-in_err-first-clause-stopped
 distinct_rows-returns-in_err-first-clause-stopped g t c =
-    exit_with c.from_residual-in_err-first.result no_memory _ c.from_residual-in_err-first.ensures
+    exit_with c.from_residual-in_err-first.result exec_memory _ c.from_residual-in_err-first.ensures
     (stopped_made (λ pairs. node_reading c.args.store.now.prefix pairs c.args.definition.now (node_of c.args.part.now)) (first_of_each primary_cells)
     (stopped_behind (λ pairs. node_reading c.args.store.now.prefix pairs c.args.definition.now (node_of c.args.part.now)) c.in_ok-rows.rows.items c.in_ok-rows.ensures.found))
 
@@ -73,7 +73,7 @@ parts_rows-returns-in_err-more-clause-stopped g t c =
 
 pub parts_rows-returns-in_err-append-clause-stopped : goal.parts_rows-returns-in_err-append-clause-stopped
 parts_rows-returns-in_err-append-clause-stopped g t c =
-    exit_with c.from_residual-in_err-append.result no_memory _ c.from_residual-in_err-append.ensures
+    exit_with c.from_residual-in_err-append.result exec_memory _ c.from_residual-in_err-append.ensures
     (parts_stopped c.args.store.now.prefix c.args.definition.now c.args.parts.now
     (stopped_pushing (part_reading c.args.store.now.prefix c.args.definition.now) c.args.parts.now c.loop-part.part-index c.part-item.result c.loop-part.invariant.0 c.in_ok-more.more.items
     c.loop-part-test.true c.part-item.is c.loop-part.invariant.2 c.in_ok-more.ensures.found))
@@ -98,6 +98,6 @@ union_rows-returns-in_err-rows-clause-stopped g t c =
 
 pub union_rows-returns-in_err-ordered-clause-stopped : goal.union_rows-returns-in_err-ordered-clause-stopped
 union_rows-returns-in_err-ordered-clause-stopped g t c =
-    exit_with c.from_residual-in_err-ordered.result no_memory _ c.from_residual-in_err-ordered.ensures
+    exit_with c.from_residual-in_err-ordered.result exec_memory _ c.from_residual-in_err-ordered.ensures
     (stopped_made (λ pairs. nodes_reading c.args.store.now.prefix pairs c.args.definition.now (nodes_of (map node_of c.args.parts.now))) (in_key_order primary_cells)
     (stopped_behind (λ pairs. nodes_reading c.args.store.now.prefix pairs c.args.definition.now (nodes_of (map node_of c.args.parts.now))) c.in_ok-rows.rows.items c.in_ok-rows.ensures.found))

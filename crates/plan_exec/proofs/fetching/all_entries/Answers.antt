@@ -3,7 +3,7 @@ use Rattle.std.proofs.lemmas.List.{take_all}
 use Rattle.std.specs.Prelude.{map}
 use Rattle.planner.specs.View.{index_scan_of}
 use Rattle.plan_exec.specs.declared.entry.Entry.{Entry}
-use Rattle.plan_exec.specs.Errors.{no_memory}
+use Rattle.plan_exec.specs.Errors.{exec_memory}
 use Rattle.plan_exec.specs.Executing.{HasFound}
 use Rattle.plan_exec.specs.Reads.{entries_reading}
 use Rattle.plan_exec.proofs.Fetches.{pushed}
@@ -19,7 +19,7 @@ returns-in_err-entries-clause-stopped g c =
 
 pub returns-in_err-push-clause-stopped : goal.returns-in_err-push-clause-stopped
 returns-in_err-push-clause-stopped g c =
-    exit_with c.from_residual-in_err-push.result no_memory _ c.from_residual-in_err-push.ensures
+    exit_with c.from_residual-in_err-push.result exec_memory _ c.from_residual-in_err-push.ensures
     (stopped_pushing (λ s pairs. entries_reading c.args.store.now.prefix pairs c.args.definition.now (index_scan_of s)) c.args.scans.now c.loop-scan.scan-index c.scan-item.result (map (λ list. list.items) c.loop-scan.lists.items) c.in_ok-entries.entries.items
     c.loop-scan-test.true c.scan-item.is c.loop-scan.invariant c.in_ok-entries.ensures.found)
 

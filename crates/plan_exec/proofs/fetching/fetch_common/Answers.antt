@@ -1,8 +1,8 @@
 use Rattle.std.proofs.Common.{◌∙◌, ap, map}
-use Rattle.planner.specs.Meaning.{common, in_key_order}
+use Rattle.planner.specs.Meaning.{in_key_order, keys_in_all}
 use Rattle.planner.specs.Plan.{intersection}
 use Rattle.planner.specs.View.{index_scan_of}
-use Rattle.plan_exec.specs.Errors.{no_memory}
+use Rattle.plan_exec.specs.Errors.{exec_memory}
 use Rattle.plan_exec.specs.Reads.{first_entries, keys_of}
 use Rattle.plan_exec.proofs.Fetches.{common_stopped, common_wanted, fetch_found, fetch_memory, fetch_stopped}
 use Rattle.plan_exec.proofs.SingleReads.{exit_with}
@@ -15,20 +15,20 @@ returns-in_err-lists-clause-stopped g c =
 
 pub returns-in_err-keys-clause-stopped : goal.returns-in_err-keys-clause-stopped
 returns-in_err-keys-clause-stopped g c =
-    exit_with c.from_residual-in_err-keys.result no_memory _ c.from_residual-in_err-keys.ensures
+    exit_with c.from_residual-in_err-keys.result exec_memory _ c.from_residual-in_err-keys.ensures
     (fetch_memory c.args.store.now.prefix c.args.definition.now (intersection (map index_scan_of c.args.scans.now)) _ (common_wanted c.args.store.now.prefix c.args.definition.now c.args.scans.now (map (λ list. list.items) c.in_ok-lists.lists.items) c.in_ok-lists.ensures.found))
 
 pub returns-in_err-rows-clause-stopped : goal.returns-in_err-rows-clause-stopped
 returns-in_err-rows-clause-stopped g c =
     exit_with c.from_residual-in_err-rows.result c.in_err-rows.field-0.0 _ c.from_residual-in_err-rows.ensures
-    (fetch_stopped c.args.store.now.prefix c.args.definition.now (intersection (map index_scan_of c.args.scans.now)) (record { entries = first_entries (map (λ list. list.items) c.in_ok-lists.lists.items); keys = in_key_order (λ k. k) (common (map keys_of (map (λ list. list.items) c.in_ok-lists.lists.items))) }) c.first_entries-entries.result.now c.as_slice-3.result.now
+    (fetch_stopped c.args.store.now.prefix c.args.definition.now (intersection (map index_scan_of c.args.scans.now)) (record { entries = first_entries (map (λ list. list.items) c.in_ok-lists.lists.items); keys = in_key_order (λ k. k) (keys_in_all (map keys_of (map (λ list. list.items) c.in_ok-lists.lists.items))) }) c.first_entries-entries.result.now c.as_slice-3.result.now
     (common_wanted c.args.store.now.prefix c.args.definition.now c.args.scans.now (map (λ list. list.items) c.in_ok-lists.lists.items) c.in_ok-lists.ensures.found)
     (c.first_entries-entries.ensures ∙ ap (λ ls. first_entries (map (λ list. list.items) ls)) c.as_slice-2.ensures.value)
-    (c.as_slice-3.ensures.value ∙ c.in_ok-keys.ensures ∙ ap (λ ls. in_key_order (λ k. k) (common (map keys_of (map (λ list. list.items) ls)))) c.as_slice.ensures.value) c.in_err-rows.ensures.stopped)
+    (c.as_slice-3.ensures.value ∙ c.in_ok-keys.ensures ∙ ap (λ ls. in_key_order (λ k. k) (keys_in_all (map keys_of (map (λ list. list.items) ls)))) c.as_slice.ensures.value) c.in_err-rows.ensures.stopped)
 
 pub returns-clause-found : goal.returns-clause-found
 returns-clause-found g c =
-    fetch_found c.args.store.now.prefix c.args.definition.now (intersection (map index_scan_of c.args.scans.now)) (record { entries = first_entries (map (λ list. list.items) c.in_ok-lists.lists.items); keys = in_key_order (λ k. k) (common (map keys_of (map (λ list. list.items) c.in_ok-lists.lists.items))) }) c.first_entries-entries.result.now c.as_slice-3.result.now c.in_ok-rows.rows.items
+    fetch_found c.args.store.now.prefix c.args.definition.now (intersection (map index_scan_of c.args.scans.now)) (record { entries = first_entries (map (λ list. list.items) c.in_ok-lists.lists.items); keys = in_key_order (λ k. k) (keys_in_all (map keys_of (map (λ list. list.items) c.in_ok-lists.lists.items))) }) c.first_entries-entries.result.now c.as_slice-3.result.now c.in_ok-rows.rows.items
     (common_wanted c.args.store.now.prefix c.args.definition.now c.args.scans.now (map (λ list. list.items) c.in_ok-lists.lists.items) c.in_ok-lists.ensures.found)
     (c.first_entries-entries.ensures ∙ ap (λ ls. first_entries (map (λ list. list.items) ls)) c.as_slice-2.ensures.value)
-    (c.as_slice-3.ensures.value ∙ c.in_ok-keys.ensures ∙ ap (λ ls. in_key_order (λ k. k) (common (map keys_of (map (λ list. list.items) ls)))) c.as_slice.ensures.value) c.in_ok-rows.ensures.found
+    (c.as_slice-3.ensures.value ∙ c.in_ok-keys.ensures ∙ ap (λ ls. in_key_order (λ k. k) (keys_in_all (map keys_of (map (λ list. list.items) ls)))) c.as_slice.ensures.value) c.in_ok-rows.ensures.found

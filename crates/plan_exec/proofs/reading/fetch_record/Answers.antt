@@ -4,15 +4,15 @@ use Rattle.tuple_codec.specs.Order.{bytes_cmp}
 use Rattle.kv_core.specs.Range.{point}
 use Rattle.metadata.specs.Cell.{items_of}
 use Rattle.metadata.specs.Layout.{record_key}
-use Rattle.plan_exec.specs.Errors.{of_read}
+use Rattle.plan_exec.specs.Errors.{exec_read}
 use Rattle.plan_exec.specs.Reads.{record_found, record_reading}
 use Rattle.plan_exec.proofs.SingleReads.{exit_with, found_made_of, read_value, refused_read, stopped_damaged, stopped_refused}
 use Rattle.plan_exec.proofs.reading.fetch_record.Goals as goal
 
 pub returns-in_err-value-clause-stopped : goal.returns-in_err-value-clause-stopped
 returns-in_err-value-clause-stopped g c =
-    exit_with c.from_residual-in_err-value.result (of_read c.in_err-value.field-0.0) _ c.from_residual-in_err-value.ensures
-    (stopped_refused (λ pairs. record_reading c.args.store.now.prefix pairs c.args.definition.now.value c.args.entries.now c.args.primary_key.now) (point (record_key c.args.store.now.prefix (items_of c.args.primary_key.now))) (λ pairs. []) (of_read c.in_err-value.field-0.0) (λ pairs. refl)
+    exit_with c.from_residual-in_err-value.result (exec_read c.in_err-value.field-0.0) _ c.from_residual-in_err-value.ensures
+    (stopped_refused (λ pairs. record_reading c.args.store.now.prefix pairs c.args.definition.now.value c.args.entries.now c.args.primary_key.now) (point (record_key c.args.store.now.prefix (items_of c.args.primary_key.now))) (λ pairs. []) (exec_read c.in_err-value.field-0.0) (λ pairs. refl)
     c.in_err-value.ensures.kept (refused_read (g.S.Snapshot.may_refuse c.args.db.now) (point c.in_ok-key.key) (point (record_key c.args.store.now.prefix (items_of c.args.primary_key.now))) c.args.tx.now.read_version c.in_err-value.field-0.0 (ap point c.in_ok-key.ensures.key) c.in_err-value.ensures.refused))
 
 pub returns-in_err-found-clause-stopped : goal.returns-in_err-found-clause-stopped

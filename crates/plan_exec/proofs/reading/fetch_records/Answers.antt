@@ -2,7 +2,7 @@ use Rattle.std.specs.Prelude.{map, refl}
 use Rattle.std.proofs.Common.{◌+◌, List, subst, sym}
 use Rattle.std.proofs.lemmas.List.{take_all}
 use Rattle.metadata.specs.Record.{Record}
-use Rattle.plan_exec.specs.Errors.{no_memory}
+use Rattle.plan_exec.specs.Errors.{exec_memory}
 use Rattle.plan_exec.specs.Executing.{HasFound}
 use Rattle.plan_exec.specs.Reads.{in_turn, record_reading}
 use Rattle.plan_exec.proofs.Composing.{stopped_still}
@@ -18,7 +18,7 @@ returns-in_err-found-clause-stopped g c =
 
 pub returns-in_err-push-clause-stopped : goal.returns-in_err-push-clause-stopped
 returns-in_err-push-clause-stopped g c =
-    exit_with c.from_residual-in_err-push.result no_memory _ c.from_residual-in_err-push.ensures
+    exit_with c.from_residual-in_err-push.result exec_memory _ c.from_residual-in_err-push.ensures
     (stopped_pushing (λ own pairs. record_reading c.args.store.now.prefix pairs c.args.definition.now c.args.entries.now (g.K.PrimaryKeyed.key own)) c.args.primary_keys.now c.loop-keyed.keyed-index c.keyed-item.result c.loop-keyed.rows.items c.in_ok-found.found
     c.loop-keyed-test.true c.keyed-item.is c.loop-keyed.invariant (rw c.primary_key.ensures at (rw c.in_ok-shared.ensures at c.in_ok-found.ensures.found)))
 
@@ -35,12 +35,12 @@ returns-clause-found g c =
 
 pub returns-in_err-front-clause-stopped : goal.returns-in_err-front-clause-stopped
 returns-in_err-front-clause-stopped g c =
-    exit_with c.from_residual.result no_memory _ c.from_residual.ensures
+    exit_with c.from_residual.result exec_memory _ c.from_residual.ensures
     (stopped_still (λ pairs. in_turn (map (λ own. record_reading c.args.store.now.prefix pairs c.args.definition.now c.args.entries.now (g.K.PrimaryKeyed.key own)) c.args.primary_keys.now)) refl)
 
 pub returns-in_err-shared-clause-stopped : goal.returns-in_err-shared-clause-stopped
 returns-in_err-shared-clause-stopped g c =
-    exit_with c.from_residual-in_err-shared.result no_memory _ c.from_residual-in_err-shared.ensures
+    exit_with c.from_residual-in_err-shared.result exec_memory _ c.from_residual-in_err-shared.ensures
     (stopped_still (λ pairs. in_turn (map (λ own. record_reading c.args.store.now.prefix pairs c.args.definition.now c.args.entries.now (g.K.PrimaryKeyed.key own)) c.args.primary_keys.now)) refl)
 
 pub loop-keyed-init : goal.loop-keyed-init

@@ -3,7 +3,7 @@ use Rattle.std.specs.Prelude.{IfOk}
 use Rattle.query.specs.Filter.{conjuncts}
 use Rattle.query.specs.View.{filter_of}
 use Rattle.planner.specs.ByField.{SaysTheSame}
-use Rattle.planner.specs.Match.{numbered}
+use Rattle.planner.specs.Match.{numbered_filters}
 use Rattle.planner.specs.Planned.{path_draft}
 use Rattle.planner.specs.View.{conjunct_of, draft_of, match_of, matched_of, path_of}
 use Rattle.planner.proofs.ByField.{single_same}
@@ -13,7 +13,7 @@ pub returns : goal.returns
 returns c =
     let t = c.args.t.now in
     let indexes = map (λ i. i.now) c.args.indexes.now in
-    let cs = numbered (conjuncts (filter_of c.args.filter.now)) in
+    let cs = numbered_filters (conjuncts (filter_of c.args.filter.now)) in
     let told = map conjunct_of c.as_slice-told.result.now in
     let best = c.keep_longest.new.best in
     let same : SaysTheSame told cs =

@@ -1,4 +1,4 @@
-use Rattle.range_set.specs.Steps.{no_memory}
+use Rattle.range_set.specs.Steps.{set_memory}
 use Rattle.range_set.proofs.Pairs.{exit_with}
 use Rattle.range_set.proofs.Telling.{gap_damaged, gap_found_in, gap_found_there}
 use Rattle.range_set.proofs.reading.first_gap.Goals as goal
@@ -11,9 +11,9 @@ returns-in_err-ranges-clause-refused g c =
 
 pub returns-in_err-gap-clause-refused : goal.returns-in_err-gap-clause-refused
 returns-in_err-gap-clause-refused g c =
-    exit_with c.from_residual-in_err-gap.result no_memory _ c.from_residual-in_err-gap.ensures
+    exit_with c.from_residual-in_err-gap.result set_memory _ c.from_residual-in_err-gap.ensures
     (gap_damaged (g.S.Snapshot.map_at c.args.db.now) (g.S.Snapshot.may_refuse c.args.db.now) c.args.place.now c.args.tx.now c.get_all.new.self c.in_ok-range.range c.in_ok-pairs.pairs.items c.as_slice.result.now
-    c.in_ok-range.ensures c.in_ok-pairs.ensures.reads c.in_ok-pairs.ensures.answer c.as_slice.ensures.value no_memory tt)
+    c.in_ok-range.ensures c.in_ok-pairs.ensures.reads c.in_ok-pairs.ensures.answer c.as_slice.ensures.value set_memory tt)
 
 pub returns-clause-gap : goal.returns-clause-gap
 returns-clause-gap g c =

@@ -2,11 +2,11 @@ use Rattle.std.proofs.Common.{◌≡◌, ℕ, ◌-◌, ◌≤◌, List, [], ◌�
 use Rattle.cluster_core.specs.declared.answers.Config.{Config}
 use Rattle.cluster_core.specs.Tier.{TierState, whole_map}
 use Rattle.txn.specs.Refusing.{MayRefuse}
-use Rattle.schedule.specs.Performed.{IsPerformed, IsStopped}
+use Rattle.schedule.specs.Performed.{IsCommandStopped, IsPerformed}
 use Rattle.runtime.specs.declared.entry.Entry.{Entry}
 use Rattle.runtime.specs.declared.trace.Performed.{Performed}
 use Rattle.runtime.specs.History.{Name}
-use Rattle.runtime.specs.Lists.{IsOpenOver, version_of, tier_of}
+use Rattle.runtime.specs.Lists.{IsOpenOver, version_of, list_tier}
 use Rattle.runtime.specs.Serves.{IsAnswer}
 use Rattle.runtime.proofs.Serving.{answers_right, stops_right}
 use Rattle.runtime.proofs.entering.perform_over.Goals as goal
@@ -30,10 +30,10 @@ module _ (c : goal.After-then) where
   near : version_of config ys - c.args.tx.now.read_version ≤ config.window
   near = subst (λ (v : ℕ). version_of config ys - v ≤ config.window) (sym c.requires.at) (subst (λ (n : Name). version_of n.config ys - version_of config log ≤ config.window) c.requires.state.1 (c.if-not-is_near.ensures.0 refl))
 
-  tier : c.args.state.now.tier ≡ tier_of config ys
-  tier = c.requires.state.0 ∙ ap (λ (n : Name). tier_of n.config ys) c.requires.state.1
+  tier : c.args.state.now.tier ≡ list_tier config ys
+  tier = c.requires.state.0 ∙ ap (λ (n : Name). list_tier n.config ys) c.requires.state.1
 
-  performed : IsPerformed (whole_map (tier_of config ys)) (λ range. MayRefuse (tier_of config ys) range c.args.tx.now.read_version) c.args.command.now c.in-Ok.reply c.args.tx.now c.perform.new.tx
+  performed : IsPerformed (whole_map (list_tier config ys)) (λ range. MayRefuse (list_tier config ys) range c.args.tx.now.read_version) c.args.command.now c.in-Ok.reply c.args.tx.now c.perform.new.tx
   performed = subst (λ (t : TierState). IsPerformed (whole_map t) (λ range. MayRefuse t range c.args.tx.now.read_version) c.args.command.now c.in-Ok.reply c.args.tx.now c.perform.new.tx) tier c.in-Ok.ensures.performed
 
   right : IsOpenOver config log c.perform.new.tx (c.args.trace.now.attempts ++ one ∷ []) × IsAnswer config log c.args.tx.now c.args.trace.now.attempts c.args.command.now c.in-Ok.reply × (c.perform.new.tx.read_version ≡ c.args.tx.now.read_version)
@@ -52,7 +52,7 @@ returns-in-Err-clause-over c =
     let ys : List Entry = c.args.state.now.front.list in
     let at : c.args.tx.now.read_version ≡ version_of config log = c.requires.at in
     let near : version_of config ys - c.args.tx.now.read_version ≤ config.window = subst (λ (v : ℕ). version_of config ys - v ≤ config.window) (sym at) (subst (λ (n : Name). version_of n.config ys - version_of config log ≤ config.window) c.requires.state.1 (c.if-not-is_near.ensures.0 refl)) in
-    let tier : c.args.state.now.tier ≡ tier_of config ys = c.requires.state.0 ∙ ap (λ (n : Name). tier_of n.config ys) c.requires.state.1 in
-    let is : IsStopped (whole_map (tier_of config ys)) c.args.command.now c.args.tx.now c.perform.new.tx = subst (λ (t : TierState). IsStopped (whole_map t) c.args.command.now c.args.tx.now c.perform.new.tx) tier c.in-Err.ensures.stopped in
+    let tier : c.args.state.now.tier ≡ list_tier config ys = c.requires.state.0 ∙ ap (λ (n : Name). list_tier n.config ys) c.requires.state.1 in
+    let is : IsCommandStopped (whole_map (list_tier config ys)) c.args.command.now c.args.tx.now c.perform.new.tx = subst (λ (t : TierState). IsCommandStopped (whole_map t) c.args.command.now c.args.tx.now c.perform.new.tx) tier c.in-Err.ensures.stopped in
     subst (λ (done : List Performed). IsOpenOver config log c.perform.new.tx done) (sym c.then-in-Err.ensures)
     (stops_right config log ys c.args.tx.now c.perform.new.tx c.args.trace.now.attempts c.args.command.now c.if-not-begins.ensures c.requires.over (omega (arith, at)) near is).0

@@ -1,5 +1,5 @@
 use Rattle.std.proofs.Common.{◌≡◌, ◌∙◌, ap, arith, refl, subst, sym}
-use Rattle.online_builder.specs.Stepping.{Plan, step_call}
+use Rattle.online_builder.specs.Stepping.{BuildTask, step_call}
 use Rattle.record_store.specs.Call.{IsAnswered, IsRefused}
 use Rattle.record_store.specs.Steps.{no_memory}
 use Rattle.schedule.specs.declared.step.Command.TheVariants.{Build}
@@ -34,7 +34,7 @@ returns-in_err-progress-clause-refused g c =
     exit_with c.from_residual-in_err-progress.result c.in_err-progress.field-0.0 _ c.from_residual-in_err-progress.ensures
     (refused c.in_ok-store.store (Build c.args.name.now c.args.limit) (λ opened. step_call opened (record { name = c.args.name.now; limit = c.args.limit })) reply_to_build c.in_err-progress.field-0.0 (build_opens c.args.name.now c.args.limit some) c.in_ok-store.ensures.prefix
     (build_meets c.in_ok-store.store c.args.name.now c.args.limit some) c.in_ok-store.ensures.opened
-    (subst (λ (p : Plan). IsRefused (g.S.Snapshot.map_at c.args.db.now) (g.S.Snapshot.may_refuse c.args.db.now) c.in_ok-store.store (step_call c.in_ok-store.store p) c.in_err-progress.field-0.0 c.open.new.tx c.step.new.tx) plan_is c.in_err-progress.ensures.refused))
+    (subst (λ (p : BuildTask). IsRefused (g.S.Snapshot.map_at c.args.db.now) (g.S.Snapshot.may_refuse c.args.db.now) c.in_ok-store.store (step_call c.in_ok-store.store p) c.in_err-progress.field-0.0 c.open.new.tx c.step.new.tx) plan_is c.in_err-progress.ensures.refused))
   where
     some : c.args.limit ≡ 0 → ⊥
     some is = omega (arith, is, c.if-limit-eq0.false)
@@ -46,7 +46,7 @@ pub returns-clause-performed : goal.returns-clause-performed
 returns-clause-performed g c =
     answered_as c.build_reply.ensures
     (performed c.in_ok-store.store (Build c.args.name.now c.args.limit) (λ opened. step_call opened (record { name = c.args.name.now; limit = c.args.limit })) reply_to_build c.in_ok-progress.progress c.in_ok-store.ensures.prefix (build_meets c.in_ok-store.store c.args.name.now c.args.limit some) c.in_ok-store.ensures.opened
-    (subst (λ (p : Plan). IsAnswered (g.S.Snapshot.map_at c.args.db.now) c.in_ok-store.store (step_call c.in_ok-store.store p) c.in_ok-progress.progress c.open.new.tx c.step.new.tx) plan_is c.in_ok-progress.ensures.stepped))
+    (subst (λ (p : BuildTask). IsAnswered (g.S.Snapshot.map_at c.args.db.now) c.in_ok-store.store (step_call c.in_ok-store.store p) c.in_ok-progress.progress c.open.new.tx c.step.new.tx) plan_is c.in_ok-progress.ensures.stepped))
   where
     some : c.args.limit ≡ 0 → ⊥
     some is = omega (arith, is, c.if-limit-eq0.false)

@@ -2,7 +2,7 @@ use Rattle.std.proofs.Common.{refl, subst, sym, ap, ◌∙◌}
 use Rattle.query.specs.View.{query_of}
 use Rattle.planner.specs.View.{plan_of}
 use Rattle.schedule.specs.declared.step.Command.TheVariants.{Execute}
-use Rattle.schedule.specs.Calls.{IsRefused}
+use Rattle.schedule.specs.Calls.{IsCommandRefused}
 use Rattle.schedule.specs.Performed.{IsPerformed}
 use Rattle.schedule.proofs.Executions.{execution_performed, plan_executes, unexecuted}
 use Rattle.schedule.proofs.Outcomes.{refused_unopened}
@@ -17,7 +17,7 @@ returns-in_err-store-clause-refused g c =
 pub returns-in_err-reply-clause-refused : goal.returns-in_err-reply-clause-refused
 returns-in_err-reply-clause-refused g c =
     exit_with c.from_residual-in_err-reply.result c.in_err-reply.field-0.0 _ c.from_residual-in_err-reply.ensures
-    (subst (λ plan. IsRefused (g.S.Snapshot.map_at c.args.db.now) (g.S.Snapshot.may_refuse c.args.db.now) (Execute plan) c.in_err-reply.field-0.0 c.args.tx.now c.execution.new.tx) c.plan-plan.ensures
+    (subst (λ plan. IsCommandRefused (g.S.Snapshot.map_at c.args.db.now) (g.S.Snapshot.may_refuse c.args.db.now) (Execute plan) c.in_err-reply.field-0.0 c.args.tx.now c.execution.new.tx) c.plan-plan.ensures
     (unexecuted c.in_ok-store.store (Execute c.plan-plan.result.now) c.plan-plan.result.now c.in_ok-store.ensures.prefix
     (plan_executes c.in_ok-store.store c.plan-plan.result.now (c.query.ensures.typed ∙ ap (λ q. (query_of q).record_type) c.query.ensures.query))
     c.in_ok-store.ensures.opened c.in_err-reply.field-0.0 c.in_err-reply.ensures.refused))

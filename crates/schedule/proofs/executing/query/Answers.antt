@@ -1,7 +1,7 @@
 use Rattle.std.proofs.Common.{refl, subst}
 use Rattle.query.specs.View.{query_of}
 use Rattle.schedule.specs.declared.step.Command.TheVariants.{Query}
-use Rattle.schedule.specs.Calls.{IsRefused}
+use Rattle.schedule.specs.Calls.{IsCommandRefused}
 use Rattle.schedule.specs.Performed.{IsPerformed}
 use Rattle.schedule.proofs.Querying.{query_performed, query_refused}
 use Rattle.schedule.proofs.Outcomes.{refused_unopened}
@@ -16,7 +16,7 @@ returns-in_err-store-clause-refused g c =
 pub returns-in_err-reply-clause-refused : goal.returns-in_err-reply-clause-refused
 returns-in_err-reply-clause-refused g c =
     exit_with c.from_residual-in_err-reply.result c.in_err-reply.field-0.0 _ c.from_residual-in_err-reply.ensures
-    (subst (λ q. IsRefused (g.S.Snapshot.map_at c.args.db.now) (g.S.Snapshot.may_refuse c.args.db.now) (Query q) c.in_err-reply.field-0.0 c.args.tx.now c.query_reply.new.tx) c.query.ensures
+    (subst (λ q. IsCommandRefused (g.S.Snapshot.map_at c.args.db.now) (g.S.Snapshot.may_refuse c.args.db.now) (Query q) c.in_err-reply.field-0.0 c.args.tx.now c.query_reply.new.tx) c.query.ensures
     (query_refused c.in_ok-store.store c.query.result.now c.in_err-reply.field-0.0 c.in_ok-store.ensures.prefix c.in_ok-store.ensures.opened c.in_err-reply.ensures.refused))
 
 pub returns-clause-performed : goal.returns-clause-performed

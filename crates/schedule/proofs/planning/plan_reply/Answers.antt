@@ -1,5 +1,5 @@
 use Rattle.std.proofs.Common.{ap, sym, subst, ◌∙◌}
-use Rattle.query.specs.Checked.{refusal}
+use Rattle.query.specs.Checked.{query_refusal}
 use Rattle.query.specs.View.{query_of}
 use Rattle.record_store.specs.Calls.{index_states}
 use Rattle.schedule.specs.declared.reply.Reply.TheVariants.{Planned}
@@ -14,4 +14,4 @@ returns-in_ok-new-in-Ok c =
     let made = c.in-Ok.ensures in
     subst (λ plan. IsPlanReply store.schema (index_states store) c.args.asked.now (Planned plan)) (sym c.in_ok-new-in-Ok.ensures)
     (subst (λ q. IsPlanReply store.schema (index_states store) q (Planned c.in-Ok.plan)) c.query-query.ensures
-    (plan_told store.schema (index_states store) query c.in-Ok.plan (ap (λ s. refusal s query) (sym c.schema.ensures) ∙ c.in_default.ensures) made.served made.query made.typed made.is))
+    (plan_told store.schema (index_states store) query c.in-Ok.plan (ap (λ s. query_refusal s query) (sym c.schema.ensures) ∙ c.in_default.ensures) made.served made.query made.typed made.is))

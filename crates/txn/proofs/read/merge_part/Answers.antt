@@ -3,7 +3,7 @@ use Rattle.std.proofs.lemmas.Bool.{and_parts, ltb-false, ltb-true}
 use Rattle.kv_core.specs.Range.{has_keys}
 use Rattle.kv_core.specs.Read.{last_key, read_of}
 use Rattle.kv_core.proofs.Parts.{far}
-use Rattle.txn.specs.Reading.{CoversTo, IsBehind, Tell}
+use Rattle.txn.specs.Reading.{CoversTo, IsPlaceBehind, Tell}
 use Rattle.txn.proofs.Rounds.{fewer_left, gives_round, left_round, tell_near}
 use Rattle.txn.proofs.read.merge_part.Goals as goal
 
@@ -29,7 +29,7 @@ pub returns-clause-left : goal.returns-clause-left
 returns-clause-left c = λ base asked some full is.
     left_round c.args.reverse c.args.range.now c.in_ok-place.place c.args.limit c.in_ok-pairs.pairs.items c.still_wanted-rest.result (wanted c) (rest_is c) (wanting c) base
     (fewer_left c.args.reverse base c.args.range.now asked c.args.stored.items c.in_ok-place.place some full is
-    (subst (λ ps. IsBehind c.args.reverse (last_key c.args.range.now.begin ps) c.in_ok-place.place) c.as_slice.ensures.value c.in_ok-place.ensures.behind))
+    (subst (λ ps. IsPlaceBehind c.args.reverse (last_key c.args.range.now.begin ps) c.in_ok-place.place) c.as_slice.ensures.value c.in_ok-place.ensures.behind))
 
 pub returns-clause-gives : goal.returns-clause-gives
 returns-clause-gives c = λ base m asked some full is under.

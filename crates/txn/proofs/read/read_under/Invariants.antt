@@ -1,15 +1,15 @@
 use Rattle.std.proofs.Common.{◌≤◌}
 use Rattle.kv_core.specs.Map.{Map}
-use Rattle.txn.specs.Own.{IsUnder, state_of}
-use Rattle.txn.specs.Reading.{Gives, IsLeft, left_count}
+use Rattle.txn.specs.Own.{IsUnder, own_state}
+use Rattle.txn.specs.Reading.{IsReadSoFar, IsRestOf, left_count}
 use Rattle.txn.proofs.read.read_under.Given as goal
 
 -- the pairs so far are the read, or its beginning, and what is left is a part of the range with fewer stored pairs
 abbrev pub invariant-loop-rest : goal.invariant-loop-rest
 invariant-loop-rest g l =
     let base = g.S.Snapshot.map_at l.db l.version in
-    (l.limit ≤ l.asked) × IsLeft base l.range l.limit l.pairs.items l.rest
-    × ((m : Map) → IsUnder (state_of l.own) base m → Gives m l.range l.limit l.reverse l.pairs.items l.rest)
+    (l.limit ≤ l.asked) × IsRestOf base l.range l.limit l.pairs.items l.rest
+    × ((m : Map) → IsUnder (own_state l.own) base m → IsReadSoFar m l.range l.limit l.reverse l.pairs.items l.rest)
     × (g.S.Snapshot.must_refuse l.db l.range l.version → ⊥)
 
 abbrev pub decreases-loop-rest : goal.decreases-loop-rest

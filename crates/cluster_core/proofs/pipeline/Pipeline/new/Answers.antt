@@ -1,6 +1,6 @@
 use Rattle.std.proofs.Common.{◌∙◌, [], ap, map, replicate, sym}
 use Rattle.cluster_core.specs.Decision.{owners}
-use Rattle.cluster_core.specs.Progress.{fresh, state_of}
+use Rattle.cluster_core.specs.Progress.{fresh, pipeline_state}
 use Rattle.cluster_core.proofs.Clocks.{state_first}
 use Rattle.cluster_core.proofs.Configured.{some_log}
 use Rattle.cluster_core.proofs.pipeline.Pipeline.new.Goals as goal
@@ -12,5 +12,5 @@ pub returns-clause-made : goal.returns-clause-made
 returns-clause-made c =
     let config = c.args.config.now in
     c.in_ok-pipeline.ensures
-    ∙ ap (λ splits. state_of splits config.window config.start [] (map fresh (owners splits)) (replicate config.logs []) 0) c.in_ok-splits.ensures
+    ∙ ap (λ splits. pipeline_state splits config.window config.start [] (map fresh (owners splits)) (replicate config.logs []) 0) c.in_ok-splits.ensures
     ∙ state_first config

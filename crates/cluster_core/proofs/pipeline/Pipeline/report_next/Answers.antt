@@ -2,7 +2,7 @@ use Rattle.std.proofs.Common.{rules, ◌≡◌, ◌∙◌, ◌+◌, ◌<◌, ap,
 use Rattle.std.proofs.lemmas.List.{with_items_is}
 use Rattle.std.specs.List.{All}
 use Rattle.cluster_core.specs.declared.answers.Reported.TheVariants.{Conflict}
-use Rattle.cluster_core.specs.Progress.{IsPipeline, IsResolver, first_kept, state_of}
+use Rattle.cluster_core.specs.Progress.{IsPipeline, IsResolver, first_kept, pipeline_state}
 use Rattle.cluster_core.specs.Roles.{may_report, outcome, report, told}
 use Rattle.cluster_core.proofs.Clocks.{all_past, state_reported}
 use Rattle.cluster_core.proofs.Standing.{past_logs, stands_reported, told_next}
@@ -45,7 +45,7 @@ pub returns-clause-step : goal.returns-clause-step
 returns-clause-step c =
     let len : length c.take_cause-cause.new.resolvers ≡ c.self.inside.resolvers.len = search rules in
     let same = with_items_is c.self.inside.resolvers c.take_cause-cause.new.resolvers len in
-    ap (λ rs. state_of c.self.inside.splits c.self.inside.window c.self.inside.start c.self.inside.requests.items rs c.self.inside.logs.items (c.self.inside.reported + 1)) same
+    ap (λ rs. pipeline_state c.self.inside.splits c.self.inside.window c.self.inside.start c.self.inside.requests.items rs c.self.inside.logs.items (c.self.inside.reported + 1)) same
     ∙ state_reported c.self.inside.splits c.self.inside.window c.self.inside.start c.self.inside.requests.items c.self.inside.resolvers.items c.self.inside.logs.items c.self.inside.reported
     c.take_cause-cause.new.resolvers (c.take_cause-cause.ensures.counts ∙ ap (map (λ r. length r.causes)) c.as_mut_slice.ensures.value)
     ∙ ap report c.self.view_is

@@ -1,6 +1,6 @@
 use Rattle.std.proofs.Common.{rules, ◌∙◌, ◌<◌, ◌^◌, [], ap, map, subst, sym}
 use Rattle.cluster_core.specs.Decision.{owners}
-use Rattle.cluster_core.specs.Progress.{IsPipeline, fresh, state_of}
+use Rattle.cluster_core.specs.Progress.{IsPipeline, fresh, pipeline_state}
 use Rattle.cluster_core.proofs.Standing.{stands_first}
 use Rattle.cluster_core.proofs.pipeline.Pipeline.with_roles.Goals as goal
 
@@ -16,4 +16,4 @@ invariant_of-result c =
 pub returns : goal.returns
 returns c =
     let resolvers = c.in_ok-resolvers.ensures ∙ ap (λ splits. map fresh (owners splits)) c.as_slice.ensures in
-    λ i. state_of c.args.splits c.args.window c.args.start (c.new.ensures.items i) (resolvers i) (c.in_ok-logs.ensures i) 0
+    λ i. pipeline_state c.args.splits c.args.window c.args.start (c.new.ensures.items i) (resolvers i) (c.in_ok-logs.ensures i) 0

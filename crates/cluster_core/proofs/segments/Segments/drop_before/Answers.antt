@@ -1,5 +1,5 @@
 use Rattle.std.proofs.Common.{◌≤◌, subst, sym}
-use Rattle.cluster_core.specs.Segments.{Holds, IsCovered}
+use Rattle.cluster_core.specs.Segments.{IsCovered, SegmentHolds}
 use Rattle.cluster_core.proofs.Dropped.{dropped_holds, dropped_kept}
 use Rattle.cluster_core.proofs.segments.Segments.drop_before.Goals as goal
 
@@ -9,7 +9,7 @@ invariant_of-self c =
 
 pub returns-clause-holds : goal.returns-clause-holds
 returns-clause-holds c = λ key place h.
-    subst (λ xs. Holds xs key place) c.self.view_is (dropped_holds c.self.inside.segments c.drop_before.new.segments c.args.least c.drop_before.ensures.dropped key place h)
+    subst (λ xs. SegmentHolds xs key place) c.self.view_is (dropped_holds c.self.inside.segments c.drop_before.new.segments c.args.least c.drop_before.ensures.dropped key place h)
 
 pub returns-clause-kept : goal.returns-clause-kept
 returns-clause-kept c = λ key place from h.

@@ -5,7 +5,7 @@ use Rattle.metadata.specs.Record.{Record}
 use Rattle.metadata.specs.Schema.{find_type}
 use Rattle.record_store.specs.Building.{HasReadPart, limited_to, positions_range}
 use Rattle.record_store.specs.Layout.{place}
-use Rattle.record_store.specs.Reading.{ArePairsOf, HaveNoRecords}
+use Rattle.record_store.specs.Reading.{ArePairsOfRecords, HaveNoRecords}
 use Rattle.record_store.specs.Steps.{no_memory, of_read}
 use Rattle.record_store.proofs.NamedTypes.{found_number, found_typed, typed_named}
 use Rattle.record_store.proofs.Openings.{exit_with}
@@ -60,7 +60,7 @@ returns-clause-read g c =
     (c.in_ok-keys.ensures.keys ∙ ap (λ p. positions_range p c.args.index.now.type_number c.args.range.now) c.prefix.ensures.prefix)
     (c.as_slice.ensures.value ∙ c.in_ok-place.ensures ∙ ap (λ p. place p 1) c.prefix-2.ensures.prefix)
     c.in_ok-pairs.ensures.reads c.in_ok-pairs.ensures.answer
-    (subst (λ (pairs : List (List ℕ × List ℕ)). ArePairsOf c.as_slice.result.now c.type_over-definition.result.now pairs c.in_ok-records.records.items) c.as_slice-2.ensures.value c.in_ok-records.ensures.found))
+    (subst (λ (pairs : List (List ℕ × List ℕ)). ArePairsOfRecords c.as_slice.result.now c.type_over-definition.result.now pairs c.in_ok-records.records.items) c.as_slice-2.ensures.value c.in_ok-records.ensures.found))
   where
     named : find_type c.args.self.now.schema c.type_over-definition.result.now.name ≡ Some c.type_over-definition.result.now
     named = typed_named c.args.self.now.schema c.type_over-definition.result.now c.prefix.ensures.lawful (found_typed c.args.self.now.schema c.args.index.now.type_number c.type_over-definition.result.now c.type_over-definition.ensures)

@@ -1,5 +1,5 @@
 use Rattle.std.proofs.Common.{◌≡◌, ◌∙◌, ap, subst, sym}
-use Rattle.range_set.specs.Calls.{IsTold, IsUntold}
+use Rattle.range_set.specs.Calls.{IsPositionTold, IsUntold}
 use Rattle.index_maint.specs.Layout.{built_place}
 use Rattle.record_store.specs.Steps.{of_set}
 use Rattle.record_store.proofs.Followed.{told_asked, untold_asked}
@@ -18,7 +18,7 @@ returns-in_err-told-clause-refused c =
 pub returns-clause-told : goal.returns-clause-told
 returns-clause-told c =
     told_asked c.args.self.now c.prefix.ensures.lawful c.args.number c.args.position.now c.args.index.now c.requires c.args.found.now c.in_ok-told.told (sym c.asks.ensures ∙ c.if-not-asks.false)
-    (subst (λ p. IsTold p c.args.position.now c.args.found.now c.in_ok-told.told) place_is c.in_ok-told.ensures.told)
+    (subst (λ p. IsPositionTold p c.args.position.now c.args.found.now c.in_ok-told.told) place_is c.in_ok-told.ensures.told)
   where
     place_is : c.as_slice.result.now ≡ built_place c.args.self.now.prefix c.args.index.now.number
     place_is = c.as_slice.ensures.value ∙ c.in_ok-place.ensures.place ∙ ap (λ p. built_place p c.args.index.now.number) c.prefix.ensures.prefix

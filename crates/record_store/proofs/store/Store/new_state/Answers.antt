@@ -2,7 +2,7 @@ use Rattle.std.proofs.Common.{◌∙◌, ap, inl, refl, subst, sym, List, ℕ}
 use Rattle.metadata.specs.declared.index.State.{State}
 use Rattle.record_store.specs.Store.{new_state}
 use Rattle.record_store.specs.Layout.{place, type_range}
-use Rattle.record_store.specs.Reading.{ArePairsOf, HasRead, HaveNoRecords}
+use Rattle.record_store.specs.Reading.{ArePairsOfRecords, HasRead, HaveNoRecords}
 use Rattle.record_store.specs.Call.{first_of}
 use Rattle.record_store.specs.Steps.{no_memory, of_read}
 use Rattle.record_store.proofs.Stopping.{unread_failed}
@@ -37,7 +37,7 @@ returns-clause-found g c =
     (c.in_ok-range.ensures ∙ ap (λ p. type_range p c.args.definition.now.number) c.prefix.ensures.prefix)
     (c.as_slice.ensures.value ∙ c.in_ok-place.ensures ∙ ap (λ p. place p 1) c.prefix-2.ensures.prefix)
     c.in_ok-pairs.ensures.reads c.in_ok-pairs.ensures.answer
-    (subst (λ (pairs : List (List ℕ × List ℕ)). ArePairsOf c.as_slice.result.now c.args.definition.now pairs c.in_ok-records.records.items) c.as_slice-2.ensures.value c.in_ok-records.ensures.found))
+    (subst (λ (pairs : List (List ℕ × List ℕ)). ArePairsOfRecords c.as_slice.result.now c.args.definition.now pairs c.in_ok-records.records.items) c.as_slice-2.ensures.value c.in_ok-records.ensures.found))
 
 pub returns-in_err-pairs-clause-refused : goal.returns-in_err-pairs-clause-refused
 returns-in_err-pairs-clause-refused g c =

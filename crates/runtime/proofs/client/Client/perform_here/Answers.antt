@@ -2,7 +2,7 @@ use Rattle.std.proofs.Common.{◌≡◌, ◌∙◌, sym, ap, subst, Some, refl}
 use Rattle.std.specs.Prelude.{IfErr}
 use mathlib.Core.List.{IsPrefix}
 use Rattle.runtime.specs.declared.work.Work.{Work}
-use Rattle.runtime.specs.Clients.{IsBegun, IfReader, Knows}
+use Rattle.runtime.specs.Clients.{IsBegun, IfReader, Knowledge}
 use Rattle.runtime.specs.State.{knows}
 use Rattle.left_right.specs.Sides.{view as knowledge}
 use Rattle.runtime.specs.Serves.{IsUnanswered}
@@ -27,7 +27,7 @@ invariant_of-self-2 g c =
 
 pub returns-clause-refused : goal.returns-clause-refused
 returns-clause-refused g c w is =
-    let begun : c.self.inside.begun ≡ c.args.self.now.begun = ap (λ (k : Knows). k.begun) c.self.view_is in
+    let begun : c.self.inside.begun ≡ c.args.self.now.begun = ap (λ (k : Knowledge). k.begun) c.self.view_is in
     let some : Some c.in-Some.work ≡ Some w = sym c.in-Some.is ∙ c.take.ensures.value ∙ begun ∙ is in
     let same : c.in-Some.work ≡ w = cc (some) in
     let after : Work = record { front = c.in-Some.work.front; transaction = c.perform_at-reader.new.tx; trace = c.perform_at-reader.new.trace } in

@@ -1,12 +1,12 @@
 use Rattle.std.proofs.Common.{◌≤◌, ◌-◌, max}
-use Rattle.runtime.specs.Runs.{Fails, Follows, InTurn}
+use Rattle.runtime.specs.Runs.{AttemptFails, GoesOnFrom, InTurn}
 use Rattle.runtime.proofs.client.Client.run.Given as goal
 
 abbrev pub invariant-loop-both : goal.invariant-loop-both
 invariant-loop-both g l =
-    Follows l.initial.self l.self
+    GoesOnFrom l.initial.self l.self
     × (1 ≤ l.number) × (l.number ≤ max 1 l.retry.limit)
-    × InTurn (Fails g.B.Body.did) (l.number - 1) (l.initial.body, l.initial.self) (l.body, l.self)
+    × InTurn (AttemptFails g.B.Body.did) (l.number - 1) (l.initial.body, l.initial.self) (l.body, l.self)
 
 abbrev pub decreases-loop-both : goal.decreases-loop-both
 decreases-loop-both g l = l.retry.limit - l.number

@@ -7,7 +7,7 @@ use Rattle.schedule.specs.Standing.{is_told}
 use Rattle.std.specs.Prelude.{if◌then◌else◌}
 use Rattle.runtime.specs.declared.entry.Entry.{Entry}
 use Rattle.runtime.specs.History.{Name, Reach}
-use Rattle.runtime.specs.Lists.{AreLast, IsLawful, IsOpenOver, is_numbered, pipeline_of, cause_next, version_of}
+use Rattle.runtime.specs.Lists.{AreLast, IsLawfulList, IsOpenOver, is_numbered, pipeline_of, cause_next, version_of}
 use Rattle.runtime.specs.Holds.{Held, IsBacked, IsInFlight, due_of, entry}
 use Rattle.runtime.proofs.Lawful.{numbered_raised}
 use Rattle.runtime.proofs.Numbers.{last_next}
@@ -22,7 +22,7 @@ invariant_of-self c =
     let last : List ℕ = c.self.inside.last.items in
     let old : c.self.inside.pipeline ≡ pipeline_of n.config log = subst (IsInFlight n log c.self.inside.pipeline) c.in-Idle.is i.2 in
     let num : is_numbered last log ≡ true = subst (λ f. is_numbered last (due_of f log) ≡ true) c.in-Idle.is i.3 in
-    let law : IsLawful n.config log = subst (λ (r : Reach). IsLawful r.name.config r.list) i.1 c.len.ensures.lawful in
+    let law : IsLawfulList n.config log = subst (λ (r : Reach). IsLawfulList r.name.config r.list) i.1 c.len.ensures.lawful in
     let begins : IsPrefix c.args.front.now.list log = subst (λ (r : Reach). IsPrefix c.args.front.now.list r.list) i.1 c.if-not-begins.ensures in
     let over : IsOpenOver n.config c.args.front.now.list c.args.request c.args.trace.attempts = subst (λ (h : Held). IsOpenOver h.name.config c.args.front.now.list c.args.request c.args.trace.attempts) (sym c.self.view_is) c.requires.open in
     let some = subst (λ (h : Held). (slice_index h.last c.args.client < c.in_ok-number.number) × (c.args.client < length h.last)) (sym c.self.view_is) (c.in_ok-number.ensures.above.1, c.in_ok-number.ensures.client) in
