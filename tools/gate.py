@@ -2,8 +2,9 @@
 """Proves, builds and tests everything: the test command of the repository. It is run at the top of the repository.
 
 1. `rt ci`: every proof from nothing, the tests, the programs as two compilers build them, and the edits of must-fail/.
-2. Beside it, with what processors are left: the wrong bodies, which the prover must refuse (tools/wrong_bodies). Those
-   of a crate aren't tried again where the record has that they were refused over the same texts; with --whole all are.
+2. Beside it, with what processors are left: the wrong bodies, which the prover must refuse (tools/wrong_bodies). One
+   isn't tried again where the record has that it was refused over the same texts; with --whole all are. The lines that
+   the record takes are printed as they come, so that a run that is cut short has told them.
 3. Beside it too: the tools' own tests, and the house's rules over the files as they stand (tools/house_rules).
 4. The cases of cases/, the examples and the program's edge, against both built programs (tools/program_tests), and
    queries whose allocations fail in turn (tools/refused_growths).
@@ -15,7 +16,7 @@ import re
 import resource
 import subprocess
 import sys
-import tempfile
+import threading
 import time
 
 PROGRAMS = ["crates/recordctl/out/recordctl", "crates/recordctl/out/recordctl.by-rattle"]
@@ -24,6 +25,8 @@ PROGRAM_TESTS = (("the program", "program_tests", PROGRAMS), ("want of memory", 
 COUNTED = re.compile(r"(\d+) (?:passed|refused), (\d+) (?:failed|not)")
 # what the wrong bodies' tool says of each of its checks
 CHECKED = re.compile(r"\w+: (?:proved without edits|a round of \d+, \d+ told|\w+ alone): .*\n")
+# what it says for the record
+ROW = re.compile(r"\w+: all \d+ refused, by the sum ")
 TESTED = re.compile(r"Ran (\d+) tests?.*?(?:FAILED \((.*)\)|OK)", re.S)
 
 
@@ -41,23 +44,32 @@ def tool_counts(text):
     return (int(found[1]) - failed, failed) if found else (0, 1)
 
 
-def begun(words):
-    """A command that has begun, and the file that has what it prints."""
-    log = tempfile.TemporaryFile("w+", errors="replace")
-    return subprocess.Popen(words, stdin=subprocess.DEVNULL, stdout=log, stderr=subprocess.STDOUT), log
+class Command:
+    """A command that has begun, and what it prints; lines for the record are printed as they come."""
 
+    def __init__(self, *words):
+        self.lines, self.process = [], subprocess.Popen(
+            words, stdin=subprocess.DEVNULL, stdout=subprocess.PIPE, stderr=subprocess.STDOUT, text=True,
+            errors="replace")
+        self.reading = threading.Thread(target=self.read)
+        self.reading.start()
 
-def ended(title, command, count):
-    """Waits for a command that has begun, prints what it prints, and answers its counts."""
-    print(f"== {title}", flush=True)
-    process, log = command
-    with log:
-        process.wait()
-        log.seek(0)
-        text = CHECKED.sub("", log.read())
-    print(text, end="", flush=True)
-    passed, failed = count(text)
-    return passed, failed or (1 if process.returncode else 0)
+    def read(self):
+        with self.process.stdout:
+            for line in self.process.stdout:
+                if ROW.match(line):
+                    print(line, end="", flush=True)
+                elif not CHECKED.match(line):
+                    self.lines.append(line)
+
+    def ended(self, title, count):
+        """Waits for its end, prints what it prints, and answers its counts."""
+        print(f"== {title}", flush=True)
+        self.reading.join()
+        text, status = "".join(self.lines), self.process.wait()
+        print(text, end="", flush=True)
+        passed, failed = count(text)
+        return passed, failed or (1 if status else 0)
 
 
 def spent(since):
@@ -71,16 +83,16 @@ def spent(since):
 def main():
     python, since = sys.executable, time.monotonic()
     recorded = [] if "--whole" in sys.argv[1:] else ["--recorded"]
-    wrong = begun(["nice", "-n", "10", python, "tools/wrong_bodies", "--from-nothing", *recorded])
-    tools = [begun(["nice", "-n", "10", python, f"tools/{it}/tests.py"]) for it in ("wrong_bodies", "house_rules")]
-    rules = begun([python, "tools/house_rules"])
-    tests = [ended("rt ci", begun(["rt", "ci"]), counts)]
+    wrong = Command("nice", "-n", "10", python, "tools/wrong_bodies", "--from-nothing", *recorded)
+    tools = [Command("nice", "-n", "10", python, f"tools/{it}/tests.py") for it in ("wrong_bodies", "house_rules")]
+    rules = Command(python, "tools/house_rules")
+    tests = [Command("rt", "ci").ended("rt ci", counts)]
     for title, tool, programs in PROGRAM_TESTS:
         there = filter(os.path.isfile, programs)
-        tests.append(ended(title, begun([python, f"tools/{tool}", *there]), counts))
-    tests += [ended("the tools", it, tool_counts) for it in tools]
-    tests.append(ended("the house's rules", rules, counts))
-    tests.append(ended("wrong bodies", wrong, counts))
+        tests.append(Command(python, f"tools/{tool}", *there).ended(title, counts))
+    tests += [it.ended("the tools", tool_counts) for it in tools]
+    tests.append(rules.ended("the house's rules", counts))
+    tests.append(wrong.ended("wrong bodies", counts))
     passed, failed = (sum(them) for them in zip(*tests))
     print(spent(since))
     print(f"{passed} passed, {failed} failed")

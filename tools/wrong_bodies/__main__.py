@@ -9,10 +9,11 @@ bodies. Crates are proved and tried side by side, lowest first, in copies below 
 An edit is a file crates/NAME/wrong-bodies/*.edit or crates/NAME/must-fail/*.edit with a line 'file: PATH', and then
 pairs of lines 'old: TEXT' and 'new: TEXT'; each old text stands once in that file.
 
-With --recorded the edits of a crate aren't tried again where tools/wrong_bodies/refused.txt says that all of them were
-refused over the same texts: the crate's own, and what those below it say without their bodies and proofs. With --record
-the crates are put there of which each edit was refused. For each of them a line with the sum of its texts is printed;
---take puts the lines of such a run's output, or of the gate's, into the record.
+With --recorded an edit isn't tried again where tools/wrong_bodies/refused.txt says that it was refused over the same
+texts: its function's own, and what that leads to of what its crate and those below it say without their bodies and
+proofs. With --record the edits that are refused are put there. For each crate all of whose edits are refused a line
+with a sum is printed; --take puts the edits of the crates with such lines of a run's output, or of the gate's, into the
+record, where their texts still are those of that run.
 
 A line is printed for each crate, for each round and for each edit that isn't refused, or only because a proof file
 names what it took away, which counts as not refused. The last line is 'N refused, M not'; the status is 0 where M is 0.
@@ -23,6 +24,7 @@ import sys
 import tempfile
 import records
 from crews import Crew
+from edits import edits_in
 from trials import crates_of
 
 FOLDERS = ("wrong-bodies", "must-fail")
@@ -30,11 +32,18 @@ FOLDERS = ("wrong-bodies", "must-fail")
 
 def take(file):
     """Puts into the record what a run printed to this file of crates all of whose edits were refused."""
+    root, taken = os.getcwd(), {}
     with open(file, encoding="utf-8", errors="replace") as printed:
         rows = records.rows_in(printed.read())
-    records.record(os.getcwd(), crates_of(os.getcwd()), rows)
-    print(f"{len(rows)} rows taken")
-    return 0 if rows else 1
+    sums = records.Sums(root, crates_of(root))
+    for name, made in rows.items():
+        edits = [it for folder in FOLDERS for it in edits_in(os.path.join(root, "crates", name, folder))[0]]
+        found = {(name, it.name): sums.of(name, it) for it in edits}
+        if records.whole(name, found) == made:
+            taken |= found
+    records.record(root, taken)
+    print(f"{len(taken)} edits of {len(rows)} crates taken")
+    return 0 if taken else 1
 
 
 def main():
@@ -45,7 +54,7 @@ def main():
     parser.add_argument("--from-nothing", action="store_true", help="take nothing from what earlier checks kept")
     parser.add_argument("--work", help="an existing folder for the copies, for what is left to be looked at")
     parser.add_argument("--recorded", action="store_true", help="pass over what the record says is refused")
-    parser.add_argument("--record", action="store_true", help="put crates all of whose edits are refused there")
+    parser.add_argument("--record", action="store_true", help="put the edits that are refused there")
     parser.add_argument("--take", metavar="FILE", help="try nothing, and put what a run printed there")
     parser.add_argument("--verbose", action="store_true", help="print what refuses each edit too")
     options = parser.parse_args()
@@ -54,9 +63,6 @@ def main():
     with tempfile.TemporaryDirectory(prefix="wrong-bodies-", dir=options.work) as room:
         crew = Crew(os.getcwd(), room, FOLDERS, options)
         refused, others = crew.work()
-        rows = {} if options.only else crew.rows()
-        if options.record:
-            records.record(os.getcwd(), crew.workshop.crates, rows)
     print(f"{refused} refused, {others} not")
     return 1 if others or not refused else 0
 

@@ -27,10 +27,13 @@ class Crew:
     def __init__(self, root, folder, folders, options):
         self.workshop = Workshop(root, folder, options.from_nothing)
         self.options, self.folders = options, folders
-        self.printing, self.refused, self.others = threading.Lock(), 0, 0
-        self.proved, self.tasks, self.not_refused = set(), [], set()
+        self.printing, self.proved, self.tasks = threading.Lock(), set(), []
+        # edits by crate and name: those that are refused, and those that aren't
+        self.refused, self.others = set(), set()
         chosen = options.crates or list(self.workshop.crates)
         self.edits = {name: edits for name in chosen if (edits := self.edits_of(name))}
+        sums = records.Sums(root, self.workshop.crates)
+        self.sums = {(name, it.name): sums.of(name, it) for name, edits in self.edits.items() for it in edits}
         if options.recorded:
             self.pass_over(records.recorded(root))
 
@@ -40,38 +43,38 @@ class Crew:
 
     def judge(self, name, edit, verdict, line):
         """Counts an edit by its verdict, and says so where it isn't plainly refused."""
+        is_refused = verdict is Verdict.REFUSED
         with self.printing:
-            self.refused += verdict is Verdict.REFUSED
-            self.others += verdict is not Verdict.REFUSED
-            if verdict is not Verdict.REFUSED:
-                self.not_refused.add(name)
-        if verdict is not Verdict.REFUSED or self.options.verbose:
+            (self.refused if is_refused else self.others).add((name, edit))
+            is_whole = is_refused and all(it in self.refused for it in self.sums if it[0] == name)
+        if not is_refused or self.options.verbose:
             self.say(f"{name}/{edit}: {verdict.value}{': ' if line else ''}{line[:200]}")
+        if is_whole and not self.options.only:
+            self.say(records.row(name, self.sums))
 
     def pass_over(self, recorded):
-        """Counts the edits of crates as refused of which the record says so, and doesn't try them."""
+        """Counts the edits as refused of which the record says so, and doesn't try them."""
         for name, edits in list(self.edits.items()):
-            if recorded.get(name) == (len(edits), records.digest(self.workshop.root, self.workshop.crates, name)):
-                self.say(f"{name}: {len(edits)} refused by the record")
-                self.refused += len(edits)
+            found = {it for it in edits if recorded.get((name, it.name)) == self.sums[name, it.name]}
+            self.refused |= {(name, it.name) for it in found}
+            if found:
+                self.say(f"{name}: {len(found)} of {len(edits)} refused by the record")
+            self.edits[name] = [it for it in edits if it not in found]
+            if not self.edits[name]:
                 del self.edits[name]
 
     def rows(self):
-        """The record's rows for the crates of which each edit was tried and refused; each is printed."""
-        counts = {name: len(edits) for name, edits in self.edits.items() if name not in self.not_refused}
-        rows = records.rows_of(self.workshop.root, self.workshop.crates, counts)
-        for name, (count, made) in rows.items():
-            self.say(f"{name}: all {count} refused, by the sum {made}")
-        return rows
+        """The sums of the edits that are refused."""
+        return {it: made for it, made in self.sums.items() if it in self.refused}
 
     def work(self):
-        """Tries all edits, and answers how many were refused and how many were not."""
+        """Tries all edits, and answers how many are refused and how many aren't."""
         needed = {it for name in self.edits for it in [name, *below(self.workshop.crates, name)]}
         for name in needed:
             above = sum(name in below(self.workshop.crates, it) for it in needed)
             self.tasks.append(Task(1_000_000 * (1 + above), self.workshop.crates[name], lambda it=name: self.prove(it)))
         self.run()
-        return self.refused, self.others
+        return len(self.refused), len(self.others)
 
     def run(self):
         """Does the tasks, as many at a time as there are to be checks, each once what it waits for is proved."""
@@ -87,6 +90,8 @@ class Crew:
                 done, running = wait(running, return_when=FIRST_COMPLETED)
                 for it in done:
                     self.tasks += it.result()
+                if self.options.record:
+                    records.record(self.workshop.root, self.rows())
 
     def edits_of(self, name):
         """The edits of a crate that are asked for; files of such names that are none count as not refused."""

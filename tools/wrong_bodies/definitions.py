@@ -2,6 +2,7 @@
 import functools
 import os
 import re
+from items import words_in
 
 # an import of definitions: its crate, its module, and the words or its other name
 IMPORT = re.compile(r"\buse Rattle\.(\w+)\.specs\.([\w.]*\w)(?:\.\{([^}]*)\}| as (\w+))?")
@@ -11,9 +12,9 @@ KEYWORDS = {"pub", "abbrev", "unfoldable", "record", "data"}
 TOGETHER = re.compile(r"^(?:abbrev )?(?:mutual|module|infix|open|package|ruleset)\b", re.M)
 
 
-def is_named(name, text):
-    """Whether a text has this name as a word; a name with an operator in it counts as one that it has."""
-    return not re.fullmatch(r"[\w'-]+", name) or bool(re.search(rf"(?<![\w'-]){re.escape(name)}(?![\w'-])", text))
+def is_named(name, words):
+    """Whether this name is among a text's words; a name with an operator in it counts as one of them."""
+    return name in words or not re.fullmatch(r"[\w'-]+", name)
 
 
 @functools.cache
@@ -36,6 +37,17 @@ def imports_in(root, crates, text):
         for name in filter(None, (it.strip() for it in names.split(","))):
             there, _, here = name.partition(" as ")
             yield crate, file, there.strip(), (here or there).strip()
+
+
+def types_in(text, words):
+    """The types of sources that a text imports as these words, by their crates and names."""
+    found = set()
+    for crate, path, names, alias in IMPORT.findall(text):
+        if path.startswith("declared."):
+            for it in [f"{path.split('.')[-1]} as {alias}"] if alias else filter(None, names.split(",")):
+                there, _, here = it.strip().partition(" as ")
+                found |= {(crate, there.strip())} if is_named((here or there).strip(), words) else set()
+    return found
 
 
 def parts_in(text):
@@ -65,7 +77,7 @@ class Definitions:
     def read_anew(self, crate, file):
         """A file of definitions: its parts, its text, and what it imports."""
         with open(os.path.join(self.root, "crates", crate, file), encoding="utf-8") as source:
-            text = source.read()
+            text = "".join(line for line in source if not line.lstrip().startswith("--"))
         return parts_in(text), text, list(imports_in(self.root, self.crates, text))
 
     def part(self, crate, file, name):
@@ -73,20 +85,6 @@ class Definitions:
         parts, text, imports = self.read(crate, file)
         if parts is None or name not in parts:
             return None, text, [it[:3] for it in imports]
-        text = parts[name]
-        own = [(crate, file, it) for it in parts if it != name and is_named(it, text)]
-        return name, text, own + [it[:3] for it in imports if is_named(it[3], text)]
-
-    def reached(self, starts):
-        """The texts of the definitions that these lead to, by crate, file and name; a file taken whole has no name."""
-        texts, new = {}, list(starts)
-        seen = set(new)
-        while new:
-            crate, file, asked = new.pop()
-            name, text, further = self.part(crate, file, asked)
-            texts[crate, file, name or ""] = text
-            for it in further:
-                if it not in seen:
-                    seen.add(it)
-                    new.append(it)
-        return texts
+        words = words_in(parts[name])
+        own = [(crate, file, it) for it in parts if it != name and is_named(it, words)]
+        return name, parts[name], own + [it[:3] for it in imports if is_named(it[3], words)]

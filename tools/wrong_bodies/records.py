@@ -1,24 +1,26 @@
-"""The record of crates whose edits were refused, by the texts on which that rests."""
+"""The record of edits that were refused, by the texts on which that rests."""
 import functools
 import hashlib
 import os
 import re
 import subprocess
-from bodies import UNREAD
-from definitions import Definitions, imports_in, is_named
-from told import told_by, without
-from trials import below
+from bodies import BLOCK, blanked, is_proof_of, matching_brace
+from edits import texts_of
+from items import pieces_in, spoken, words_in
+from reach import Reach
 
 FILE = os.path.join("tools", "wrong_bodies", "refused.txt")
-OWN = ("src", "specs", "proofs", "wrong-bodies", "must-fail")
+HEAD = "# wrong bodies that were refused: the crate, the edit, and a sum of all on which that rests"
 # the tool's line on a crate all of whose edits were refused
-ROW = re.compile(r"(?:> )?(\w+): all (\d+) refused, by the sum ([0-9a-f]{64})")
-HEAD = "# crates whose wrong bodies were refused: how many, and a sum of all on which that rests"
+ROW = re.compile(r"(?:> )?(\w+): all (\d+) refused, by the sum ([0-9a-f]{32})")
 
 
-def words_in(text):
-    """The words of a text."""
-    return set(re.findall(r"\w+", text))
+def sum_of(rows):
+    """A sum of rows of texts, in any order."""
+    made = hashlib.sha256()
+    for row in sorted(rows):
+        made.update(repr(row).encode())
+    return made.hexdigest()[:32]
 
 
 def uncommented(file, text):
@@ -27,51 +29,50 @@ def uncommented(file, text):
     Of a file in the prover's language only comments are taken that begin a line.
     """
     if file.endswith(".rt"):
-        text = without(text, [it.span() for it in UNREAD.finditer(text) if it[0].startswith("/")])
-    elif not file.endswith(".antt"):
-        return text
+        return spoken(text)
     lines = [line.rstrip() for line in text.split("\n")]
-    return "\n".join(line for line in lines if line and not (file.endswith(".antt") and line.lstrip().startswith("--")))
+    return "\n".join(line for line in lines if line and not line.lstrip().startswith("--"))
 
 
-def texts_below(folder, parts):
-    """The texts of a crate's folders, in the order of their paths."""
-    for part in parts:
-        for at, folders, files in os.walk(os.path.join(folder, part)):
-            folders.sort()
-            for name in sorted(files):
-                path = os.path.join(at, name)
-                with open(path, encoding="utf-8", errors="replace") as source:
-                    yield os.path.relpath(path, folder), source.read()
+def own_texts(texts, bodies):
+    """The functions with these bodies, what their files import beside definitions, and their own proofs, by file."""
+    for body in bodies:
+        source, plain = texts[body.file], blanked(texts[body.file])
+        titles = [it for it in BLOCK.finditer(plain)
+                  if it.end() <= body.head and body.end <= matching_brace(plain, it.end() - 1)]
+        function = "\n".join([*(it[0] for it in titles), spoken(source[body.head:body.end])])
+        yield body.file, function
+        for head, _, end in pieces_in(plain, 0, len(plain)):
+            if head[2] == "use" and words_in(plain[head.start():end]) & words_in(function):
+                yield body.file, spoken(source[head.start():end])
+    for file, text in texts.items():
+        if any(is_proof_of(it, os.path.dirname(file).removeprefix("proofs/")) for it in bodies):
+            yield file, uncommented(file, text)
 
 
-def rests_on(root, crates, name):
-    """The texts on which it rests that a crate's edits are refused, by crate, file and definition.
+class Sums:
+    """The sums of all on which it rests that edits are refused.
 
-    Those are the crate's own without comments, what the sources of the crates below it say, and the definitions that
-    any of these texts leads to. A function is proved from the contracts of what it calls, so of the crates below no
-    body counts and no proof.
+    A function is proved from the contracts of what it calls, and a wrong body isn't made right by a lemma. So an edit
+    of bodies rests on itself, on the text of their functions and their own proofs, and on all to which that text leads
+    of what the crate and those below it say: what it calls by name, types, traits, constants and definitions; no other
+    body counts and no other proof. An edit of anything else rests on the whole crate, and on what that leads to.
     """
-    own = {file: uncommented(file, text) for file, text in texts_below(os.path.join(root, "crates", name), OWN)}
-    texts = {(name, file, ""): text for file, text in own.items()}
-    starts = {it[:3] for text in own.values() for it in imports_in(root, crates, text) if it[0] != name}
-    words = set().union(*map(words_in, own.values()))
-    for crate in below(crates, name):
-        sources = dict(texts_below(os.path.join(root, "crates", crate), ("src",)))
-        for file, told in told_by(sources, words).items():
-            if told:
-                texts[crate, file, ""] = told
-                imports = imports_in(root, crates, sources[file])
-                starts |= {it[:3] for it in imports if is_named(it[3], told)}
-    return texts | Definitions(root, crates).reached(starts)
 
+    def __init__(self, root, crates):
+        self.root, self.reach = root, Reach(root, crates)
+        self.texts = functools.cache(lambda name: texts_of(os.path.join(root, "crates", name)))
 
-def digest(root, crates, name):
-    """A sum of the toolchain's logic and of all texts on which it rests that a crate's edits are refused."""
-    made = hashlib.sha256(logic())
-    for row in sorted(rests_on(root, crates, name).items()):
-        made.update(repr(row).encode())
-    return made.hexdigest()
+    def of(self, name, edit):
+        """The sum of an edit of this crate."""
+        texts = self.texts(name)
+        bodies = edit.bodies(texts) if all(file in texts for file, _, _ in edit.pairs) else None
+        own = set(own_texts(texts, bodies) if bodies else ((it, uncommented(it, texts[it])) for it in texts))
+        code = [it for it in [*own, *((file, new) for file, _, new in edit.pairs)]
+                if not (bodies and it[0].startswith("proofs/"))]
+        imports = [self.reach.imported(texts.get(file, ""), words_in(text)) for file, text in code]
+        reached = self.reach.reached(name, [text for _, text in code], imports)
+        return sum_of([("logic", logic()), ("edit", repr(edit.pairs)), *own, *reached])
 
 
 @functools.cache
@@ -79,34 +80,45 @@ def logic():
     """The name of the toolchain's logic, which kits that prove the same share; else the toolchain's line."""
     said = subprocess.run(["rt", "version"], stdin=subprocess.DEVNULL, stdout=subprocess.PIPE, check=True).stdout
     named = re.search(rb"logic \S+", said)
-    return named[0] if named else said
+    return (named[0] if named else said).decode()
 
 
 def recorded(root):
-    """The crates that the record has, each with how many edits it has and the sum on which that rests."""
+    """The sum of each edit that the record has, by crate and name."""
     found = {}
     if os.path.isfile(os.path.join(root, FILE)):
         with open(os.path.join(root, FILE), encoding="utf-8") as lines:
             for line in lines:
                 words = line.split("#")[0].split()
                 if len(words) == 3:
-                    found[words[0]] = (int(words[1]), words[2])
+                    found[words[0], words[1]] = words[2]
     return found
 
 
-def rows_of(root, crates, counts):
-    """The record's rows for crates with so many edits, all of which were refused over these texts."""
-    return {name: (count, digest(root, crates, name)) for name, count in counts.items()}
+def record(root, sums):
+    """Puts the sums of edits, by crate and name, into the record; only edits that are there stay in it."""
+    found = {it: made for it, made in (recorded(root) | sums).items() if is_there(root, *it)}
+    with open(os.path.join(root, FILE), "w", encoding="utf-8") as lines:
+        lines.write(HEAD + "\n")
+        lines.writelines(f"{crate} {edit} {made}\n" for (crate, edit), made in sorted(found.items()))
+
+
+def is_there(root, crate, edit):
+    """Whether the crate has an edit of this name."""
+    home = os.path.join(root, "crates", crate)
+    return any(os.path.isfile(os.path.join(home, it, f"{edit}.edit")) for it in ("wrong-bodies", "must-fail"))
+
+
+def whole(crate, sums):
+    """The sum of those of a crate's edits."""
+    return sum_of((edit, made) for (name, edit), made in sums.items() if name == crate)
+
+
+def row(crate, sums):
+    """The line that says that all edits of a crate are refused."""
+    return f"{crate}: all {sum(name == crate for name, _ in sums)} refused, by the sum {whole(crate, sums)}"
 
 
 def rows_in(text):
-    """The rows that the tool printed, as in what a run of the gate printed."""
-    return {name: (int(count), made) for name, count, made in ROW.findall(text)}
-
-
-def record(root, crates, rows):
-    """Puts rows into the record, each in the place of that of its crate."""
-    found = {name: row for name, row in (recorded(root) | rows).items() if name in crates}
-    with open(os.path.join(root, FILE), "w", encoding="utf-8") as lines:
-        lines.write(HEAD + "\n")
-        lines.writelines(f"{name} {found[name][0]} {found[name][1]}\n" for name in crates if name in found)
+    """The crates all of whose edits were refused by what a run of the tool or the gate printed, each with its sum."""
+    return {name: made for name, _, made in ROW.findall(text)}

@@ -7,8 +7,8 @@ import tempfile
 import unittest
 from bodies import blanked, bodies_in, is_proof_of
 from crews import Crew
-from edits import BadEdit, Edit, all_applied, dealt
-from records import digest, record, recorded, rows_in, rows_of
+from edits import BadEdit, Edit, all_applied, dealt, edits_in
+from records import Sums, record, recorded, row, rows_in, whole
 from verdicts import speaks_of
 
 HERE = os.path.dirname(os.path.abspath(__file__))
@@ -191,87 +191,128 @@ class Choosing(unittest.TestCase):
                 ([], "third,second_is", {"low": ["second_is_first"], "high": ["third_is_fourth"]}),
             ]:
                 options = argparse.Namespace(
-                    crates=crates, only=only, verbose=False, jobs=1, from_nothing=True, recorded=False)
+                    crates=crates, only=only, verbose=False, jobs=1, from_nothing=True, recorded=False, record=False)
                 crew = Crew(root, root, ("wrong-bodies", "must-fail"), options)
                 found = {name: [it.name for it in edits] for name, edits in crew.edits.items()}
-                self.assertEqual((found, crew.others), (wanted, 0))
+                self.assertEqual((found, crew.others), (wanted, set()))
+
+
+# A further source of high, whose function names types of low.
+NAMING = """use low::{Modelled as Other, Seen};
+
+pub fn third(number: u64, seen: &Seen, other: &Other) -> u64
+    ensures { result ≡ number + 3 }
+{
+    low::second(number) + 1
+}
+"""
+
+CRATES = {"low": [], "high": ["low"]}
+
+
+def sums_of(root):
+    """The sums of the edits of both crates, by their names."""
+    sums, found = Sums(root, CRATES), {}
+    for crate, folder in (("low", "wrong-bodies"), ("high", "must-fail")):
+        for it in edits_in(os.path.join(root, "crates", crate, folder))[0]:
+            found[it.name] = sums.of(crate, it)
+    return found
 
 
 class Recording(unittest.TestCase):
     def test_what_a_record_rests_on(self):
-        crates, both = {"low": [], "high": ["low"]}, {"low", "high"}
+        files = {
+            "crates/low/src/lib.rt": f"{LOW}\npub use types::{{Modelled, Seen}};\n",
+            "crates/low/src/told.rt": TOLD,
+            "crates/low/src/types.rt": TYPES,
+            "crates/low/specs/Words.antt": WORDS,
+            "crates/low/specs/Deep.antt": "abbrev pub deep : ℕ\ndeep = 1\n\nabbrev pub flat : ℕ\nflat = 2\n",
+            "crates/low/specs/Whole.antt": "module _ (n : ℕ) where\n  abbrev pub whole : ℕ\n  whole = n\n",
+            "crates/low/specs/Others.antt": "",
+            "crates/low/proofs/Lib.antt": "",
+            "crates/low/proofs/next/Answers.antt": "",
+            "crates/low/wrong-bodies/next_is_same.edit": edit_text("number + STEP", "number + STEP - 1"),
+            "crates/high/src/lib.rt": NAMING,
+        }
+        # an edit of each function, and one of a constant, which rests on all of its crate
+        first, second, third, whole_crate = "next_is_same", "second_is_first", "third_is_fourth", "step_of_two"
+        low, told, open_to_high = {whole_crate}, {whole_crate, second, third}, {whole_crate, third}
+        lib, told_file, types, words, deep, whole_file, others, proofs, answers, edit, high = files
         with tempfile.TemporaryDirectory() as root:
             repository(root)
-            files = {
-                "crates/low/src/lib.rt": f"{LOW}\npub use types::{{Modelled, Seen}};\n",
-                "crates/low/src/told.rt": TOLD,
-                "crates/low/src/types.rt": TYPES,
-                "crates/low/specs/Words.antt": WORDS,
-                "crates/low/specs/Deep.antt": "abbrev pub deep : ℕ\ndeep = 1\n\nabbrev pub flat : ℕ\nflat = 2\n",
-                "crates/low/specs/Whole.antt": "module _ (n : ℕ) where\n  abbrev pub whole : ℕ\n  whole = n\n",
-                "crates/low/specs/Others.antt": "",
-                "crates/low/proofs/Lib.antt": "",
-                "crates/high/src/lib.rt": HIGH,
-            }
             for file, text in files.items():
                 write(f"{root}/{file}", text)
-            before = {name: digest(root, crates, name) for name in crates}
+            before = sums_of(root)
             for file, old, new, changed in [
-                ("crates/low/src/told.rt", "    2\n", "    1 + 1\n", {"low"}),
-                ("crates/low/src/told.rt", "word result", "word result × word 2", both),
-                ("crates/low/src/told.rt", "other result", "other result × other 1", {"low"}),
-                ("crates/low/src/told.rt", "two numbers", "three", set()),
-                ("crates/low/src/told.rt", "    2\n", "\n    // two\n    2\n", set()),
-                ("crates/low/src/told.rt", "tactic(auto)", "cycle(first)", {"low"}),
-                ("crates/low/src/told.rt", "pub fn second", "fn second", both),
-                ("crates/low/src/told.rt", "pub fn", "pub fn sixth() {}\n\npub fn", {"low"}),
-                ("crates/low/src/told.rt", "result ≡ self.now", "result ≡ 2", both),
-                ("crates/low/src/told.rt", "impl", "pub const TWO: u64 = 2;\n\nimpl", both),
-                ("crates/low/src/types.rt", "pub number: u64", "pub number: u32", both),
-                ("crates/low/src/types.rt", "    count: u64", "    count: u32", {"low"}),
-                ("crates/low/src/types.rt", "    count: u64", "    pub count: u64", both),
-                ("crates/low/src/types.rt", "m.count }", "m.count + 1 }", {"low"}),
-                ("crates/low/src/types.rt", "m.count ≤ 8", "m.count ≤ 9", {"low"}),
-                ("crates/low/src/types.rt", "Value = { ℕ }", "Value = { ℤ }", both),
-                ("crates/low/src/types.rt", "inner: Inner", "inner: u64", {"low"}),
-                ("crates/low/src/types.rt", "-> u64 {\n        2", "-> u32 {\n        2", {"low"}),
-                ("crates/low/src/types.rt", "Inner(u64)", "Inner(u32)", {"low"}),
-                ("crates/low/src/types.rt", "number: u64,", "number: u64,\n    pub inner: Inner,", both),
-                ("crates/low/specs/Words.antt", "= deep", "= flat", both),
-                ("crates/low/specs/Words.antt", "inner : ℕ", "inner : ℤ", both),
-                ("crates/low/specs/Words.antt", "spare n = n", "spare n = 2", {"low"}),
-                ("crates/low/specs/Words.antt", "a word", "the word", set()),
-                ("crates/low/specs/Deep.antt", "= 1", "= 2", both),
-                ("crates/low/specs/Deep.antt", "= 2", "= 1", {"low"}),
-                ("crates/low/specs/Whole.antt", "= n", "= 1", both),
-                ("crates/low/specs/Others.antt", "", "-- told\n", set()),
-                ("crates/low/specs/Others.antt", "", "told\n", {"low"}),
-                ("crates/low/proofs/Lib.antt", "", "-- told\n", set()),
-                ("crates/low/proofs/Lib.antt", "", "mod Told\n", {"low"}),
-                ("crates/high/src/lib.rt", "third", "fourth", {"high"}),
+                (lib, "number < 2 ^ 32", "number < 2 ^ 30", low | {first, second}),
+                (lib, "number < 2 ^ 31", "number < 2 ^ 30", told),
+                (lib, "const STEP: u64 = 1", "const STEP: u64 = 3", low | {first}),
+                (lib, "\npub use", "\n// handed out\npub use", set()),
+                (told_file, "    2\n", "    1 + 1\n", low),
+                (told_file, "word result", "word result × word 2", told),
+                (told_file, "other result", "other result × other 1", low),
+                (told_file, "two numbers", "three", set()),
+                (told_file, "    2\n", "\n    // two\n    2\n", set()),
+                (told_file, "tactic(auto)", "cycle(first)", set()),
+                (told_file, "pub fn second", "fn second", told),
+                (told_file, "pub fn", "pub fn sixth() {}\n\npub fn", low),
+                (told_file, "result ≡ self.now", "result ≡ 2", low),
+                (told_file, "impl", "pub const TWO: u64 = 2;\n\nimpl", low),
+                (types, "pub number: u64", "pub number: u32", open_to_high),
+                (types, "#[derive(Drop)]\npub struct Seen", "#[derive(Debug, Drop)]\npub struct Seen", low),
+                (types, "    count: u64", "    count: u32", low),
+                (types, "    count: u64", "    pub count: u64", open_to_high),
+                (types, "m.count }", "m.count + 1 }", low),
+                (types, "m.count ≤ 8", "m.count ≤ 9", low),
+                (types, "Value = { ℕ }", "Value = { ℤ }", open_to_high),
+                (types, "inner: Inner", "inner: u64", low),
+                (types, "-> u64 {\n        2", "-> u32 {\n        2", low),
+                (types, "Inner(u64)", "Inner(u32)", low),
+                (types, "number: u64,", "number: u64,\n    pub inner: Inner,", open_to_high),
+                (types, "impl Hidden", "impl Hash for Seen { ghost same = { 1 }; }\n\nimpl Hidden", low),
+                (types, "impl Hidden", "impl Clone for Seen { ghost same = { 1 }; }\n\nimpl Hidden", open_to_high),
+                (words, "= deep", "= flat", told),
+                (words, "inner : ℕ", "inner : ℤ", told),
+                (words, "spare n = n", "spare n = 2", low),
+                (words, "a word", "the word", set()),
+                (deep, "= 1", "= 2", told),
+                (deep, "= 2", "= 1", low),
+                (whole_file, "= n", "= 1", told),
+                (others, "", "-- told\n", set()),
+                (others, "", "told\n", low),
+                (proofs, "", "-- told\n", set()),
+                (proofs, "", "mod Told\n", low),
+                (answers, "", "mod Told\n", low | {first}),
+                (edit, "- 1", "- 0", {first}),
+                (high, "third", "fourth", {third}),
+                (high, "Modelled as Other", "Seen as Other", {third}),
             ]:
                 write(f"{root}/{file}", files[file].replace(old, new, 1))
-                found = {name for name in crates if digest(root, crates, name) != before[name]}
+                after = sums_of(root)
+                asked = (first, second, third, whole_crate)
+                found = {it for it in asked if after[it] != before[it]}
                 self.assertEqual(found, changed, f"{file}: {old}")
                 write(f"{root}/{file}", files[file])
-            write(f"{root}/crates/low/wrong-bodies/other.edit", edit_text("number + STEP", "STEP"))
-            self.assertNotEqual(digest(root, crates, "low"), before["low"])
-            self.assertEqual(digest(root, crates, "high"), before["high"])
 
     def test_the_record(self):
         with tempfile.TemporaryDirectory() as root:
             repository(root)
             os.makedirs(f"{root}/tools/wrong_bodies")
-            crates = {"low": [], "high": ["low"]}
-            record(root, crates, rows_of(root, crates, {"high": 1}))
-            line = f"> low: all 2 refused, by the sum {digest(root, crates, 'low')}\n"
-            record(root, crates, rows_in(f"low: a round of 2, 2 told\n{line}low: all 3 refused\n"))
-            self.assertEqual({name: row[0] for name, row in recorded(root).items()}, {"low": 2, "high": 1})
+            sums = sums_of(root)
+            record(root, {("low", "next_is_same"): sums["next_is_same"], ("low", "gone"): "0" * 32})
+            record(root, {("high", "third_is_fourth"): sums["third_is_fourth"], ("low", "next_is_later"): "0" * 32})
+            self.assertEqual(sorted(recorded(root)), [
+                ("high", "third_is_fourth"), ("low", "next_is_later"), ("low", "next_is_same")])
             options = argparse.Namespace(
                 crates=[], only="", verbose=False, jobs=1, from_nothing=True, recorded=True)
             crew = Crew(root, root, ("wrong-bodies", "must-fail"), options)
-            # low has other edits than the record says
-            self.assertEqual((sorted(crew.edits), crew.refused), (["low"], 1))
+            # one of low's is recorded over other texts
+            self.assertEqual((sorted(crew.edits), len(crew.edits["low"])), (["low"], len(EDITS) - 1))
+            self.assertEqual(crew.refused, {("low", "next_is_same"), ("high", "third_is_fourth")})
+            made = {("high", "third_is_fourth"): sums["third_is_fourth"]}
+            line = row("high", made)
+            self.assertEqual(rows_in(f"low: a round of 2, 2 told\n> {line}\nlow: all 3 refused\n"),
+                             {"high": whole("high", made)})
 
 
 class Reading(unittest.TestCase):
