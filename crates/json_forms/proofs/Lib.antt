@@ -8,3 +8,4 @@ pub mod Keys
 pub mod Filters
 pub mod Values
 pub mod RowTexts
+pub mod InTurn

@@ -5,3 +5,4 @@ pub mod Config
 pub mod SchemaJson
 pub mod QueryJson
 pub mod RowText
+pub mod InTurn

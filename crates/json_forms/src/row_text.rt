@@ -10,6 +10,9 @@ use json::Writer;
 use metadata::{Cell, Cells};
 use std::alloc::{AllocError, Global};
 
+// The bytes that are made ready for a row, so that the text of short ones doesn't grow again and again.
+const ROW_ROOM: usize = 32;
+
 // Writes what stands for bytes: `{"hex":".."}`.
 fn write_bytes(alloc: Global, out: &mut Writer, bytes: &[u8]) -> Result<(), AllocError>
     ensures { OnOk result (AreTokensWritten (cell_json (cell.Bytes bytes.now)) out.old out.new) }
@@ -73,7 +76,8 @@ fn text_of(out: Writer) -> Result<String, AllocError>
 pub fn cells_text(alloc: Global, cells: &Cells) -> Result<String, AllocError>
     ensures { IfOk result (λ text. IsTextOfCells (string_bytes text) cells.now) }
 {
-    let mut out = Writer::new(Vec::new(alloc));
+    let buffer = Vec::with_capacity(alloc, ROW_ROOM)?;
+    let mut out = Writer::new(buffer);
     write_cells(alloc, &mut out, cells)?;
     text_of(out)
 }
@@ -82,7 +86,8 @@ pub fn cells_text(alloc: Global, cells: &Cells) -> Result<String, AllocError>
 pub fn rows_text(alloc: Global, rows: &[Cells]) -> Result<String, AllocError>
     ensures { IfOk result (λ text. IsTextOfRows (string_bytes text) rows.now) }
 {
-    let mut out = Writer::new(Vec::new(alloc));
+    let buffer = Vec::with_capacity(alloc, rows.len().saturating_mul(ROW_ROOM))?;
+    let mut out = Writer::new(buffer);
     write_rows(alloc, &mut out, rows)?;
     text_of(out)
 }

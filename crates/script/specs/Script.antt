@@ -4,7 +4,7 @@ use Rattle.std.specs.Prelude.{Option, Some, None, IsSome, MatchOption, if◌then
 use Rattle.std.specs.Option.{unwrap_or}
 use Rattle.cluster_core.specs.declared.answers.Config.{Config}
 use Rattle.schedule.specs.declared.step.Step.{Step}
-use Rattle.serde_json.specs.Data.{Data, object, no_members}
+use Rattle.serde_json.specs.Data.{Data, member, no_members, object}
 use Rattle.serde_json.specs.Find.{get}
 use Rattle.script.specs.declared.error.ScriptError.{ScriptError}
 use Rattle.script.specs.declared.error.ScriptError.TheVariants.{OutOfMemory, BadScript}
@@ -23,6 +23,10 @@ frame_in script = if has_only script_keys script then option_and_then list_in (g
 -- the configuration of a script: what its `config` stands for, or the empty object
 abbrev pub script_config : Data → Option Config
 script_config script = config_in (unwrap_or (get (codes "config") script) (object no_members))
+
+-- the script of these steps alone
+abbrev pub steps_alone : Data → Data
+steps_alone steps = object (member (codes "steps") steps no_members)
 
 -- the configuration that a script's text stands for, where its frame is one
 abbrev pub config_of : List ℕ → Option Config

@@ -3,6 +3,7 @@
 #![tactic(auto)]
 
 mod error;
+mod in_turn;
 mod print;
 mod race;
 mod script;

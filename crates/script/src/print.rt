@@ -16,12 +16,15 @@ fn push_cells(
     cells: &Cells,
 ) -> Result<(), AllocError> {
     let text = cells_text(alloc, cells)?;
-    write!(line, "{word} {text}")
+    line.push_str(word)?;
+    line.push_str(" ")?;
+    line.push_str(text.as_str())
 }
 
 fn push_rows(alloc: Global, line: &mut String, rows: &Rows) -> Result<(), AllocError> {
     let text = rows_text(alloc, rows.as_slice())?;
-    write!(line, "rows {text}")
+    line.push_str("rows ")?;
+    line.push_str(text.as_str())
 }
 
 fn push_plan(alloc: Global, line: &mut String, plan: &SharedPlan) -> Result<(), AllocError> {

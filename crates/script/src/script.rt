@@ -1,12 +1,15 @@
 // Scripts from JSON. Called by `recordctl`; the configuration also by `race`.
 ghost use Rattle.std.specs.Prelude.{◌≡◌, ◌<◌, ◌≤◌, Some, None, Err, length, map, IsUtf8, IfOk, IfErr};
+ghost use Rattle.serde_json.specs.Data.{no_members, object};
 ghost use Rattle.serde_json.specs.View.{view};
+ghost use Rattle.json_forms.specs.Config.{config_in};
 ghost use Rattle.json_forms.specs.Json.{each_in};
 ghost use Rattle.script.specs.Steps.{step_in};
 ghost use Rattle.script.specs.Script.{IsScript, explains_script, explains_step};
 ghost use Rattle.script.specs.Script.{explains_steps, frame_in, script_config};
 
 use crate::error::ScriptError;
+use crate::in_turn::script_in_turn;
 use crate::step_json::step_of;
 use cluster_core::Config;
 use json_forms::{PartError, config_of, has_only, list_of, member, value_of};
@@ -37,6 +40,15 @@ fn frame_of(script: &Value) -> Result<&[Value], PartError>
     list_of(member(script, "steps")?)
 }
 
+// The configuration that the empty object stands for.
+pub(crate) fn default_config(alloc: Global) -> Result<Config, PartError>
+    ensures ok { IfOk result (λ config. config_in (object no_members) ≡ Some config) }
+    ensures err { IfErr result (λ error.
+        error ≡ PartError.BadForm → config_in (object no_members) ≡ None) }
+{
+    config_of(alloc, &Value::Object(Map::new(alloc)))
+}
+
 // The configuration of a script, where `config` is the empty object if it isn't there.
 pub(crate) fn script_config(alloc: Global, script: &Value) -> Result<Config, PartError>
     ensures ok { IfOk result (λ config. script_config (view script.now) ≡ Some config) }
@@ -44,7 +56,7 @@ pub(crate) fn script_config(alloc: Global, script: &Value) -> Result<Config, Par
 {
     match script.get("config") {
         Some(config) => config_of(alloc, config),
-        None => config_of(alloc, &Value::Object(Map::new(alloc))),
+        None => default_config(alloc),
     }
 }
 
@@ -68,11 +80,8 @@ fn steps_of(alloc: Global, items: &[Value]) -> Result<Vec<Step>, ScriptError>
     Ok(steps)
 }
 
-/// The script that a text of JSON stands for, with the keys `steps` and perhaps `config`. It
-/// answers `BadScript(0)` where the text isn't JSON of at most 4,000,000 bytes or its frame or
-/// its configuration is bad, and else `BadScript` with the first step that is bad, or `OutOfMemory`
-/// where memory is wanting.
-pub fn script_of(alloc: Global, bytes: &[u8]) -> Result<Script, ScriptError>
+// The script that a text of JSON stands for, which is read as a whole before its steps are made.
+fn whole_script_of(alloc: Global, bytes: &[u8]) -> Result<Script, ScriptError>
     ensures ok { IfOk result (λ script. IsScript bytes.now script.config script.steps.items) }
     ensures err { IfErr result (explains_script bytes.now) }
 {
@@ -81,4 +90,19 @@ pub fn script_of(alloc: Global, bytes: &[u8]) -> Result<Script, ScriptError>
     let config = script_config(alloc, &value).map_err(|error| ScriptError::at(0, error))?;
     let steps = steps_of(alloc, items)?;
     Ok(Script { config, steps })
+}
+
+/// The script that a text of JSON stands for, with the keys `steps` and perhaps `config`. It
+/// answers `BadScript(0)` where the text isn't JSON of at most 4,000,000 bytes or its frame or
+/// its configuration is bad, and else `BadScript` with the first step that is bad, or `OutOfMemory`
+/// where memory is wanting.
+pub fn script_of(alloc: Global, bytes: &[u8]) -> Result<Script, ScriptError>
+    ensures ok { IfOk result (λ script. IsScript bytes.now script.config script.steps.items) }
+    ensures err { IfErr result (explains_script bytes.now) }
+{
+    match script_in_turn(alloc, bytes) {
+        Ok(script) => Ok(script),
+        Err(PartError::OutOfMemory) => Err(ScriptError::OutOfMemory),
+        Err(PartError::BadForm) => whole_script_of(alloc, bytes),
+    }
 }

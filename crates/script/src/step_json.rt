@@ -22,7 +22,7 @@ fn query_of(alloc: Global, value: &Value) -> Result<AskedQuery, PartError>
 }
 
 // A command with one part behind the client.
-fn command_of_one(alloc: Global, name: &str, part: &Value) -> Result<Command, PartError>
+pub(crate) fn command_of_one(alloc: Global, name: &str, part: &Value) -> Result<Command, PartError>
     ensures ok { IfOk result (λ command. command_with name.now (view part.now) ≡ Some command) }
     ensures err { IfErr result (λ error. error ≡ PartError.BadForm → command_with name.now (view part.now) ≡ None) }
 {
@@ -55,7 +55,12 @@ pub(crate) fn limit_of(value: &Value) -> Result<u32, PartError>
 }
 
 // A command with the name of a type, or of an index, and cells or a limit behind the client.
-fn command_on(alloc: Global, name: &str, owner: &Value, part: &Value) -> Result<Command, PartError>
+pub(crate) fn command_on(
+    alloc: Global,
+    name: &str,
+    owner: &Value,
+    part: &Value,
+) -> Result<Command, PartError>
     ensures ok { IfOk result (λ command. command_on name.now (view owner.now) (view part.now) ≡ Some command) }
     ensures err { IfErr result (λ error. error ≡ PartError.BadForm
         → command_on name.now (view owner.now) (view part.now) ≡ None) }
@@ -72,7 +77,7 @@ fn command_on(alloc: Global, name: &str, owner: &Value, part: &Value) -> Result<
 }
 
 // A step with just the number of a client or of a role.
-fn step_of_number(name: &str, number: u64) -> Result<Step, PartError>
+pub(crate) fn step_of_number(name: &str, number: u64) -> Result<Step, PartError>
     ensures ok { IfOk result (λ step. step_of_number name.now number ≡ Some step) }
     ensures err { IfErr result (λ error. error ≡ PartError.BadForm → step_of_number name.now number ≡ None) }
 {
@@ -106,7 +111,7 @@ fn numbered_step(alloc: Global, name: &str, number: u64, parts: &[Value]) -> Res
 }
 
 // A step that is a name alone.
-fn common_step(name: &str) -> Result<Step, PartError>
+pub(crate) fn common_step(name: &str) -> Result<Step, PartError>
     ensures ok { IfOk result (λ step. common_step name.now ≡ Some step) }
     ensures err { IfErr result (λ error. error ≡ PartError.BadForm → common_step name.now ≡ None) }
 {

@@ -1,4 +1,4 @@
-use Rattle.std.proofs.Common.{◌∙◌, All, take}
+use Rattle.std.proofs.Common.{All, take}
 use Rattle.std.proofs.lemmas.List.{take_all}
 use Rattle.std.proofs.lemmas.Result.{on_ok_weaker}
 use Rattle.metadata.specs.Cell.{IsCell}
