@@ -16,6 +16,9 @@
    the lines of clauses and doc comments above 100 columns are those that known.txt beside this file knows of. It says
    what stands, and is to shrink: --known prints its lines as they are now.
 12. No document, code, specification or edit leans on a text outside the repository, or on a mark that only one tells.
+13. A definition that serves private clauses, invariants or proofs alone, to which no contract leads that a crate hands
+   out, has a comment that begins with `-- Private: `; a file that has no others may say so once, at its begin. No other
+   definition says so.
 
 A line is printed for each fault, and then one for each rule, with the number of things that it was held against. A rule
 passes where nothing breaks it and there was something to break it. The last line is 'N passed, M failed'; the status is

@@ -9,6 +9,7 @@ TOOLS = os.path.dirname(os.path.dirname(os.path.abspath(__file__)))
 sys.path += [TOOLS, os.path.join(TOOLS, "wrong_bodies")]
 from crate_tree import CRATES, DRAWING, drawing, used_by
 from edits import BadEdit, Edit, texts_of
+from promises import Promises
 
 README_LINES, README_COLUMNS = 80, 100
 FILE_LINES, BODY_LINES, COLUMNS = 400, 40, 120
@@ -152,6 +153,22 @@ def nothing_is_cited(root):
     return len(paths), faults
 
 
+def definitions_say_whom_they_serve(root):
+    """A definition of a specification says that it is private where no promise of a crate leads to it, and only there.
+
+    It says so at the begin of its comment, or its file does at its own begin for all that it has.
+    """
+    paths, seen, faults = files(root, SPECS), 0, []
+    promises = Promises(root, paths)
+    for path in paths:
+        for it, is_promised, is_said_private in promises.said(path):
+            seen += 1
+            if is_promised == is_said_private:
+                what = "serves a promise, and is said to be" if is_promised else "serves none, and isn't said to be"
+                faults.append((f"{path}:{it.line}", f"`{it.names[0]}` {what} private"))
+    return seen, faults
+
+
 RULES = {
     "README.md is short": readme_is_short,
     "the code of README.md stands": readme_code_stands,
@@ -165,4 +182,5 @@ RULES = {
     "wrong bodies apply": edits_apply,
     "nothing surprises": nothing_surprises,
     "nothing is cited": nothing_is_cited,
+    "definitions say whom they serve": definitions_say_whom_they_serve,
 }

@@ -1,15 +1,18 @@
 """Tests of house_rules: small repositories, over which each rule passes and fails."""
 import os
+import re
 import subprocess
 import sys
 import tempfile
 import unittest
+from defined import definitions_in
 from rules import RULES, drawing, used_by
 from sources import bodies, data, is_documented, public_items, wide_lines
 
 HERE = os.path.dirname(os.path.abspath(__file__))
 SOURCE, SPEC, PROOF = "crates/low/src/lib.rt", "crates/low/specs/Low.antt", "crates/low/proofs/Low.antt"
 SHOWN, EDITED = "crates/low/src/shown.rt", "crates/low/src/edited.rt"
+HIGH, SERVING = "crates/high/specs/High.antt", "definitions say whom they serve"
 # in two parts, so that these tests break no rule themselves
 PUBLISHED, LABEL = "pa" + "per", "D" + "12"
 CRATES = "# each crate\nlow:\n"
@@ -23,7 +26,7 @@ RIGHT = {
     "crates/low/README.md": "# low\n",
     SOURCE: "/// The next number.\npub fn next(n: u64) -> u64\n    ensures { result ≡ n + 1 }\n{\n    n + 1\n}\n",
     SHOWN: "// Shown.\nfn shown(n: u64) -> u64\n    ensures { result ≡ n + 1 }\n{\n    n + 1\n}\n",
-    SPEC: "-- the next number\nabbrev pub next : ℕ → ℕ\nnext n = n + 1\n",
+    SPEC: "-- Private: the next number\nabbrev pub next : ℕ → ℕ\nnext n = n + 1\n",
     PROOF: f"-- {'a wide line of a proof ' * 10}\n",
     "tools/one.py": '"""A tool."""\n',
     EDITED: "// Edited.\nfn edited(n: u64) -> u64 {\n    n + 3\n}\n",
@@ -63,8 +66,8 @@ WRONG = {
         (EDIT, "file: src/edited.rt\nold: n + 3\n"), (EDIT, "file: src/two.rt\nold: n\nnew: m\n"),
     ],
     "nothing surprises": [
-        (KNOWN, "# what stands\nhome next high low\n"), ("crates/high/specs/High.antt", "pub next : ℕ\n"),
-        ("crates/high/specs/High.antt", "module _ (n : ℕ) where\n  abbrev pub next : ℕ\n  next = n\n"),
+        (KNOWN, "# what stands\nhome next high low\n"), (HIGH, "-- Private: one\npub next : ℕ\n"),
+        (HIGH, "-- Private: one\nmodule _ (n : ℕ) where\n  abbrev pub next : ℕ\n  next = n\n"),
         (SPEC, SIX + "-- between\n" + SIX), (PROOF, f"{SIX}mod Other\n{SIX}"),
         (SHOWN, "// Shown.\nfn shown()\n    ensures { " + "a" * 90 + " }\n{}\n"),
         (SHOWN, "// Shown.\n/// " + "a" * 97 + "\nfn shown() {}\n"),
@@ -72,6 +75,12 @@ WRONG = {
     "nothing is cited": [
         ("README.md", f"As the {PUBLISHED} has it.\n"), (SOURCE, f"// as in {LABEL}\n"), (PROOF, f"-- {LABEL}\n"),
         ("crates/low/must-fail/one.edit", f"file: src/edited.rt\nold: {{\nnew: {{ // the {PUBLISHED}\n"),
+    ],
+    SERVING: [
+        (SPEC, "-- the next number\nabbrev pub next : ℕ → ℕ\nnext n = n + 1\n"), (SPEC, "pub next : ℕ\n"),
+        (SPEC, "-- Low.\n\n-- Private: one\n\npub one : ℕ\n"),
+        (SPEC, "-- Low.\n\n-- Private: one\npub one : ℕ\n\n-- two\n-- Private: too\npub two : ℕ\n"),
+        (SOURCE, "ghost use Rattle.low.specs.Low.{next};\n/// A.\npub fn a() -> u64\n    ensures { next 0 }\n{ 1 }\n"),
     ],
 }
 
@@ -88,7 +97,9 @@ ALSO_RIGHT = [
     (SHOWN, "// Shown.\nfn shown()\n    ensures { " + "a" * 84 + " }\n{\n    f(" + "a" * 100 + ")\n}\n"),
     (SPEC, SIX + "-- between\n" + SIX.replace("3", "9")),
     (KNOWN, "# nothing\n"),
-    ("crates/high/specs/High.antt", "pub record High : Type 0 where\n  pub next : ℕ\n"),
+    (HIGH, "-- Private: one\npub record High : Type 0 where\n  pub next : ℕ\n"),
+    (SPEC, "-- Low.\nuse Rattle.std.specs.Prelude.{ℕ}\n\n-- Private: one that\n-- is next\npub one : ℕ\n"),
+    (SPEC, "-- Private: these.\nuse Rattle.std.specs.Prelude.{ℕ}\n\npub one : ℕ\n\n-- two\npub two : ℕ\n"),
     (EDIT, "file: src/edited.rt\nold: n + 3\nnew: n + 2\nfile: src/edited.rt\nold: n + 2\nnew: n\n"),
     (SOURCE, f"const {LABEL}: u64 = 1;\n// a wallpa" + "pers' T\n"),
 ]
@@ -132,6 +143,86 @@ class Rules(unittest.TestCase):
 
     def test_what_is_built_is_left_out(self):
         self.assertEqual(broken([("crates/low/src/out/all.rt", "\n" * 401)]), [])
+
+
+# a definition for each kind of clause that names one
+NAMES = "shown own bare seen view kept opened coded law rule apart of_type again above".split()
+NAMED = "".join(f"-- it\npub {it} : ℕ\n\n" for it in NAMES)
+SAID = """// Said.
+ghost use Rattle.low.specs.Low.{shown, own, bare, seen, view, kept, opened, coded, law, rule, apart, of_type, again};
+pub fn shown() ensures { shown } { own() }
+fn own() requires { own } {}
+pub fn bare() ensures { bare } {}
+pub struct Low { a: u64 }
+pub struct Open {
+    pub a: u64,
+}
+struct Inner { a: u64 }
+impl Model for Low {
+    ghost Value = { seen };
+    ghost coded = { coded };
+    ghost view = { view };
+    ghost invariant = { kept };
+}
+impl Model for Open {
+    ghost view = { λ a. a };
+    ghost invariant = { opened };
+}
+impl Eq for Low { ghost law = { law }; }
+pub trait Rule { fn one() ensures { rule }; }
+trait Apart { fn one() ensures { apart }; }
+impl Rule for Inner { ghost law = { of_type }; }
+impl Low {
+    pub fn again() ensures { again } {}
+    fn own() ensures { own } {}
+}
+"""
+
+
+class Promises(unittest.TestCase):
+    def private(self, changes):
+        """The names of the definitions to which no promise leads, where none is said to be private."""
+        with tempfile.TemporaryDirectory() as root:
+            for path, text in changes.items():
+                write(root, path, text)
+            return re.findall(r"`(\S+)` serves none", " ".join(what for _, what in RULES[SERVING](root)[1]))
+
+    def test_what_is_handed_out(self):
+        files = {"crates.txt": CRATES, SPEC: NAMED, SHOWN: SAID}
+        self.assertEqual(self.private({**files, SOURCE: "// None.\n"}), NAMES)
+        files[SOURCE] = "pub use shown::{\n    Low, Open, Rule as R,\n};\npub use shown::shown as told;\n"
+        self.assertEqual(self.private(files), ["own", "bare", "kept", "coded", "apart", "of_type", "above"])
+        # a program hands out all that is public; a crate above names a definition by that of its file
+        files["crates/low/src/main.rt"] = "// Main.\nfn main() {}\n"
+        self.assertEqual(self.private(files), ["own", "kept", "coded", "apart", "of_type", "above"])
+        named = "// Main.\nghost use Rattle.low.specs.Low as low;\nfn main() ensures { low.above (own low) } {}\n"
+        files |= {"crates.txt": "low:\nhigh: low\n", "crates/high/src/main.rt": named}
+        self.assertEqual(self.private(files), ["own", "kept", "coded", "apart", "of_type"])
+
+    def test_what_definitions_name(self):
+        said = "ghost use Rattle.low.specs.Low.{NAME};\npub fn a() ensures { NAME } {}\n"
+        spec = "use Rattle.low.specs.Other.{far}\n\n-- it\npub near : ℕ\nnear = far 1\n\n-- it\npub alone : ℕ\n"
+        other = "-- it\npub far : ℕ → ℕ\n\n-- it\npub farther : ℕ\n"
+        files = {"crates.txt": CRATES, SPEC: spec, SPEC.replace("Low.", "Other."): other}
+        for name, private in (("near", ["alone", "farther"]), ("alone", ["near", "far", "farther"]),
+                              ("far", ["near", "alone", "farther"])):
+            self.assertEqual(self.private({**files, SOURCE: said.replace("NAME", name)}), private, name)
+
+    def test_definitions(self):
+        text = "-- file\nuse A.{b}\n\n-- one\n-- more\nabbrev pub one : ℕ → ℕ\none 0 = 1\none n =\n    n\n\n"
+        text += "two : ℕ\ntwo = 2\n\n-- pair\npub record Pair : Type 0 where\n  pub left : ℕ\n\n"
+        text += "mutual\n  -- trees\n  pub data Tree : Type 0 where\n    leaf : Tree\n    fork : Trees → Tree\n\n"
+        text += "  pub data Trees : Type 0 where\n    none : Trees\n\nmodule _ (n : ℕ)\n    (m : ℕ) where\n  -- in\n"
+        text += "  abbrev mutual\n    pub odd : ℕ → Bool\n    odd k = even n\n\n    pub even : ℕ → Bool\n\n"
+        text += "infixl 10 ◌+◌\n-- sum\npub ◌+◌ : ℕ\n(a) + b = c\n"
+        found = definitions_in(text)
+        self.assertEqual([(it.line, it.names, it.comment) for it in found], [
+            (6, ["one"], ["-- one", "-- more"]), (11, ["two"], []), (15, ["Pair"], ["-- pair"]),
+            (18, ["Tree", "leaf", "fork", "Trees", "none"], ["-- trees"]), (30, ["odd", "even"], ["-- in"]),
+            (38, ["◌+◌"], ["-- sum"])])
+        self.assertEqual(found[0].text, "abbrev pub one : ℕ → ℕ\none 0 = 1\none n =\n    n\n")
+        self.assertTrue(found[4].text.startswith("module _ (n : ℕ)\n    (m : ℕ) where\n  abbrev mutual\n"))
+        self.assertEqual(found[5].text, "pub ◌+◌ : ℕ\n(a) + b = c\n")
 
 
 class Command(unittest.TestCase):

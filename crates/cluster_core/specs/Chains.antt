@@ -17,59 +17,60 @@ abbrev pub value_at : ℕ → List Link → Option (List ℕ)
 value_at version [] = None
 value_at version (link ∷ links) = if nat_le link.version version then link.value else value_at version links
 
--- the links without the newest one, where that is of this version
+-- Private: the links without the newest one, where that is of this version
 abbrev pub without : ℕ → List Link → List Link
 without version [] = []
 without version (link ∷ links) = if link.version == version then links else link ∷ links
 
--- the links with a value, or none, from this version on
+-- Private: the links with a value, or none, from this version on
 abbrev pub put : ℕ → Option (List ℕ) → List Link → List Link
 put version value links = record { version = version; value = value } ∷ without version links
 
--- one link, unless it says that there is no value
+-- Private: one link, unless it says that there is no value
 abbrev pub present : ℕ → Option (List ℕ) → List Link
 present version None = []
 present version (Some value) = record { version = version; value = Some value } ∷ []
 
--- the links that tell the values from a version on: those after it, and the first other one, if that has a value
+-- Private: the links that tell the values from a version on: those after it, and the first other one, if that has a
+-- value
 abbrev pub needed : ℕ → List Link → List Link
 needed floor [] = []
 needed floor (link ∷ links) =
     if nat_le link.version floor then present link.version link.value else link ∷ needed floor links
 
--- the versions of the links fall, from below this one on
+-- Private: the versions of the links fall, from below this one on
 abbrev pub Falls : ℕ → List Link → Type 0
 Falls bound [] = Unit {0}
 Falls bound (link ∷ links) = (link.version < bound) × Falls link.version links
 
--- the versions of the links fall
+-- Private: the versions of the links fall
 abbrev pub IsFalling : List Link → Type 0
 IsFalling [] = Unit {0}
 IsFalling (link ∷ links) = Falls link.version links
 
--- how many links are later than a version
+-- Private: how many links are later than a version
 abbrev pub later : ℕ → List Link → ℕ
 later version [] = 0
 later version (link ∷ links) = if nat_le link.version version then 0 else suc (later version links)
 
--- the links of a chain that may be missing
+-- Private: the links of a chain that may be missing
 abbrev pub links_in : Option Chain → List Link
 links_in None = []
 links_in (Some chain) = links_of chain
 
--- the links of a key
+-- Private: the links of a key
 abbrev pub links_at : BTreeMap (List ℕ) Chain → List ℕ → List Link
 links_at chains key = links_in (get key_cmp chains key)
 
--- each chain's versions fall
+-- Private: each chain's versions fall
 abbrev pub AreFalling : BTreeMap (List ℕ) Chain → Type 0
 AreFalling chains = (key : List ℕ) → IsFalling (links_at chains key)
 
--- each chain's versions fall from below this one on, but for a link of this one
+-- Private: each chain's versions fall from below this one on, but for a link of this one
 abbrev pub AreBelow : ℕ → BTreeMap (List ℕ) Chain → Type 0
 AreBelow version chains = (key : List ℕ) → Falls version (without version (links_at chains key))
 
--- from some chains to others by writes at a version, which the list of the written keys has at its end
+-- Private: from some chains to others by writes at a version, which the list of the written keys has at its end
 pub record Writes (version : ℕ) (listed : List (List ℕ)) (old : BTreeMap (List ℕ) Chain) (relisted : List (List ℕ))
     (new : BTreeMap (List ℕ) Chain) : Type 0 where
   pub kept : (key : List ℕ) → without version (links_at new key) ≡ without version (links_at old key)

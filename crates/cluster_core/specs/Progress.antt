@@ -17,40 +17,40 @@ pub record ResolverState : Type 0 where
   pub writers : WritersState
   pub causes : List (Option Cause)
 
--- a resolver that has answered for no request
+-- Private: a resolver that has answered for no request
 abbrev pub fresh : Owned → ResolverState
 fresh owner = record { owner = owner; writers = no_writers; causes = [] }
 
--- the owners that resolvers answer for
+-- Private: the owners that resolvers answer for
 abbrev pub owners_of : List ResolverState → List Owned
 owners_of resolvers = map (λ resolver. resolver.owner) resolvers
 
--- for how many requests each resolver has answered
+-- Private: for how many requests each resolver has answered
 abbrev pub counts_of : List ResolverState → List ℕ
 counts_of resolvers = map (λ resolver. length resolver.causes) resolvers
 
--- an owner's answer for an entry: the cause against it, or None where the owner agrees
+-- Private: an owner's answer for an entry: the cause against it, or None where the owner agrees
 abbrev pub answer_of : Owned → List Entry → Entry → Option Cause
 answer_of owner entries entry = first_disturbed owner (newer_agreed owner entries entry) entry.request.reads
 
--- whether a resolver has agreed to the request at a place
+-- Private: whether a resolver has agreed to the request at a place
 abbrev pub has_agreed : ℕ → ResolverState → Bool
 has_agreed place resolver = option_map_or (λ cause. is_none cause) (slice_get resolver.causes place) false
 
--- the first cause that the resolvers, in their order, keep against the request at a place
+-- Private: the first cause that the resolvers, in their order, keep against the request at a place
 abbrev pub first_kept : ℕ → List ResolverState → Option Cause
 first_kept place [] = None
 first_kept place (resolver ∷ others) =
     option_or (unwrap_or (slice_get resolver.causes place) None) (first_kept place others)
 
--- what a resolver knows of the requests to which it agreed, as far back as a later request may have read
+-- Private: what a resolver knows of the requests to which it agreed, as far back as a later request may have read
 abbrev pub Knows : ℕ → ℕ → List CommitRequest → ResolverState → Type 0
 Knows window start requests resolver =
     KnowsWriters resolver.owner start requests (length resolver.causes - window) (length resolver.causes)
     resolver.writers
 
--- a resolver knows to which of the requests within the window it agreed, keeps nothing that is older than two windows,
--- and keeps its answer for each request that isn't reported yet
+-- Private: a resolver knows to which of the requests within the window it agreed, keeps nothing that is older than two
+-- windows, and keeps its answer for each request that isn't reported yet
 pub record IsResolver (window start : ℕ) (requests : List CommitRequest) (reported : ℕ) (resolver : ResolverState) :
     Type 0 where
   pub within : length resolver.causes ≤ length requests
@@ -61,7 +61,7 @@ pub record IsResolver (window start : ℕ) (requests : List CommitRequest) (repo
       slice_get (numbered start requests) place ≡ Some entry →
       slice_get resolver.causes place ≡ Some (answer_of resolver.owner (numbered start requests) entry)
 
--- a log has for each request so far whether it is committed, and for each that is reported
+-- Private: a log has for each request so far whether it is committed, and for each that is reported
 pub record IsLog (splits : List (List ℕ)) (start : ℕ) (requests : List CommitRequest) (reported : ℕ)
     (passes : List Bool) : Type 0 where
   pub behind : reported ≤ length passes
@@ -70,7 +70,8 @@ pub record IsLog (splits : List (List ℕ)) (start : ℕ) (requests : List Commi
       (place : ℕ) (entry : Entry) → place < length passes → slice_get (numbered start requests) place ≡ Some entry →
       slice_get passes place ≡ Some (is_committed splits (numbered start requests) entry)
 
--- the roles stand in their order: a log has only what every resolver answered for, and only what a log has is reported
+-- Private: the roles stand in their order: a log has only what every resolver answered for, and only what a log has is
+-- reported
 pub record IsPipeline (splits : List (List ℕ)) (window start : ℕ) (requests : List CommitRequest)
     (resolvers : List ResolverState) (logs : List (List Bool)) (reported : ℕ) : Type 0 where
   pub versions : start + length requests < 2 ^ 64

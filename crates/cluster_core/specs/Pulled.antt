@@ -14,7 +14,8 @@ clocks_of tier = map (λ server. server.version) tier.servers
 abbrev pub cluster_of : PipelineState → TierState → ClusterState
 cluster_of pipeline tier = record { pipeline = pipeline; splits = tier.splits; pulled = clocks_of tier }
 
--- the servers are those that the clocks say, one for each owner, and have pulled no version that isn't submitted
+-- Private: the servers are those that the clocks say, one for each owner, and have pulled no version that isn't
+-- submitted
 pub record IsCluster (pipeline : PipelineState) (tier : TierState) : Type 0 where
   pub servers : tier ≡ tier_of (cluster_of pipeline tier)
   pub counts : length (clocks_of tier) ≡ length (owners tier.splits)

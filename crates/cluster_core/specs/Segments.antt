@@ -1,5 +1,5 @@
--- Segments: runs of keys by their begins, each with an end and the place of the last request that wrote there. Where
--- one begins within another, the later begin decides.
+-- Private: segments, which are runs of keys by their begins, each with an end and the place of the last request that
+-- wrote there. Where one begins within another, the later begin decides.
 use Rattle.std.specs.Prelude.{◌≡◌, ◌⊎◌, ℕ, ◌≤◌, IsTrue, Bool, Option, None, Some, List}
 use Rattle.std.specs.Map.{lookup}
 use Rattle.std.specs.BTreeMap.{is_at}

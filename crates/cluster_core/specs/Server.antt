@@ -27,45 +27,45 @@ server_state server =
       maps = maps_down (shown server.chains.chains.entries) server.version (length server.recent.items);
     }
 
--- the keys that a server owns
+-- Private: the keys that a server owns
 abbrev pub owner_of : Server → Owned
 owner_of server = server.part
 
--- a server at the start: it has the empty map at its first version
+-- Private: a server at the start: it has the empty map at its first version
 abbrev pub first_server : ℕ → ServerState
 first_server version = record { version = version; maps = empty ∷ [] }
 
--- the map that a server's chains show at the version to come
+-- Private: the map that a server's chains show at the version to come
 abbrev pub next_map : Server → Map
 next_map server = shown server.chains.chains.entries (server.version + 1)
 
--- each map of the server has keys of its part alone
+-- Private: each map of the server has keys of its part alone
 abbrev pub HasOwnKeys : Server → Type 0
 HasOwnKeys server = AllByRecursion (λ m. part server.part m ≡ m) (server_state server).maps
 
--- the keys that each of the last versions wrote, the newest version first
+-- Private: the keys that each of the last versions wrote, the newest version first
 abbrev pub recent_of : Server → List (List (List ℕ))
 recent_of server = map (λ keys. keys.items) server.recent.items
 
--- the keys that were written so many versions back
+-- Private: the keys that were written so many versions back
 abbrev pub written_back : List (List (List ℕ)) → ℕ → List (List ℕ)
 written_back recent back = unwrap_or (slice_get recent back) []
 
--- what a server keeps of a key: links whose versions fall, no more than its versions need, and each that is later than
--- the oldest of them stands in the list of its version
+-- Private: what a server keeps of a key: links whose versions fall, no more than its versions need, and each that is
+-- later than the oldest of them stands in the list of its version
 pub record IsChain (version : ℕ) (recent : List (List (List ℕ))) (key : List ℕ) (links : List Link) : Type 0 where
   pub falls : Falls (version + 1) links
   pub needed : needed (version - length recent) links ≡ links
   pub listed : AllByRecursion (λ link. version - length recent < link.version →
       has_key (written_back recent (version - link.version)) key ≡ true) links
 
--- a server between two pulls
+-- Private: a server between two pulls
 pub record IsAtRest (server : Server) : Type 0 where
   pub own : HasOwnKeys server
   pub chains : (key : List ℕ) → IsChain server.version (recent_of server) key (links_at server.chains.chains key)
   pub idle : server.chains.written.items ≡ []
 
--- a server whose chains have links of the version to come, each of a key that is listed
+-- Private: a server whose chains have links of the version to come, each of a key that is listed
 pub record IsStaged (server : Server) : Type 0 where
   pub own : HasOwnKeys server
   pub chains : (key : List ℕ) →
@@ -73,22 +73,23 @@ pub record IsStaged (server : Server) : Type 0 where
   pub same : (key : List ℕ) → has_key server.chains.written.items key ≡ false →
       without (server.version + 1) (links_at server.chains.chains key) ≡ links_at server.chains.chains key
 
--- a server between two pulls goes back as far as the window, and no key has more links than one more than the window
+-- Private: a server between two pulls goes back as far as the window, and no key has more links than one more than the
+-- window
 pub record IsServer (window : ℕ) (server : Server) : Type 0 where
   pub rest : IsAtRest server
   pub depth : length server.recent.items ≤ window
   pub short : (key : List ℕ) → length (links_at server.chains.chains key) ≤ window + 1
 
--- the servers own the keys between splits that rise, and each is kept as its window says
+-- Private: the servers own the keys between splits that rise, and each is kept as its window says
 pub record IsTier (splits : List (List ℕ)) (window : ℕ) (servers : List Server) : Type 0 where
   pub parts : map owner_of servers ≡ owners splits
   pub rising : is_rising_above [] splits ≡ true
   pub kept : AllByRecursion (IsServer window) servers
 
--- a list in order, or from the last element back
+-- Private: a list in order, or from the last element back
 abbrev pub turned : {X : Type 0} → Bool → List X → List X
 turned reversed xs = if reversed then reverse xs else xs
 
--- a server's pairs of a range at a version, in order or from the last one back
+-- Private: a server's pairs of a range at a version, in order or from the last one back
 abbrev pub pairs_at : KeyRange → ℕ → Bool → Server → List (List ℕ × List ℕ)
 pairs_at range version reversed server = turned reversed (pairs_in (map_of (server_state server) version) range)

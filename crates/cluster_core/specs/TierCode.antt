@@ -1,4 +1,4 @@
--- How the states of the servers are told apart.
+-- Private: how the states of the servers are told apart.
 use Rattle.std.specs.Prelude.{ℕ, List, refl}
 use Rattle.std.specs.Coded.{Coded, code_by, coded×, coded_list, coded_ℕ}
 use Rattle.std.specs.FinMap as finmap

@@ -1,4 +1,4 @@
--- Segments in the order of their begins, and what a tree of them answers.
+-- Private: segments in the order of their begins, and what a tree of them answers.
 use Rattle.std.specs.Prelude.{◌≡◌, ◌++◌, ◌&&◌, ℕ, max, IsTrue, Option, None, Some, List, [], ◌∷◌}
 use Rattle.std.specs.List.{AllByRecursion, filter}
 use Rattle.kv_core.specs.Bytes.{key_le, key_lt}

@@ -1,4 +1,4 @@
--- What a node of the tree is seen as.
+-- Private: what a node of the tree is seen as.
 use Rattle.std.specs.Prelude.{◌++◌, ℕ, Option, None, Some, List, [], ◌∷◌}
 use Rattle.std.proofs.Common.{Box}
 use Rattle.std.specs.declared.alloc.Global.{Global}

@@ -44,7 +44,7 @@ pub record Asked : Type 0 where
   pub states : List NamedState
   pub query : Query
 
--- the program's value
+-- Private: the program's value
 abbrev pub asked_plan : PlanRequest → Asked
 asked_plan r = record { schema = r.schema; states = r.states.items; query = query_of r.query }
 

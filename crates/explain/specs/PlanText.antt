@@ -28,7 +28,7 @@ index_scan_text s = scan_text (codes "IndexScan(") s.index.name s.range s.revers
 abbrev pub bracketed : List ℕ → List (List ℕ) → List ℕ
 bracketed opened texts = opened ++ join_with_byte 44 texts ++ codes ")"
 
--- what stands before the part at a place of a list
+-- Private: what stands before the part at a place of a list
 abbrev pub comma_before : ℕ → List ℕ
 comma_before zero = []
 comma_before (suc place) = codes ","

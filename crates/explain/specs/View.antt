@@ -1,4 +1,4 @@
--- The bound that the program's value stands for.
+-- Private: the bound that the program's value stands for.
 use Rattle.std.specs.Prelude.{List, map, Vec}
 use Rattle.std.specs.Global.{Global}
 use Rattle.planner.specs.Range as range

@@ -1,4 +1,4 @@
--- The JSON of cells and of rows, and what a writer has written of it.
+-- Private: the JSON of cells and of rows, and what a writer has written of it.
 use Rattle.std.specs.Prelude.{◌≡◌, List, [], ◌∷◌, ◌++◌, codes, flat_map}
 use Rattle.std.specs.Fmt.{signed_decimal}
 use Rattle.json.specs.Json.{Json, Items, Members}

@@ -9,18 +9,18 @@ use Rattle.kv_core.specs.Range.{KeyRange, covers}
 abbrev pub stretches_of : List (List ℕ × List ℕ) → List KeyRange
 stretches_of entries = map (λ entry. record { begin = entry.0; end = entry.1 }) entries
 
--- the end of the stretch that begins with a key is this one
+-- Private: the end of the stretch that begins with a key is this one
 abbrev pub EndsAt : List (List ℕ × List ℕ) → List ℕ → List ℕ → Type 0
 EndsAt entries begin end = lookup (is_at (key_cmp begin)) entries ≡ Some end
 
--- there is a key in each stretch, and of two stretches the one that begins first ends first
+-- Private: there is a key in each stretch, and of two stretches the one that begins first ends first
 pub record AreStretches (entries : List (List ℕ × List ℕ)) : Type 0 where
   pub have_keys : (begin end : List ℕ) → EndsAt entries begin end → IsTrue (key_lt begin end)
   pub rise :
       (begin end next next_end : List ℕ) → EndsAt entries begin end → EndsAt entries next next_end →
       IsTrue (key_lt begin next) → IsTrue (key_lt end next_end)
 
--- of the stretches these are the begins of those that begin after a range does and end within it
+-- Private: of the stretches these are the begins of those that begin after a range does and end within it
 abbrev pub AreSwallowed : KeyRange → List (List ℕ × List ℕ) → List (List ℕ) → Type 0
 AreSwallowed range entries begins =
     (begin : List ℕ) →
@@ -33,8 +33,8 @@ BeginsAt stretches place =
     (begin : List ℕ) → IsTrue (key_lt begin place) →
     (q : List ℕ) × IsTrue (key_le begin q) × IsTrue (key_lt q place) × (covers stretches q ≡ false)
 
--- the stretches cover the keys from one up to a place, and end at the place or before it, but for those that begin
--- after the key, which don't end before the place
+-- Private: the stretches cover the keys from one up to a place, and end at the place or before it, but for those that
+-- begin after the key, which don't end before the place
 pub record Reaches (entries : List (List ℕ × List ℕ)) (key place : List ℕ) : Type 0 where
   pub from : IsTrue (key_le key place)
   pub covered :

@@ -62,7 +62,7 @@ range_cmp_total =
     then_total (on_total (λ (range : KeyRange). range.begin) nat_list_cmp_total)
     (on_total (λ (range : KeyRange). range.end) nat_list_cmp_total)
 
--- whether a range lies within another one
+-- Private: whether a range lies within another one
 abbrev pub is_within : KeyRange → KeyRange → Bool
 is_within range other = key_le other.begin range.begin && key_le range.end other.end
 
@@ -74,10 +74,10 @@ with_range range ranges = if list_any (is_same_range range) ranges then ranges e
 abbrev pub any_meets : KeyRange → List KeyRange → Bool
 any_meets range ranges = list_any (meets range) ranges
 
--- the entries of a list whose keys lie in the range
+-- Private: the entries of a list whose keys lie in the range
 abbrev pub entries_in : KeyRange → List (List ℕ × List ℕ) → List (List ℕ × List ℕ)
 entries_in range entries = filter (λ entry. contains range entry.0) entries
 
--- the others
+-- Private: the others
 abbrev pub entries_outside : KeyRange → List (List ℕ × List ℕ) → List (List ℕ × List ℕ)
 entries_outside range entries = filter (λ entry. not (contains range entry.0)) entries

@@ -1,4 +1,4 @@
--- What is known of a list of ranges: the keys of its points, its other ranges, and what these cover.
+-- Private: what is known of a list of ranges: the keys of its points, its other ranges, and what these cover.
 use Rattle.std.specs.Prelude.{◌≡◌, ◌||◌, ℕ, List, [], ◌∷◌, ◌++◌}
 use Rattle.std.specs.List.{list_any}
 use Rattle.std.specs.BTreeSet.{BTreeSet, contains as has}

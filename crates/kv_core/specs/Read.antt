@@ -26,7 +26,7 @@ range_read range limit reversed pairs =
     then record { begin = last_key range.begin pairs; end = range.end }
     else record { begin = range.begin; end = next_key (last_key range.begin pairs) })
 
--- the value of the first pair, if there is one
+-- Private: the value of the first pair, if there is one
 abbrev pub first_value : List (List ℕ × List ℕ) → Option (List ℕ)
 first_value [] = None
 first_value (pair ∷ pairs) = Some pair.1

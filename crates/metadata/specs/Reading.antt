@@ -1,4 +1,4 @@
--- What the private readers of a schema's tuple give. They pass over what the schema's own written form tells.
+-- Private: what the readers of a schema's tuple give. They pass over what the schema's own written form tells.
 use Rattle.std.specs.Prelude.{ℕ, ◌^◌, pos, List, [], ◌∷◌, Option, Some, None}
 use Rattle.std.specs.Prelude.{◌==◌, ◌≡◌, nat_lt, slice_get, if◌then◌else◌}
 use Rattle.std.specs.Result.{result_ok}

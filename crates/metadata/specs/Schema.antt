@@ -27,7 +27,7 @@ type_at types number = find (λ type. type.number == number) types
 abbrev pub find_index : Schema → List ℕ → Option IndexDefinition
 find_index schema name = find (λ index. bytes_eq index.name name) schema.indexes
 
--- the indexes of the type with this number
+-- Private: the indexes of the type with this number
 abbrev pub indexes_of : Schema → ℕ → List IndexDefinition
 indexes_of schema number = filter (λ index. index.type_number == number) schema.indexes
 

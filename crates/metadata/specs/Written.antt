@@ -82,7 +82,7 @@ IsNoSchema Memory bytes = Unit {0}
 IsNoSchema (Refused refusal) bytes =
     (refusal ≡ BadSchema) × ((schema : Schema) → IsLawfulSchema schema → bytes ≡ schema_bytes schema → ⊥)
 
--- memory was wanting, or the bytes are refused as those of no tuple
+-- Private: memory was wanting, or the bytes are refused as those of no tuple
 abbrev pub IsNoTuple : MetadataError → List ℕ → Type 0
 IsNoTuple Memory bytes = Unit {0}
 IsNoTuple (Refused refusal) bytes = (refusal ≡ BadSchema) × ((tuple : List Item) → Spells tuple bytes → ⊥)

@@ -85,11 +85,12 @@ step_call opened plan = done_or_refused (step_service opened plan.limit) (write_
 
 -- ---- beneath the call
 
--- the position behind the last of some records, or this end where there are none
+-- Private: the position behind the last of some records, or this end where there are none
 abbrev pub last_position : List Record → List ℕ → List ℕ
 last_position [] end = end
 last_position (r ∷ rows) end = last_position rows (next_key (position r))
 
--- the part of a gap that is made by the records that were found in it: all of it where they are fewer than so many
+-- Private: the part of a gap that is made by the records that were found in it: all of it where they are fewer than so
+-- many
 abbrev pub part_made : ℕ → List Record → KeyRange → KeyRange
 part_made limit rows gap = if nat_lt (length rows) limit then gap else part_before (last_position rows gap.end) gap

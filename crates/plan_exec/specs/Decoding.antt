@@ -1,4 +1,5 @@
--- Beneath whole plans: why pairs stand for nothing, and where entries of an index stand and of what form they are.
+-- Private: beneath whole plans, why pairs stand for nothing, and where entries of an index stand and of what form they
+-- are.
 use Rattle.std.specs.Prelude.{◌≡◌, ℕ, List, Result, Err}
 use Rattle.kv_core.specs.Range.{KeyRange}
 use Rattle.cluster_core.specs.declared.answers.ReadError.{ReadError}

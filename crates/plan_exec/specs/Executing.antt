@@ -90,7 +90,7 @@ IsExecutionRefused maps refuses opened plan IndexNotReadable old new =
     IsNotAccepted opened (plan_of plan) IndexNotReadable × (new ≡ old)
 IsExecutionRefused maps refuses opened plan error old new = IsUnexecuted maps refuses opened plan error old new
 
--- beneath whole plans: a reading was done, and found this
+-- Private: beneath whole plans: a reading was done, and found this
 pub record HasFound {A : Type 0} (maps : ℕ → Map) (reading : List Pair → PlanReading A) (found : A)
     (old new : CommitRequest) : Type 0 where
   pub added : List KeyRange
@@ -98,7 +98,7 @@ pub record HasFound {A : Type 0} (maps : ℕ → Map) (reading : List Pair → P
       DidRead maps added old new
       (λ m. (added ≡ (reading (entries m)).ranges) × ((reading (entries m)).found ≡ Ok found))
 
--- so it wasn't done
+-- Private: so it wasn't done
 pub record HasStopped {A : Type 0} (maps : ℕ → Map) (refuses : KeyRange → ℕ → ReadError → Type 0)
     (reading : List Pair → PlanReading A) (error : ExecError) (old new : CommitRequest) : Type 0 where
   pub added : List KeyRange

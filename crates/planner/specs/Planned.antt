@@ -82,7 +82,7 @@ index_draft cs i m (j ∷ js) = record {
   in_key_order = true;
 }
 
--- the draft of an index with those that join it
+-- Private: the draft of an index with those that join it
 abbrev pub all_draft : List Conjunct → List (IndexDefinition × Match) → Draft
 all_draft cs [] =
     record {

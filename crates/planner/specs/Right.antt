@@ -68,8 +68,8 @@ pub record IsValueOver (t : TypeDefinition) (i : IndexDefinition) : Type 0 where
 abbrev pub ScansOwn : Plan → Type 0
 ScansOwn plan = (i : IndexDefinition) → Contains (indexes_of plan.root) i → IsValueOver plan.definition i
 
--- a plan for a query: of the type that the query names, scanning VALUE indexes over that type alone, and right for the
--- query
+-- Private: a plan for a query: of the type that the query names, scanning VALUE indexes over that type alone, and right
+-- for the query
 pub record IsPlanFor (query : Query) (plan : Plan) : Type 0 where
   pub typed : plan.definition.name ≡ query.record_type
   pub over : ScansOwn plan

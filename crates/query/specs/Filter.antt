@@ -62,7 +62,7 @@ leaf_values (all_of fs) = []
 leaf_values (some_of fs) = []
 leaf_values (negation f) = []
 
--- the values that the filter speaks of
+-- Private: the values that the filter speaks of
 abbrev pub values : Filter → List Cell
 values f = flat_map leaf_values (nodes f)
 

@@ -30,7 +30,7 @@ explains_end config (errors.Refused why) = Unit {0}
 explains_end config errors.Corrupt = Unit {0}
 explains_end config errors.Memory = Unit {0}
 
--- how much the end of a thread counts: that it gave up counts most, then want of memory
+-- Private: how much the end of a thread counts: that it gave up counts most, then want of memory
 abbrev pub end_rank : Result (Unit {0}) Fault → ℕ
 end_rank (Ok done) = 0
 end_rank (Err faults.GaveUp) = 3
@@ -38,19 +38,19 @@ end_rank (Err faults.Memory) = 2
 end_rank (Err (faults.Refused why)) = 1
 end_rank (Err faults.Corrupt) = 1
 
--- of the ends of two threads the one that counts more, and the first where both count the same
+-- Private: of the ends of two threads the one that counts more, and the first where both count the same
 abbrev pub first_fault : Result (Unit {0}) Fault → Result (Unit {0}) Fault → Result (Unit {0}) Fault
 first_fault one other = if nat_lt (end_rank one) (end_rank other) then other else one
 
--- the first type of this name
+-- Private: the first type of this name
 abbrev pub first_named : List TypeRequest → List ℕ → Option TypeRequest
 first_named types name = find (λ type. bytes_eq type.name name) types
 
--- the names of the key fields of the type of this name, or none
+-- Private: the names of the key fields of the type of this name, or none
 abbrev pub key_fields : List TypeRequest → List ℕ → List (List ℕ)
 key_fields types name = option_map_or (λ type. type.key) (first_named types name) []
 
--- the query for all records of a race's type, in the order of its key fields
+-- Private: the query for all records of a race's type, in the order of its key fields
 abbrev pub all_records : Race → Query
 all_records race = record {
   record_type = race.record_type;
@@ -59,12 +59,12 @@ all_records race = record {
   reverse = false;
 }
 
--- a kind of index is COUNT
+-- Private: a kind of index is COUNT
 abbrev pub is_count_kind : IndexKind → Bool
 is_count_kind kinds.Value = false
 is_count_kind kinds.Count = true
 is_count_kind kinds.Sum = false
 
--- an index is a COUNT without columns
+-- Private: an index is a COUNT without columns
 abbrev pub counts_all : IndexRequest → Bool
 counts_all index = is_count_kind index.kind && (length index.columns == 0)

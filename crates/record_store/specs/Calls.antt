@@ -224,16 +224,19 @@ mark_service state opened number = record {
 abbrev pub mark_call : State → Opened → List ℕ → Call (List (ℕ × State))
 mark_call state opened name = done_with (mark_service state opened) (index_number (find_index opened.schema name))
 
--- DISABLE, and WRITE-ONLY
+-- Private: DISABLE of an index by its number, which is MARK with that state
 abbrev pub disable_service : Opened → ℕ → Service (List (ℕ × State))
 disable_service opened number = mark_service Disabled opened number
 
+-- DISABLE of an index by its name
 abbrev pub disable_call : Opened → List ℕ → Call (List (ℕ × State))
 disable_call opened name = mark_call Disabled opened name
 
+-- Private: WRITE-ONLY of an index by its number, which is MARK with that state
 abbrev pub write_only_service : Opened → ℕ → Service (List (ℕ × State))
 write_only_service opened number = mark_service WriteOnly opened number
 
+-- WRITE-ONLY of an index by its name
 abbrev pub write_only_call : Opened → List ℕ → Call (List (ℕ × State))
 write_only_call opened name = mark_call WriteOnly opened name
 

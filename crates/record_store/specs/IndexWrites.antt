@@ -24,8 +24,8 @@ use Rattle.record_store.specs.Layout.{state_value}
 abbrev pub is_built : Store → ℕ → List Item → Bool
 is_built store number key = has_position (built_of store number) (position_of key)
 
--- what is written for one index where a record of the type with this number gives way to another: what its kind and its
--- state want written, and whether the position is built, where it is of the type
+-- Private: what is written for one index where a record of the type with this number gives way to another: what its
+-- kind and its state want written, and whether the position is built, where it is of the type
 abbrev pub one_index_writes :
     Opened → ℕ → Bool → Option Record → Option Record → IndexDefinition → List Mutation
 one_index_writes opened number at_built old new index =
@@ -61,10 +61,11 @@ clear_kept prefix number = ClearRange (entries_range prefix number) ∷ ClearRan
 abbrev pub marked_writes : State → List ℕ → ℕ → List Mutation
 marked_writes state prefix number = Set (state_key prefix number) (state_value state) ∷ clear_kept prefix number
 
--- DISABLE, and WRITE-ONLY
+-- Private: DISABLE, which is MARK with that state
 abbrev pub disable_writes : List ℕ → ℕ → List Mutation
 disable_writes prefix number = marked_writes Disabled prefix number
 
+-- Private: WRITE-ONLY, which is MARK with that state
 abbrev pub write_only_writes : List ℕ → ℕ → List Mutation
 write_only_writes prefix number = marked_writes WriteOnly prefix number
 

@@ -38,68 +38,70 @@ use Rattle.record_store.specs.IndexWrites.{one_index_writes}
 use Rattle.range_set.specs.Gaps.{has_position}
 use Rattle.record_store.specs.Steps.{DidRead, IsBeginning, IsNextRefused}
 
--- why reads of these ranges stopped behind the ones that were added: memory is wanting, or the next read is refused so
+-- Private: why reads of these ranges stopped behind the ones that were added: memory is wanting, or the next read is
+-- refused so
 abbrev pub IsReadError : (KeyRange → ReadError → Type 0) → List KeyRange → List KeyRange → StoreError → Type 0
 IsReadError refuses asked added Memory = IsBeginning added asked
 IsReadError refuses asked added (Read error) = IsBeginning added asked × IsNextRefused refuses asked added error
 IsReadError refuses asked added error = ⊥
 
--- reads of these ranges came to an error
+-- Private: reads of these ranges came to an error
 pub record HasNotRead (maps : ℕ → Map) (refuses : KeyRange → ℕ → ReadError → Type 0) (asked : List KeyRange)
     (error : StoreError) (old new : CommitRequest) : Type 0 where
   pub added : List KeyRange
   pub ran : DidRead maps added old new (λ m. IsReadError (λ range. refuses range old.read_version) asked added error)
 
--- two pairs have the same key and the same value
+-- Private: two pairs have the same key and the same value
 abbrev pub same_pair : List ℕ × List ℕ → List ℕ × List ℕ → Bool
 same_pair pair other = is_eq (key_cmp pair.0 other.0) && is_eq (key_cmp pair.1 other.1)
 
--- what was found where a schema may stand is the bytes of this schema
+-- Private: what was found where a schema may stand is the bytes of this schema
 pub record IsSchema (written : Option (List ℕ)) (schema : Schema) : Type 0 where
   pub made : IsLawfulSchema schema
   pub bytes : written ≡ Some (schema_bytes schema)
 
--- the bytes are those of no schema
+-- Private: the bytes are those of no schema
 abbrev pub AreOfNoSchema : List ℕ → Type 0
 AreOfNoSchema bytes =
     (schema : Schema) → IsLawfulSchema schema → bytes ≡ schema_bytes schema → ⊥
 
--- why bytes are no schema: memory is wanting, or they are those of none
+-- Private: why bytes are no schema: memory is wanting, or they are those of none
 abbrev pub IsBadSchema : List ℕ → List ℕ → StoreError → Type 0
 IsBadSchema prefix bytes Memory = Unit {0}
 IsBadSchema prefix bytes (Corrupt key) = (key ≡ schema_key prefix) × AreOfNoSchema bytes
 IsBadSchema prefix bytes error = ⊥
 
--- why what was found is no schema: nothing was found, or bytes of no schema
+-- Private: why what was found is no schema: nothing was found, or bytes of no schema
 abbrev pub IsNoSchemaFound : List ℕ → Option (List ℕ) → StoreError → Type 0
 IsNoSchemaFound prefix None error = error ≡ NoStore
 IsNoSchemaFound prefix (Some bytes) error = IsBadSchema prefix bytes error
 
--- the state of the index with this number whose pair this is, if it is one: that of a readable index is never written
+-- Private: the state of the index with this number whose pair this is, if it is one: that of a readable index is never
+-- written
 abbrev pub state_told : List ℕ → ℕ → List ℕ × List ℕ → Option State
 state_told prefix number pair =
     if same_pair pair (state_pair prefix (number, WriteOnly)) then Some WriteOnly
     else if same_pair pair (state_pair prefix (number, Disabled)) then Some Disabled else None
 
--- a pair is that of the state of one of the indexes
+-- Private: a pair is that of the state of one of the indexes
 pub record IsPairOfState (prefix : List ℕ) (indexes : List IndexDefinition) (pair : List ℕ × List ℕ)
     (listed : ℕ × State) : Type 0 where
   pub is_listed : IsListed indexes listed
   pub is : pair ≡ state_pair prefix listed
 
--- why a pair is that of no state: memory is wanting, or it isn't
+-- Private: why a pair is that of no state: memory is wanting, or it isn't
 abbrev pub IsNoState : List ℕ → List IndexDefinition → List ℕ × List ℕ → StoreError → Type 0
 IsNoState prefix indexes pair Memory = Unit {0}
 IsNoState prefix indexes pair (Corrupt key) = (key ≡ pair.0) × (IsStatePair prefix indexes pair → ⊥)
 IsNoState prefix indexes pair error = ⊥
 
--- the pairs are those of these states, each of one of the indexes
+-- Private: the pairs are those of these states, each of one of the indexes
 pub record AreStates (prefix : List ℕ) (indexes : List IndexDefinition) (pairs : List (List ℕ × List ℕ))
     (states : List (ℕ × State)) : Type 0 where
   pub are_listed : AllByRecursion (IsListed indexes) states
   pub are : pairs ≡ map (state_pair prefix) states
 
--- behind pairs of states one isn't
+-- Private: behind pairs of states one isn't
 pub record IsBadStateAmong (prefix : List ℕ) (indexes : List IndexDefinition) (pairs : List (List ℕ × List ℕ))
     (error : StoreError) : Type 0 where
   pub before : List (List ℕ × List ℕ)
@@ -110,69 +112,70 @@ pub record IsBadStateAmong (prefix : List ℕ) (indexes : List IndexDefinition) 
   pub good : AreStates prefix indexes before states
   pub none : IsNoState prefix indexes bad error
 
--- why pairs aren't those of states: memory is wanting, or one of them isn't
+-- Private: why pairs aren't those of states: memory is wanting, or one of them isn't
 abbrev pub HaveNoStates : List ℕ → List IndexDefinition → List (List ℕ × List ℕ) → StoreError → Type 0
 HaveNoStates prefix indexes pairs error = (error ≡ Memory) ⊎ IsBadStateAmong prefix indexes pairs error
 
--- the key is the primary key of a record of the type
+-- Private: the key is the primary key of a record of the type
 pub record IsKeyOf (type : TypeDefinition) (key : List Item) : Type 0 where
   pub cells : List Cell
   pub is : key ≡ key_items type.number cells
   pub tuple : IsTuple key
 
--- what was found at the key of a record of the type is this record's value, or nothing
+-- Private: what was found at the key of a record of the type is this record's value, or nothing
 abbrev pub IsFound : TypeDefinition → List ℕ → Option (List ℕ) → Option Record → Type 0
 IsFound type key None found = found ≡ None
 IsFound type key (Some value) None = ⊥
 IsFound type key (Some value) (Some found) = IsStoredAs type key value found
 
--- why what was found is no record of the type: memory is wanting, or it is the value of none
+-- Private: why what was found is no record of the type: memory is wanting, or it is the value of none
 abbrev pub IsNotFound : TypeDefinition → List ℕ → List ℕ → Option (List ℕ) → StoreError → Type 0
 IsNotFound type key at value Memory = Unit {0}
 IsNotFound type key at (Some value) (Corrupt damaged) = (damaged ≡ at) × IsOfNoRecord type key value
 IsNotFound type key at value error = ⊥
 
--- the total whose bytes were found at a group's key: of 8 bytes their number, the least significant one first, read as
--- signed; where there are none it is 0
+-- Private: the total whose bytes were found at a group's key: of 8 bytes their number, the least significant one first,
+-- read as signed; where there are none it is 0
 abbrev pub IsTotalFound : Option (List ℕ) → ℤ → Type 0
 IsTotalFound None total = total ≡ as_signed 0
 IsTotalFound (Some value) total = (length value ≡ 8) × (total ≡ as_signed (number_of value))
 
--- why what was found at a key is no total: memory is wanting, or it has more or fewer than 8 bytes
+-- Private: why what was found at a key is no total: memory is wanting, or it has more or fewer than 8 bytes
 abbrev pub IsNoTotal : List ℕ → Option (List ℕ) → StoreError → Type 0
 IsNoTotal at value Memory = Unit {0}
 IsNoTotal at (Some value) (Corrupt damaged) = (damaged ≡ at) × (length value ≡ 8 → ⊥)
 IsNoTotal at value error = ⊥
 
--- the total of a group of an index was read: what was read is of the written form, and this is the group's total
+-- Private: the total of a group of an index was read: what was read is of the written form, and this is the group's
+-- total
 abbrev pub IsTotalRead : Opened → IndexDefinition → List Cell → ℤ → Map → Type 0
 IsTotalRead opened index group total m =
     AllByRecursion (IsWritten opened.prefix opened.schema)
     (read_in m (point (group_key opened.prefix index.number group) ∷ []))
     × AtStore opened m (λ store. total ≡ total_of index.kind index group store.records)
 
--- an index of which totals are read: one of the schema's, a COUNT or a SUM, which is readable
+-- Private: an index of which totals are read: one of the schema's, a COUNT or a SUM, which is readable
 pub record IsTotalled (opened : Opened) (index : IndexDefinition) : Type 0 where
   pub there : Contains opened.schema.indexes index
   pub kind : index.kind ≡ Value → ⊥
   pub readable : state_in opened.states index.number ≡ Readable
 
--- the record of a primary key was read: what was read is of the written form, and this record, or none, is the one that
--- is there
+-- Private: the record of a primary key was read: what was read is of the written form, and this record, or none, is the
+-- one that is there
 abbrev pub IsRead : Opened → List Item → Option Record → Map → Type 0
 IsRead opened key found m =
     AllByRecursion (IsWritten opened.prefix opened.schema) (read_in m (point (record_key opened.prefix key) ∷ []))
     × AtStore opened m (λ store. found ≡ record_at key store.records)
 
--- the first record of a type was read, if there is one: this range was added, what was read is of the written form, and
--- a new index over the type has this state
+-- Private: the first record of a type was read, if there is one: this range was added, what was read is of the written
+-- form, and a new index over the type has this state
 abbrev pub IsStateRead : Opened → ℕ → State → KeyRange → Map → Type 0
 IsStateRead opened number state added m =
     (added ≡ range_read (type_range opened.prefix number) 1 false (read_of m (type_range opened.prefix number) 1 false))
     × AllByRecursion (IsWritten opened.prefix opened.schema) (read_of m (type_range opened.prefix number) 1 false)
     × AtStore opened m (λ store. state ≡ new_state (of_type number store.records))
 
--- so was the state of a new index
+-- Private: so was the state of a new index
 pub record HasRead (maps : ℕ → Map) (opened : Opened) (number : ℕ) (state : State) (old new : CommitRequest) :
     Type 0 where
   pub added : KeyRange
@@ -184,20 +187,20 @@ pub record HasNotFound (maps : ℕ → Map) (refuses : KeyRange → ℕ → Read
   pub added : List KeyRange
   pub ran : DidRead maps added old new (IsUnread (λ range. refuses range old.read_version) opened reading error added)
 
--- why reads stopped before all were answered: memory is wanting, or the next one is refused
+-- Private: why reads stopped before all were answered: memory is wanting, or the next one is refused
 abbrev pub IsStopped : (KeyRange → ReadError → Type 0) → Reading → StoreError → List KeyRange → Map → Type 0
 IsStopped refuses reading Memory added m = IsBeginning added (reading.added m)
 IsStopped refuses reading (Read error) added m =
     IsBeginning added (reading.added m) × IsNextRefused refuses (reading.asked m) added error
 IsStopped refuses reading error added m = ⊥
 
--- reads stopped
+-- Private: reads stopped
 pub record ReadsHaveStopped (maps : ℕ → Map) (refuses : KeyRange → ℕ → ReadError → Type 0) (reading : Reading)
     (error : StoreError) (old new : CommitRequest) : Type 0 where
   pub added : List KeyRange
   pub ran : DidRead maps added old new (IsStopped (λ range. refuses range old.read_version) reading error added)
 
--- of one index was read what a writer of a record at this position reads
+-- Private: of one index was read what a writer of a record at this position reads
 pub record HasReadOne (maps : ℕ → Map) (opened : Opened) (number : ℕ) (position : List ℕ) (index : IndexDefinition)
     (pairs : List (List ℕ × List ℕ)) (old new : CommitRequest) : Type 0 where
   pub added : List KeyRange
@@ -205,7 +208,7 @@ pub record HasReadOne (maps : ℕ → Map) (opened : Opened) (number : ℕ) (pos
       DidRead maps added old new (λ m.
       (added ≡ added_of opened number position m index) × (pairs ≡ found_of opened number position m index))
 
--- so of these indexes
+-- Private: so of these indexes
 pub record HasReadBuilt (maps : ℕ → Map) (opened : Opened) (number : ℕ) (position : List ℕ)
     (indexes : List IndexDefinition) (found : List (List (List ℕ × List ℕ))) (old new : CommitRequest) : Type 0 where
   pub added : List KeyRange
@@ -214,21 +217,21 @@ pub record HasReadBuilt (maps : ℕ → Map) (opened : Opened) (number : ℕ) (p
       (added ≡ flat_map (added_of opened number position m) indexes)
       × (found ≡ map (found_of opened number position m) indexes))
 
--- the position is built in an index, where that is asked for
+-- Private: the position is built in an index, where that is asked for
 abbrev pub asked_built : Opened → ℕ → List ℕ → Store → IndexDefinition → Bool
 asked_built opened number position store index =
     if asks opened number index then has_position (built_of store index.number) position else false
 
--- what was found for an index tells that, where it is what was read of a map: it is of the written form, and so it is
--- in each store there
+-- Private: what was found for an index tells that, where it is what was read of a map: it is of the written form, and
+-- so it is in each store there
 abbrev pub IsToldOf : Opened → ℕ → List ℕ → IndexDefinition → List (List ℕ × List ℕ) → Bool → Type 0
 IsToldOf opened number position index found told =
     (m : Map) → found ≡ found_of opened number position m index →
     AllByRecursion (IsWritten opened.prefix opened.schema) found
     × AtStore opened m (λ store. told ≡ asked_built opened number position store index)
 
--- why it doesn't: memory is wanting, or, where it is what was read of a map, the first pair of it that isn't of the
--- written form has this key, and no store is there
+-- Private: why it doesn't: memory is wanting, or, where it is what was read of a map, the first pair of it that isn't
+-- of the written form has this key, and no store is there
 abbrev pub IsUntoldOf : Opened → ℕ → List ℕ → IndexDefinition → List (List ℕ × List ℕ) → StoreError → Type 0
 IsUntoldOf opened number position index found Memory = Unit {0}
 IsUntoldOf opened number position index found (Corrupt key) =
@@ -236,8 +239,8 @@ IsUntoldOf opened number position index found (Corrupt key) =
     IsFirstBad (IsWritten opened.prefix opened.schema) found key × AtStore opened m (λ store. ⊥)
 IsUntoldOf opened number position index found error = ⊥
 
--- mutations were put behind others; and where this was found for all indexes of a map, what was found for some of them
--- is of the written form, and by each store there they are those that these indexes want written
+-- Private: mutations were put behind others; and where this was found for all indexes of a map, what was found for some
+-- of them is of the written form, and by each store there they are those that these indexes want written
 abbrev pub HaveFollowed :
     Opened → ℕ → List ℕ → Option Record → Option Record → List (List (List ℕ × List ℕ)) → List IndexDefinition →
     List Mutation → List Mutation → Type 0
@@ -249,8 +252,8 @@ HaveFollowed opened number position old new found indexes before after =
     more ≡ flat_map (λ index.
     one_index_writes opened number (asked_built opened number position store index) old new index) indexes))
 
--- why indexes don't follow: memory is wanting, or, where this was found for all indexes of a map, the first pair of it
--- that isn't of the written form has this key, and no store is there
+-- Private: why indexes don't follow: memory is wanting, or, where this was found for all indexes of a map, the first
+-- pair of it that isn't of the written form has this key, and no store is there
 abbrev pub HaveNotFollowed : Opened → ℕ → List ℕ → List (List (List ℕ × List ℕ)) → StoreError → Type 0
 HaveNotFollowed opened number position found Memory = Unit {0}
 HaveNotFollowed opened number position found (Corrupt key) =
@@ -260,28 +263,28 @@ HaveNotFollowed opened number position found (Corrupt key) =
     × AtStore opened m (λ store. ⊥)
 HaveNotFollowed opened number position found error = ⊥
 
--- a pair has the key of a record of the type behind the place of records, and its value
+-- Private: a pair has the key of a record of the type behind the place of records, and its value
 pub record IsPairOf (records_place : List ℕ) (type : TypeDefinition) (pair : List ℕ × List ℕ) (stored : Record) :
     Type 0 where
   pub rest : List ℕ
   pub behind : pair.0 ≡ records_place ++ rest
   pub is : IsStoredAs type rest pair.1 stored
 
--- why a pair is that of no record of the type: memory is wanting, or its key or its value is that of none
+-- Private: why a pair is that of no record of the type: memory is wanting, or its key or its value is that of none
 abbrev pub IsPairOfNone : List ℕ → TypeDefinition → List ℕ × List ℕ → StoreError → Type 0
 IsPairOfNone records_place type pair Memory = Unit {0}
 IsPairOfNone records_place type pair (Corrupt key) =
     (key ≡ pair.0) × ((stored : Record) → IsPairOf records_place type pair stored → ⊥)
 IsPairOfNone records_place type pair error = ⊥
 
--- records are those of pairs, one for each
+-- Private: records are those of pairs, one for each
 abbrev pub ArePairsOfRecords : List ℕ → TypeDefinition → List (List ℕ × List ℕ) → List Record → Type 0
 ArePairsOfRecords records_place type [] [] = Unit {0}
 ArePairsOfRecords records_place type (pair ∷ pairs) (stored ∷ records) =
     IsPairOf records_place type pair stored × ArePairsOfRecords records_place type pairs records
 ArePairsOfRecords records_place type pairs records = ⊥
 
--- why pairs have no records: memory is wanting, or behind pairs that are those of records one isn't
+-- Private: behind pairs that are those of records one isn't
 pub record IsBadAmong (records_place : List ℕ) (type : TypeDefinition) (pairs : List (List ℕ × List ℕ))
     (error : StoreError) : Type 0 where
   pub before : List (List ℕ × List ℕ)
@@ -292,9 +295,10 @@ pub record IsBadAmong (records_place : List ℕ) (type : TypeDefinition) (pairs 
   pub good : ArePairsOfRecords records_place type before records
   pub none : IsPairOfNone records_place type bad error
 
+-- Private: why pairs have no records: memory is wanting, or behind pairs that are those of records one isn't
 abbrev pub HaveNoRecords : List ℕ → TypeDefinition → List (List ℕ × List ℕ) → StoreError → Type 0
 HaveNoRecords records_place type pairs error = (error ≡ Memory) ⊎ IsBadAmong records_place type pairs error
 
--- why a store isn't made where a pair was found at the schema's key
+-- Private: why a store isn't made where a pair was found at the schema's key
 abbrev pub IsThere : Option (List ℕ) → StoreError → Type 0
 IsThere written error = (error ≡ AlreadyThere) × (written ≡ None → ⊥)

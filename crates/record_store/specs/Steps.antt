@@ -20,11 +20,11 @@ use Rattle.record_store.specs.declared.error.StoreError.TheVariants.{Memory, Rea
 abbrev pub no_memory : StoreError
 no_memory = Memory
 
--- the error that a name of no type is
+-- Private: the error that a name of no type is
 abbrev pub unknown_type : StoreError
 unknown_type = Refused UnknownType
 
--- the error that a name of no index is
+-- Private: the error that a name of no index is
 abbrev pub unknown_index : StoreError
 unknown_index = Refused UnknownIndex
 

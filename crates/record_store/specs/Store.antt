@@ -46,7 +46,7 @@ without_built number built = filter (λ listed. not (listed.0 == number)) built
 abbrev pub Serial : Type 0
 Serial = Option Store
 
--- the schema of what is there
+-- Private: the schema of what is there
 abbrev pub schema_in : Serial → Option Schema
 schema_in serial = option_map (λ store. store.schema) serial
 
@@ -72,7 +72,8 @@ with_state number state states = insert_entry nat_cmp states number state
 abbrev pub without_state : ℕ → List (ℕ × State) → List (ℕ × State)
 without_state number states = filter (λ listed. not (listed.0 == number)) states
 
--- the states that are still to be listed, where that of the index with this number has its place already or not
+-- Private: the states that are still to be listed, where that of the index with this number has its place already or
+-- not
 abbrev pub still_listed : Bool → ℕ → State → List (ℕ × State) → List (ℕ × State)
 still_listed true number state states = states
 still_listed false number state states = with_state number state states

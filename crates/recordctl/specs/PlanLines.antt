@@ -27,7 +27,7 @@ pub record IsShownPlan (form : PlanForm) (text printed : List ℕ) : Type 0 wher
   pub asked : IsPlanAskedBy text plan
   pub is : printed ≡ plan_shown form (plan_of plan)
 
--- the fault by which it is told why there is no plan
+-- Private: the fault by which it is told why there is no plan
 abbrev pub fault_of : ExplainError → Fault
 fault_of errors.BadForm = BadScript 0
 fault_of (errors.BadSchema why) = RefusedSchema why
@@ -36,7 +36,7 @@ fault_of (errors.BadQuery why) = RefusedQuery why
 fault_of errors.SortNotServed = SortNotServed
 fault_of errors.OutOfMemory = OutOfMemory
 
--- a fault says why a text has no plan: no memory, or why it is refused
+-- Private: a fault says why a text has no plan: no memory, or why it is refused
 abbrev pub explains_plan : List ℕ → Fault → Type 0
 explains_plan text fault =
     (fault ≡ OutOfMemory) ⊎ ((error : ExplainError) × (text_refusal text ≡ Some error) × (fault ≡ fault_of error))

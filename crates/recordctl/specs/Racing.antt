@@ -16,8 +16,8 @@ pub record IsRaced (text : List ℕ) : Type 0 where
   pub read : race_of text ≡ Some race
   pub allowed : IsNone (race_refusal race.config)
 
--- a fault says why a text that was read isn't run as a race: it is none, or its configuration is refused. Any race may
--- want memory, give up, or have a command refused
+-- Private: a fault says why a text that was read isn't run as a race: it is none, or its configuration is refused. Any
+-- race may want memory, give up, or have a command refused
 abbrev pub explains_raced : List ℕ → Fault → Type 0
 explains_raced text (BadConfig why) =
     (race : Race) × (race_of text ≡ Some race) × (race_refusal race.config ≡ Some why)

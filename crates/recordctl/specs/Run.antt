@@ -13,8 +13,8 @@ use Rattle.recordctl.specs.declared.fault.Fault.TheVariants.{CannotRead, BadArgu
 use Rattle.recordctl.specs.declared.fault.Fault.TheVariants.{RefusedSchema, RefusedQuery, SortNotServed}
 use Rattle.recordctl.specs.declared.fault.Fault.TheVariants.{GaveUp, RefusedCommand, Corrupt}
 
--- a fault says why a text that was read isn't run: it is no script, or has a configuration that is refused; memory may
--- be wanting for any
+-- Private: a fault says why a text that was read isn't run: it is no script, or has a configuration that is refused;
+-- memory may be wanting for any
 abbrev pub explains_run : List ℕ → Fault → Type 0
 explains_run text (BadConfig why) =
     (config : Config) × (steps : List Step) × IsScript text config steps × (config_refusal config ≡ Some why)
@@ -30,7 +30,8 @@ explains_run text GaveUp = ⊥
 explains_run text (RefusedCommand why) = ⊥
 explains_run text Corrupt = ⊥
 
--- a transcript is that of a script's text: a right run of the script's steps over a database of its configuration
+-- Private: a transcript is that of a script's text: a right run of the script's steps over a database of its
+-- configuration
 pub record IsTranscriptOf (text : List ℕ) (transcript : Transcript) : Type 0 where
   pub config : Config
   pub steps : List Step

@@ -1,4 +1,4 @@
--- Exit statuses.
+-- Private: exit statuses.
 use Rattle.std.specs.Prelude.{ℕ}
 use Rattle.command_line.specs.declared.request.CommandLineError.{CommandLineError}
 use Rattle.command_line.specs.declared.request.CommandLineError.TheVariants.{NotTaken, OutOfMemory}

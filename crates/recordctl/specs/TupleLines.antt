@@ -29,7 +29,7 @@ pub record IsUnpackedLine (word line : List ℕ) : Type 0 where
   pub written : tuple_of_text text ≡ Some tuple
   pub printed : line ≡ line_of text
 
--- a fault says why a word isn't packed: no memory, or the word stands for no tuple
+-- Private: a fault says why a word isn't packed: no memory, or the word stands for no tuple
 abbrev pub explains_pack : List ℕ → Fault → Type 0
 explains_pack word OutOfMemory = Unit {0}
 explains_pack word BadArgument = tuple_of_text word ≡ None
@@ -44,8 +44,8 @@ explains_pack word GaveUp = ⊥
 explains_pack word (RefusedCommand why) = ⊥
 explains_pack word Corrupt = ⊥
 
--- a fault says why a word isn't unpacked: no memory, digits that aren't hexadecimal or not in pairs, or bytes that are
--- refused
+-- Private: a fault says why a word isn't unpacked: no memory, digits that aren't hexadecimal or not in pairs, or bytes
+-- that are refused
 abbrev pub explains_unpack : List ℕ → Fault → Type 0
 explains_unpack word OutOfMemory = Unit {0}
 explains_unpack word BadArgument = IsOk (decode_of word) → ⊥

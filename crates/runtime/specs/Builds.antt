@@ -86,14 +86,14 @@ pub record IsBuilt (index : List ℕ) (old new : Knowledge) (totals : Totals) : 
 
 -- ---- turns of a worker
 
--- the transaction has performed one command more, with this reply
+-- Private: the transaction has performed one command more, with this reply
 abbrev pub Adds : Option Work → Command → Reply → Option Work → Type 0
 Adds old command reply new =
     (work : Work) → old ≡ Some work →
     (after : Work) × (new ≡ Some after)
     × (after.trace.attempts ≡ work.trace.attempts ++ record { command = command; reply = reply } ∷ [])
 
--- what a turn performed
+-- Private: what a turn performed
 abbrev pub HasWorked : List ℕ → Turn → List Performed → Type 0
 HasWorked index (Built records) attempts =
     (limit : ℕ) × ((range : KeyRange)
@@ -104,12 +104,12 @@ HasWorked index Marked attempts =
     ∷ record { command = Readable index; reply = replies.Done } ∷ [])
 HasWorked index Nothing attempts = Unit {0}
 
--- a submission was told this, and the client knows its entry; its number is the next one
+-- Private: a submission was told this, and the client knows its entry; its number is the next one
 abbrev pub IsSubmission : Knowledge → Knowledge → CommitRequest → Trace → Reported → Type 0
 IsSubmission old new request trace told =
     (log : List Entry) × Learnt old new request trace told log × (new.last ≡ old.last + 1)
 
--- a commit was told to be one, or the submission was refused, or there was none
+-- Private: a commit was told to be one, or the submission was refused, or there was none
 abbrev pub Commits : Knowledge → Knowledge → Work → Bool → Type 0
 Commits old new work true =
     (version : ℕ) × IsSubmission old new work.transaction work.trace (reported.Committed version)
@@ -118,12 +118,13 @@ Commits old new work false =
     ⊎ ((seen : ℕ) × ((range : KeyRange)
     × IsSubmission old new work.transaction work.trace (reported.Conflict seen range)))
 
--- the commit was told to be one; another turn may follow it
+-- Private: the commit was told to be one
 abbrev pub is_committed_result : Result Done CommitError → Bool
 is_committed_result (Ok (Committed version seen)) = true
 is_committed_result (Ok ReadOnly) = false
 is_committed_result (Err error) = false
 
+-- Private: another turn may follow a commit with this answer
 abbrev pub has_ended : Result Done CommitError → Bool
 has_ended (Ok done) = true
 has_ended (Err (Conflict seen range)) = true
@@ -132,7 +133,7 @@ has_ended (Err VersionsExhausted) = false
 has_ended (Err Unknown) = false
 has_ended (Err Memory) = false
 
--- a turn came to this: its entry is committed, or it has none, or a refused one
+-- Private: a turn came to this: its entry is committed, or it has none, or a refused one
 abbrev pub IsTurn : List ℕ → Turn → Knowledge → Knowledge → Type 0
 IsTurn index Nothing old new =
     (new.last ≡ old.last) ⊎ ((work : Work) × Commits old new work false)
@@ -141,12 +142,13 @@ IsTurn index (Built records) old new =
 IsTurn index Marked old new =
     (work : Work) × HasWorked index Marked work.trace.attempts × Commits old new work true
 
--- how a turn adds to what was built
+-- Private: by how many steps a turn adds to what was built
 abbrev pub steps_of : Turn → ℕ
 steps_of (Built records) = 1
 steps_of Marked = 0
 steps_of Nothing = 0
 
+-- Private: by how many records it does
 abbrev pub records_of : Turn → ℕ
 records_of (Built records) = records
 records_of Marked = 0

@@ -19,8 +19,8 @@ abbrev pub knows_that : Name → List Entry → ℕ → ℕ → Option Work → 
 knows_that name list number last begun =
     record { name = name; list = list; number = number; last = last; begun = begun }
 
--- the open transaction began at a beginning of the client's list, reads at its version, and is what its commands made
--- of it over that list
+-- Private: the open transaction began at a beginning of the client's list, reads at its version, and is what its
+-- commands made of it over that list
 abbrev pub IsBegun : Reach → Option Work → Type 0
 IsBegun me (Some work) =
     (work.front.name ≡ me.name) × IsPrefix work.front.list me.list
@@ -28,7 +28,7 @@ IsBegun me (Some work) =
     × (work.transaction.read_version ≡ version_of work.front.name.config work.front.list)
 IsBegun me None = Unit {0}
 
--- a fact of the reader, where there is one
+-- Private: a fact of the reader, where there is one
 abbrev pub IfReader : {R : Type 0} → (R → Type 0) → Option R → Type 0
 IfReader Fact (Some reader) = Fact reader
 IfReader Fact None = Unit {0}

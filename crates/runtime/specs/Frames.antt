@@ -1,4 +1,4 @@
--- The configuration of a database, which is kept as a list of one.
+-- Private: the configuration of a database, which is kept as a list of one.
 use Rattle.std.specs.Prelude.{List, [], ◌∷◌}
 use Rattle.cluster_core.specs.declared.answers.Config.{Config}
 

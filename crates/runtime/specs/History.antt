@@ -10,15 +10,15 @@ abbrev pub note_entry : Note → Entry
 note_entry note =
     record { client = note.client; number = note.number; request = note.request.value; trace = note.trace }
 
--- the first word is the length of the history. A book has two words; the second stays 0
+-- Private: the first word is the length of the history. A book has two words; the second stays 0
 pub record IsBook (cells : List Cell) (log : List Entry) : Type 0 where
   pub words : cells ≡ (length log, true) ∷ (0, true) ∷ []
 
--- the word of a book that has the length of its history
+-- Private: the word of a book that has the length of its history
 abbrev pub head_of : Book → Named
 head_of book = record { tracked = true; key = 0; book = book }
 
--- the entry was added behind all that had been seen; or the history was longer, and was seen
+-- Private: the entry was added behind all that had been seen; or the history was longer, and was seen
 abbrev pub Adds : Step Entry → View Entry ℕ → ℕ → View Entry ℕ → Type 0
 Adds s v found w = MatchBool (found == s.old) (w.0 ≡ v.0 ++ s.ask ∷ []) (length w.0 ≡ found)
 

@@ -33,7 +33,7 @@ is_idle Lost = false
 is_idle (Ruled ruled) = false
 is_idle (Added step) = false
 
--- how far the pipeline is, and what leads on from the list
+-- Private: how far the pipeline is, and what leads on from the list
 abbrev pub IsInFlight : Name → List Entry → PipelineState → Flight → Type 0
 IsInFlight name log p Idle = p ≡ pipeline_of name.config log
 IsInFlight name log p Lost = Unit {0}
@@ -44,7 +44,7 @@ IsInFlight name log p (Ruled ruled) =
 IsInFlight name log p (Added step) =
     (p ≡ pipeline_of name.config (log ++ note_entry step.note ∷ [])) × Leads name log step
 
--- each client's last number is that of a submission which the list has or will have, unless one is lost
+-- Private: each client's last number is that of a submission which the list has or will have, unless one is lost
 abbrev pub IsBacked : List ℕ → List Entry → Flight → Type 0
 IsBacked last log Idle = AreLast last log
 IsBacked last log Lost = Unit {0}

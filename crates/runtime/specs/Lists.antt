@@ -49,11 +49,11 @@ list_map config log version = map_at (history_of config log) version
 abbrev pub pipeline_of : Config → List Entry → PipelineState
 pipeline_of config log = all_handled (record (first_pipeline config) { requests = requests_of log })
 
--- what the logs have of a list
+-- Private: what the logs have of a list
 abbrev pub logged_mutations : Config → List Entry → List (List Mutation)
 logged_mutations config log = decision.log config.resolver_splits (numbered_of config log)
 
--- the servers that have pulled all of it
+-- Private: the servers that have pulled all of it
 abbrev pub list_tier : Config → List Entry → TierState
 list_tier config log = after_log (logged_mutations config log) (first_tier config)
 
@@ -63,7 +63,7 @@ cause_next config log request =
     cause config.resolver_splits (numbered_of config log)
     (record { version = version_of config log + 1; request = request })
 
--- what the logs have of a request that comes next
+-- Private: what the logs have of a request that comes next
 abbrev pub logged_next : Config → List Entry → CommitRequest → List Mutation
 logged_next config log request = if is_none (cause_next config log request) then request.mutations else []
 
@@ -117,7 +117,7 @@ pub record IsLawfulList (config : Config) (log : List Entry) : Type 0 where
   pub once : is_once log ≡ true
   pub versions : version_of config log < 2 ^ 64
 
--- no submission in the list has a number above its client's last
+-- Private: no submission in the list has a number above its client's last
 abbrev pub is_numbered : List ℕ → List Entry → Bool
 is_numbered last log = list_all (λ e. nat_le e.number (slice_index last e.client)) log
 
@@ -125,7 +125,7 @@ is_numbered last log = list_all (λ e. nat_le e.number (slice_index last e.clien
 abbrev pub has_submission : ℕ → ℕ → List Entry → Bool
 has_submission client number log = list_any (λ e. (e.client == client) && (e.number == number)) log
 
--- the last number of each client that has one is that of an entry in the list
+-- Private: the last number of each client that has one is that of an entry in the list
 pub record AreLast (last : List ℕ) (log : List Entry) : Type 0 where
   pub stands :
       (client : ℕ) → 0 < slice_index last client → has_submission client (slice_index last client) log ≡ true

@@ -1,4 +1,5 @@
--- The rule of a vault, and what its steps tell. Word 0 is 0 where the value is at home, and 1 where a thread has it.
+-- Private: the rule of a vault, and what its steps tell. Word 0 is 0 where the value is at home, and 1 where a thread
+-- has it.
 use Rattle.std.specs.Prelude.{◌≡◌, ◌≢◌, ℕ, [], ◌∷◌, length, slice_index, Option, Some}
 use mathlib.Core.Option.{some}
 use lib.ListN.{get_elem?}

@@ -74,10 +74,11 @@ may_follow VersionsExhausted = false
 may_follow Unknown = false
 may_follow Memory = false
 
--- how an attempt failed that its body gave up, and how one ended whose commit was refused
+-- Private: how an attempt failed that its body gave up
 abbrev pub failure_by : BodyError → Failure
 failure_by error = if is_too_old error then failures.Ended ends.TooOld else failures.Refused error
 
+-- Private: how an attempt ended whose commit was refused
 abbrev pub ended_by : CommitError → Ended
 ended_by (Conflict seen range) = ends.Conflict
 ended_by TooOld = ends.TooOld
@@ -111,7 +112,7 @@ module _ {B A : Type 0} (did : B → Knowledge → Result A BodyError → Knowle
   Stops old new =
       (answer : A) × ((error : CommitError) × (may_follow error ≡ false) × TriesAndEnds old answer (Err error) new)
 
-  -- how an attempt failed
+  -- Private: how an attempt failed
   abbrev pub FailsSo : B × Knowledge → Failure → B × Knowledge → Type 0
   FailsSo old (failures.Refused error) new = IsRefusal old error new
   FailsSo old (failures.Ended ends.Conflict) new = AttemptFails old new

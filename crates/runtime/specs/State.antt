@@ -12,10 +12,11 @@ use Rattle.runtime.specs.Frames.{no_config}
 use Rattle.runtime.specs.Lists.{list_tier, logged_next}
 use Rattle.runtime.specs.History.{Name, Reach, book_name, list_reach, note_entry}
 
+-- Private: a name in the place of one that isn't known yet
 abbrev pub no_name : Name
 no_name = book_name (record { number = 0; log_name = 0; cells_name = 0 }) no_config
 
--- the view of a thread that hasn't seen the state
+-- Private: the view of a thread that hasn't seen the state
 abbrev pub newcomer : View
 newcomer = record { named = false; front = list_reach no_name [] }
 
@@ -23,43 +24,46 @@ newcomer = record { named = false; front = list_reach no_name [] }
 abbrev pub knows : Name → View
 knows name = record { named = true; front = list_reach name [] }
 
--- the servers have pulled just the published list
+-- Private: the servers have pulled just the published list
 abbrev pub IsFold : Published → Type 0
 IsFold x = x.tier ≡ list_tier x.front.name.config x.front.list
 
--- the servers have pulled just the list, and the state is of the database that each thread has seen it to be of
+-- Private: the servers have pulled just the list, and the state is of the database that each thread has seen it to be
+-- of
 abbrev pub Kept : Published → List View → Type 0
 Kept x views =
     IsFold x
     × ((seat : ℕ) (v : View) → get_elem? views seat ≡ some v → v.named ≡ true → v.front.name ≡ x.front.name)
 
--- the state y was seen, which is of the database that was known
+-- Private: the state y was seen, which is of the database that was known
 abbrev pub Sees : View → Published → Published → View → Type 0
 Sees v x y w = (w ≡ knows y.front.name) × IsFold y × (v.named ≡ true → v.front.name ≡ y.front.name)
 
--- the step leads from a list to the next: it has the entry's mutations where that is committed, and else none
+-- Private: the step leads from a list to the next: it has the entry's mutations where that is committed, and else none
 abbrev pub Leads : Name → List Entry → Step → Type 0
 Leads name log step =
     (step.front ≡ list_reach name (log ++ note_entry step.note ∷ []))
     × (step.mutations ≡ logged_next name.config log step.note.request.value)
 
--- the steps behind a list lead on from it, one after another
+-- Private: the steps behind a list lead on from it, one after another
 abbrev pub LeadOn : Name → List Entry → List Step → Type 0
 LeadOn name log [] = Unit {0}
 LeadOn name log (step ∷ steps) = Leads name log step × LeadOn name (log ++ note_entry step.note ∷ []) steps
 
+-- Private: the entries of steps
 abbrev pub entries_of : List Step → List Entry
 entries_of steps = map (λ step. note_entry step.note) steps
 
--- the servers and the list after a step
+-- Private: the servers and the list after a step
 abbrev pub applied : TierState × Reach → Step → TierState × Reach
 applied s step = (absorb_all step.mutations s.0, step.front)
 
--- the writer's side: the list that readers take, and the entries that they don't see yet
+-- Private: the writer's side: the list that readers take, and the entries that they don't see yet
 pub record Shown : Type 0 where
   pub name : Name
   pub published : List Entry
   pub pending : List Entry
 
+-- Private: the writer's side of a database of this name
 abbrev pub list_shown : Name → List Entry → List Entry → Shown
 list_shown name published pending = record { name = name; published = published; pending = pending }

@@ -26,7 +26,8 @@ EndsWith config log client number request trace reported =
     (before : List Entry) × (log ≡ before ++ entry client number request trace ∷ [])
     × (reported ≡ told (cause_next config before request) (version_of config before + 1))
 
--- what a turn tells of a request: what is reported of it, or why nothing is, and the list that was then published
+-- Private: what a turn tells of a request: what is reported of it, or why nothing is, and the list that was then
+-- published
 abbrev pub TurnTells : ℕ → ℕ → CommitRequest → Trace → Result Ruling HoldError → Option Reach → Type 0
 TurnTells client own request trace (Ok ruling) (Some front) =
     EndsWith front.name.config front.list client ruling.number request trace ruling.reported × (own < ruling.number)
@@ -38,12 +39,12 @@ TurnTells client own request trace (Err holds.VersionsExhausted) (Some front) =
 TurnTells client own request trace (Err (Unknown number)) front = own < number
 TurnTells client own request trace _ _ = Unit {0}
 
--- the list is of this database
+-- Private: the list is of this database
 abbrev pub IsListOf : Name → Option Reach → Type 0
 IsListOf name (Some front) = front.name ≡ name
 IsListOf name None = Unit {0}
 
--- what that comes to for the client: its answer, and its last number then
+-- Private: what that comes to for the client: its answer, and its last number then
 abbrev pub IsConcluded :
     Name → ℕ → ℕ → CommitRequest → Trace → Option Reach → Result Done CommitError → ℕ → Type 0
 IsConcluded name client own request trace (Some front) (Ok (Committed version seen)) last =

@@ -1,4 +1,4 @@
--- What the calls that perform commands establish, and which reply an error of theirs is.
+-- Private: what the calls that perform commands establish, and which reply an error of theirs is.
 use Rattle.std.specs.Prelude.{◌≡◌, ℕ, Bool, true, false, Option, Some, None}
 use Rattle.kv_core.specs.Range.{KeyRange}
 use Rattle.kv_core.specs.Map.{Map}

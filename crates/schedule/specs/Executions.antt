@@ -1,4 +1,5 @@
--- Beneath the commands that execute plans: what executing a plan over an open store comes to as a reply, or an error.
+-- Private: beneath the commands that execute plans, what executing a plan over an open store comes to as a reply, or an
+-- error.
 use Rattle.std.specs.Prelude.{◌≡◌, ℕ, List, Some, None, All, map, true, false}
 use Rattle.kv_core.specs.Map.{Map}
 use Rattle.kv_core.specs.Range.{KeyRange}

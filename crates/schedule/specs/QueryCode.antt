@@ -1,4 +1,4 @@
--- How the logic stores a query: as the tokens of its filter, each part before its whole, and its other fields.
+-- Private: how the logic stores a query: as the tokens of its filter, each part before its whole, and its other fields.
 use Rattle.std.specs.Prelude.{◌≡◌, ℕ, Bool, List, [], ◌∷◌, ◌++◌, ◌==◌, cond, refl}
 use Rattle.std.proofs.Common.{ap, ◌∙◌}
 use Rattle.std.specs.Coded.{Coded, code_by, coded×, coded_bool, coded_list, coded_ℕ}

@@ -1,4 +1,4 @@
--- What the database of a schedule has, by the steps and replies so far.
+-- Private: what the database of a schedule has, by the steps and replies so far.
 use Rattle.std.specs.Prelude.{◌≡◌, ◌≤◌, ◌<◌, ℕ, ◌+◌, ◌-◌, List, [], ◌∷◌, ◌++◌, Option, Some, None}
 use Rattle.std.specs.Prelude.{if◌then◌else◌, All, drop, get_or, map, replicate, true, false, Bool}
 use Rattle.kv_core.specs.Map.{Map}

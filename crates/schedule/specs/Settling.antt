@@ -1,4 +1,4 @@
--- How the cluster moves until every role has handled all that is submitted.
+-- Private: how the cluster moves until every role has handled all that is submitted.
 use Rattle.std.specs.Prelude.{◌≡◌, ◌≤◌, ◌<◌, ℕ, ◌+◌, ◌-◌, Bool, true, false}
 use Rattle.std.specs.Prelude.{if◌then◌else◌, List, [], ◌++◌, Option, length}
 use Rattle.std.specs.List.{range_with_len, sum_by}

@@ -52,12 +52,12 @@ pub record IsFirstBadStep (items : List Data) (number : ℕ) : Type 0 where
   pub none : step_in bad ≡ None
   pub place : number ≡ length good + 1
 
--- an error says why the step of a number isn't read: no memory, or the value stands for no step
+-- Private: an error says why the step of a number isn't read: no memory, or the value stands for no step
 abbrev pub explains_step : Data → ℕ → ScriptError → Type 0
 explains_step item number OutOfMemory = Unit {0}
 explains_step item number (BadScript place) = (place ≡ number) × (step_in item ≡ None)
 
--- an error says why steps aren't read: no memory, or the first bad step
+-- Private: an error says why steps aren't read: no memory, or the first bad step
 abbrev pub explains_steps : List Data → ScriptError → Type 0
 explains_steps items OutOfMemory = Unit {0}
 explains_steps items (BadScript number) = IsFirstBadStep items number

@@ -1,4 +1,4 @@
--- Clients that take turns.
+-- Private: clients that take turns.
 use Rattle.std.specs.Prelude.{◌≡◌, List, Option, IfSome}
 use Rattle.std.specs.List.{All}
 use Rattle.runtime.specs.declared.answers.Seen.{Seen}

@@ -19,7 +19,7 @@ abbrev pub first_handled : ℕ → ℕ → PipelineState → PipelineState
 first_handled resolvers logs p =
     record p { resolved = first_raised resolvers p.resolved; logged = first_raised logs p.logged }
 
--- the same of a cluster, whose servers stay as they are
+-- Private: the same of a cluster, whose servers stay as they are
 abbrev pub with_handled : ℕ → ℕ → ClusterState → ClusterState
 with_handled resolvers logs c = with_pipeline (first_handled resolvers logs c.pipeline) c
 

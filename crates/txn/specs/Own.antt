@@ -1,4 +1,4 @@
--- What a transaction's own mutations make of the values that were there before them.
+-- Private: what a transaction's own mutations make of the values that were there before them.
 use Rattle.std.specs.Prelude.{◌≡◌, ℕ, if◌then◌else◌, Option, Some, None, unwrap_or, List, [], ◌∷◌}
 use Rattle.std.specs.Map.{lookup}
 use Rattle.std.specs.BTreeMap.{is_at}

@@ -1,4 +1,4 @@
--- A read of a range under own mutations, in rounds: each reads on where the one before it stopped.
+-- Private: a read of a range under own mutations, in rounds: each reads on where the one before it stopped.
 use Rattle.std.specs.Prelude.{◌≡◌, ◌-◌, ◌<◌, ℕ, suc, IsTrue, Bool, true, false, Option, None, Some, List, ◌++◌, length}
 use Rattle.std.specs.FinMap.{get}
 use Rattle.std.specs.FinMap.Entries.{find}

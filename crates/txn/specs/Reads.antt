@@ -40,17 +40,17 @@ RangeDecides =
     Agree (has_read (range_read range limit reversed (read_of (seen tx m) range limit reversed)) tx).reads m n →
     read_of (seen tx m) range limit reversed ≡ read_of (seen tx n) range limit reversed
 
--- own writes that stand for a list of mutations: they make of each value what the mutations make of it
+-- Private: own writes that stand for a list of mutations: they make of each value what the mutations make of it
 abbrev pub Follow : OwnWrites → List Mutation → Type 0
 Follow own mutations =
     (key : List ℕ) (before : Option (List ℕ)) → under (own_state own) key before ≡ value_after_all mutations key before
 
--- own writes that stand for the first mutations of a list, as far as they have been noted
+-- Private: own writes that stand for the first mutations of a list, as far as they have been noted
 abbrev pub IsNoted : OwnWrites → List Mutation → Type 0
 IsNoted own mutations = (own.noted ≤ length mutations) × Follow own (take own.noted mutations)
 
--- a transaction knows the size of its mutations, which is within the limit, and its own writes are those of the
--- mutations noted so far
+-- Private: a transaction knows the size of its mutations, which is within the limit, and its own writes are those of
+-- the mutations noted so far
 pub record IsTransaction (request : CommitRequest) (size : ℕ) (own : OwnWrites) : Type 0 where
   pub sized : size ≡ size_of_all request.mutations
   pub small : size ≤ MAX_TRANSACTION_BYTES
