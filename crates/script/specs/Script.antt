@@ -24,7 +24,7 @@ frame_in script = if has_only script_keys script then option_and_then list_in (g
 abbrev pub script_config : Data → Option Config
 script_config script = config_in (unwrap_or (get (codes "config") script) (object no_members))
 
--- the script of these steps alone
+-- Private: the script of these steps alone
 abbrev pub steps_alone : Data → Data
 steps_alone steps = object (member (codes "steps") steps no_members)
 
