@@ -110,7 +110,7 @@ class Crew:
 
     def prove(self, name):
         """Proves a crate, and answers the tasks that try its edits."""
-        self.say(f"{name}: proved without edits: {spent([self.workshop.prove(name)])}")
+        self.say(f"{name}: proved without edits: {spent([self.workshop.prove(name, name in self.edits)])}")
         self.proved.add(name)
         return self.trials_of(name)
 

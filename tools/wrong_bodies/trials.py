@@ -44,10 +44,13 @@ class Workshop:
         self.kept = () if from_nothing else KEPT
         self.crates = crates_of(root)
 
-    def prove(self, name):
-        """Proves a crate as it stands, over those below it, which have to be proved already, and keeps its work."""
-        home = os.path.join(self.folder, name)
-        self.furnish(home, name, os.path.join(self.root, "crates", name), self.kept)
+    def prove(self, name, is_tried):
+        """Proves a crate as it stands, over those below it, which have to be proved already, and keeps its work.
+
+        What checks kept of a crate of which no edit is tried isn't copied but for its library.
+        """
+        home, kept = os.path.join(self.folder, name), self.kept if is_tried else self.kept[1:]
+        self.furnish(home, name, os.path.join(self.root, "crates", name), kept)
         is_program = os.path.isfile(os.path.join(home, "crates", name, "src", "main.rt"))
         check = run_rt(home, name, "check" if is_program else "lib")
         if check.status:
