@@ -1,5 +1,5 @@
 // Clients of the running database on threads: loads beside a writer, and commits. Called by `main`
-// for `bench loads` and `bench commits`.
+// for `bench loads` and `bench commits`, and by `held`, which opens a database.
 use crate::commands::{create, load, save};
 use cluster_core::{Config, Splits};
 use runtime::{Client, Done, End, Waits, begin, open};
@@ -24,6 +24,9 @@ const COMMANDS: u32 = 100;
 const READERS: [u32; 3] = [1, 2, 4];
 
 const WRITERS: [u32; 2] = [1, 4];
+
+// How many versions the database goes back.
+const WINDOW: u64 = 1_000;
 
 // What a client does over and over.
 #[derive(Drop)]
@@ -105,30 +108,43 @@ fn worked<E: End, R: Wait + Clock>(rt: &R, alloc: Global, job: Job<E>) -> Option
     Some(done)
 }
 
-// Makes the store and its records.
-fn filled<E: End, R: Wait>(rt: &R, alloc: Global, client: &mut Client<E>) -> Option<()> {
+// Makes the store and so many records.
+fn filled<E: End, R: Wait>(
+    rt: &R,
+    alloc: Global,
+    client: &mut Client<E>,
+    records: u32,
+) -> Option<()> {
     let mut tx = begin(client).ok()?;
     tx.perform(&create(alloc).ok()?).ok()?;
     tx.commit(rt).ok()?;
-    for number in 0..RECORDS / COMMANDS {
+    for number in 0..records / COMMANDS {
         saves(rt, alloc, client, number.wrapping_mul(COMMANDS), COMMANDS)?;
     }
     Some(())
 }
 
-// So many clients of a database with a store and its records.
-fn opened<E: End, R: Wait>(rt: &R, alloc: Global, end: E, places: u32) -> Option<Vec<Client<E>>> {
+/// So many clients of a database that goes back so many versions, with a store and so many records.
+/// The last client has made them, in commits of 100.
+pub fn opened<E: End, R: Wait>(
+    rt: &R,
+    alloc: Global,
+    end: E,
+    places: u32,
+    window: u64,
+    records: u32,
+) -> Option<Vec<Client<E>>> {
     let config = Config {
         resolver_splits: Splits::new(Vec::new(alloc)),
         storage_splits: Splits::new(Vec::new(alloc)),
         logs: 1,
-        window: 1_000,
+        window,
         start: 0,
         places: u64::from(places),
     };
     let mut clients = open(rt, alloc, end, &config).ok()?;
     let mut client = clients.pop()?;
-    filled(rt, alloc, &mut client)?;
+    filled(rt, alloc, &mut client, records)?;
     clients.push(client).ok()?;
     Some(clients)
 }
@@ -163,7 +179,8 @@ fn counts<R: Threads + Wait + Clock + Sync>(
     readers: u32,
     count: u32,
 ) -> Option<Vec<Option<u64>>> {
-    let clients = opened(rt, alloc, Waits { rt }, writers.wrapping_add(readers))?;
+    let places = writers.wrapping_add(readers);
+    let clients = opened(rt, alloc, Waits { rt }, places, WINDOW, RECORDS)?;
     let jobs = jobs(alloc, clients, writers, count)?;
     thread::map_vec(rt, jobs, &|job| worked(rt, alloc, job)).ok()
 }

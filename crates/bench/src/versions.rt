@@ -1,5 +1,5 @@
 // Versions pulled by one storage server: ten sets each, over keys that are written again and again.
-// Called by `main` for `bench versions`.
+// Called by `main` for `bench versions`, and by `held`, which fills a server.
 use crate::keys::key;
 use cluster_core::{Config, Splits, Tier};
 use kv_core::Mutation;
@@ -17,13 +17,13 @@ const KEYS: u32 = 10_000;
 // How many versions a server goes back.
 const WINDOW: u64 = 1_000;
 
-// One server with the empty map.
-fn server(alloc: Global) -> io::Result<Tier> {
+/// One server with the empty map, which goes back so many versions.
+pub fn server(alloc: Global, window: u64) -> io::Result<Tier> {
     let config = Config {
         resolver_splits: Splits::new(Vec::new(alloc)),
         storage_splits: Splits::new(Vec::new(alloc)),
         logs: 1,
-        window: WINDOW,
+        window,
         start: 1,
         places: 1,
     };
@@ -41,16 +41,22 @@ fn mutations_of(alloc: Global, version: u32) -> Result<Vec<Mutation>, AllocError
     Ok(mutations)
 }
 
+/// Has the server pull a version with these mutations.
+pub fn pull(tier: &mut Tier, mutations: &[Mutation]) -> io::Result<()> {
+    if !tier.has_next() {
+        return Err(io::Error::from(ErrorKind::InvalidInput));
+    }
+    tier.pull_entry(mutations)?;
+    Ok(())
+}
+
 // Pulls so many versions, and prints their time in milliseconds.
 fn measure_versions(rt: &HostRuntime, count: u32) -> io::Result<()> {
-    let mut tier = server(rt.alloc())?;
+    let mut tier = server(rt.alloc(), WINDOW)?;
     let start = Instant::now(rt)?;
     for version in 0..count {
-        if !tier.has_next() {
-            return Err(io::Error::from(ErrorKind::InvalidInput));
-        }
         let mutations = mutations_of(rt.alloc(), version)?;
-        tier.pull_entry(mutations.as_slice())?;
+        pull(&mut tier, mutations.as_slice())?;
     }
     let taken = start.elapsed(rt)?.as_millis();
     println!(rt; "{count} versions of 10 sets over {KEYS} keys: {taken} ms")

@@ -4,6 +4,6 @@ use Rattle.runtime.proofs.turn.Waits.TheSendSync as waits
 use Rattle.bench.proofs.Jobs.{job_send}
 use Rattle.bench.proofs.threads.counts.Goals as goal
 
--- src/threads.rt:167:5
+-- src/threads.rt:185:5
 pub map_vec-requires-send-J : goal.map_vec-requires-send-J
 map_vec-requires-send-J g c κs within = search (job_send, waits.the_send, sendable, crosses) depth 20
