@@ -94,13 +94,15 @@ fn turn<E: End, R: Wait>(rt: &R, alloc: Global, job: &mut Job<E>, number: u32) -
     }
 }
 
-// Works until the time is over, and answers how many loads or saves were done; none where one failed.
+// Works until the time is over, and answers how many loads or saves were done. A transaction that is
+// refused, as one that has grown too old while its thread had no processor, counts none.
 fn worked<E: End, R: Wait + Clock>(rt: &R, alloc: Global, job: Job<E>) -> Option<u64> {
     let mut job = job;
     let begun = Instant::now(rt).ok()?;
     let mut done: u64 = 0;
     for number in 0..u32::MAX {
-        done = done.wrapping_add(u64::from(turn(rt, alloc, &mut job, number)?));
+        let count = turn(rt, alloc, &mut job, number).unwrap_or(0);
+        done = done.wrapping_add(u64::from(count));
         if begun.elapsed(rt).ok()?.as_millis() >= SPAN {
             break;
         }
