@@ -20,7 +20,9 @@ use crate::layout::{place, state_key, state_value, type_range};
 use crate::scan::records_in;
 use crate::store::{Store, shared_schema};
 use kv_core::Mutation;
-use metadata::{IndexRequest, MetadataError, Record, Schema, State, TypeDefinition};
+use metadata::{
+    IndexRequest, MetadataError, PLACE_OF_RECORDS, Record, Schema, State, TypeDefinition,
+};
 use std::alloc::{AllocError, Global};
 use txn::{Snapshot, Transaction};
 
@@ -81,7 +83,7 @@ impl Store {
         let alloc = self.alloc();
         let range = type_range(alloc, self.prefix(), definition.number)?;
         let pairs = tx.get_range(db, &range, 1, false)?;
-        let place = place(alloc, self.prefix(), 1)?;
+        let place = place(alloc, self.prefix(), PLACE_OF_RECORDS)?;
         let records = records_in(alloc, place.as_slice(), definition, pairs.as_slice())?;
         Ok(state_over(records.as_slice()))
     }
