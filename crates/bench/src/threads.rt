@@ -2,7 +2,7 @@
 // for `bench loads` and `bench commits`, and by `held`, which opens a database.
 use crate::commands::{create, load, save};
 use cluster_core::{Config, Splits};
-use runtime::{Client, Done, End, Waits, begin, open};
+use runtime::{Client, CommitError, Done, End, EnterError, Waits, begin, open};
 use schedule::Reply;
 use std::alloc::Global;
 use std::io::ErrorKind;
@@ -63,7 +63,8 @@ fn loads<E: End>(alloc: Global, client: &mut Client<E>, turn: u32) -> Option<u32
     Some(found)
 }
 
-// Saves records in a transaction, and answers how many are committed.
+// Saves records in a transaction, and answers how many are committed: none where it has grown too
+// old, as it may while its thread has no processor.
 fn saves<E: End, R: Wait>(
     rt: &R,
     alloc: Global,
@@ -75,10 +76,15 @@ fn saves<E: End, R: Wait>(
     for place in 0..count {
         let number = i64::from(first.wrapping_add(place));
         let command = save(alloc, number, number).ok()?;
-        tx.perform(&command).ok()?;
+        match tx.perform(&command) {
+            Ok(_) => {}
+            Err(EnterError::TooOld) => return Some(0),
+            Err(_) => return None,
+        }
     }
     match tx.commit(rt) {
         Ok(Done::Committed { .. }) => Some(count),
+        Err(CommitError::TooOld) => Some(0),
         _ => None,
     }
 }
@@ -94,14 +100,13 @@ fn turn<E: End, R: Wait>(rt: &R, alloc: Global, job: &mut Job<E>, number: u32) -
     }
 }
 
-// Works until the time is over, and answers how many loads or saves were done. A transaction that is
-// refused, as one that has grown too old while its thread had no processor, counts none.
+// Works until the time is over, and answers how many loads or saves were done: none where one failed.
 fn worked<E: End, R: Wait + Clock>(rt: &R, alloc: Global, job: Job<E>) -> Option<u64> {
     let mut job = job;
     let begun = Instant::now(rt).ok()?;
     let mut done: u64 = 0;
     for number in 0..u32::MAX {
-        let count = turn(rt, alloc, &mut job, number).unwrap_or(0);
+        let count = turn(rt, alloc, &mut job, number)?;
         done = done.wrapping_add(u64::from(count));
         if begun.elapsed(rt).ok()?.as_millis() >= SPAN {
             break;
