@@ -126,7 +126,9 @@ fn filled<E: End, R: Wait>(
     tx.perform(&create(alloc).ok()?).ok()?;
     tx.commit(rt).ok()?;
     for number in 0..records / COMMANDS {
-        saves(rt, alloc, client, number.wrapping_mul(COMMANDS), COMMANDS)?;
+        if saves(rt, alloc, client, number.wrapping_mul(COMMANDS), COMMANDS)? < COMMANDS {
+            return None;
+        }
     }
     Some(())
 }

@@ -1,15 +1,12 @@
 // Transactions with many own writes: each set is followed by a get of an earlier key and a read of
 // ten pairs. Called by `main` for `bench transactions`.
-ghost use Rattle.txn.specs.Refusing.{NeverRefuses};
-
 use crate::keys::key;
-use cluster_core::ReadError;
-use kv_core::{Bytes, KeyRange, KvMap, Pair};
+use kv_core::{Bytes, KeyRange, KvMap};
 use std::alloc::{AllocError, Global};
 use std::io;
 use std::io::ErrorKind;
 use std::time::Instant;
-use txn::{Snapshot, Transaction};
+use txn::Transaction;
 
 // How many pairs are set in one transaction.
 const COUNTS: [u32; 2] = [5_000, 20_000];
@@ -17,54 +14,20 @@ const COUNTS: [u32; 2] = [5_000, 20_000];
 // How many pairs are read of a range.
 const PAIRS: usize = 10;
 
-// One map that stands at each version.
-#[derive(Drop)]
-struct Stored {
-    map: KvMap,
-}
-
-impl Snapshot for Stored {
-    ghost map_at = { λ stored version. stored.map };
-
-    ghost may_refuse = { λ stored. NeverRefuses };
-
-    ghost must_refuse = { λ stored range version. ⊥ };
-
-    ghost narrows = { λ stored whole part version error inside refused. absurd refused };
-
-    fn read(
-        &self,
-        range: &KeyRange,
-        _version: u64,
-        limit: usize,
-        reverse: bool,
-    ) -> Result<Vec<Pair>, ReadError> {
-        let pairs = self.map.range(range, limit, reverse)?;
-        Ok(pairs)
-    }
-
-    fn value(&self, key: &Bytes, _version: u64) -> Result<Option<Bytes>, ReadError> {
-        match self.map.get(key) {
-            Some(value) => Ok(Some(value.copy()?)),
-            None => Ok(None),
-        }
-    }
-}
-
 // A snapshot with as many pairs as will be set, with other keys.
-fn snapshot_with(alloc: Global, count: u32) -> Result<Stored, AllocError> {
+fn snapshot_with(alloc: Global, count: u32) -> Result<KvMap, AllocError> {
     let mut map = KvMap::new(alloc);
     for number in 0..count {
         let key = key(alloc, number.wrapping_add(0x8000_0000))?;
         map.insert(key.copy()?, key)?;
     }
-    Ok(Stored { map })
+    Ok(map)
 }
 
 // Sets a pair, gets the value of an earlier key, and reads the pairs from there on. It answers how many it found.
 fn turn(
     alloc: Global,
-    db: &Stored,
+    db: &KvMap,
     transaction: &mut Transaction,
     number: u32,
 ) -> io::Result<usize> {

@@ -1,11 +1,12 @@
 // The share of the keys that one resolver or storage server owns. Used by `resolver`, `kept`,
 // `pipeline`, `server` and `tier`.
-ghost use Rattle.std.specs.Prelude.{◌≡◌};
+ghost use Rattle.std.specs.Prelude.{◌≡◌, IfOk};
 ghost use Rattle.kv_core.specs.Bytes.{key_max, key_min};
 ghost use Rattle.kv_core.specs.Range.{has_keys};
-ghost use Rattle.cluster_core.specs.Decision.{owns, cut};
+ghost use Rattle.cluster_core.specs.Decision.{cut, owners, owns};
 
 use kv_core::{Bytes, KeyRange};
+use std::alloc::{AllocError, Global};
 use std::marker::Model;
 
 /// The keys that one role owns: those from `from` on, before `upto` where there is one.
@@ -21,6 +22,20 @@ impl Model for Part {
     ghost Value = { Owned };
 
     ghost view = { λ a. record { from = a.from; upto = a.upto } };
+}
+
+/// The part of each owner between the splits, in key order.
+pub(crate) fn parts_between(alloc: Global, splits: &[Bytes]) -> Result<Vec<Part>, AllocError>
+    ensures { IfOk result (λ parts. parts.items ≡ owners splits.now) }
+{
+    let mut parts = Vec::new(alloc);
+    let mut from = Bytes::new(Vec::new(alloc));
+    for split in splits {
+        parts.push(Part::new(from, Some(split.copy()?)))?;
+        from = split.copy()?;
+    }
+    parts.push(Part::new(from, None))?;
+    Ok(parts)
 }
 
 /// The later of two keys.

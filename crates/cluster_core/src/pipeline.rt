@@ -19,7 +19,7 @@ use crate::answers::{Config, ConfigError, Reported, Splits, SubmitError, Work};
 use crate::config::refusal_of;
 use crate::kept::Cause;
 use crate::log::Log;
-use crate::part::Part;
+use crate::part::{Part, parts_between};
 use crate::resolver::Resolver;
 use kv_core::{Bytes, CommitRequest, Mutation};
 use std::alloc::{AllocError, Global};
@@ -78,19 +78,14 @@ impl Model for Pipeline {
         IsPipeline a.splits a.window a.start a.requests.items a.resolvers.items a.logs.items a.reported };
 }
 
-/// A resolver for the keys between each two neighbours of the splits, in key order.
-fn resolvers_between(alloc: Global, splits: &[Bytes]) -> Result<Vec<Resolver>, AllocError>
-    ensures { IfOk result (λ resolvers. resolvers.items ≡ map fresh (owners splits.now)) }
+/// A resolver for each part of the keys.
+fn resolvers_of(alloc: Global, parts: Vec<Part>) -> Result<Vec<Resolver>, AllocError>
+    ensures { IfOk result (λ resolvers. resolvers.items ≡ map fresh parts.items) }
 {
-    let mut resolvers = Vec::new(alloc);
-    let mut from = Bytes::new(Vec::new(alloc));
-    for split in splits {
-        let part = Part::new(from, Some(split.copy()?));
-        resolvers.push(Resolver::new(alloc, part))?;
-        from = split.copy()?;
-    }
-    resolvers.push(Resolver::new(alloc, Part::new(from, None)))?;
-    Ok(resolvers)
+    parts
+        .into_iter()
+        .map(|part| Resolver::new(alloc, part))
+        .collect(alloc)
 }
 
 /// So many logs without requests.
@@ -182,7 +177,8 @@ impl Pipeline {
         ensures { IfOk result (λ pipeline.
             pipeline ≡ pipeline_state splits window start [] (map fresh (owners splits)) (replicate logs []) 0) }
     {
-        let resolvers = resolvers_between(alloc, splits.as_slice())?;
+        let parts = parts_between(alloc, splits.as_slice())?;
+        let resolvers = resolvers_of(alloc, parts)?;
         let logs = empty_logs(alloc, logs)?;
         Ok(Pipeline {
             window,

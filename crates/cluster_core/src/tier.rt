@@ -13,7 +13,7 @@ ghost use Rattle.cluster_core.specs.Tier.{ServerState, absorb, absorb_all, refus
 
 use crate::answers::{Config, ConfigError, ReadError, Splits};
 use crate::config::refusal_of;
-use crate::part::Part;
+use crate::part::{Part, parts_between};
 use crate::server::{Server, have_next, owner_among, pull_each, read_each, refusal_among};
 use kv_core::{Bytes, KeyRange, Mutation, Pair};
 use std::alloc::{AllocError, Global};
@@ -45,22 +45,18 @@ impl Model for Tier {
     ghost invariant = { λ a. IsTier a.splits a.window a.servers.items };
 }
 
-/// A server with the empty map at a version for each part between the splits.
-fn servers_between(alloc: Global, splits: &[Bytes], version: u64) -> Result<Vec<Server>, AllocError>
-    ensures owners { IfOk result (λ servers. map owner_of servers.items ≡ owners splits.now) }
+/// A server with the empty map at a version for each part of the keys.
+fn servers_of(alloc: Global, parts: Vec<Part>, version: u64) -> Result<Vec<Server>, AllocError>
+    ensures owners { IfOk result (λ servers. map owner_of servers.items ≡ parts.items) }
     ensures states { IfOk result (λ servers.
         AllByRecursion (λ server. server_state server ≡ first_server version) servers.items) }
     ensures kept { IfOk result (λ servers.
         AllByRecursion (λ server. (window : ℕ) → IsServer window server) servers.items) }
 {
     let mut servers = Vec::new(alloc);
-    let mut from = Bytes::new(Vec::new(alloc));
-    for split in splits {
-        let part = Part::new(from, Some(split.copy()?));
+    for part in parts {
         servers.push(Server::new(alloc, part, version))?;
-        from = split.copy()?;
     }
-    servers.push(Server::new(alloc, Part::new(from, None), version))?;
     Ok(servers)
 }
 
@@ -80,7 +76,8 @@ impl Tier {
             return Err(error);
         }
         let splits = config.storage_splits.copy()?;
-        let servers = servers_between(alloc, splits.as_slice(), config.start)?;
+        let parts = parts_between(alloc, splits.as_slice())?;
+        let servers = servers_of(alloc, parts, config.start)?;
         Ok(Tier {
             alloc,
             window: config.window,

@@ -27,7 +27,7 @@ edge passed cells = record { cells = cells; passed = passed }
 
 -- what a byte behind the pack of an edge's cells says is passed: 01 the keys that go on with null, FF all
 abbrev pub passed_by : ℕ → Option Passed
-passed_by byte = if byte == 1 then Some Null else if byte == 0xff then Some All else None
+passed_by byte = if byte == 0x01 then Some Null else if byte == 0xff then Some All else None
 
 -- the edge at the pack of cells and a byte behind it
 abbrev pub edge_behind : List ℕ × ℕ → Option Edge

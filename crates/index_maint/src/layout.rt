@@ -5,14 +5,9 @@ ghost use Rattle.tuple_codec.specs.Item.{int};
 ghost use Rattle.kv_core.specs.Bytes.{end_of_keys, key_lt};
 ghost use Rattle.index_maint.specs.Layout.{built_place, entries_prefix};
 
+use metadata::{PLACE_OF_BUILT_RANGES, PLACE_OF_ENTRIES};
 use std::alloc::{AllocError, Global};
 use tuple_codec::{Element, Tuple, TupleInt, pack_into};
-
-/// Under this number stand the entries of all indexes.
-const ENTRIES: u64 = 2;
-
-/// Under this number stand the built ranges of all indexes.
-const BUILT: u64 = 6;
 
 // The tuple of two numbers.
 fn pair_tuple(alloc: Global, first: u64, second: u64) -> Result<Tuple, AllocError>
@@ -32,7 +27,7 @@ fn pair_tuple(alloc: Global, first: u64, second: u64) -> Result<Tuple, AllocErro
 pub fn entries_prefix(alloc: Global, prefix: &[u8], number: u64) -> Result<Vec<u8>, AllocError>
     ensures { IfOk result (λ bytes. bytes.items ≡ entries_prefix prefix.now number) }
 {
-    let tuple = pair_tuple(alloc, ENTRIES, number)?;
+    let tuple = pair_tuple(alloc, PLACE_OF_ENTRIES, number)?;
     let mut bytes = Vec::from_slice(alloc, prefix)?;
     pack_into(&tuple, &mut bytes)?;
     Ok(bytes)
@@ -45,7 +40,7 @@ pub fn built_place(alloc: Global, prefix: &[u8], number: u64) -> Result<Vec<u8>,
     ensures below { IfOk result (λ place.
         IsTrue (key_lt prefix.now end_of_keys) → IsTrue (key_lt place.items end_of_keys)) }
 {
-    let tuple = pair_tuple(alloc, BUILT, number)?;
+    let tuple = pair_tuple(alloc, PLACE_OF_BUILT_RANGES, number)?;
     let mut place = Vec::from_slice(alloc, prefix)?;
     pack_into(&tuple, &mut place)?;
     Ok(place)

@@ -8,20 +8,20 @@ use Rattle.std.specs.Int.{w128}
 use Rattle.std.specs.Str.{all_ascii_digits}
 use Rattle.std.specs.Str.Parse.{digits_value, ParsesSigned}
 use Rattle.tuple_codec.specs.Item.{magnitude}
-use Rattle.json_forms.specs.TupleJson.{number_in, int_in}
+use Rattle.json_forms.specs.TupleJson.{decimal_in, int_in}
 
 own : IsNumeralModel (λ ds. all_ascii_digits ds ≡ true) (digits_value 10)
 own = numerals_by_value _ tells_all_ascii_digits
 
 -- the number of digits that are tested
-number_is : (ds : List ℕ) → 0 < length ds → all_ascii_digits ds ≡ true → digits_value 10 ds < 2 ^ 64 → number_in ds ≡ Some (digits_value 10 ds)
+number_is : (ds : List ℕ) → 0 < length ds → all_ascii_digits ds ≡ true → digits_value 10 ds < 2 ^ 64 → decimal_in ds ≡ Some (digits_value 10 ds)
 number_is ds some digits small = rw digits (grind (arith, nat_tests))
 
 -- digits that write too large a number, or no digits
-number_is_none : (ds : List ℕ) → ((all_ascii_digits ds ≡ true) × (0 < length ds) × (digits_value 10 ds < 2 ^ 64) → ⊥) → number_in ds ≡ None
+number_is_none : (ds : List ℕ) → ((all_ascii_digits ds ≡ true) × (0 < length ds) × (digits_value 10 ds < 2 ^ 64) → ⊥) → decimal_in ds ≡ None
 number_is_none ds none = by (all_ascii_digits ds) refl
   where
-    by : (t : Bool) → all_ascii_digits ds ≡ t → number_in ds ≡ None
+    by : (t : Bool) → all_ascii_digits ds ≡ t → decimal_in ds ≡ None
     by false e = rw e (grind (arith, nat_tests))
     by true e = rw e (grind (arith, nat_tests, none))
 
@@ -31,7 +31,7 @@ magnitude_below (suc n) = refl
 
 -- the number of a sign and digits, where it is one of a tuple
 answered : (f : ℕ → ℤ) → ((n : ℕ) → magnitude (f n) ≡ n) → (ds : List ℕ) (z : ℤ) (r : Option ℤ) → all_ascii_digits ds ≡ true → 0 < length ds → z ≡ f (digits_value 10 ds)
-    → SomeIff r (magnitude z < 2 ^ 64) z → r ≡ option_map f (number_in ds)
+    → SomeIff r (magnitude z < 2 ^ 64) z → r ≡ option_map f (decimal_in ds)
 answered f same ds z None digits some e h = sym (ap (option_map f) (number_is_none ds (λ k. h (omega (arith, k.2, ap magnitude e, same (digits_value 10 ds))))))
 answered f same ds z (Some x) digits some e h =
     ap Some (h.1 ∙ e) ∙ sym (ap (option_map f) (number_is ds some digits (omega (arith, h.0, ap magnitude e, same (digits_value 10 ds)))))
@@ -66,7 +66,7 @@ pub plus_is_no_int : (word : List ℕ) → (slice_index word 0 == 43) ≡ true �
 plus_is_no_int [] e = refl
 plus_is_no_int (d ∷ ds) e = let is : d ≡ 43 = is_code (d ∷ ds) 43 e in rw is (plus_none ds)
 
-written : (f : ℕ → ℤ) (n : ℕ) → n < 2 ^ 64 → option_map f (number_in (decimal n)) ≡ Some (f n)
+written : (f : ℕ → ℤ) (n : ℕ) → n < 2 ^ 64 → option_map f (decimal_in (decimal n)) ≡ Some (f n)
 written f n small =
     let value : digits_value 10 (decimal n) ≡ n = digits_value-decimal own n small in
     ap (option_map f) (number_is (decimal n) (decimal_nonempty n small) (digits_decimal own n small) (omega (arith, value))) ∙ ap (λ m. Some (f m)) value

@@ -15,16 +15,16 @@ use Rattle.tuple_codec.specs.Item.{Item, null, bytes, text, nested, int, bool, u
 use Rattle.json_forms.specs.Json.{only_member, json_values, each_in, all_in, hex_in}
 
 -- the number that decimal digits write, up to 2^64 - 1
-abbrev pub number_in : List ℕ → Option ℕ
-number_in digits =
+abbrev pub decimal_in : List ℕ → Option ℕ
+decimal_in digits =
     if nat_lt 0 (length digits) && all_ascii_digits digits && nat_lt (digits_value 10 digits) (2 ^ 64)
     then Some (digits_value 10 digits) else None
 
 -- the whole number of a tuple that a text writes: digits, behind a minus or not
 abbrev pub int_in : List ℕ → Option ℤ
 int_in word =
-    if slice_index word 0 == 45 then option_map (λ n. neg_ℤ (pos n)) (number_in (drop 1 word))
-    else option_map pos (number_in word)
+    if slice_index word 0 == 45 then option_map (λ n. neg_ℤ (pos n)) (decimal_in (drop 1 word))
+    else option_map pos (decimal_in word)
 
 -- the twelve bytes that a text of hexadecimal digits writes
 abbrev pub stamp_in : List ℕ → Option (List ℕ)

@@ -6,7 +6,7 @@ ghost use Rattle.serde_json.specs.View.{view};
 ghost use Rattle.json_forms.specs.CellJson.{bytes_in, cell_data, cell_in, cells_in};
 
 use crate::error::PartError;
-use crate::form::{hex_of, labelled, list_of, only_member, text_of};
+use crate::form::{hex_of, hex_value, list_of, only_member, text_of};
 use metadata::{Cell, Cells};
 use serde_json::Value;
 use std::alloc::{AllocError, Global};
@@ -49,15 +49,6 @@ pub fn cells_of(alloc: Global, value: &Value) -> Result<Cells, PartError>
         cells.push(cell_of(alloc, item)?)?;
     }
     Ok(Cells::new(cells))
-}
-
-// What stands for bytes: `{"hex":".."}`.
-fn hex_value(alloc: Global, bytes: &[u8]) -> Result<Value, AllocError>
-    ensures is { IfOk result (λ value. view value ≡ cell_data (Cell.Bytes bytes.now)) }
-    ensures read { IfOk result (λ value. cell_in (view value) ≡ Some (Cell.Bytes bytes.now)) }
-    ensures depth { IfOk result (λ value. depth (view value) ≤ 1) }
-{
-    labelled(alloc, "hex", hex::encode(alloc, bytes)?)
 }
 
 // What stands for a cell.

@@ -1,13 +1,19 @@
 // What readers of JSON share: lists, texts, numbers, and the members of objects. Called by the
 // readers here, by `script` and by `explain`.
-ghost use Rattle.std.specs.Prelude.{◌≡◌, ◌↔◌, Some, None, IsTrue, IfOk, IfErr, map, string_bytes};
+ghost use Rattle.std.specs.Prelude.{◌≡◌, ◌≤◌, ◌↔◌, ℕ, Some, None, IsTrue, IfOk, IfErr};
+ghost use Rattle.std.specs.Prelude.{map, string_bytes};
+ghost use Rattle.serde_json.specs.Data.{depth};
 ghost use Rattle.serde_json.specs.Find.{as_str, get};
 ghost use Rattle.serde_json.specs.View.{view, members_view};
+ghost use Rattle.tuple_codec.specs.Item.{bytes};
+ghost use Rattle.json_forms.specs.CellJson.{cell_data, cell_in};
 ghost use Rattle.json_forms.specs.Json.{are_among, has_only, is_among, hex_in, key_count};
 ghost use Rattle.json_forms.specs.Json.{labelled, list_in, number_in, only_member};
+ghost use Rattle.json_forms.specs.TupleJson.{json_item};
 
 use crate::error::PartError;
 use hex::FromHexError;
+use metadata::Cell;
 use serde_json::{Map, Value, put};
 use std::alloc::{AllocError, Global};
 use tuple_codec::Text;
@@ -127,4 +133,15 @@ pub(crate) fn labelled(alloc: Global, key: &str, text: String) -> Result<Value, 
     let mut members = Map::new(alloc);
     put(&mut members, alloc, key, Value::String(text))?;
     Ok(Value::Object(members))
+}
+
+// What stands for bytes, as a cell or as an element of a tuple: `{"hex":".."}`.
+pub(crate) fn hex_value(alloc: Global, content: &[u8]) -> Result<Value, AllocError>
+    ensures is { IfOk result (λ value. view value ≡ cell_data (Cell.Bytes content.now)) }
+    ensures read { IfOk result (λ value. cell_in (view value) ≡ Some (Cell.Bytes content.now)) }
+    ensures item { IfOk result (λ value.
+        (levels : ℕ) → json_item levels (view value) ≡ Some (bytes content.now)) }
+    ensures depth { IfOk result (λ value. depth (view value) ≤ 1) }
+{
+    labelled(alloc, "hex", hex::encode(alloc, content)?)
 }

@@ -3,7 +3,7 @@ ghost use Rattle.std.specs.Prelude.{◌≡◌, ◌+◌, ◌<◌, ◌≤◌, ◌^
 ghost use Rattle.std.specs.Prelude.{length, slice_index, map, option_map, string_bytes};
 ghost use Rattle.serde_json.specs.Data.{depth, items_depth};
 ghost use Rattle.serde_json.specs.View.{view, items_view};
-ghost use Rattle.tuple_codec.specs.Item.{int, bytes, uuid, stamp, nested, items_from, item_depth};
+ghost use Rattle.tuple_codec.specs.Item.{int, uuid, stamp, nested, items_from, item_depth};
 ghost use Rattle.tuple_codec.specs.Item.{nesting, magnitude};
 ghost use Rattle.tuple_codec.specs.Elements.{item_in as item_of, items_in};
 ghost use Rattle.uuid.specs.Text.{parsed};
@@ -12,7 +12,7 @@ ghost use Rattle.json_forms.specs.TupleJson.{int_in, stamp_in, of_text, object_i
 ghost use Rattle.json_forms.specs.TupleJson.{json_item, json_tuple, nested_in, tuple_of_text};
 
 use crate::error::PartError;
-use crate::form::{hex_of, labelled, list_of, only_member, str_of, text_of};
+use crate::form::{hex_of, hex_value, labelled, list_of, only_member, str_of, text_of};
 use hex::FromHex;
 use serde_json::Value;
 use std::alloc::{AllocError, Global};
@@ -165,14 +165,6 @@ pub fn tuple_of(alloc: Global, value: &Value) -> Result<Tuple, PartError>
     }
 }
 
-// What stands for bytes: `{"hex":".."}`.
-fn bytes_value(alloc: Global, content: &[u8]) -> Result<Value, AllocError>
-    ensures read { IfOk result (λ value. (levels : ℕ) → json_item levels (view value) ≡ Some (bytes content.now)) }
-    ensures depth { IfOk result (λ value. depth (view value) ≤ 1) }
-{
-    labelled(alloc, "hex", hex::encode(alloc, content)?)
-}
-
 // What stands for a whole number: `{"int":".."}` where it is no number of 64 bits with a sign.
 fn int_value(alloc: Global, number: TupleInt) -> Result<Value, AllocError>
     ensures read { IfOk result (λ value. (levels : ℕ) → json_item levels (view value) ≡ Some (int number)) }
@@ -228,7 +220,7 @@ fn element_value(alloc: Global, element: &Element, levels: u8) -> Result<Value, 
 {
     match element {
         Element::Null => Ok(Value::Null),
-        Element::Bytes(bytes) => bytes_value(alloc, bytes.as_slice()),
+        Element::Bytes(bytes) => hex_value(alloc, bytes.as_slice()),
         Element::Text(text) => Value::try_from_str(alloc, text.as_str()),
         Element::Nested(tuple) => nested_value(alloc, tuple, levels),
         Element::Int(number) => int_value(alloc, *number),

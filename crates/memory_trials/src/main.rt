@@ -10,14 +10,14 @@ use schedule::{Command, Reply, perform};
 use script::make_line;
 use std::alloc::Global;
 use std::test::Fail;
-use trial_parts::{Failing, alike, mutations_of};
+use trial_parts::{Watched, alike, mutations_of};
 use txn::Transaction;
 
 /// The reply to a command, which is performed once more where memory runs out: `asked` has `again`
 /// then.
 fn reply_of(
     alloc: Global,
-    db: &Failing,
+    db: &Watched,
     tx: &mut Transaction,
     command: &Command,
     asked: &mut String,
@@ -44,7 +44,7 @@ fn push_line(alloc: Global, asked: &mut String, reply: &Reply) -> Result<(), Fai
 /// asked again.
 fn ask(
     alloc: Global,
-    db: &Failing,
+    db: &Watched,
     tx: &mut Transaction,
     command: &Command,
 ) -> Result<String, Fail> {
@@ -57,7 +57,7 @@ fn ask(
 /// Asks each query, and prints its line.
 fn ask_each(
     rt: &HostRuntime,
-    db: &Failing,
+    db: &Watched,
     tx: &mut Transaction,
     queries: &[Command],
 ) -> Result<(), Fail> {
@@ -75,14 +75,14 @@ fn compare(alloc: Global, request: &CommitRequest) -> Result<(), Fail> {
 }
 
 /// A transaction that has written what it writes before it asks.
-fn begun(alloc: Global, db: &Failing) -> Result<Transaction, Fail> {
+fn begun(alloc: Global, db: &Watched) -> Result<Transaction, Fail> {
     let mut tx = Transaction::begin(alloc, 0);
     perform_all(alloc, db, &mut tx, OWN)?;
     Ok(tx)
 }
 
 /// Has a transaction over the store ask all queries.
-fn asked(rt: &HostRuntime, db: &Failing) -> Result<Transaction, Fail> {
+fn asked(rt: &HostRuntime, db: &Watched) -> Result<Transaction, Fail> {
     let mut tx = begun(rt.alloc(), db)?;
     let queries = commands(rt.alloc(), QUERIES)?;
     ask_each(rt, db, &mut tx, queries.as_slice())?;

@@ -5,7 +5,7 @@ use schedule::{Command, Step, perform};
 use script::script_of;
 use std::alloc::Global;
 use std::test::Fail;
-use trial_parts::Failing;
+use trial_parts::Watched;
 use txn::Transaction;
 
 /// Makes the store that stands.
@@ -51,7 +51,7 @@ pub(crate) fn commands(alloc: Global, script: &str) -> Result<Vec<Command>, Fail
 /// Performs the commands of a script, whatever they reply: what they wrote is compared later.
 pub(crate) fn perform_all(
     alloc: Global,
-    db: &Failing,
+    db: &Watched,
     tx: &mut Transaction,
     script: &str,
 ) -> Result<(), Fail> {
@@ -62,10 +62,10 @@ pub(crate) fn perform_all(
 }
 
 /// A snapshot of the store that stands.
-pub(crate) fn stored(alloc: Global) -> Result<Failing, Fail> {
-    let db = Failing::new(KvMap::new(alloc));
+pub(crate) fn stored(alloc: Global) -> Result<Watched, Fail> {
+    let db = Watched::new(KvMap::new(alloc));
     let mut tx = Transaction::begin(alloc, 0);
     perform_all(alloc, &db, &mut tx, MADE)?;
     let request = tx.into_request();
-    Ok(Failing::new(KvMap::new(alloc).with_all(request.mutations.as_slice())?))
+    Ok(Watched::new(KvMap::new(alloc).with_all(request.mutations.as_slice())?))
 }

@@ -13,13 +13,33 @@ use Rattle.metadata.specs.Entries.{IndexEntry, entry_items, index_entries}
 abbrev pub Pair : Type 0
 Pair = List ℕ × List ℕ
 
+-- ---- places: the number of its place is the first element of a key behind the store's prefix
+
+abbrev pub place_of_schema : ℕ
+place_of_schema = 0
+
+abbrev pub place_of_records : ℕ
+place_of_records = 1
+
+-- of the entries of VALUE indexes, and of the totals of the others
+abbrev pub place_of_entries : ℕ
+place_of_entries = 2
+
+abbrev pub place_of_states : ℕ
+place_of_states = 5
+
+abbrev pub place_of_built_ranges : ℕ
+place_of_built_ranges = 6
+
 -- what the keys of a place begin with: the store's prefix, and the pack of the place's number
 abbrev pub place : List ℕ → ℕ → List ℕ
 place prefix number = subspace_key prefix (int (pos number) ∷ [])
 
+-- ---- records
+
 -- the key (1, primary key) of the record with this primary key
 abbrev pub record_key : List ℕ → List Item → List ℕ
-record_key prefix key = subspace_key prefix (int (pos 1) ∷ key)
+record_key prefix key = subspace_key prefix (int (pos place_of_records) ∷ key)
 
 -- what the key of each record of the type with this number begins with: the key (1, number) under the store's prefix
 abbrev pub records_prefix : List ℕ → ℕ → List ℕ
@@ -33,9 +53,11 @@ record_value cells = spelling (items_of cells)
 abbrev pub record_pair : List ℕ → Record → Pair
 record_pair prefix r = (record_key prefix (primary_key r), record_value r.cells)
 
+-- ---- entries
+
 -- what the key of each entry of the index with this number begins with: the key (2, number) under the store's prefix
 abbrev pub entries_prefix : List ℕ → ℕ → List ℕ
-entries_prefix prefix number = subspace_key prefix (int (pos 2) ∷ int (pos number) ∷ [])
+entries_prefix prefix number = subspace_key prefix (int (pos place_of_entries) ∷ int (pos number) ∷ [])
 
 -- the key of an entry
 abbrev pub entry_key : List ℕ → ℕ → IndexEntry → List ℕ

@@ -3,6 +3,7 @@ use Rattle.std.specs.Prelude.{◌≡◌, ℕ, Bool, true, false, List, [], ◌�
 use Rattle.std.specs.declared.cmp.Ordering.{Ordering}
 use Rattle.std.specs.Ordering.{nat_cmp, int_cmp}
 use Rattle.std.specs.Cmp.Lexicographic.{slice_cmp}
+use Rattle.tuple_codec.specs.Codes.{byte_string_code, unicode_string_code, escape_code}
 use Rattle.tuple_codec.specs.Order.{bytes_cmp}
 use Rattle.tuple_codec.specs.Spelling.{escaped}
 use Rattle.tuple_codec.specs.Subspace.{BeginsWith}
@@ -30,13 +31,13 @@ cells_cmp = slice_cmp cell_cmp
 -- what may stand behind the pack of a cell: nothing, or bytes that begin below FF, as those of further cells
 abbrev pub is_tail : List ℕ → Bool
 is_tail [] = true
-is_tail (b ∷ bytes) = nat_lt b 255
+is_tail (b ∷ bytes) = nat_lt b escape_code
 
 -- what may stand there at the end of a range: that, or FF alone
 abbrev pub is_stop : List ℕ → Bool
 is_stop [] = true
 is_stop (b ∷ []) = nat_lt b 256
-is_stop (b ∷ c ∷ bytes) = nat_lt b 255
+is_stop (b ∷ c ∷ bytes) = nat_lt b escape_code
 
 -- the cells begin with those that are fixed
 abbrev pub BeginWith : List Cell → List Cell → Type 0
@@ -44,8 +45,8 @@ BeginWith fixed cells = (rest : List Cell) × (cells ≡ fixed ++ rest)
 
 -- a text or a byte string as its pack begins: without the closing 00
 abbrev pub open_pack : Cell → List ℕ
-open_pack (Text value) = 2 ∷ escaped value
-open_pack (Bytes value) = 1 ∷ escaped value
+open_pack (Text value) = unicode_string_code ∷ escaped value
+open_pack (Bytes value) = byte_string_code ∷ escaped value
 open_pack cell = []
 
 -- the cell is a text or a byte string that begins with that of its kind

@@ -11,6 +11,7 @@ mod index;
 mod index_change;
 mod index_reading;
 mod lawful;
+mod layout;
 mod names;
 mod order;
 mod reading;
@@ -27,6 +28,9 @@ pub use cells::{Cell, Cells, Kind};
 pub use definition::{Field, Fields, Names, Places, SchemaRequest, TypeDefinition, TypeRequest};
 pub use index::{IndexDefinition, IndexKind, IndexRequest, State, States};
 pub use index_change::{MAX_COLUMNS, MAX_INDEX_NUMBER, MAX_INDEXES};
+pub use layout::{
+    PLACE_OF_BUILT_RANGES, PLACE_OF_ENTRIES, PLACE_OF_RECORDS, PLACE_OF_SCHEMA, PLACE_OF_STATES,
+};
 pub use names::MAX_NAME_BYTES;
 pub use order::cells_are_ordered_as_their_packs;
 pub use record::{Record, key_of};

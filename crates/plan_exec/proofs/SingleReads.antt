@@ -1,10 +1,9 @@
 -- What a single read comes to, and what is made of what it finds.
-use Rattle.std.specs.Prelude.{◌≡◌, ◌⊎◌, ℕ, Bool, List, [], ◌∷◌, reverse, Option, Result, Ok, IfErr, IsErrAnd, if◌then◌else◌, refl}
-use Rattle.std.specs.Result.{IsErr, result_err}
+use Rattle.std.specs.Prelude.{◌≡◌, ◌⊎◌, ℕ, Bool, List, [], ◌∷◌, reverse, Option, Result, Ok, if◌then◌else◌, refl}
+use Rattle.std.specs.Result.{result_err}
 use Rattle.std.specs.FinMap.{entries, get}
 use Rattle.std.specs.FinMap.Entries.{find}
 use Rattle.std.proofs.Common.{ap, sym, ◌∙◌, subst, inl, inr}
-use Rattle.std.proofs.lemmas.Result.{err_from_is_err_and}
 use Rattle.tuple_codec.specs.Order.{bytes_cmp}
 use Rattle.kv_core.specs.Map.{Agree, Map}
 use Rattle.kv_core.specs.Map as map
@@ -26,12 +25,6 @@ use Rattle.plan_exec.specs.Reads.{PlanReading, each_found, scan_range}
 use Rattle.plan_exec.specs.declared.error.ExecError.{ExecError}
 use Rattle.plan_exec.specs.declared.error.ExecError.TheVariants.{OtherSchema, IndexNotReadable, Read, Corrupt, Memory}
 use Rattle.plan_exec.proofs.KeyRanges.{pairs_are, value_is}
-
--- EXIT: the clause on refusals at the exit of a `?`, from the one for the error that it makes
-pub exit_with : {T : Type 0} (r : Result T ExecError) (error : ExecError) (P : ExecError → Type 0) → IsErr r × IsErrAnd r (λ made. made ≡ error) → P error → IfErr r P
-exit_with r error P says p =
-    let (made, is, same) = err_from_is_err_and r says.1 in
-    subst (λ x. IfErr x P) (sym is) (subst P (sym same) p)
 
 -- the error of a refused read
 pub refused_read : (refuses : KeyRange → ℕ → ReadError → Type 0) (range other : KeyRange) (version : ℕ) (e : ReadError) → range ≡ other → (e ≡ read.Memory) ⊎ refuses range version e → IsRefusedRead refuses other version (exec_read e)

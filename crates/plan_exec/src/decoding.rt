@@ -2,6 +2,7 @@
 ghost use Rattle.std.specs.Prelude.{◌≡◌, ◌++◌, IfOk, IfErr, MatchOption, Ok};
 ghost use Rattle.tuple_codec.specs.Item.{AreBytes};
 ghost use Rattle.tuple_codec.specs.Subspace.{BeginsWith};
+ghost use Rattle.metadata.specs.Layout.{place_of_records};
 ghost use Rattle.record_store.specs.Layout.{place};
 ghost use Rattle.planner.specs.Layout.{stored_record};
 ghost use Rattle.planner.specs.Pack.{unpack};
@@ -45,7 +46,7 @@ pub(crate) fn record_in(
     definition: &Rc<TypeDefinition>,
     pair: &Pair,
 ) -> Result<Option<Record>, AllocError>
-    requires { front.now ≡ place store.now.prefix 1 }
+    requires { front.now ≡ place store.now.prefix place_of_records }
     ensures { IfOk result (λ found. found ≡ stored_record store.now.prefix definition.now.value pair.now) }
 {
     let key = pair.0.as_slice();
@@ -64,7 +65,7 @@ pub(crate) fn records_in(
     definition: &TypeDefinition,
     pairs: &[Pair],
 ) -> Result<Vec<Record>, ExecError>
-    requires { front.now ≡ place store.now.prefix 1 }
+    requires { front.now ≡ place store.now.prefix place_of_records }
     ensures found { IfOk result (λ records.
         each_found (stored_record store.now.prefix definition.now) pairs.now ≡ Ok records.items) }
     ensures damaged { IfErr result (IsDamage (each_found (stored_record store.now.prefix definition.now) pairs.now)) }

@@ -5,19 +5,17 @@ ghost use Rattle.tuple_codec.specs.Item.{int};
 ghost use Rattle.kv_core.specs.Bytes.{end_of_keys, key_lt, key_max};
 ghost use Rattle.record_store.specs.Layout.{place};
 ghost use Rattle.metadata.specs.Cell.{items_of};
-ghost use Rattle.metadata.specs.Layout.{entries_prefix, record_key, records_prefix};
+ghost use Rattle.metadata.specs.Layout.{entries_prefix, place_of_records};
+ghost use Rattle.metadata.specs.Layout.{record_key, records_prefix};
 ghost use Rattle.planner.specs.View.{range_of};
 ghost use Rattle.plan_exec.specs.Reads.{scan_range};
 
 use index_maint::entries_prefix;
 use kv_core::{Bytes, KeyRange};
-use metadata::{Cells, IndexDefinition, TypeDefinition};
+use metadata::{Cells, IndexDefinition, PLACE_OF_RECORDS, TypeDefinition};
 use record_store::Store;
 use std::alloc::{AllocError, Global};
 use tuple_codec::{ByteString, Element, Tuple, TupleInt, pack_into};
-
-/// Under this number stand all records.
-const RECORDS: u64 = 1;
 
 // The tuple of a number alone.
 fn number_tuple(alloc: Global, number: u64) -> Result<Tuple, AllocError>
@@ -33,10 +31,10 @@ fn number_tuple(alloc: Global, number: u64) -> Result<Tuple, AllocError>
 
 // What the keys of all records begin with.
 pub(crate) fn records_place(store: &Store) -> Result<Vec<u8>, AllocError>
-    ensures key { IfOk result (λ key. key.items ≡ place store.now.prefix 1) }
+    ensures key { IfOk result (λ key. key.items ≡ place store.now.prefix place_of_records) }
     ensures below { OnOk result (IsTrue (key_lt store.now.prefix end_of_keys)) }
 {
-    let tuple = number_tuple(store.alloc(), RECORDS)?;
+    let tuple = number_tuple(store.alloc(), PLACE_OF_RECORDS)?;
     let mut key = Vec::from_slice(store.alloc(), store.prefix())?;
     pack_into(&tuple, &mut key)?;
     Ok(key)
@@ -68,7 +66,7 @@ pub(crate) fn record_key(
     front: &[u8],
     primary_key: &Cells,
 ) -> Result<Bytes, AllocError>
-    requires { front.now ≡ place store.now.prefix 1 }
+    requires { front.now ≡ place store.now.prefix place_of_records }
     ensures key { IfOk result (λ key. key ≡ record_key store.now.prefix (items_of primary_key.now)) }
     ensures below { IfOk result (λ key. IsTrue (key_lt key end_of_keys)) }
 {

@@ -7,7 +7,7 @@ ghost use Rattle.kv_core.specs.Bytes.{end_of_keys, key_lt};
 ghost use Rattle.record_store.specs.Layout.{place};
 ghost use Rattle.record_store.specs.Steps.{DidRead};
 ghost use Rattle.metadata.specs.Cell.{items_of};
-ghost use Rattle.metadata.specs.Layout.{record_key as key_of_record};
+ghost use Rattle.metadata.specs.Layout.{place_of_records, record_key as key_of_record};
 ghost use Rattle.planner.specs.Meaning.{pairs_scanned};
 ghost use Rattle.planner.specs.Range.{behind};
 ghost use Rattle.planner.specs.View.{index_scan_of, range_of, scan_of};
@@ -131,7 +131,7 @@ fn record_at(
     key: Bytes,
     value: Option<Bytes>,
 ) -> Result<Record, ExecError>
-    requires front { front.now ≡ place store.now.prefix 1 }
+    requires front { front.now ≡ place store.now.prefix place_of_records }
     requires key { key ≡ key_of_record store.now.prefix (items_of primary_key.now) }
     ensures found { IfOk result (λ found.
         record_found store.now.prefix definition.now.value entries.now primary_key.now value ≡ Ok found) }
@@ -160,7 +160,7 @@ fn fetch_record<S: Snapshot>(
     entries: &[Entry],
     primary_key: &Cells,
 ) -> Result<Record, ExecError>
-    requires { front.now ≡ place store.now.prefix 1 }
+    requires { front.now ≡ place store.now.prefix place_of_records }
     ensures found { IfOk result (λ found. HasFound (S.map_at db.now)
         (λ pairs. record_reading store.now.prefix pairs definition.now.value entries.now primary_key.now) found
         tx.old tx.new) }

@@ -31,8 +31,8 @@ pub data Bound : Type 0 where
 abbrev pub begin_of : Bound → List ℕ
 begin_of (above v) = pack_cell v ++ 0xff ∷ []
 begin_of (from v) = pack_cell v
-begin_of (below v) = 1 ∷ []
-begin_of (up_to v) = 1 ∷ []
+begin_of (below v) = 0x01 ∷ []
+begin_of (up_to v) = 0x01 ∷ []
 begin_of (prefixed s) = open_pack s
 
 -- where they end

@@ -88,11 +88,11 @@ fn begin_of(alloc: Global, bound: Bound) -> Result<Vec<u8>, AllocError>
     ensures { IfOk result (λ begin. begin.items ≡ begin_of (bound_of bound.entry)) }
 {
     match bound {
-        Bound::Above(value) => pack_and(alloc, value, 255),
+        Bound::Above(value) => pack_and(alloc, value, 0xff),
         Bound::From(value) => pack_cell(alloc, value),
         Bound::Below(_) | Bound::UpTo(_) => {
             let mut begin = Vec::new(alloc);
-            begin.push(1)?;
+            begin.push(0x01)?;
             Ok(begin)
         }
         Bound::Prefixed(part) => open_pack(alloc, part),
@@ -106,11 +106,11 @@ fn end_of(alloc: Global, bound: Bound) -> Result<Vec<u8>, AllocError>
     match bound {
         Bound::Above(_) | Bound::From(_) => {
             let mut end = Vec::new(alloc);
-            end.push(255)?;
+            end.push(0xff)?;
             Ok(end)
         }
         Bound::Below(value) => pack_cell(alloc, value),
-        Bound::UpTo(value) => pack_and(alloc, value, 255),
+        Bound::UpTo(value) => pack_and(alloc, value, 0xff),
         Bound::Prefixed(part) => {
             let begin = open_pack(alloc, part)?;
             behind_all(alloc, begin.as_slice())
@@ -193,7 +193,7 @@ pub(crate) fn matched_range(alloc: Global, m: &Match) -> Result<KeyRange, AllocE
     add_fixed(alloc, m.fixed.as_slice(), &mut front)?;
     let begin = latest_begin(alloc, Vec::new(alloc), m.bounds.as_slice())?;
     let mut last = Vec::new(alloc);
-    last.push(255)?;
+    last.push(0xff)?;
     let end = earliest_end(alloc, last, m.bounds.as_slice())?;
     let first = behind(alloc, front.as_slice(), begin.as_slice())?;
     let end = later(begin, end);

@@ -68,7 +68,7 @@ fn scans_all(node: &Node) -> bool
 {
     match node {
         Node::Scan(scan) => scan.range.begin.as_slice().is_empty()
-            && scan.range.end.as_slice() == [255u8].as_slice(),
+            && scan.range.end.as_slice() == [0xffu8].as_slice(),
         Node::Fetch(source) => has_full(source),
         Node::Filter(_, part) => scans_all(part),
         Node::Union(parts) | Node::UnorderedUnion(parts) => one_scans_all(parts.as_slice()),

@@ -1,8 +1,6 @@
 -- Which pairs stand for a range.
-use Rattle.std.proofs.Common.{◌≡◌, ℕ, arith, false, ◌&&◌, List, [], ◌∷◌, ◌++◌, Some, None, Result, Ok, Err, IfErr, IfOk, IsErr, sym, ap, subst, ◌∙◌}
-use Rattle.std.specs.Prelude.{IsErrAnd}
+use Rattle.std.proofs.Common.{◌≡◌, ℕ, arith, false, ◌&&◌, List, [], ◌∷◌, ◌++◌, Some, None, Result, Ok, Err, IfErr, IfOk, sym, ap, subst, ◌∙◌}
 use Rattle.std.proofs.lemmas.Bool.{true≢false}
-use Rattle.std.proofs.lemmas.Result.{err_from_is_err_and}
 use Rattle.tuple_codec.specs.Item.{Item, IsTuple, AreBytes, bytes}
 use Rattle.tuple_codec.specs.Subspace.{SpellsUnder, subspace_key}
 use Rattle.tuple_codec.proofs.Prefixes.{key_spells}
@@ -13,12 +11,6 @@ use Rattle.range_set.specs.declared.error.RangeSetError.{RangeSetError}
 use Rattle.range_set.specs.declared.error.RangeSetError.TheVariants.{Memory, Read, Corrupt}
 use Rattle.range_set.specs.Steps.{IsNoStoredRange, IsPairOfNoRange, IsPairOfRange, IsSpelledAs, IsUnspelled, only_bytes}
 use Rattle.range_set.specs.Stored.{IsStoredRange}
-
--- what a `?` passes on
-pub exit_with : {T : Type 0} (r : Result T RangeSetError) (error : RangeSetError) (P : RangeSetError → Type 0) → IsErr r × IsErrAnd r (λ made. made ≡ error) → P error → IfErr r P
-exit_with r error P says p =
-    let (made, is, same) = err_from_is_err_and r says.1 in
-    subst (λ x. IfErr x P) (sym is) (subst P (sym same) p)
 
 pub if_err_map : {T : Type 0} (r : Result T RangeSetError) (P Q : RangeSetError → Type 0) → ((error : RangeSetError) → P error → Q error) → IfErr r P → IfErr r Q
 if_err_map (Ok value) P Q f h = tt

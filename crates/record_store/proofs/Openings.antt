@@ -1,8 +1,5 @@
 -- What reading a record and opening a store establish.
-use Rattle.std.proofs.Common.{◌≡◌, inl, inr, ℕ, Bool, true, false, cond, List, [], ◌∷◌, ◌++◌, refl, sym, ap, subst, subst₂, ◌∙◌, Option, Some, None, Result, append-nil, map, pos}
-use Rattle.std.specs.Prelude.{IfErr}
-use Rattle.std.specs.Result.{IsErr, IsErrAnd}
-use Rattle.std.proofs.lemmas.Result.{err_from_is_err_and}
+use Rattle.std.proofs.Common.{◌≡◌, inl, inr, ℕ, Bool, true, false, cond, List, [], ◌∷◌, ◌++◌, refl, sym, ap, subst, subst₂, ◌∙◌, Option, Some, None, append-nil, map, pos}
 use Rattle.std.specs.List.{AllByRecursion, filter}
 use Rattle.std.specs.FinMap.{entries, get}
 use Rattle.tuple_codec.specs.Item.{int}
@@ -37,12 +34,6 @@ use Rattle.record_store.proofs.RecordPairs.{at_key, none_bad, pairs_at}
 
 abbrev Pair : Type 0
 Pair = List ℕ × List ℕ
-
--- EXIT: the clause on refusals at the exit of a `?`, from the one for the error that it makes
-pub exit_with : {T : Type 0} (r : Result T StoreError) (error : StoreError) (P : StoreError → Type 0) → IsErr r × IsErrAnd r (λ made. made ≡ error) → P error → IfErr r P
-exit_with r error P says p =
-    let (made, is, same) = err_from_is_err_and r says.1 in
-    subst (λ x. IfErr x P) (sym is) (subst P (sym same) p)
 
 module _ (prefix : List ℕ) where
   pub both_read : {maps : ℕ → Map} {old mid new : CommitRequest} {F G : Map → Type 0} → DidRead maps (point (schema_key prefix) ∷ []) old mid F → DidRead maps (states_range prefix ∷ []) mid new G →

@@ -17,6 +17,7 @@ use Rattle.metadata.specs.Written.{schema_bytes}
 use Rattle.index_maint.specs.Kept.{HasKept}
 use Rattle.index_maint.specs.Layout.{entries_prefix}
 use Rattle.record_store.specs.Store.{Store, Serial, built_of, state_of}
+use Rattle.metadata.specs.Layout.{place_of_records, place_of_states}
 use Rattle.record_store.specs.Layout.{built_place, place, record_pair, schema_key, state_pair}
 
 -- a record of the schema: the schema's type of its name makes it of its cells
@@ -73,21 +74,21 @@ HasPositions Disabled prefix number ranges m = (bytes : List ℕ) → get m (bui
 -- a key of no place: it isn't the schema's, and no record, entry, total, state or built range can have it
 pub record IsElsewhere (prefix : List ℕ) (indexes : List IndexDefinition) (key : List ℕ) : Type 0 where
   pub schema : key ≡ schema_key prefix → ⊥
-  pub records : BeginsWith (place prefix 1) key → ⊥
+  pub records : BeginsWith (place prefix place_of_records) key → ⊥
   pub entries : IsNoEntry prefix indexes key
-  pub states : BeginsWith (place prefix 5) key → ⊥
+  pub states : BeginsWith (place prefix place_of_states) key → ⊥
   pub ranges : IsNoRange prefix indexes key
 
 -- under the prefix the map has just what stands for this lawful store
 pub record HoldsStore (prefix : List ℕ) (m : Map) (store : Store) : Type 0 where
   pub lawful : IsLawful store
   pub schema : get m (schema_key prefix) ≡ Some (schema_bytes store.schema)
-  pub records : HasPairs (place prefix 1) (map (record_pair prefix) store.records) m
+  pub records : HasPairs (place prefix place_of_records) (map (record_pair prefix) store.records) m
   pub entries :
       AllByRecursion
       (λ index. HasKept (state_of store index.number) prefix index (built_of store index.number) store.records m)
       store.schema.indexes
-  pub states : HasPairs (place prefix 5) (map (state_pair prefix) store.states) m
+  pub states : HasPairs (place prefix place_of_states) (map (state_pair prefix) store.states) m
   pub ranges :
       AllByRecursion
       (λ index. HasPositions (state_of store index.number) prefix index.number (built_of store index.number) m)

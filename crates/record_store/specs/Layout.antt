@@ -1,12 +1,13 @@
 -- The keys and values that stand for a store under its prefix.
 use Rattle.std.specs.Prelude.{ℕ, List, [], ◌∷◌, ◌++◌, pos}
+use Rattle.tuple_codec.specs.Codes.{highest_byte}
 use Rattle.tuple_codec.specs.Item.{int}
 use Rattle.tuple_codec.specs.Spelling.{spelling}
 use Rattle.tuple_codec.specs.Subspace.{range_begin, range_end, subspace_key}
 use Rattle.kv_core.specs.Range.{KeyRange}
 use Rattle.metadata.specs.declared.index.State.{State}
 use Rattle.metadata.specs.declared.index.State.TheVariants.{Readable, WriteOnly, Disabled}
-use Rattle.metadata.specs.Layout.{Pair, entries_prefix, records_prefix}
+use Rattle.metadata.specs.Layout.{Pair, entries_prefix, place_of_schema, place_of_states, records_prefix}
 use Rattle.metadata.specs.Schema.{Schema}
 use Rattle.metadata.specs.Written.{schema_bytes}
 use Rattle.range_set.specs.Calls.{whole_range}
@@ -15,11 +16,12 @@ pub use Rattle.index_maint.specs.Layout.{built_place}
 
 -- the key (0) of the schema
 abbrev pub schema_key : List ℕ → List ℕ
-schema_key prefix = place prefix 0
+schema_key prefix = place prefix place_of_schema
 
 -- the range of the place (5), for the states of indexes
 abbrev pub states_range : List ℕ → KeyRange
-states_range prefix = record { begin = range_begin (place prefix 5); end = range_end (place prefix 5) }
+states_range prefix =
+    record { begin = range_begin (place prefix place_of_states); end = range_end (place prefix place_of_states) }
 
 -- the pair that stands for a schema
 abbrev pub schema_pair : List ℕ → Schema → Pair
@@ -27,7 +29,7 @@ schema_pair prefix schema = (schema_key prefix, schema_bytes schema)
 
 -- the key (5, number) of the state of the index with this number
 abbrev pub state_key : List ℕ → ℕ → List ℕ
-state_key prefix number = subspace_key prefix (int (pos 5) ∷ int (pos number) ∷ [])
+state_key prefix number = subspace_key prefix (int (pos place_of_states) ∷ int (pos number) ∷ [])
 
 -- states are 1 write-only, 2 disabled; that of an index that is readable is never written
 abbrev pub state_number : State → ℕ
@@ -45,7 +47,7 @@ state_pair prefix listed = (state_key prefix listed.0, state_value listed.1)
 -- the range of the entries of the index with this number
 abbrev pub entries_range : List ℕ → ℕ → KeyRange
 entries_range prefix number =
-    record { begin = entries_prefix prefix number; end = entries_prefix prefix number ++ 255 ∷ [] }
+    record { begin = entries_prefix prefix number; end = entries_prefix prefix number ++ highest_byte ∷ [] }
 
 -- the range of the keys of the built ranges of the index with this number
 abbrev pub built_range : List ℕ → ℕ → KeyRange
@@ -54,4 +56,4 @@ built_range prefix number = whole_range (built_place prefix number)
 -- the range of the records of the type with this number
 abbrev pub type_range : List ℕ → ℕ → KeyRange
 type_range prefix number =
-    record { begin = records_prefix prefix number; end = records_prefix prefix number ++ 255 ∷ [] }
+    record { begin = records_prefix prefix number; end = records_prefix prefix number ++ highest_byte ∷ [] }

@@ -18,9 +18,11 @@ use crate::error::StoreError;
 use crate::indexes::with_state;
 use crate::layout::{place, state_key, state_value, type_range};
 use crate::scan::records_in;
-use crate::store::{Store, shared_schema};
+use crate::store::{Store, lawful_known, shared_schema};
 use kv_core::Mutation;
-use metadata::{IndexRequest, MetadataError, Record, Schema, State, TypeDefinition};
+use metadata::{
+    IndexRequest, MetadataError, PLACE_OF_RECORDS, Record, Schema, State, TypeDefinition,
+};
 use std::alloc::{AllocError, Global};
 use txn::{Snapshot, Transaction};
 
@@ -58,8 +60,9 @@ impl Store {
         ensures lawful { IfOk result IsLawfulSchema }
         ensures refused { IfErr result (λ error. IsRefusedAs error (add_index self.now.schema request.now)) }
     {
-        let _prefix = self.prefix();
-        let mut next = self.schema().copy()?;
+        let old = self.schema();
+        lawful_known(old);
+        let mut next = old.copy()?;
         next.add_index(request)?;
         Ok(next)
     }
@@ -81,7 +84,7 @@ impl Store {
         let alloc = self.alloc();
         let range = type_range(alloc, self.prefix(), definition.number)?;
         let pairs = tx.get_range(db, &range, 1, false)?;
-        let place = place(alloc, self.prefix(), 1)?;
+        let place = place(alloc, self.prefix(), PLACE_OF_RECORDS)?;
         let records = records_in(alloc, place.as_slice(), definition, pairs.as_slice())?;
         Ok(state_over(records.as_slice()))
     }

@@ -9,7 +9,7 @@ ghost use Rattle.record_store.specs.Reading.{IsThere};
 use crate::error::StoreError;
 use crate::layout::schema_key;
 use crate::opening::{read_schema, read_states};
-use crate::store::{Store, shared_schema};
+use crate::store::{Store, lawful_known, shared_schema};
 use kv_core::{Bytes, Mutation};
 use metadata::Schema;
 use std::alloc::{AllocError, Global};
@@ -62,7 +62,7 @@ impl Store {
             IsUncreated (S.map_at db.now) (S.may_refuse db.now)
             (record { prefix = prefix.now; schema = schema.now; states = [] }) error tx.old tx.new) }
     {
-        let _lawful = schema.types();
+        lawful_known(schema);
         let written = read_schema(alloc, prefix, tx, db)?;
         let _states = read_states(alloc, prefix, tx, db)?;
         refuse_store(&written)?;

@@ -21,7 +21,7 @@ ghost use Rattle.record_store.specs.Calls.{index_states, opened_without, state_n
 use crate::create::schema_mutations;
 use crate::error::StoreError;
 use crate::layout::{built_range, entries_range, state_key};
-use crate::store::{Store, shared_schema};
+use crate::store::{Store, lawful_known, shared_schema};
 use kv_core::{KeyRange, Mutation};
 use metadata::{MetadataError, Refusal, Schema, State};
 use std::alloc::{AllocError, Global};
@@ -96,8 +96,9 @@ impl Store {
         ensures next { IfOk result (λ next. next ≡ without_index self.now.schema number) }
         ensures lawful { IfOk result IsLawfulSchema }
     {
-        let _prefix = self.prefix();
-        let mut next = self.schema().copy()?;
+        let old = self.schema();
+        lawful_known(old);
+        let mut next = old.copy()?;
         match next.drop_index(name) {
             Ok(()) => Ok(next),
             Err(_) => unreachable!(),

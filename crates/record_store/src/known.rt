@@ -8,7 +8,7 @@ ghost use Rattle.record_store.specs.Reading.{IsBadSchema};
 
 use crate::error::StoreError;
 use crate::layout::schema_key;
-use crate::store::shared_schema;
+use crate::store::{lawful_known, shared_schema};
 use kv_core::Bytes;
 use metadata::{MetadataError, Schema};
 use std::alloc::{AllocError, Global};
@@ -92,7 +92,7 @@ impl Written {
         ensures made { IfOk result (λ found. IfSome found (λ schema. IsLawfulSchema schema.value)) }
         ensures bytes { IfOk result (λ found. IfSome found (λ schema. bytes.now ≡ schema_bytes schema.value)) }
     {
-        let _lawful = self.schema.types();
+        lawful_known(&self.schema);
         if self.bytes.as_slice() == bytes.as_slice() {
             let schema = self.schema.clone()?;
             Ok(Some(schema))

@@ -10,7 +10,7 @@ ghost use Rattle.record_store.specs.Layout.{state_key, state_number, state_value
 
 use index_maint::{built_place, entries_prefix};
 use kv_core::{Bytes, KeyRange};
-use metadata::{Cells, State};
+use metadata::{Cells, PLACE_OF_RECORDS, PLACE_OF_SCHEMA, PLACE_OF_STATES, State};
 use std::alloc::{AllocError, Global};
 use tuple_codec::{Element, Subspace, Tuple, TupleInt, pack, pack_into};
 
@@ -40,7 +40,7 @@ pub(crate) fn schema_key(alloc: Global, prefix: &[u8]) -> Result<Bytes, AllocErr
     ensures key { IfOk result (λ key. key ≡ schema_key prefix.now) }
     ensures below { IfOk result (λ key. IsTrue (key_lt key end_of_keys)) }
 {
-    let key = place(alloc, prefix, 0)?;
+    let key = place(alloc, prefix, PLACE_OF_SCHEMA)?;
     Ok(Bytes::new(key))
 }
 
@@ -49,7 +49,7 @@ pub(crate) fn states_range(alloc: Global, prefix: &[u8]) -> Result<KeyRange, All
     requires { IsTrue (key_lt prefix.now end_of_keys) }
     ensures { IfOk result (λ range. range ≡ states_range prefix.now) }
 {
-    let ends = Subspace::new(place(alloc, prefix, 5)?).range(alloc)?;
+    let ends = Subspace::new(place(alloc, prefix, PLACE_OF_STATES)?).range(alloc)?;
     match KeyRange::new(Bytes::new(ends.begin), Bytes::new(ends.end)) {
         Some(range) => Ok(range),
         None => unreachable!(),
@@ -66,7 +66,7 @@ pub(crate) fn record_key(
     ensures key { IfOk result (λ key. key ≡ record_key prefix.now primary_key.now) }
     ensures below { IfOk result (λ key. IsTrue (key_lt key end_of_keys)) }
 {
-    let mut key = place(alloc, prefix, 1)?;
+    let mut key = place(alloc, prefix, PLACE_OF_RECORDS)?;
     pack_into(primary_key, &mut key)?;
     Ok(Bytes::new(key))
 }
@@ -137,7 +137,7 @@ pub(crate) fn state_key(alloc: Global, prefix: &[u8], number: u64) -> Result<Byt
     ensures below { IfOk result (λ key. IsTrue (key_lt key end_of_keys)) }
 {
     let tuple = number_tuple(alloc, number)?;
-    let mut key = place(alloc, prefix, 5)?;
+    let mut key = place(alloc, prefix, PLACE_OF_STATES)?;
     pack_into(&tuple, &mut key)?;
     Ok(Bytes::new(key))
 }

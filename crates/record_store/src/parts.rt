@@ -11,7 +11,7 @@ use crate::layout::{place, positions_range};
 use crate::scan::{Records, records_in};
 use crate::store::Store;
 use kv_core::KeyRange;
-use metadata::{IndexDefinition, TypeDefinition};
+use metadata::{IndexDefinition, PLACE_OF_RECORDS, TypeDefinition};
 use txn::{Snapshot, Transaction};
 
 // The type with this number.
@@ -58,7 +58,7 @@ impl Store {
         let definition = self.type_over(index);
         let keys = positions_range(alloc, self.prefix(), index.type_number, range)?;
         let pairs = tx.get_range(db, &keys, limit, false)?;
-        let place = place(alloc, self.prefix(), 1)?;
+        let place = place(alloc, self.prefix(), PLACE_OF_RECORDS)?;
         let records = records_in(alloc, place.as_slice(), definition, pairs.as_slice())?;
         Ok(Records::new(records))
     }

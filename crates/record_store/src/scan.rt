@@ -11,7 +11,7 @@ use crate::error::StoreError;
 use crate::layout::{place, type_range};
 use crate::store::Store;
 use kv_core::Pair;
-use metadata::{Record, TypeDefinition};
+use metadata::{PLACE_OF_RECORDS, Record, TypeDefinition};
 use std::alloc::Global;
 use std::marker::Model;
 use tuple_codec::Text;
@@ -122,7 +122,7 @@ impl Store {
         let definition = self.definition(type_name)?;
         let range = type_range(self.alloc(), self.prefix(), definition.number)?;
         let pairs = tx.get_all(db, &range)?;
-        let place = place(self.alloc(), self.prefix(), 1)?;
+        let place = place(self.alloc(), self.prefix(), PLACE_OF_RECORDS)?;
         let records = records_in(self.alloc(), place.as_slice(), definition, pairs.as_slice())?;
         Ok(Records::new(records))
     }

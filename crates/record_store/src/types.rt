@@ -10,7 +10,7 @@ ghost use Rattle.record_store.specs.Calls.{type_call};
 
 use crate::create::schema_mutations;
 use crate::error::StoreError;
-use crate::store::{Store, shared_schema};
+use crate::store::{Store, lawful_known, shared_schema};
 use metadata::{MetadataError, Schema, TypeRequest};
 use txn::Transaction;
 
@@ -21,8 +21,9 @@ impl Store {
         ensures lawful { IfOk result IsLawfulSchema }
         ensures refused { IfErr result (λ error. IsRefusedAs error (add_type self.now.schema request.now)) }
     {
-        let _prefix = self.prefix();
-        let mut next = self.schema().copy()?;
+        let old = self.schema();
+        lawful_known(old);
+        let mut next = old.copy()?;
         next.add_type(request)?;
         Ok(next)
     }

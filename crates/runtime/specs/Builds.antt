@@ -87,8 +87,8 @@ pub record IsBuilt (index : List ℕ) (old new : Knowledge) (totals : Totals) : 
 -- ---- turns of a worker
 
 -- Private: the transaction has performed one command more, with this reply
-abbrev pub Adds : Option Work → Command → Reply → Option Work → Type 0
-Adds old command reply new =
+abbrev pub AddsAttempt : Option Work → Command → Reply → Option Work → Type 0
+AddsAttempt old command reply new =
     (work : Work) → old ≡ Some work →
     (after : Work) × (new ≡ Some after)
     × (after.trace.attempts ≡ work.trace.attempts ++ record { command = command; reply = reply } ∷ [])

@@ -1,7 +1,7 @@
 // The worker that builds an index beside other clients. Called by `race`.
 ghost use Rattle.std.specs.Prelude.{◌≡◌, ◌+◌, ◌<◌, ◌⊎◌, [], Some, Ok, true, IfOk, IfSome, MatchOption};
 ghost use Rattle.kv_core.specs.Range.{KeyRange};
-ghost use Rattle.runtime.specs.Builds.{Adds, Commits, HasWorked, IsBuilt, IsTurn};
+ghost use Rattle.runtime.specs.Builds.{AddsAttempt, Commits, HasWorked, IsBuilt, IsTurn};
 ghost use Rattle.runtime.specs.Builds.{has_ended, is_committed_result, records_of, steps_of};
 ghost use Rattle.runtime.specs.Runs.{Continues, GoesOnFrom};
 ghost use Rattle.runtime.specs.declared.work.Work.{Work as TheWork};
@@ -91,7 +91,7 @@ fn built_records(reply: Reply) -> Result<Option<usize>, RunError>
 fn reply_to<E: End>(client: &mut Client<E>, command: &Command) -> Result<Option<Reply>, RunError>
     ensures continues { Continues client.old client.new }
     ensures adds { IfOk result (λ answer. IfSome answer (λ reply.
-        Adds client.old.begun command.now reply client.new.begun)) }
+        AddsAttempt client.old.begun command.now reply client.new.begun)) }
 {
     match client.perform_here(command) {
         Ok(reply) => Ok(Some(reply)),
@@ -108,7 +108,7 @@ fn ask_for_part<E: End>(
 ) -> Result<Option<Reply>, RunError>
     ensures continues { Continues client.old client.new }
     ensures adds { IfOk result (λ answer. IfSome answer (λ reply.
-        Adds client.old.begun (Command.Build index.now limit) reply client.new.begun)) }
+        AddsAttempt client.old.begun (Command.Build index.now limit) reply client.new.begun)) }
 {
     let build = Command::Build(index.copy()?, limit);
     reply_to(client, &build)
@@ -118,7 +118,7 @@ fn ask_for_part<E: End>(
 fn ask_for_mark<E: End>(client: &mut Client<E>, index: &Text) -> Result<Option<Reply>, RunError>
     ensures continues { Continues client.old client.new }
     ensures adds { IfOk result (λ answer. IfSome answer (λ reply.
-        Adds client.old.begun (Command.Readable index.now) reply client.new.begun)) }
+        AddsAttempt client.old.begun (Command.Readable index.now) reply client.new.begun)) }
 {
     let readable = Command::Readable(index.copy()?);
     reply_to(client, &readable)
@@ -129,7 +129,7 @@ fn mark<E: End>(client: &mut Client<E>, index: &Text) -> Result<Turn, RunError>
     ensures continues { Continues client.old client.new }
     ensures kinds { IfOk result (λ turn. (turn ≡ Turn.Marked) ⊎ (turn ≡ Turn.Nothing)) }
     ensures adds { result ≡ Ok Turn.Marked
-        → Adds client.old.begun (Command.Readable index.now) Reply.Done client.new.begun }
+        → AddsAttempt client.old.begun (Command.Readable index.now) Reply.Done client.new.begun }
 {
     let Some(reply) = ask_for_mark(client, index)? else {
         return Ok(Turn::Nothing);

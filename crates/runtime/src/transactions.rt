@@ -1,16 +1,13 @@
 // Open transactions, with a call for each command. Used by `running`, and by `race`,
 // `embed_threads` and `bench`.
-ghost use Rattle.std.specs.Prelude.{◌≡◌, ◌++◌, ◌∷◌, [], Some, false, Ok, IfOk, IfErr};
+ghost use Rattle.std.specs.Prelude.{◌≡◌, [], Some, false, Ok, IfOk};
 ghost use Rattle.std.specs.Borrow.{sem, RestsIfErr};
 ghost use mathlib.Core.List.{IsPrefix};
 ghost use Rattle.runtime.specs.contracts.client.Client.{the_row};
 ghost use Rattle.schedule.specs.Past.{is_changed};
 ghost use Rattle.runtime.specs.Calls.{HasPerformed};
-ghost use Rattle.runtime.specs.Clients.{knows_that};
 ghost use Rattle.runtime.specs.Commits.{Answers};
 ghost use Rattle.runtime.specs.Lists.{attempts_of};
-ghost use Rattle.runtime.specs.Runs.{Continues};
-ghost use Rattle.runtime.specs.Serves.{IsAnswer, IsUnanswered, KeepsList};
 
 use crate::answers::{CommitError, Done};
 use crate::client::Client;
@@ -54,20 +51,8 @@ impl<E: End> Txn<'_, E> {
     /// the transaction can go on; after `Memory` it has read the first of the command's ranges.
     pub fn perform(&mut self, command: &Command) -> Result<Reply, EnterError>
         ensures same_reference { self.new.client.ghost_name ≡ self.old.client.ghost_name }
-        ensures same { self.new.client.now
-            ≡ knows_that self.old.client.now.name self.new.client.now.list
-            self.old.client.now.number self.old.client.now.last self.new.client.now.begun }
-        ensures list { KeepsList result self.old.client.now.list self.new.client.now.list }
-        ensures continues { Continues self.old.client.now self.new.client.now }
-        ensures answer { (work : _) → self.old.client.now.begun ≡ Some work → IfOk result (λ reply.
-            IsAnswer work.front.name.config work.front.list work.transaction work.trace.attempts command.now reply) }
-        ensures grown { (work : _) → self.old.client.now.begun ≡ Some work → IfOk result (λ reply.
-            (after : _) × (self.new.client.now.begun ≡ Some after) × (after.front ≡ work.front)
-            × (after.trace.attempts ≡ work.trace.attempts ++ record { command = command.now; reply = reply } ∷ [])) }
-        ensures refused { (work : _) → self.old.client.now.begun ≡ Some work → IfErr result (λ error.
-            (after : _) × (self.new.client.now.begun ≡ Some after) × (after.front ≡ work.front)
-            × IsUnanswered work.front self.new.client.now.list error command.now
-            work.transaction work.trace after.transaction after.trace) }
+        ensures performed { HasPerformed command.now
+            self.old.client.now result self.new.client.now }
     {
         self.client.perform_here(command)
     }

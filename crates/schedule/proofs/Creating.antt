@@ -35,7 +35,7 @@ use Rattle.schedule.specs.Layout.{store_prefix}
 use Rattle.schedule.specs.Serve.{IsReply, served_create}
 use Rattle.schedule.specs.Holds.{Stands}
 use Rattle.schedule.specs.Reach.{opened_in, added_by, make_reach, open_reach, reach, schema_written, writes}
-use Rattle.schedule.specs.Performed.{IsCommandSound, IsLimited, IsMade, IsMadeOf, IsPerformed, IsPerformedAt, IsTold}
+use Rattle.schedule.specs.Performed.{IsCommandSound, IsLimited, IsMade, IsMadeOf, IsPerformed, IsPerformedAt, TellsOfPairs}
 use Rattle.schedule.specs.Calls.{IsCommandRefused, reply_of}
 use Rattle.schedule.proofs.Reached.{begin_open, next_within, opening_asked}
 use Rattle.schedule.proofs.Stops.{IsRight, IsStop, limit_right, own_right, read_right, refused_by, refused_memory, stop_memory, told_read, told_refused}
@@ -98,7 +98,7 @@ uncreated_at {refuses = refuses} {old = old} request schema error made is = refu
     sound : (m : Map) (refusal : Refusal) → IsMade (reply.Refused refusal) m → IsCommandSound None (Create request) (reply.Refused refusal) m
     sound m refusal is_made = subst (λ o. IsMadeOf o (reply.Refused refusal) m) (sym made) is_made
 
-    limited : (m : Map) → get m (schema_key store_prefix) ≡ None → (error : WriteError) (answer : Reply) → reply_of (Write error) ≡ Some answer → IsTold None (Create request) answer m
+    limited : (m : Map) → get m (schema_key store_prefix) ≡ None → (error : WriteError) (answer : Reply) → reply_of (Write error) ≡ Some answer → TellsOfPairs None (Create request) answer m
     limited m none write.KeyOutside answer same = told_refused None (Create request) KeyOutside answer m same (sound m KeyOutside none)
     limited m none write.KeyTooLarge answer same = told_refused None (Create request) KeyTooLarge answer m same (sound m KeyTooLarge none)
     limited m none write.ValueTooLarge answer same = told_refused None (Create request) ValueTooLarge answer m same (sound m ValueTooLarge none)

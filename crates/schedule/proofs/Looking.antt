@@ -35,7 +35,7 @@ use Rattle.schedule.specs.Past.{is_accepted, is_reading}
 use Rattle.schedule.specs.Holds.{Stands}
 use Rattle.schedule.specs.Reach.{opened_in, added_by, open_reach, own_damage, own_reading, reach, writes}
 use Rattle.schedule.specs.Performed.{IsCommandSound, IsLimited, IsPerformed, IsPerformedAt, IsReadAs, IsReadRefusedAs}
-use Rattle.schedule.specs.Performed.{IsTold}
+use Rattle.schedule.specs.Performed.{TellsOfPairs}
 use Rattle.schedule.specs.Calls.{IsCommandRefused, reply_of}
 use Rattle.schedule.proofs.Reached.{added_begin, all_added, alone, begin_open, next_within, opening_added, opening_asked, own_asked, sound_by, sound_none, told_accepted}
 use Rattle.schedule.proofs.Stops.{HasStopped, IsRight, IsStop, at, limit_right, memory_opened, own_right, read_right, refused_by, served_idle, opened_is, stop_memory, told_damage, told_limit, told_read, told_refused}
@@ -47,7 +47,7 @@ pub record Looks (opened : Opened) (command : Command) (answer : Reply) : Type 0
   pub reads : own_reading (Some opened) command ≡ whole []
   pub undamaged : (m : Map) → own_damage (Some opened) command m ≡ None
   pub reading : is_reading command answer ≡ true
-  pub told : (m : Map) → IsCommandSound (Some opened) command answer m → IsTold (Some opened) command answer m
+  pub told : (m : Map) → IsCommandSound (Some opened) command answer m → TellsOfPairs (Some opened) command answer m
   pub replies : (store : Store) → IsOpenAs opened store → IsReply (Some store) command answer
   pub idle : (store : Store) → IsOpenAs opened store → writes (Some store) command ≡ []
   pub leaves : (store : Store) → IsOpenAs opened store → effect (Some store) command ≡ Some store

@@ -27,7 +27,7 @@ use Rattle.schedule.specs.declared.reply.Reply.TheVariants as reply
 use Rattle.schedule.specs.Layout.{store_prefix}
 use Rattle.schedule.specs.Planning.{IsPlanReply, IsPlanned}
 use Rattle.schedule.specs.Query.{Unrefused, states_of}
-use Rattle.schedule.specs.Performed.{IsCommandSound, IsPerformed, IsTold}
+use Rattle.schedule.specs.Performed.{IsCommandSound, IsPerformed, TellsOfPairs}
 use Rattle.schedule.specs.Past.{is_reading}
 use Rattle.schedule.specs.Refusals.{of_query}
 use Rattle.schedule.proofs.Looking.{Looks, looked}
@@ -44,7 +44,7 @@ plan_told schema states query plan none served asked typed is =
 -- what the reply to a plan tells, whatever is there
 record IsLook (opened : Opened) (query : Query) (answer : Reply) : Type 0 where
   reading : is_reading (Plan query) answer ≡ true
-  told : (m : Map) → IsCommandSound (Some opened) (Plan query) answer m → IsTold (Some opened) (Plan query) answer m
+  told : (m : Map) → IsCommandSound (Some opened) (Plan query) answer m → TellsOfPairs (Some opened) (Plan query) answer m
 
 look_refused : (opened : Opened) (query : Query) (refusal : Refusal) (answer : Reply) → answer ≡ reply.Refused refusal → IsLook opened query answer
 look_refused opened query refusal answer is = subst (IsLook opened query) (sym is) (record { reading = refl; told = told_refusal (Some opened) (Plan query) refusal })

@@ -24,7 +24,7 @@ use Rattle.schedule.specs.declared.reply.Reply.{Reply}
 use Rattle.schedule.specs.declared.reply.Reply.TheVariants as reply
 use Rattle.schedule.specs.Layout.{store_prefix}
 use Rattle.schedule.specs.Past.{is_accepted}
-use Rattle.schedule.specs.Performed.{HasAdded, HasAddedSo, IsCommandSound, IsMadeOf, IsReadRefusedAs, IsSoundSo, IsTold}
+use Rattle.schedule.specs.Performed.{HasAdded, HasAddedSo, IsCommandSound, IsMadeOf, IsReadRefusedAs, IsSoundSo, TellsOfPairs}
 use Rattle.schedule.specs.Performed.{is_unread}
 use Rattle.schedule.specs.Reach.{added_by, open_reach, own_damage, own_reading, reach}
 
@@ -100,14 +100,14 @@ opening_added opened command m opens none = sym (append-nil (opening_reach store
 -- ---- what a reply tells
 
 -- that all pairs are of the written form
-pub told_refusal : (opened : Option Opened) (command : Command) (refusal : Refusal) (m : Map) → IsCommandSound opened command (reply.Refused refusal) m → IsTold opened command (reply.Refused refusal) m
+pub told_refusal : (opened : Option Opened) (command : Command) (refusal : Refusal) (m : Map) → IsCommandSound opened command (reply.Refused refusal) m → TellsOfPairs opened command (reply.Refused refusal) m
 told_refusal opened command refusal m sound = by_test (is_unread (reply.Refused refusal))
   where
     by_test : (b : Bool) → IsSoundSo b opened command (reply.Refused refusal) m
     by_test true = tt
     by_test false = sound
 
-pub told_accepted : (opened : Option Opened) (command : Command) (answer : Reply) (m : Map) → is_accepted answer ≡ true → IsCommandSound opened command answer m → IsTold opened command answer m
+pub told_accepted : (opened : Option Opened) (command : Command) (answer : Reply) (m : Map) → is_accepted answer ≡ true → IsCommandSound opened command answer m → TellsOfPairs opened command answer m
 told_accepted opened command (reply.Refused refusal) m is sound = absurd (cc)
 told_accepted opened command (reply.Corrupt key) m is sound = absurd (cc)
 told_accepted opened command (reply.Begun version) m is sound = sound

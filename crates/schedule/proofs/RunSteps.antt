@@ -22,7 +22,7 @@ use Rattle.planner.specs.Asked.{AskedPlan}
 use Rattle.schedule.specs.Past.{Past, submitted_in}
 use Rattle.schedule.specs.Contract.{AreRequestsOf, HasRightReplies, HoldsCommitted, IsReplyTo, IsRightRun, IsSerial, past_of}
 use Rattle.schedule.specs.Standing.{cluster_after, cluster_stepped}
-use Rattle.schedule.specs.Running.{AreKept, HasRun, IsFirst, IsStandingAt, IsSteppedWith, Stands, Steps, kept}
+use Rattle.schedule.specs.Running.{AreKept, HasRun, IsFirst, IsStandingAt, IsSteppedWith, StandsAfter, Steps, kept}
 use Rattle.schedule.proofs.ClientSteps.{standing_as}
 use Rattle.schedule.proofs.Composed.{are_requests, holds_all, is_serial}
 use Rattle.schedule.proofs.Growing.{each_reply_append, past_of_append}
@@ -74,7 +74,7 @@ next_run config steps replies step reply old new run next = record {
       ap (cluster_after config (new.cluster.pipeline.requests ++ more)) (one_more_past config steps replies step reply old run)
       ∙ ap (cluster_stepped (new.cluster.pipeline.requests ++ more) step reply) (ap (λ full. cluster_after config full (past_of [] steps replies)) (longer more) ∙ run.cluster (next.added ++ more))
       ∙ next.moved more;
-  stands = subst (λ past. Stands past new) (sym (one_more_past config steps replies step reply old run)) next.after;
+  stands = subst (λ past. StandsAfter past new) (sym (one_more_past config steps replies step reply old run)) next.after;
 }
   where
     longer : (more : List CommitRequest) → new.cluster.pipeline.requests ++ more ≡ old.cluster.pipeline.requests ++ (next.added ++ more)

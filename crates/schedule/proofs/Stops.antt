@@ -1,8 +1,5 @@
 -- What is so where a command stops with an error.
-use Rattle.std.proofs.Common.{◌≡◌, ℕ, true, false, cond, List, [], ◌⊎◌, inl, refl, sym, ap, subst, Option, Some, None, Result}
-use Rattle.std.specs.Prelude.{IfErr}
-use Rattle.std.specs.Result.{IsErr, IsErrAnd}
-use Rattle.std.proofs.lemmas.Result.{err_from_is_err_and}
+use Rattle.std.proofs.Common.{◌≡◌, ℕ, true, false, cond, List, [], ◌⊎◌, inl, refl, sym, ap, subst, Option, Some, None}
 use Rattle.kv_core.specs.Range.{KeyRange}
 use Rattle.kv_core.specs.Map.{Map}
 use Rattle.kv_core.specs.Limits.{write_all_refusal}
@@ -34,16 +31,10 @@ use Rattle.schedule.specs.Past.{is_accepted, is_reading}
 use Rattle.schedule.specs.Holds.{Stands}
 use Rattle.schedule.specs.Reach.{opened_in, added_by, open_reach, own_reading, reach, writes}
 use Rattle.schedule.specs.Performed.{HasAdded, HasOpened, IsCommandSound, IsDamaged, IsLimit, IsLimited, IsReadRefusal}
-use Rattle.schedule.specs.Performed.{IsReadRefusedAs, IsServed, IsTold}
+use Rattle.schedule.specs.Performed.{IsReadRefusedAs, IsServed, TellsOfPairs}
 use Rattle.schedule.specs.Refusals.{of_schema}
 use Rattle.schedule.specs.Calls.{IsCommandRefused, reply_of}
 use Rattle.schedule.proofs.Reached.{all_added, begin_open, told_refusal}
-
--- EXIT: the clause on refusals at the exit of a `?`, from the one for the error that it makes
-pub exit_with : {T : Type 0} (r : Result T StoreError) (error : StoreError) (P : StoreError → Type 0) → IsErr r × IsErrAnd r (λ made. made ≡ error) → P error → IfErr r P
-exit_with r error P says p =
-    let (made, is, same) = err_from_is_err_and r says.1 in
-    subst (λ x. IfErr x P) (sym is) (subst P (sym same) p)
 
 -- what was opened, at the store's prefix
 abbrev pub at : Opened → Opened
@@ -164,7 +155,7 @@ IsRight refuses command before error m serial = (answer : Reply) → reply_of er
 pub record IsStop (refuses : KeyRange → ReadError → Type 0) (opened : Option Opened) (command : Command) (before : List Mutation) (error : StoreError) (ranges : List KeyRange) (m : Map) : Type 0 where
   pub there : HasOpened opened m
   pub reads : HasStopped error (added_by opened command m) ranges
-  pub told : (answer : Reply) → reply_of error ≡ Some answer → IsTold opened command answer m
+  pub told : (answer : Reply) → reply_of error ≡ Some answer → TellsOfPairs opened command answer m
   pub held : (serial : Serial) → Stands m serial → IsRight refuses command before error m serial × HasStopped error (added_by (opened_in serial) command m) ranges
 
 -- REFUSED: reads, and then an error that is right at all that may be there
@@ -221,25 +212,25 @@ read_right refuses within read.TooOld answer is says = let same : reply.Refused 
 read_right refuses within read.Memory answer is says = absurd (cc)
 
 -- such a reply tells nothing of what was read
-pub told_read : (opened : Option Opened) (command : Command) (error : ReadError) (answer : Reply) (m : Map) → reply_of (Read error) ≡ Some answer → IsTold opened command answer m
-told_read opened command read.FutureVersion answer m is = let same : reply.Refused FutureVersion ≡ answer = cc in subst (λ a. IsTold opened command a m) same tt
-told_read opened command read.TooOld answer m is = let same : reply.Refused TooOld ≡ answer = cc in subst (λ a. IsTold opened command a m) same tt
+pub told_read : (opened : Option Opened) (command : Command) (error : ReadError) (answer : Reply) (m : Map) → reply_of (Read error) ≡ Some answer → TellsOfPairs opened command answer m
+told_read opened command read.FutureVersion answer m is = let same : reply.Refused FutureVersion ≡ answer = cc in subst (λ a. TellsOfPairs opened command a m) same tt
+told_read opened command read.TooOld answer m is = let same : reply.Refused TooOld ≡ answer = cc in subst (λ a. TellsOfPairs opened command a m) same tt
 told_read opened command read.Memory answer m is = absurd (cc)
 
 -- the reply that a damaged pair is
-pub told_damage : (opened : Option Opened) (command : Command) (key : List ℕ) (answer : Reply) (m : Map) → reply_of (Corrupt key) ≡ Some answer → IsDamaged opened command key m → IsTold opened command answer m
-told_damage opened command key answer m is damaged = let same : reply.Corrupt key ≡ answer = cc in subst (λ a. IsTold opened command a m) same damaged
+pub told_damage : (opened : Option Opened) (command : Command) (key : List ℕ) (answer : Reply) (m : Map) → reply_of (Corrupt key) ≡ Some answer → IsDamaged opened command key m → TellsOfPairs opened command answer m
+told_damage opened command key answer m is damaged = let same : reply.Corrupt key ≡ answer = cc in subst (λ a. TellsOfPairs opened command a m) same damaged
 
 -- the reply that a refusal is
-pub told_refused : (opened : Option Opened) (command : Command) (refusal : Refusal) (answer : Reply) (m : Map) → ◌≡◌ {A = Option Reply} (Some (reply.Refused refusal)) (Some answer) → IsCommandSound opened command (reply.Refused refusal) m → IsTold opened command answer m
-told_refused opened command refusal answer m is sound = let same : reply.Refused refusal ≡ answer = cc in subst (λ a. IsTold opened command a m) same (told_refusal opened command refusal m sound)
+pub told_refused : (opened : Option Opened) (command : Command) (refusal : Refusal) (answer : Reply) (m : Map) → ◌≡◌ {A = Option Reply} (Some (reply.Refused refusal)) (Some answer) → IsCommandSound opened command (reply.Refused refusal) m → TellsOfPairs opened command answer m
+told_refused opened command refusal answer m is sound = let same : reply.Refused refusal ≡ answer = cc in subst (λ a. TellsOfPairs opened command a m) same (told_refusal opened command refusal m sound)
 
 -- the reply that a limit is
-pub told_limit : (opened : Option Opened) (command : Command) (error : WriteError) (answer : Reply) (m : Map) → reply_of (Write error) ≡ Some answer → ((refusal : Refusal) → (refusal ≡ AlreadyThere → ⊥) → IsCommandSound opened command (reply.Refused refusal) m) → IsTold opened command answer m
-told_limit opened command write.KeyOutside answer m is sound = let same : reply.Refused KeyOutside ≡ answer = cc in subst (λ a. IsTold opened command a m) same (sound KeyOutside (λ none. absurd (cc)))
-told_limit opened command write.KeyTooLarge answer m is sound = let same : reply.Refused KeyTooLarge ≡ answer = cc in subst (λ a. IsTold opened command a m) same (sound KeyTooLarge (λ none. absurd (cc)))
-told_limit opened command write.ValueTooLarge answer m is sound = let same : reply.Refused ValueTooLarge ≡ answer = cc in subst (λ a. IsTold opened command a m) same (sound ValueTooLarge (λ none. absurd (cc)))
-told_limit opened command write.TransactionTooLarge answer m is sound = let same : reply.Refused TransactionTooLarge ≡ answer = cc in subst (λ a. IsTold opened command a m) same (sound TransactionTooLarge (λ none. absurd (cc)))
+pub told_limit : (opened : Option Opened) (command : Command) (error : WriteError) (answer : Reply) (m : Map) → reply_of (Write error) ≡ Some answer → ((refusal : Refusal) → (refusal ≡ AlreadyThere → ⊥) → IsCommandSound opened command (reply.Refused refusal) m) → TellsOfPairs opened command answer m
+told_limit opened command write.KeyOutside answer m is sound = let same : reply.Refused KeyOutside ≡ answer = cc in subst (λ a. TellsOfPairs opened command a m) same (sound KeyOutside (λ none. absurd (cc)))
+told_limit opened command write.KeyTooLarge answer m is sound = let same : reply.Refused KeyTooLarge ≡ answer = cc in subst (λ a. TellsOfPairs opened command a m) same (sound KeyTooLarge (λ none. absurd (cc)))
+told_limit opened command write.ValueTooLarge answer m is sound = let same : reply.Refused ValueTooLarge ≡ answer = cc in subst (λ a. TellsOfPairs opened command a m) same (sound ValueTooLarge (λ none. absurd (cc)))
+told_limit opened command write.TransactionTooLarge answer m is sound = let same : reply.Refused TransactionTooLarge ≡ answer = cc in subst (λ a. TellsOfPairs opened command a m) same (sound TransactionTooLarge (λ none. absurd (cc)))
 told_limit opened command write.Memory answer m is sound = absurd (cc)
 
 -- a reply by which the command writes nothing

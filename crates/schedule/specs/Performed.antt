@@ -131,9 +131,9 @@ IsSoundSo true opened command answer m = Unit {0}
 IsSoundSo false opened command answer m = IsCommandSound opened command answer m
 
 -- what the reply tells of the pairs that were read
-abbrev pub IsTold : Option Opened → Command → Reply → Map → Type 0
-IsTold opened command (Corrupt key) m = IsDamaged opened command key m
-IsTold opened command answer m = IsSoundSo (is_unread answer) opened command answer m
+abbrev pub TellsOfPairs : Option Opened → Command → Reply → Map → Type 0
+TellsOfPairs opened command (Corrupt key) m = IsDamaged opened command key m
+TellsOfPairs opened command answer m = IsSoundSo (is_unread answer) opened command answer m
 
 -- by what was opened, which the map has, the command read just these ranges of it, and the reply tells of damage only
 -- where it is
@@ -141,7 +141,7 @@ pub record IsReadAs (opened : Option Opened) (command : Command) (answer : Reply
     Type 0 where
   pub there : HasOpened opened m
   pub reads : HasAdded answer (added_by opened command m) added
-  pub told : IsTold opened command answer m
+  pub told : TellsOfPairs opened command answer m
 
 -- a command was performed: over every map that agrees with what was read, what was read is as the reply says, and it
 -- was so for all that this map holds; and it wrote something exactly where the command with this reply changes

@@ -76,8 +76,8 @@ IsStanding opens submissions database =
     database.commits.items
 
 -- the database is what the steps and replies so far have made
-abbrev pub Stands : Past → Database → Type 0
-Stands past database = IsStanding (λ client. open_of client past) (submitted_in past) database
+abbrev pub StandsAfter : Past → Database → Type 0
+StandsAfter past database = IsStanding (λ client. open_of client past) (submitted_in past) database
 
 -- the database at the start
 pub record IsFirst (config : Config) (database : Database) : Type 0 where
@@ -94,11 +94,11 @@ pub record Steps (past : Past) (step : Step) (reply : Reply) (old new : Database
       ≡ new.cluster
   pub added : List CommitRequest
   pub grown : new.cluster.pipeline.requests ≡ old.cluster.pipeline.requests ++ added
-  pub after : Stands ((step, reply) ∷ past) new
+  pub after : StandsAfter ((step, reply) ∷ past) new
 
 -- a step was done, whatever steps the database had behind it
 abbrev pub IsStepped : Step → Reply → Database → Database → Type 0
-IsStepped step reply old new = (past : Past) → Stands past old → Steps past step reply old new
+IsStepped step reply old new = (past : Past) → StandsAfter past old → Steps past step reply old new
 
 -- the clients' places have the plans that they keep
 abbrev pub AreKept : Past → List (Option AskedPlan) → Type 0
@@ -107,7 +107,7 @@ AreKept past plans = (client : ℕ) → client < CLIENTS → get_or plans client
 -- so a step was done, where the clients kept these plans
 abbrev pub IsSteppedWith : List (Option AskedPlan) → Step → Reply → Database → Database → Type 0
 IsSteppedWith plans step reply old new =
-    (past : Past) → Stands past old → AreKept past plans → Steps past step reply old new
+    (past : Past) → StandsAfter past old → AreKept past plans → Steps past step reply old new
 
 -- a command was performed in an open transaction, which keeps it where it is accepted
 pub record IsPerformedBy (c : ClusterState) (command : Command) (reply : Reply) (old new : OpenTransaction) :
@@ -121,7 +121,7 @@ pub record IsPerformedBy (c : ClusterState) (command : Command) (reply : Reply) 
 -- transaction, or no plan
 abbrev pub IsUnplanned : ℕ → Reply → Database → Type 0
 IsUnplanned client reply database =
-    (past : Past) → Stands past database →
+    (past : Past) → StandsAfter past database →
     OfClient client reply (InTransaction (open_of client past) (λ open_now. reply ≡ Refused NoPlan) reply)
 
 -- what was submitted, after a commit with this reply
@@ -211,4 +211,4 @@ pub record HasRun (config : Config) (steps : List Step) (replies : List Reply) (
   pub cluster :
       (more : List CommitRequest) → cluster_after config (database.cluster.pipeline.requests ++ more)
       (past_of [] steps replies) ≡ database.cluster
-  pub stands : Stands (past_of [] steps replies) database
+  pub stands : StandsAfter (past_of [] steps replies) database

@@ -2,7 +2,7 @@
 // `running`.
 ghost use Rattle.std.specs.Prelude.{◌≡◌, ◌≤◌, IfOk};
 ghost use Rattle.schedule.specs.Past.{Past, is_accepted};
-ghost use Rattle.schedule.specs.Running.{IsPerformedBy, IsStepped, IsSteppedWith, IsSubmit, IsUnplanned, Stands};
+ghost use Rattle.schedule.specs.Running.{IsPerformedBy, IsStepped, IsSteppedWith, IsSubmit, IsUnplanned, StandsAfter};
 
 use crate::database::{Database, OpenTransaction, Unreported};
 use crate::kept_plans::KeptPlans;
@@ -153,7 +153,7 @@ impl Database {
 
     // A client submits its transaction, which ends.
     pub(crate) fn commit(&mut self, client: u64) -> Result<Reply, AllocError>
-        requires { (past : Past) × Stands past self.old }
+        requires { (past : Past) × StandsAfter past self.old }
         ensures { IfOk result (λ reply. IsStepped (Step.Commit client) reply self.old self.new) }
     {
         if client >= CLIENTS as u64 {

@@ -4,7 +4,7 @@ ghost use Rattle.cluster_core.specs.Configuration.{config_refusal};
 ghost use Rattle.cluster_core.specs.declared.answers.Config.{Config as Configuration};
 ghost use Rattle.cluster_core.specs.declared.answers.ConfigError.{ConfigError as ConfigRefusal};
 ghost use Rattle.schedule.specs.Past.{Past};
-ghost use Rattle.schedule.specs.Running.{HasRun, IsFirst, IsSteppedWith, Stands};
+ghost use Rattle.schedule.specs.Running.{HasRun, IsFirst, IsSteppedWith, StandsAfter};
 
 use crate::database::Database;
 use crate::kept_plans::KeptPlans;
@@ -24,7 +24,7 @@ impl Database {
         known: &mut KnownSchema,
         step: &Step,
     ) -> Result<Reply, AllocError>
-        requires { (past : Past) × Stands past self.old }
+        requires { (past : Past) × StandsAfter past self.old }
         ensures { IfOk result (λ reply. IsSteppedWith kept.now.plans.items step.now reply self.old self.new) }
     {
         match step {

@@ -2,7 +2,7 @@
 ghost use Rattle.std.specs.Prelude.{◌≡◌, IfOk, length};
 ghost use Rattle.cluster_core.specs.Cluster.{may_pull};
 ghost use Rattle.schedule.specs.Past.{Past};
-ghost use Rattle.schedule.specs.Running.{IsStepped, Stands};
+ghost use Rattle.schedule.specs.Running.{IsStepped, StandsAfter};
 ghost use Rattle.schedule.specs.Settling.{HaveWorked, Rounds, has_worked, log_may, resolver_may};
 
 use crate::database::Database;
@@ -80,7 +80,7 @@ impl Database {
     // All roles do what there is to do, and every version is reported: rounds, until one has
     // nothing to do.
     pub(crate) fn settle(&mut self, alloc: Global) -> Result<Reply, AllocError>
-        requires { (past : Past) × Stands past self.old }
+        requires { (past : Past) × StandsAfter past self.old }
         ensures { IfOk result (λ reply. IsStepped Step.Settle reply self.old self.new) }
     {
         let mut reports = Vec::new(alloc);

@@ -5,7 +5,7 @@ use schedule::perform;
 use script::make_line;
 use std::alloc::Global;
 use std::test::Fail;
-use trial_parts::{Failing, alike, mutations_of, same, tells};
+use trial_parts::{Watched, alike, mutations_of, same, tells};
 use txn::Transaction;
 
 /// The steps that make the store that stands, and those of the transaction before it queries.
@@ -62,7 +62,7 @@ static ROWS: [(&str, u64, &str); 6] = [
 /// Performs the command of a step, which must make this line.
 fn answers(
     alloc: Global,
-    db: &Failing,
+    db: &Watched,
     tx: &mut Transaction,
     step: &str,
     told: &str,
@@ -78,7 +78,7 @@ fn answers(
 /// Performs the commands of steps, whatever they reply: what they wrote is compared later.
 fn accepted(
     alloc: Global,
-    db: &Failing,
+    db: &Watched,
     tx: &mut Transaction,
     steps: &[&'static str],
 ) -> Result<(), Fail> {
@@ -91,7 +91,7 @@ fn accepted(
 
 /// The store that stands.
 fn stored(alloc: Global) -> Result<KvMap, Fail> {
-    let db = Failing::new(KvMap::new(alloc));
+    let db = Watched::new(KvMap::new(alloc));
     let mut tx = Transaction::begin(alloc, 0);
     accepted(alloc, &db, &mut tx, &MADE)?;
     let request = tx.into_request();
@@ -102,7 +102,7 @@ fn stored(alloc: Global) -> Result<KvMap, Fail> {
 /// performed again. The transaction's writes stay.
 fn refused_at(alloc: Global, answered: u64, row: &(&str, u64, &str)) -> Result<(), Fail> {
     let (query, _, rows) = row;
-    let db = Failing::new(stored(alloc)?);
+    let db = Watched::new(stored(alloc)?);
     let mut tx = Transaction::begin(alloc, 0);
     accepted(alloc, &db, &mut tx, &OWN)?;
     db.refuse_after(answered);
@@ -124,7 +124,7 @@ fn each_refused(alloc: Global, row: &(&str, u64, &str)) -> Result<(), Fail> {
 /// A query takes so many reads.
 fn reads_taken(alloc: Global, row: &(&str, u64, &str)) -> Result<(), Fail> {
     let (query, reads, rows) = row;
-    let db = Failing::new(stored(alloc)?);
+    let db = Watched::new(stored(alloc)?);
     let mut tx = Transaction::begin(alloc, 0);
     accepted(alloc, &db, &mut tx, &OWN)?;
     db.refuse_after(*reads);

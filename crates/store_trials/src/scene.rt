@@ -1,7 +1,7 @@
 // A map and a transaction over it, in which commands are performed and a store is used. Called by
 // `stores` and `queries`.
 use json_forms::rows_text;
-use kv_core::{Bytes, CommitRequest, WriteError};
+use kv_core::{Bytes, CommitRequest, KvMap, WriteError};
 use metadata::Record;
 use record_store::{Store, StoreError};
 use schedule::{Command, Step as Scripted, perform};
@@ -10,7 +10,7 @@ use std::alloc::Global;
 use std::mem;
 use std::test::Fail;
 use trial_parts::{
-    Counted, alike, bytes_of, cells_asked, mutations_of, pair_of, same, schema_asked, shown, tells,
+    Watched, alike, bytes_of, cells_asked, mutations_of, pair_of, same, schema_asked, shown, tells,
     text_of,
 };
 use txn::Transaction;
@@ -49,7 +49,7 @@ pub(crate) const REQUEST: &str =
 #[derive(Drop)]
 pub(crate) struct Scene {
     alloc: Global,
-    db: Counted,
+    db: Watched,
     tx: Transaction,
     prefix: Bytes,
 }
@@ -194,7 +194,7 @@ pub(crate) fn take(alloc: Global, scene: &mut Scene, row: &Row) -> Result<(), Fa
 pub(crate) fn begun(alloc: Global) -> Result<Scene, Fail> {
     Ok(Scene {
         alloc,
-        db: Counted::new(alloc),
+        db: Watched::new(KvMap::new(alloc)),
         tx: Transaction::begin(alloc, 0),
         prefix: bytes_of(alloc, "1501")?,
     })

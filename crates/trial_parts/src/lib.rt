@@ -1,5 +1,5 @@
 //! What the tests of the libraries' public calls are written with: values of words, how answers are compared, and
-//! snapshots.
+//! a snapshot.
 #![tactic(auto)]
 
 mod asking;
@@ -12,5 +12,5 @@ pub use parts::{
     alike, holds, mutation_of, mutations_of, pair_of, pairs_of, range_of, ranges_of, report_text,
     request_of, same, shown, tells,
 };
-pub use snapshots::{Counted, Failing};
+pub use snapshots::Watched;
 pub use words::{bytes_of, digits_of, text_of};

@@ -2,7 +2,7 @@
 use kv_core::KvMap;
 use std::alloc::Global;
 use std::test::Fail;
-use trial_parts::{Failing, alike, mutations_of, pairs_of, range_of, ranges_of, tells};
+use trial_parts::{Watched, alike, mutations_of, pairs_of, range_of, ranges_of, tells};
 use txn::Transaction;
 
 /// How many reads are answered, and what two reads of the first pair tell, each by two reads of the
@@ -18,7 +18,7 @@ static ROWS: [(u64, &str, &str); 5] = [
 /// Whether a read of the first pair tells this.
 fn is_told(
     alloc: Global,
-    db: &Failing,
+    db: &Watched,
     transaction: &mut Transaction,
     wanted: &str,
 ) -> Result<(), Fail> {
@@ -34,7 +34,7 @@ fn is_told(
 fn reads_told(alloc: Global, row: &(u64, &str, &str)) -> Result<(), Fail> {
     let (answered, first, second) = row;
     let stored = mutations_of(alloc, "61=01 62=02 68=08 69=09")?;
-    let db = Failing::new(KvMap::new(alloc).with_all(stored.as_slice())?);
+    let db = Watched::new(KvMap::new(alloc).with_all(stored.as_slice())?);
     db.refuse_after(*answered);
     let mut transaction = Transaction::begin(alloc, 0);
     transaction.write_all(mutations_of(alloc, "61-68 6b=00")?)?;

@@ -5,7 +5,7 @@ use std::alloc::Global;
 use std::mem;
 use std::test::Fail;
 use trial_parts::{
-    Counted, alike, bytes_of, mutation_of, mutations_of, pairs_of, range_of, ranges_of, same,
+    Watched, alike, bytes_of, mutation_of, mutations_of, pairs_of, range_of, ranges_of, same,
     shown, tells,
 };
 use txn::Transaction;
@@ -154,15 +154,14 @@ static STEPS: [Row; 85] = [
 
 #[derive(Drop)]
 struct Trial {
-    db: Counted,
+    db: Watched,
     transaction: Transaction,
 }
 
 fn begun(alloc: Global, pairs: &str) -> Result<Trial, Fail> {
-    let mut db = Counted::new(alloc);
-    db.map = KvMap::from_pairs(alloc, pairs_of(alloc, pairs)?)?;
+    let map = KvMap::from_pairs(alloc, pairs_of(alloc, pairs)?)?;
     Ok(Trial {
-        db,
+        db: Watched::new(map),
         transaction: Transaction::begin(alloc, 0),
     })
 }

@@ -2,6 +2,7 @@
 // `explain`.
 ghost use Rattle.std.specs.Prelude.{◌≡◌, ◌↔◌, ◌++◌, ◌<◌, ◌^◌, ◌∷◌, List, ℕ, ℤ, [], All, IfOk, IfErr};
 ghost use Rattle.std.specs.Prelude.{Err, None, Some, option_map, true, MatchBool, MatchOption};
+ghost use Rattle.tuple_codec.specs.Codes.{highest_byte};
 ghost use Rattle.tuple_codec.specs.Item.{Item, int, magnitude, IsTuple, AreBytes};
 ghost use Rattle.tuple_codec.specs.Spelling.{spelling};
 ghost use Rattle.tuple_codec.specs.Order.{bytes_cmp, tuple_cmp};
@@ -11,6 +12,7 @@ ghost use Rattle.tuple_codec.specs.Subspace.{SpellsUnder, RefusesUnder, StripFai
 ghost use Rattle.tuple_codec.specs.declared.UnpackErrorKind.{UnpackErrorKind};
 ghost use Rattle.tuple_codec.specs.declared.StripError.TheVariants.{Outside};
 
+use crate::codes::HIGHEST_BYTE;
 use crate::unpacking::unpack;
 use crate::write::pack_into;
 use crate::{StripError, Subspace, SubspaceRange, Tuple, UnpackErrorKind, UnpackFailure};
@@ -72,9 +74,9 @@ impl Subspace {
             (range.begin.items ≡ range_begin self.now) × (range.end.items ≡ range_end self.now)) }
     {
         let mut begin = Vec::from_slice(alloc, &self.prefix)?;
-        begin.push(0)?;
+        begin.push(0x00)?;
         let mut end = Vec::from_slice(alloc, &self.prefix)?;
-        end.push(255)?;
+        end.push(HIGHEST_BYTE)?;
         Ok(SubspaceRange { begin, end })
     }
 }
@@ -85,7 +87,7 @@ pub fn strinc(alloc: Global, bytes: &[u8]) -> Result<Option<Vec<u8>>, AllocError
 {
     let mut rest = bytes;
     while let Some((last, front)) = rest.split_last() {
-        if *last != 255 {
+        if *last != HIGHEST_BYTE {
             let mut end = Vec::from_slice(alloc, front)?;
             end.push(*last + 1)?;
             return Ok(Some(end));
@@ -116,5 +118,5 @@ pub fn integers_do_not_begin_each_other()
 /// exactly where all bytes of x are FF.
 pub fn prefixes_are_ranges()
     ensures ranges { (x key : List ℕ) → AreBytes x → AreBytes key → BeginsWith x key ↔ IsWithin x (strinc x) key }
-    ensures none { (x : List ℕ) → (strinc x ≡ None) ↔ All (λ b. b ≡ 255) x }
+    ensures none { (x : List ℕ) → (strinc x ≡ None) ↔ All (λ b. b ≡ highest_byte) x }
 {}

@@ -4,10 +4,12 @@
 
 ghost use Rattle.std.specs.Prelude.{◌≡◌, ◌<◌, ◌≤◌, ◌^◌, ◌↔◌, ℤ, pos, List, [], ◌∷◌, ◌++◌, map};
 ghost use Rattle.std.specs.Prelude.{length, IsSome, IfOk, IfErr, SomeIff, IsTrue, string_bytes};
+ghost use Rattle.tuple_codec.specs.Codes.{int_zero_code};
 ghost use Rattle.tuple_codec.specs.Item.{magnitude};
 ghost use Rattle.tuple_codec.specs.Writing.{IsSigned};
 ghost use Rattle.tuple_codec.specs.Reading.{signed};
 
+mod codes;
 mod keys;
 mod nest;
 mod number;
@@ -19,6 +21,7 @@ mod strip;
 mod unpacking;
 mod write;
 
+use codes::INT_ZERO_CODE;
 pub use keys::{integers_do_not_begin_each_other, keys_are_tuples, prefixes_are_ranges, strinc};
 pub use order::compare;
 use std::alloc::{AllocError, Global};
@@ -73,12 +76,12 @@ impl TupleInt {
 
     // The number of this magnitude, below 0 where the code says so.
     fn of_code(code: u8, n: u64) -> TupleInt
-        requires { code < 20 → 0 < n }
+        requires { code < int_zero_code → 0 < n }
         ensures { result ≡ signed code n }
     {
         let value = i128::from(n);
         TupleInt {
-            value: if code < 20 { -value } else { value },
+            value: if code < INT_ZERO_CODE { -value } else { value },
         }
     }
 

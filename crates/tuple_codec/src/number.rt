@@ -4,6 +4,7 @@ ghost use Rattle.std.specs.Int.{bytes_high_first};
 ghost use Rattle.tuple_codec.specs.Spelling.{int_spelling};
 ghost use Rattle.tuple_codec.specs.Writing.{form_bytes};
 
+use crate::codes::INT_ZERO_CODE;
 use crate::{Signed, TupleInt};
 
 // The pack of a whole number: a code, and behind it so many of the lowest bytes of a word, high
@@ -45,9 +46,9 @@ fn form_above(n: u64) -> NumberForm
     ensures count { result.count ≤ 8 }
 {
     form_by_size!(n, n;
-        1 21 0x100, 2 22 0x1_0000, 3 23 0x100_0000, 4 24 0x1_0000_0000,
-        5 25 0x100_0000_0000, 6 26 0x1_0000_0000_0000, 7 27 0x100_0000_0000_0000;
-        8 28)
+        1 0x15 0x100, 2 0x16 0x1_0000, 3 0x17 0x100_0000, 4 0x18 0x1_0000_0000,
+        5 0x19 0x100_0000_0000, 6 0x1a 0x1_0000_0000_0000, 7 0x1b 0x100_0000_0000_0000;
+        8 0x1c)
 }
 
 // A number below 0, by its magnitude.
@@ -58,9 +59,9 @@ fn form_below(n: u64) -> NumberForm
     ensures count { result.count ≤ 8 }
 {
     form_by_size!(n, u64::MAX - n;
-        1 19 0x100, 2 18 0x1_0000, 3 17 0x100_0000, 4 16 0x1_0000_0000,
-        5 15 0x100_0000_0000, 6 14 0x1_0000_0000_0000, 7 13 0x100_0000_0000_0000;
-        8 12)
+        1 0x13 0x100, 2 0x12 0x1_0000, 3 0x11 0x100_0000, 4 0x10 0x1_0000_0000,
+        5 0x0f 0x100_0000_0000, 6 0x0e 0x1_0000_0000_0000, 7 0x0d 0x100_0000_0000_0000;
+        8 0x0c)
 }
 
 impl NumberForm {
@@ -70,7 +71,7 @@ impl NumberForm {
         ensures count { result.count ≤ 8 }
     {
         match value.signed() {
-            Signed::Zero => form(20, 0, 0),
+            Signed::Zero => form(INT_ZERO_CODE, 0, 0),
             Signed::Above(n) => form_above(n),
             Signed::Below(n) => form_below(n),
         }

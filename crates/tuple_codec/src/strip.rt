@@ -6,6 +6,7 @@ ghost use Rattle.tuple_codec.specs.Spelling.{closed, escape, item_spelling, oute
 ghost use Rattle.tuple_codec.specs.Subspace.{BeginsWith};
 
 use crate::TupleInt;
+use crate::codes::{BYTE_STRING_CODE, ESCAPE_CODE, NULL_CODE, TERMINATOR, UNICODE_STRING_CODE};
 use crate::number::NumberForm;
 
 // What stands behind a byte.
@@ -27,8 +28,8 @@ fn behind_escaped(byte: u8, key: &[u8]) -> Option<&[u8]>
 {
     match behind_byte(byte, key) {
         Some(rest) => {
-            if byte == 0 {
-                behind_byte(255, rest)
+            if byte == TERMINATOR {
+                behind_byte(ESCAPE_CODE, rest)
             } else {
                 Some(rest)
             }
@@ -52,7 +53,7 @@ fn behind_closed<'a>(code: u8, string: &[u8], key: &'a [u8]) -> Option<&'a [u8]>
             None => return None,
         }
     }
-    behind_byte(0, rest)
+    behind_byte(TERMINATOR, rest)
 }
 
 // What stands behind the lowest count bytes of a word, high first, behind their code.
@@ -74,7 +75,7 @@ pub fn strip_null(key: &[u8]) -> Option<&[u8]>
         (BeginsWith (item_spelling outer null) key.now → ⊥)
         (λ rest. key.now ≡ item_spelling outer null ++ rest.now) }
 {
-    behind_byte(0, key)
+    behind_byte(NULL_CODE, key)
 }
 
 /// What stands behind the pack of a whole number, where the bytes begin with it.
@@ -93,7 +94,7 @@ pub fn strip_text<'a>(value: &str, key: &'a [u8]) -> Option<&'a [u8]>
         (BeginsWith (item_spelling outer (text value.now)) key.now → ⊥)
         (λ rest. key.now ≡ item_spelling outer (text value.now) ++ rest.now) }
 {
-    behind_closed(2, value.as_bytes(), key)
+    behind_closed(UNICODE_STRING_CODE, value.as_bytes(), key)
 }
 
 /// What stands behind the pack of the byte string of these bytes, where the bytes begin with it.
@@ -102,5 +103,5 @@ pub fn strip_bytes<'a>(value: &[u8], key: &'a [u8]) -> Option<&'a [u8]>
         (BeginsWith (item_spelling outer (bytes value.now)) key.now → ⊥)
         (λ rest. key.now ≡ item_spelling outer (bytes value.now) ++ rest.now) }
 {
-    behind_closed(1, value, key)
+    behind_closed(BYTE_STRING_CODE, value, key)
 }

@@ -1,3 +1,4 @@
+pub mod Exits
 pub mod Handling
 pub mod Merging
 pub mod Rounds

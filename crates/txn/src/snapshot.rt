@@ -1,4 +1,4 @@
-// Snapshots: the trait of what a transaction reads from, met by storage servers and clusters.
+// Snapshots: the trait of what a transaction reads from, met by storage servers, clusters and maps.
 // Called by `read` and `transaction`; each call above that reads in a transaction is given one.
 ghost use Rattle.std.specs.Prelude.{◌≡◌, ◌⊎◌, ℕ, ◌≤◌, IfOk, IfErr, OnOk, IsTrue};
 ghost use Rattle.std.specs.FinMap.{get};
@@ -11,10 +11,10 @@ ghost use Rattle.cluster_core.specs.Tier.{whole_map};
 ghost use Rattle.cluster_core.specs.declared.answers.ReadError.{ReadError as Refused};
 ghost use Rattle.txn.specs.Parts.{IsPart};
 ghost use Rattle.txn.specs.Narrowing.{cluster-narrows, tier-narrows};
-ghost use Rattle.txn.specs.Refusing.{MayRefuse, MustRefuse};
+ghost use Rattle.txn.specs.Refusing.{MayRefuse, MustRefuse, NeverRefuses};
 
 use cluster_core::{Cluster, ReadError, Tier};
-use kv_core::{Bytes, KeyRange, Pair};
+use kv_core::{Bytes, KeyRange, KvMap, Pair};
 
 /// A database that can be read at versions.
 pub trait Snapshot {
@@ -110,5 +110,34 @@ impl Snapshot for Cluster {
 
     fn value(&self, key: &Bytes, version: u64) -> Result<Option<Bytes>, ReadError> {
         Cluster::value(self, key, version)
+    }
+}
+
+/// One map, which stands at each version and refuses no read but where memory runs out.
+impl Snapshot for KvMap {
+    ghost map_at = { λ stored version. stored };
+
+    ghost may_refuse = { λ stored. NeverRefuses };
+
+    ghost must_refuse = { λ stored range version. ⊥ };
+
+    ghost narrows = { λ stored whole part version error inside refused. absurd refused };
+
+    fn read(
+        &self,
+        range: &KeyRange,
+        _version: u64,
+        limit: usize,
+        reverse: bool,
+    ) -> Result<Vec<Pair>, ReadError> {
+        let pairs = self.range(range, limit, reverse)?;
+        Ok(pairs)
+    }
+
+    fn value(&self, key: &Bytes, _version: u64) -> Result<Option<Bytes>, ReadError> {
+        match self.get(key) {
+            Some(value) => Ok(Some(value.copy()?)),
+            None => Ok(None),
+        }
     }
 }

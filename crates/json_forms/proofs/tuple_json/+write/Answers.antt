@@ -7,7 +7,7 @@ use Rattle.json_forms.proofs.TupleForms.{nests_at, nested_stands, values_more}
 use Rattle.json_forms.proofs.tuple_json.+write.Goals as goal
 
 pub element_value-returns-in-Bytes-clause-read : goal.element_value-returns-in-Bytes-clause-read
-element_value-returns-in-Bytes-clause-read n c = rw (c.in-Bytes.is, ← c.as_slice.ensures) (at_levels c.args.levels c.bytes_value.result _ c.bytes_value.ensures.read)
+element_value-returns-in-Bytes-clause-read n c = rw (c.in-Bytes.is, ← c.as_slice.ensures) (at_levels c.args.levels c.hex_value.result _ c.hex_value.ensures.item)
 
 pub element_value-returns-in-Int-clause-read : goal.element_value-returns-in-Int-clause-read
 element_value-returns-in-Int-clause-read n c = rw c.in-Int.is (at_levels c.args.levels c.int_value.result _ c.int_value.ensures.read)

@@ -1,6 +1,7 @@
 use Rattle.std.proofs.Common.{◌∙◌, ◌++◌, ◌∷◌, [], ap, filter, map, refl, sym}
 use Rattle.std.proofs.lemmas.List.{take_all}
 use Rattle.planner.specs.Planned.{nodes_of}
+use Rattle.txn.proofs.Exits.{exit_with}
 use Rattle.plan_exec.proofs.Steps.{joined_more, none_found, part_reading, parts_found, parts_stopped}
 use Rattle.plan_exec.proofs.Turns.{found_all, found_next, stopped_next, stopped_pushing}
 use Rattle.query.specs.Truth.{selects}
@@ -11,7 +12,6 @@ use Rattle.planner.specs.View.{node_of}
 use Rattle.plan_exec.specs.Errors.{exec_memory}
 use Rattle.plan_exec.specs.Reads.{node_reading, nodes_reading}
 use Rattle.plan_exec.proofs.Composing.{stopped_behind, stopped_made}
-use Rattle.plan_exec.proofs.SingleReads.{exit_with}
 use Rattle.plan_exec.proofs.Views.{node_of-Scan, node_of-Fetch, node_of-Filter, node_of-Union, node_of-UnorderedUnion, node_of-Distinct}
 use Rattle.plan_exec.proofs.executing.+executing.Goals as goal
 

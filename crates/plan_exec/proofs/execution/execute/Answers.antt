@@ -2,10 +2,10 @@ use Rattle.std.proofs.Common.{subst, sym}
 use Rattle.query.specs.View.{query_of}
 use Rattle.planner.specs.Right.{IsRightFor}
 use Rattle.planner.specs.View.{plan_of}
+use Rattle.txn.proofs.Exits.{exit_with}
 use Rattle.plan_exec.specs.Executing.{HasFound, HasStopped, IsExecuted}
 use Rattle.plan_exec.specs.Reads.{node_reading}
 use Rattle.plan_exec.proofs.Executed.{executed, refused}
-use Rattle.plan_exec.proofs.SingleReads.{exit_with}
 use Rattle.plan_exec.proofs.execution.execute.Goals as goal
 
 pub returns-in_err-rows-clause-refused : goal.returns-in_err-rows-clause-refused

@@ -2,12 +2,12 @@ use Rattle.std.proofs.Common.{◌+◌, List, sym, subst}
 use Rattle.std.proofs.lemmas.List.{take_all}
 use Rattle.std.specs.Prelude.{map}
 use Rattle.planner.specs.View.{index_scan_of}
+use Rattle.txn.proofs.Exits.{exit_with}
 use Rattle.plan_exec.specs.declared.entry.Entry.{Entry}
 use Rattle.plan_exec.specs.Errors.{exec_memory}
 use Rattle.plan_exec.specs.Executing.{HasFound}
 use Rattle.plan_exec.specs.Reads.{entries_reading}
 use Rattle.plan_exec.proofs.Fetches.{pushed}
-use Rattle.plan_exec.proofs.SingleReads.{exit_with}
 use Rattle.plan_exec.proofs.Turns.{firsts, found_all, found_next, stopped_next, stopped_pushing}
 use Rattle.plan_exec.proofs.fetching.all_entries.Goals as goal
 

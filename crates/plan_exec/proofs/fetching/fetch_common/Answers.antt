@@ -2,10 +2,10 @@ use Rattle.std.proofs.Common.{◌∙◌, ap, map}
 use Rattle.planner.specs.Meaning.{in_key_order, keys_in_all}
 use Rattle.planner.specs.Plan.{intersection}
 use Rattle.planner.specs.View.{index_scan_of}
+use Rattle.txn.proofs.Exits.{exit_with}
 use Rattle.plan_exec.specs.Errors.{exec_memory}
 use Rattle.plan_exec.specs.Reads.{first_entries, keys_of}
 use Rattle.plan_exec.proofs.Fetches.{common_stopped, common_wanted, fetch_found, fetch_memory, fetch_stopped}
-use Rattle.plan_exec.proofs.SingleReads.{exit_with}
 use Rattle.plan_exec.proofs.fetching.fetch_common.Goals as goal
 
 pub returns-in_err-lists-clause-stopped : goal.returns-in_err-lists-clause-stopped

@@ -1,9 +1,9 @@
 use Rattle.std.proofs.Common.{ap}
 use Rattle.planner.specs.Plan.{one}
 use Rattle.planner.specs.View.{index_scan_of}
+use Rattle.txn.proofs.Exits.{exit_with}
 use Rattle.plan_exec.specs.Reads.{keys_of}
 use Rattle.plan_exec.proofs.Fetches.{fetch_found, fetch_stopped, one_stopped, one_wanted, own_found, own_stopped}
-use Rattle.plan_exec.proofs.SingleReads.{exit_with}
 use Rattle.plan_exec.proofs.fetching.fetch_one.Goals as goal
 
 pub returns-in_err-entries-clause-stopped : goal.returns-in_err-entries-clause-stopped

@@ -4,9 +4,10 @@ use Rattle.tuple_codec.specs.Order.{bytes_cmp}
 use Rattle.kv_core.specs.Range.{point}
 use Rattle.metadata.specs.Cell.{items_of}
 use Rattle.metadata.specs.Layout.{record_key}
+use Rattle.txn.proofs.Exits.{exit_with}
 use Rattle.plan_exec.specs.Errors.{exec_read}
 use Rattle.plan_exec.specs.Reads.{record_found, record_reading}
-use Rattle.plan_exec.proofs.SingleReads.{exit_with, found_made_of, read_value, refused_read, stopped_damaged, stopped_refused}
+use Rattle.plan_exec.proofs.SingleReads.{found_made_of, read_value, refused_read, stopped_damaged, stopped_refused}
 use Rattle.plan_exec.proofs.reading.fetch_record.Goals as goal
 
 pub returns-in_err-value-clause-stopped : goal.returns-in_err-value-clause-stopped

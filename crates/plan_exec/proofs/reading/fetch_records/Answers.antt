@@ -2,11 +2,11 @@ use Rattle.std.specs.Prelude.{map, refl}
 use Rattle.std.proofs.Common.{◌+◌, List, subst, sym}
 use Rattle.std.proofs.lemmas.List.{take_all}
 use Rattle.metadata.specs.Record.{Record}
+use Rattle.txn.proofs.Exits.{exit_with}
 use Rattle.plan_exec.specs.Errors.{exec_memory}
 use Rattle.plan_exec.specs.Executing.{HasFound}
 use Rattle.plan_exec.specs.Reads.{in_turn, record_reading}
 use Rattle.plan_exec.proofs.Composing.{stopped_still}
-use Rattle.plan_exec.proofs.SingleReads.{exit_with}
 use Rattle.plan_exec.proofs.Turns.{firsts, found_all, found_next, found_none, stopped_next, stopped_pushing}
 use Rattle.plan_exec.proofs.reading.fetch_records.Goals as goal
 

@@ -1,8 +1,9 @@
 use Rattle.std.proofs.Common.{◌∙◌}
 use Rattle.metadata.specs.Layout.{entries_prefix}
+use Rattle.txn.proofs.Exits.{exit_with}
 use Rattle.plan_exec.specs.Reads.{stored_entry}
 use Rattle.planner.specs.View.{range_of}
-use Rattle.plan_exec.proofs.SingleReads.{exit_with, scan_damaged, scan_found, scan_refused}
+use Rattle.plan_exec.proofs.SingleReads.{scan_damaged, scan_found, scan_refused}
 use Rattle.plan_exec.proofs.reading.index_entries.Goals as goal
 
 pub returns-in_err-pairs-clause-stopped : goal.returns-in_err-pairs-clause-stopped

@@ -2,7 +2,8 @@ use Rattle.std.proofs.Common.{◌∙◌}
 use Rattle.metadata.specs.Layout.{records_prefix}
 use Rattle.planner.specs.Layout.{stored_record}
 use Rattle.planner.specs.View.{range_of}
-use Rattle.plan_exec.proofs.SingleReads.{exit_with, scan_damaged, scan_found, scan_refused}
+use Rattle.txn.proofs.Exits.{exit_with}
+use Rattle.plan_exec.proofs.SingleReads.{scan_damaged, scan_found, scan_refused}
 use Rattle.plan_exec.proofs.reading.scan.Goals as goal
 
 pub returns-in_err-pairs-clause-stopped : goal.returns-in_err-pairs-clause-stopped

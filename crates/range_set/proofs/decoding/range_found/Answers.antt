@@ -1,5 +1,6 @@
+use Rattle.txn.proofs.Exits.{exit_with}
 use Rattle.range_set.specs.Steps.{IsNoStoredRange, IsPairOfNoRange}
-use Rattle.range_set.proofs.Pairs.{exit_with, if_err_map, unread_key, unread_range, unread_tuple}
+use Rattle.range_set.proofs.Pairs.{if_err_map, unread_key, unread_range, unread_tuple}
 use Rattle.range_set.proofs.decoding.range_found.Goals as goal
 
 pub returns-in_err-tuple-clause-refused : goal.returns-in_err-tuple-clause-refused

@@ -1,8 +1,8 @@
 use Rattle.std.proofs.Common.{◌∙◌, ◌+◌, [], List, ap, subst, sym, take}
 use Rattle.kv_core.specs.Range.{KeyRange}
+use Rattle.txn.proofs.Exits.{exit_with}
 use Rattle.range_set.specs.Steps.{last_end}
 use Rattle.range_set.specs.Stored.{ArePairsOf}
-use Rattle.range_set.proofs.Pairs.{exit_with}
 use Rattle.range_set.proofs.RangeRows.{damaged_at, last_end-more, ranges_more}
 use Rattle.range_set.proofs.decoding.ranges_found.Goals as goal
 

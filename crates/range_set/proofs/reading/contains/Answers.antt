@@ -1,4 +1,4 @@
-use Rattle.range_set.proofs.Pairs.{exit_with}
+use Rattle.txn.proofs.Exits.{exit_with}
 use Rattle.range_set.proofs.Telling.{contains_damaged, contains_told}
 use Rattle.range_set.proofs.reading.contains.Goals as goal
 

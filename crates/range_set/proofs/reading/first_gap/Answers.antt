@@ -1,5 +1,5 @@
+use Rattle.txn.proofs.Exits.{exit_with}
 use Rattle.range_set.specs.Steps.{set_memory}
-use Rattle.range_set.proofs.Pairs.{exit_with}
 use Rattle.range_set.proofs.Telling.{gap_damaged, gap_found_in, gap_found_there}
 use Rattle.range_set.proofs.reading.first_gap.Goals as goal
 

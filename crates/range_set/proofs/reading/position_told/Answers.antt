@@ -1,4 +1,4 @@
-use Rattle.range_set.proofs.Pairs.{exit_with}
+use Rattle.txn.proofs.Exits.{exit_with}
 use Rattle.range_set.proofs.Telling.{told_by, untold_by}
 use Rattle.range_set.proofs.reading.position_told.Goals as goal
 

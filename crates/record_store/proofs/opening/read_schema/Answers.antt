@@ -1,8 +1,8 @@
 use Rattle.std.proofs.Common.{ap}
 use Rattle.kv_core.specs.Range.{point}
+use Rattle.txn.proofs.Exits.{exit_with}
 use Rattle.record_store.specs.Layout.{schema_key}
 use Rattle.record_store.specs.Steps.{of_read}
-use Rattle.record_store.proofs.Openings.{exit_with}
 use Rattle.record_store.proofs.Stopping.{read_failed}
 use Rattle.record_store.proofs.opening.read_schema.Goals as goal
 

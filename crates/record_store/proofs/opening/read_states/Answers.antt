@@ -1,6 +1,6 @@
+use Rattle.txn.proofs.Exits.{exit_with}
 use Rattle.record_store.specs.Layout.{states_range}
 use Rattle.record_store.specs.Steps.{of_read}
-use Rattle.record_store.proofs.Openings.{exit_with}
 use Rattle.record_store.proofs.Stopping.{read_failed}
 use Rattle.record_store.proofs.opening.read_states.Goals as goal
 

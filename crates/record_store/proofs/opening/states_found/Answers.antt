@@ -1,8 +1,8 @@
 use Rattle.std.proofs.Common.{◌≡◌, ℕ, ◌+◌, List, arith, subst₂, sym, take}
 use Rattle.std.specs.Prelude.{suc}
 use Rattle.metadata.specs.declared.index.State.{State}
+use Rattle.txn.proofs.Exits.{exit_with}
 use Rattle.record_store.specs.Reading.{AreStates, HaveNoStates}
-use Rattle.record_store.proofs.Openings.{exit_with}
 use Rattle.record_store.proofs.StateSteps.{bad_state_among, states_more}
 use Rattle.record_store.proofs.opening.states_found.Goals as goal
 

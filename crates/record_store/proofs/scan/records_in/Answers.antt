@@ -1,8 +1,8 @@
 use Rattle.std.proofs.Common.{◌≡◌, ℕ, ◌+◌, List, arith, subst₂, sym, take}
 use Rattle.std.specs.Prelude.{suc}
 use Rattle.metadata.specs.Record.{Record}
+use Rattle.txn.proofs.Exits.{exit_with}
 use Rattle.record_store.specs.Reading.{ArePairsOfRecords, HaveNoRecords}
-use Rattle.record_store.proofs.Openings.{exit_with}
 use Rattle.record_store.proofs.Scanning.{bad_among, pairs_more}
 use Rattle.record_store.proofs.scan.records_in.Goals as goal
 

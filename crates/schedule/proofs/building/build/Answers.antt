@@ -2,12 +2,12 @@ use Rattle.std.proofs.Common.{◌≡◌, ◌∙◌, ap, arith, refl, subst, sym}
 use Rattle.online_builder.specs.Stepping.{BuildTask, step_call}
 use Rattle.record_store.specs.Call.{IsAnswered, IsRefused}
 use Rattle.record_store.specs.Steps.{no_memory}
+use Rattle.txn.proofs.Exits.{exit_with}
 use Rattle.schedule.specs.declared.step.Command.TheVariants.{Build}
 use Rattle.schedule.specs.Serve.{reply_to_build}
 use Rattle.schedule.proofs.BuildServing.{build_meets, build_opens, build_unopened, refused_limit}
 use Rattle.schedule.proofs.Outcomes.{answered_as, performed, refused, refused_unopened}
 use Rattle.schedule.proofs.Looking.{looked_memory}
-use Rattle.schedule.proofs.Stops.{exit_with}
 use Rattle.schedule.proofs.building.build.Goals as goal
 
 pub returns-then-limit-eq0-clause-performed : goal.returns-then-limit-eq0-clause-performed

@@ -1,9 +1,9 @@
 use Rattle.std.proofs.Common.{refl}
 use Rattle.record_store.proofs.Answered.{refused_anyway}
 use Rattle.record_store.specs.Calls.{type_call}
+use Rattle.txn.proofs.Exits.{exit_with}
 use Rattle.schedule.specs.declared.step.Command.TheVariants.{«Type»}
 use Rattle.schedule.proofs.Outcomes.{performed, refused, refused_unopened}
-use Rattle.schedule.proofs.Stops.{exit_with}
 use Rattle.schedule.proofs.Serving.{told_type, type_meets}
 use Rattle.schedule.proofs.commands.add_type.Goals as goal
 

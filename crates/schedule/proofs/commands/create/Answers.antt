@@ -1,6 +1,6 @@
 use Rattle.std.proofs.Common.{refl}
 use Rattle.record_store.specs.Steps.{of_metadata}
-use Rattle.schedule.proofs.Stops.{exit_with}
+use Rattle.txn.proofs.Exits.{exit_with}
 use Rattle.schedule.proofs.Creating.{created_now, refused_request, uncreated}
 use Rattle.schedule.proofs.commands.create.Goals as goal
 

@@ -1,8 +1,8 @@
 use Rattle.std.proofs.Common.{refl}
 use Rattle.record_store.specs.Calls.{load_call}
+use Rattle.txn.proofs.Exits.{exit_with}
 use Rattle.schedule.specs.declared.step.Command.TheVariants.{Load}
 use Rattle.schedule.proofs.Outcomes.{answered_as, performed, refused, refused_unopened}
-use Rattle.schedule.proofs.Stops.{exit_with}
 use Rattle.schedule.proofs.Serving.{load_meets, told_load}
 use Rattle.schedule.proofs.commands.load.Goals as goal
 

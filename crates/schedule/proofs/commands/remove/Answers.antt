@@ -1,9 +1,9 @@
 use Rattle.std.proofs.Common.{refl}
 use Rattle.record_store.specs.Calls.{remove_call}
+use Rattle.txn.proofs.Exits.{exit_with}
 use Rattle.schedule.specs.Calls.{removal_reply}
 use Rattle.schedule.specs.declared.step.Command.TheVariants.{Remove}
 use Rattle.schedule.proofs.Outcomes.{answered_as, performed, refused, refused_unopened}
-use Rattle.schedule.proofs.Stops.{exit_with}
 use Rattle.schedule.proofs.Serving.{remove_meets}
 use Rattle.schedule.proofs.commands.remove.Goals as goal
 

@@ -2,9 +2,9 @@ use Rattle.std.proofs.Common.{refl, ap, sym, ◌∙◌}
 use Rattle.metadata.specs.Record.{record_of}
 use Rattle.record_store.specs.Steps.{of_metadata}
 use Rattle.record_store.specs.Calls.{save_call}
+use Rattle.txn.proofs.Exits.{exit_with}
 use Rattle.schedule.specs.declared.step.Command.TheVariants.{Save}
 use Rattle.schedule.proofs.Outcomes.{answered_as, performed, refused, refused_asked, refused_unopened}
-use Rattle.schedule.proofs.Stops.{exit_with}
 use Rattle.schedule.proofs.Serving.{save_meets, save_refuses, told_save}
 use Rattle.schedule.proofs.commands.save.Goals as goal
 

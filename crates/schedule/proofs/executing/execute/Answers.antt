@@ -1,12 +1,12 @@
 use Rattle.std.proofs.Common.{refl, subst, sym, ap, ◌∙◌}
 use Rattle.query.specs.View.{query_of}
 use Rattle.planner.specs.View.{plan_of}
+use Rattle.txn.proofs.Exits.{exit_with}
 use Rattle.schedule.specs.declared.step.Command.TheVariants.{Execute}
 use Rattle.schedule.specs.Calls.{IsCommandRefused}
 use Rattle.schedule.specs.Performed.{IsPerformed}
 use Rattle.schedule.proofs.Executions.{execution_performed, plan_executes, unexecuted}
 use Rattle.schedule.proofs.Outcomes.{refused_unopened}
-use Rattle.schedule.proofs.Stops.{exit_with}
 use Rattle.schedule.proofs.executing.execute.Goals as goal
 
 pub returns-in_err-store-clause-refused : goal.returns-in_err-store-clause-refused

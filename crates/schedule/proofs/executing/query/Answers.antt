@@ -1,11 +1,11 @@
 use Rattle.std.proofs.Common.{refl, subst}
 use Rattle.query.specs.View.{query_of}
+use Rattle.txn.proofs.Exits.{exit_with}
 use Rattle.schedule.specs.declared.step.Command.TheVariants.{Query}
 use Rattle.schedule.specs.Calls.{IsCommandRefused}
 use Rattle.schedule.specs.Performed.{IsPerformed}
 use Rattle.schedule.proofs.Querying.{query_performed, query_refused}
 use Rattle.schedule.proofs.Outcomes.{refused_unopened}
-use Rattle.schedule.proofs.Stops.{exit_with}
 use Rattle.schedule.proofs.executing.query.Goals as goal
 
 pub returns-in_err-store-clause-refused : goal.returns-in_err-store-clause-refused

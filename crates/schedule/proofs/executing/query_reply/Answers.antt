@@ -1,9 +1,9 @@
 use Rattle.std.proofs.Common.{ap, refl, sym, ◌∙◌}
 use Rattle.query.specs.Checked.{query_refusal}
 use Rattle.query.specs.View.{query_of}
+use Rattle.txn.proofs.Exits.{exit_with}
 use Rattle.schedule.specs.declared.reply.Reply.TheVariants.{Refused}
 use Rattle.schedule.specs.Executions.{bad, planned_so, unexecuted}
-use Rattle.schedule.proofs.Stops.{exit_with}
 use Rattle.schedule.proofs.executing.query_reply.Goals as goal
 
 pub returns-in-Err-clause-queried : goal.returns-in-Err-clause-queried

@@ -1,8 +1,8 @@
 use Rattle.std.proofs.Common.{refl}
 use Rattle.record_store.specs.Calls.{index_call}
+use Rattle.txn.proofs.Exits.{exit_with}
 use Rattle.schedule.specs.declared.step.Command.TheVariants.{Index}
 use Rattle.schedule.proofs.Outcomes.{performed, refused, refused_unopened}
-use Rattle.schedule.proofs.Stops.{exit_with}
 use Rattle.schedule.proofs.IndexServing.{index_meets, told_index}
 use Rattle.schedule.proofs.index_commands.add_index.Goals as goal
 

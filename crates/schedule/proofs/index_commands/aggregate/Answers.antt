@@ -3,10 +3,10 @@ use Rattle.std.proofs.lemmas.Int.{to_z-of_z}
 use Rattle.std.specs.Int.{w64}
 use mir.Val.{SFits}
 use Rattle.record_store.specs.Calls.{aggregate_call}
+use Rattle.txn.proofs.Exits.{exit_with}
 use Rattle.schedule.specs.declared.reply.Reply.TheVariants.{Total}
 use Rattle.schedule.specs.declared.step.Command.TheVariants.{Aggregate}
 use Rattle.schedule.proofs.Outcomes.{answered_as, performed, refused, refused_unopened}
-use Rattle.schedule.proofs.Stops.{exit_with}
 use Rattle.schedule.proofs.Aggregating.{aggregate_meets, told_total}
 use Rattle.schedule.proofs.index_commands.aggregate.Goals as goal
 

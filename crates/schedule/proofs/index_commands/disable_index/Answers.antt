@@ -1,9 +1,9 @@
 use Rattle.std.proofs.Common.{refl}
 use Rattle.record_store.proofs.Answered.{refused_anyway}
 use Rattle.record_store.specs.Calls.{disable_call}
+use Rattle.txn.proofs.Exits.{exit_with}
 use Rattle.schedule.specs.declared.step.Command.TheVariants.{Disable}
 use Rattle.schedule.proofs.Outcomes.{performed, refused, refused_unopened}
-use Rattle.schedule.proofs.Stops.{exit_with}
 use Rattle.schedule.proofs.IndexServing.{disable_meets, told_done}
 use Rattle.schedule.proofs.index_commands.disable_index.Goals as goal
 

@@ -1,7 +1,7 @@
 use Rattle.std.proofs.Common.{refl}
+use Rattle.txn.proofs.Exits.{exit_with}
 use Rattle.schedule.specs.declared.step.Command.TheVariants.{State}
 use Rattle.schedule.proofs.Outcomes.{refused_unopened}
-use Rattle.schedule.proofs.Stops.{exit_with}
 use Rattle.schedule.proofs.IndexServing.{state_performed, state_refused}
 use Rattle.schedule.proofs.index_commands.index_state.Goals as goal
 

@@ -1,8 +1,8 @@
 use Rattle.std.proofs.Common.{refl}
 use Rattle.record_store.specs.Calls.{readable_call}
+use Rattle.txn.proofs.Exits.{exit_with}
 use Rattle.schedule.specs.declared.step.Command.TheVariants.{Readable}
 use Rattle.schedule.proofs.Outcomes.{performed, refused, refused_unopened}
-use Rattle.schedule.proofs.Stops.{exit_with}
 use Rattle.schedule.proofs.IndexServing.{told_done}
 use Rattle.schedule.proofs.Marking.{readable_meets}
 use Rattle.schedule.proofs.index_commands.mark_readable.Goals as goal

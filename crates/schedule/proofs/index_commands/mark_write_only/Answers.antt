@@ -1,9 +1,9 @@
 use Rattle.std.proofs.Common.{refl}
 use Rattle.record_store.proofs.Answered.{refused_anyway}
 use Rattle.record_store.specs.Calls.{write_only_call}
+use Rattle.txn.proofs.Exits.{exit_with}
 use Rattle.schedule.specs.declared.step.Command.TheVariants.{WriteOnly}
 use Rattle.schedule.proofs.Outcomes.{performed, refused, refused_unopened}
-use Rattle.schedule.proofs.Stops.{exit_with}
 use Rattle.schedule.proofs.IndexServing.{write_only_meets, told_done}
 use Rattle.schedule.proofs.index_commands.mark_write_only.Goals as goal
 

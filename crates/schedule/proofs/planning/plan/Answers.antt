@@ -1,9 +1,9 @@
 use Rattle.std.proofs.Common.{refl}
 use Rattle.record_store.specs.Steps.{no_memory}
+use Rattle.txn.proofs.Exits.{exit_with}
 use Rattle.schedule.specs.declared.step.Command.TheVariants.{Plan}
 use Rattle.schedule.proofs.Outcomes.{refused_unopened}
 use Rattle.schedule.proofs.Looking.{looked_memory}
-use Rattle.schedule.proofs.Stops.{exit_with}
 use Rattle.schedule.proofs.Plans.{plan_performed}
 use Rattle.schedule.proofs.planning.plan.Goals as goal
 

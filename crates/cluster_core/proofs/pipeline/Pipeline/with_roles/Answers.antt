@@ -7,7 +7,7 @@ use Rattle.cluster_core.proofs.pipeline.Pipeline.with_roles.Goals as goal
 pub invariant_of-result : goal.invariant_of-result
 invariant_of-result c =
     let small : c.args.start < 2 ^ 64 = search rules in
-    let resolvers = c.in_ok-resolvers.ensures ∙ ap (λ splits. map fresh (owners splits)) c.as_slice.ensures in
+    let resolvers = c.in_ok-resolvers.ensures ∙ ap (map fresh) (c.in_ok-parts.ensures ∙ ap owners c.as_slice.ensures) in
     subst (λ qs. IsPipeline c.args.splits c.args.window c.args.start qs c.in_ok-resolvers.resolvers.items c.in_ok-logs.logs.items 0) (sym c.new.ensures.items)
     (subst (λ rs. IsPipeline c.args.splits c.args.window c.args.start [] rs c.in_ok-logs.logs.items 0) (sym resolvers)
     (subst (λ ls. IsPipeline c.args.splits c.args.window c.args.start [] (map fresh (owners c.args.splits)) ls 0) (sym c.in_ok-logs.ensures)
@@ -15,5 +15,5 @@ invariant_of-result c =
 
 pub returns : goal.returns
 returns c =
-    let resolvers = c.in_ok-resolvers.ensures ∙ ap (λ splits. map fresh (owners splits)) c.as_slice.ensures in
+    let resolvers = c.in_ok-resolvers.ensures ∙ ap (map fresh) (c.in_ok-parts.ensures ∙ ap owners c.as_slice.ensures) in
     λ i. pipeline_state c.args.splits c.args.window c.args.start (c.new.ensures.items i) (resolvers i) (c.in_ok-logs.ensures i) 0

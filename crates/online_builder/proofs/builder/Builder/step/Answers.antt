@@ -7,7 +7,7 @@ use Rattle.index_maint.specs.Kept.{build_writes}
 use Rattle.index_maint.specs.Layout.{built_place}
 use Rattle.record_store.specs.Call.{IsAnswered, IsRefused}
 use Rattle.record_store.specs.Steps.{no_memory, of_set, of_write}
-use Rattle.record_store.proofs.Openings.{exit_with}
+use Rattle.txn.proofs.Exits.{exit_with}
 use Rattle.online_builder.specs.declared.progress.Progress.TheVariants.{Built, Finished}
 use Rattle.online_builder.specs.Stepping.{BuildTask, part_made, step_call}
 use Rattle.online_builder.proofs.StepCalls.{contained, step_built, step_empty, step_finished, step_limited, step_memory, step_unread, refused_named, unfound}

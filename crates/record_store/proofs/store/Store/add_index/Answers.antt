@@ -2,13 +2,13 @@ use Rattle.std.specs.Prelude.{Ok}
 use Rattle.std.proofs.Common.{◌∙◌, ap, refl, subst, sym}
 use Rattle.metadata.specs.Answers.{IsRefusedAs}
 use Rattle.metadata.specs.IndexChange.{new_index}
+use Rattle.txn.proofs.Exits.{exit_with}
 use Rattle.record_store.specs.Call.{Opened}
 use Rattle.record_store.specs.Store.{listed_as}
 use Rattle.record_store.specs.Calls.{index_service}
 use Rattle.record_store.specs.Steps.{no_memory, of_metadata, of_write}
 use Rattle.record_store.proofs.Answered.{refused_own}
 use Rattle.record_store.proofs.AddedCalls.{index_answered, index_limited, index_memory, index_unread, indexed_as, type_there}
-use Rattle.record_store.proofs.Openings.{exit_with}
 use Rattle.record_store.proofs.store.Store.add_index.Goals as goal
 
 pub returns-in_err-definition-clause-refused : goal.returns-in_err-definition-clause-refused

@@ -1,10 +1,10 @@
 use Rattle.std.proofs.Common.{◌∙◌, ◌==◌, ap, length, subst, sym}
+use Rattle.txn.proofs.Exits.{exit_with}
 use Rattle.record_store.specs.Call.{IsAnswered}
 use Rattle.txn.specs.Refusing.{NeverRefuses}
 use Rattle.record_store.specs.Calls.{done_with, schema_service, schema_writes, type_call}
 use Rattle.record_store.specs.Steps.{of_write}
 use Rattle.record_store.proofs.Answered.{answered, refused_limit}
-use Rattle.record_store.proofs.Openings.{exit_with}
 use Rattle.record_store.proofs.RecordCalls.{nothing_read, type_served}
 use Rattle.record_store.specs.Steps.{no_memory, of_metadata}
 use Rattle.record_store.proofs.Answered.{memory_still, refused_own}

@@ -1,8 +1,9 @@
 use Rattle.std.proofs.Common.{[], ◌∙◌, subst, subst₂, sym}
+use Rattle.txn.proofs.Exits.{exit_with}
 use Rattle.record_store.specs.Opening.{IsCreated}
 use Rattle.record_store.specs.Steps.{of_write}
 use Rattle.record_store.proofs.Creating.{created_now, uncreated, uncreated_limit, uncreated_there}
-use Rattle.record_store.proofs.Openings.{exit_with, first_failed, then_failed}
+use Rattle.record_store.proofs.Openings.{first_failed, then_failed}
 use Rattle.record_store.specs.Steps.{no_memory}
 use Rattle.record_store.proofs.Creating.{uncreated_memory}
 use Rattle.record_store.proofs.store.Store.create.Goals as goal
@@ -40,7 +41,7 @@ returns-clause-made g c =
     made =
         subst (λ ss. IsCreated (g.S.Snapshot.map_at c.args.db.now) (record { prefix = c.in_ok-own_prefix.own_prefix.items; schema = c.in_ok-own_schema.own_schema.value; states = ss }) c.args.tx.now c.write_all.new.self) (sym c.new.ensures.items)
         (subst₂ (λ p s. IsCreated (g.S.Snapshot.map_at c.args.db.now) (record { prefix = p; schema = s; states = [] }) c.args.tx.now c.write_all.new.self) (sym c.in_ok-own_prefix.ensures.items) (sym (c.in_ok-own_schema.ensures ∙ c.in_ok-copy.ensures))
-        (created_now c.args.prefix.now c.args.schema.now c.in_ok-written.written c.in_ok-written.ensures.read c.in_ok-_states.ensures.read c.in_ok-mutations.mutations.items c.types-lawful.ensures.lawful
+        (created_now c.args.prefix.now c.args.schema.now c.in_ok-written.written c.in_ok-written.ensures.read c.in_ok-_states.ensures.read c.in_ok-mutations.mutations.items c.lawful_known.ensures
         c.in_ok-refuse_store.ensures.none c.in_ok-mutations.ensures c.in_ok-write_all.ensures.ok c.in_ok-write_all.ensures.allowed))
 
 pub returns-in_err-own_prefix-clause-refused : goal.returns-in_err-own_prefix-clause-refused

@@ -1,13 +1,13 @@
 use Rattle.std.proofs.Common.{rules, ◌∙◌, ◌==◌, ap, length, not, refl, subst, sym}
 use Rattle.std.proofs.lemmas.Fn.{filter_same}
 use Rattle.metadata.specs.Schema.{find_index}
+use Rattle.txn.proofs.Exits.{exit_with}
 use Rattle.record_store.specs.Call.{IsAnswered, Opened}
 use Rattle.record_store.specs.Store.{without_state}
 use Rattle.txn.specs.Refusing.{NeverRefuses}
 use Rattle.record_store.specs.Calls.{done_with, drop_call, drop_service, index_number}
 use Rattle.record_store.specs.Steps.{no_memory, of_metadata, of_write}
 use Rattle.record_store.proofs.Answered.{answered, memory_still, refused_limit, refused_own}
-use Rattle.record_store.proofs.Openings.{exit_with}
 use Rattle.record_store.proofs.RecordCalls.{nothing_read}
 use Rattle.record_store.proofs.IndexCalls.{left_is, drop_served, drop_wrote, named_there}
 use Rattle.record_store.proofs.store.Store.drop_index.Goals as goal

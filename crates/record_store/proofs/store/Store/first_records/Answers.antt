@@ -3,12 +3,12 @@ use Rattle.std.proofs.lemmas.Bool.{and_parts}
 use Rattle.kv_core.specs.Bytes.{end_of_keys, key_le}
 use Rattle.metadata.specs.Record.{Record}
 use Rattle.metadata.specs.Schema.{find_type}
+use Rattle.txn.proofs.Exits.{exit_with}
 use Rattle.record_store.specs.Building.{HasReadPart, limited_to, positions_range}
 use Rattle.record_store.specs.Layout.{place}
 use Rattle.record_store.specs.Reading.{ArePairsOfRecords, HaveNoRecords}
 use Rattle.record_store.specs.Steps.{no_memory, of_read}
 use Rattle.record_store.proofs.NamedTypes.{found_number, found_typed, typed_named}
-use Rattle.record_store.proofs.Openings.{exit_with}
 use Rattle.record_store.proofs.PartReads.{part_read, part_unread}
 use Rattle.record_store.proofs.Stopping.{unread_failed, unread_still}
 use Rattle.record_store.proofs.store.Store.first_records.Goals as goal

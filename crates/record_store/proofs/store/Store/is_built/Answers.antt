@@ -1,9 +1,9 @@
 use Rattle.std.proofs.Common.{◌≡◌, ◌∙◌, ap, subst, sym}
 use Rattle.range_set.specs.Calls.{IsPositionTold, IsUntold}
 use Rattle.index_maint.specs.Layout.{built_place}
+use Rattle.txn.proofs.Exits.{exit_with}
 use Rattle.record_store.specs.Steps.{of_set}
 use Rattle.record_store.proofs.Followed.{told_asked, untold_asked}
-use Rattle.record_store.proofs.Openings.{exit_with}
 use Rattle.record_store.proofs.store.Store.is_built.Goals as goal
 
 pub returns-in_err-told-clause-refused : goal.returns-in_err-told-clause-refused

@@ -1,12 +1,12 @@
 use Rattle.std.proofs.Common.{◌∙◌, ◌==◌, ap, length, refl}
 use Rattle.txn.specs.Refusing.{NeverRefuses}
+use Rattle.txn.proofs.Exits.{exit_with}
 use Rattle.record_store.specs.Calls.{done_with, index_number, mark_call, mark_service}
 use Rattle.record_store.specs.Call.{Opened}
 use Rattle.record_store.specs.Store.{with_state}
 use Rattle.metadata.specs.Schema.{find_index}
 use Rattle.record_store.specs.Steps.{no_memory, of_metadata, of_write}
 use Rattle.record_store.proofs.Answered.{answered, memory_still, refused_limit, refused_own}
-use Rattle.record_store.proofs.Openings.{exit_with}
 use Rattle.record_store.proofs.RecordCalls.{nothing_read}
 use Rattle.record_store.proofs.IndexCalls.{named_there}
 use Rattle.record_store.proofs.MarkCalls.{mark_served}

@@ -2,13 +2,13 @@ use Rattle.std.proofs.Common.{◌∙◌, ap, not, ◌==◌, refl, rules}
 use Rattle.std.proofs.lemmas.Fn.{filter_same}
 use Rattle.metadata.specs.Schema.{find_index}
 use Rattle.index_maint.specs.Layout.{built_place}
+use Rattle.txn.proofs.Exits.{exit_with}
 use Rattle.record_store.specs.Call.{Opened}
 use Rattle.record_store.specs.Calls.{index_number, readable_call}
 use Rattle.record_store.specs.Store.{without_state}
 use Rattle.record_store.specs.Steps.{no_memory, of_set, of_write}
 use Rattle.record_store.proofs.Answered.{memory_still}
 use Rattle.record_store.proofs.MarkCalls.{number_named, readable_answered, readable_is, readable_limited, readable_memory, readable_refused, readable_unbuilt, readable_unread}
-use Rattle.record_store.proofs.Openings.{exit_with}
 use Rattle.record_store.proofs.store.Store.mark_readable.Goals as goal
 
 pub returns-in_err-index-clause-refused : goal.returns-in_err-index-clause-refused

@@ -1,12 +1,12 @@
 use Rattle.std.proofs.Common.{◌∙◌, ap, inl, refl, subst, sym, List, ℕ}
 use Rattle.metadata.specs.declared.index.State.{State}
+use Rattle.txn.proofs.Exits.{exit_with}
 use Rattle.record_store.specs.Store.{new_state}
 use Rattle.record_store.specs.Layout.{place, type_range}
 use Rattle.record_store.specs.Reading.{ArePairsOfRecords, HasRead, HaveNoRecords}
 use Rattle.record_store.specs.Call.{first_of}
 use Rattle.record_store.specs.Steps.{no_memory, of_read}
 use Rattle.record_store.proofs.Stopping.{unread_failed}
-use Rattle.record_store.proofs.Openings.{exit_with}
 use Rattle.record_store.proofs.Scanning.{state_read, state_unread}
 use Rattle.record_store.proofs.store.Store.new_state.Goals as goal
 

@@ -1,7 +1,8 @@
 use Rattle.std.proofs.Common.{◌∙◌, ap, subst, sym}
 use Rattle.metadata.specs.Schema.{Schema}
+use Rattle.txn.proofs.Exits.{exit_with}
 use Rattle.record_store.specs.Opening.{IsOpened}
-use Rattle.record_store.proofs.Openings.{exit_with, first_failed, opened_now, states_by, then_failed, unopened, unopened_schema, unopened_states, unstated_by}
+use Rattle.record_store.proofs.Openings.{first_failed, opened_now, states_by, then_failed, unopened, unopened_schema, unopened_states, unstated_by}
 use Rattle.record_store.specs.Steps.{no_memory}
 use Rattle.record_store.proofs.Openings.{opened_memory}
 use Rattle.record_store.proofs.store.Store.open_knowing.Goals as goal

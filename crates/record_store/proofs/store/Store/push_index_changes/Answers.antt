@@ -2,9 +2,9 @@ use Rattle.std.proofs.Common.{◌≡◌, ◌∙◌, ℕ, ◌+◌, ◌<◌, ap, a
 use Rattle.std.specs.Prelude.{get_or, suc}
 use Rattle.std.specs.Option.{option_copied}
 use Rattle.metadata.specs.Schema.{Schema}
+use Rattle.txn.proofs.Exits.{exit_with}
 use Rattle.record_store.specs.Reading.{HaveFollowed}
 use Rattle.record_store.proofs.Followed.{followed_more, not_followed}
-use Rattle.record_store.proofs.Openings.{exit_with}
 use Rattle.record_store.proofs.store.Store.push_index_changes.Goals as goal
 
 pub returns-in_err-at_built-clause-refused : goal.returns-in_err-at_built-clause-refused

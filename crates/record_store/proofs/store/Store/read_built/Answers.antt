@@ -2,11 +2,11 @@ use Rattle.std.proofs.Common.{◌≡◌, ◌∙◌, ℕ, ◌+◌, [], ◌∷◌,
 use Rattle.std.specs.Prelude.{suc}
 use Rattle.std.proofs.lemmas.List.{map-append}
 use Rattle.metadata.specs.Schema.{Schema}
+use Rattle.txn.proofs.Exits.{exit_with}
 use Rattle.record_store.specs.BuiltReading.{built_reading}
 use Rattle.record_store.specs.Reading.{HasReadBuilt, ReadsHaveStopped}
 use Rattle.record_store.specs.Steps.{no_memory}
 use Rattle.record_store.proofs.BuiltReads.{read_more, stopped_among, stopped_behind}
-use Rattle.record_store.proofs.Openings.{exit_with}
 use Rattle.record_store.proofs.store.Store.read_built.Goals as goal
 
 pub returns-in_err-pairs-clause-refused : goal.returns-in_err-pairs-clause-refused

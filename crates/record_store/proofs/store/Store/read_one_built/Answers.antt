@@ -1,10 +1,10 @@
 use Rattle.std.proofs.Common.{◌≡◌, ◌∙◌, ap, refl, sym, ◌∷◌, []}
 use Rattle.range_set.specs.Calls.{upto_range}
 use Rattle.index_maint.specs.Layout.{built_place}
+use Rattle.txn.proofs.Exits.{exit_with}
 use Rattle.record_store.specs.BuiltReading.{built_reading}
 use Rattle.record_store.specs.Steps.{no_memory, of_read}
 use Rattle.record_store.proofs.BuiltReads.{one_asked, one_read, stopped_failed, stopped_still}
-use Rattle.record_store.proofs.Openings.{exit_with}
 use Rattle.record_store.proofs.store.Store.read_one_built.Goals as goal
 
 pub returns-in_err-place-clause-refused : goal.returns-in_err-place-clause-refused

@@ -1,7 +1,7 @@
 use Rattle.std.proofs.Common.{◌∷◌, []}
 use Rattle.kv_core.specs.Range.{point}
+use Rattle.txn.proofs.Exits.{exit_with}
 use Rattle.record_store.specs.Layout.{record_key}
-use Rattle.record_store.proofs.Openings.{exit_with}
 use Rattle.record_store.proofs.OneRecord.{read_unread, record_read, record_unread}
 use Rattle.record_store.proofs.store.Store.read_record.Goals as goal
 

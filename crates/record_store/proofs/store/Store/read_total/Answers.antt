@@ -4,11 +4,11 @@ use mir.Val.{SFits}
 use Rattle.std.specs.Int.{w64}
 use Rattle.kv_core.specs.Range.{point}
 use Rattle.index_maint.specs.Totals.{group_key}
+use Rattle.txn.proofs.Exits.{exit_with}
 use Rattle.record_store.specs.Call.{whole}
 use Rattle.record_store.specs.Reading.{IsTotalFound}
 use Rattle.record_store.specs.Steps.{of_read}
 use Rattle.record_store.proofs.Aggregates.{group_fits, total_read, total_unread}
-use Rattle.record_store.proofs.Openings.{exit_with}
 use Rattle.record_store.proofs.Stopping.{unread_failed}
 use Rattle.record_store.proofs.store.Store.read_total.Goals as goal
 

@@ -1,13 +1,13 @@
 use Rattle.std.proofs.Common.{◌∙◌, ◌∷◌, [], ap, inl, subst, sym, refl}
 use Rattle.metadata.specs.Record.{Record}
 use Rattle.std.specs.Prelude.{List}
+use Rattle.txn.proofs.Exits.{exit_with}
 use Rattle.record_store.specs.Call.{IsAnswered, whole}
 use Rattle.record_store.specs.Steps.{no_memory, of_read}
 use Rattle.record_store.proofs.Stopping.{unread_failed}
 use Rattle.record_store.specs.Calls.{done_with, records_call, records_service, type_number_of}
 use Rattle.record_store.specs.Layout.{place, type_range}
 use Rattle.record_store.proofs.Answered.{answered_reading, as_added, refused_unread}
-use Rattle.record_store.proofs.Openings.{exit_with}
 use Rattle.record_store.proofs.RecordCalls.{records_served}
 use Rattle.record_store.proofs.Scanning.{rows_read, rows_unread}
 use Rattle.record_store.proofs.store.Store.records.Goals as goal

@@ -5,12 +5,12 @@ use Rattle.kv_core.specs.declared.bytes.Bytes.{Bytes}
 use Rattle.kv_core.specs.declared.change.Mutation.TheVariants.{ClearRange}
 use Rattle.metadata.specs.Answers.{IsRefusedAs}
 use Rattle.metadata.specs.Record.{key_of}
+use Rattle.txn.proofs.Exits.{exit_with}
 use Rattle.record_store.specs.Calls.{remove_service}
 use Rattle.record_store.specs.Layout.{record_key}
 use Rattle.record_store.specs.Reading.{HaveFollowed, HaveNotFollowed}
 use Rattle.record_store.specs.Steps.{DidRead, of_metadata, of_write}
 use Rattle.record_store.proofs.Answered.{refused_own}
-use Rattle.record_store.proofs.Openings.{exit_with}
 use Rattle.record_store.proofs.Removes.{given_at, remove_absent, remove_answered, remove_built_refused, remove_follow_refused, remove_key_refused, remove_limit_refused, remove_record_refused}
 use Rattle.record_store.proofs.store.Store.remove.Goals as goal
 

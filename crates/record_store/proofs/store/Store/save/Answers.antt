@@ -4,10 +4,10 @@ use Rattle.kv_core.specs.declared.change.Mutation.TheVariants.{Set}
 use Rattle.metadata.specs.declared.definition.TypeDefinition.{TypeDefinition}
 use Rattle.metadata.specs.Record.{key_cells, key_items, primary_key}
 use Rattle.index_maint.specs.Built.{position_of}
+use Rattle.txn.proofs.Exits.{exit_with}
 use Rattle.record_store.specs.Layout.{record_key, record_value}
 use Rattle.record_store.specs.Reading.{HaveFollowed, HaveNotFollowed}
 use Rattle.record_store.specs.Steps.{of_write}
-use Rattle.record_store.proofs.Openings.{exit_with}
 use Rattle.record_store.proofs.Saves.{save_answered, save_built_refused, save_follow_refused, save_key_refused, save_limit_refused, save_record_refused}
 use Rattle.record_store.proofs.store.Store.save.Goals as goal
 
