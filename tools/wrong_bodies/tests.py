@@ -171,7 +171,7 @@ class ByTheProver(unittest.TestCase):
         lines = (ran.stdout + ran.stderr).rstrip("\n").split("\n")
         said = {line.split(": ")[0]: line for line in lines}
         for name, (_, _, verdict) in EDITS.items():
-            self.assertTrue(said[f"low/{name}"].startswith(f"low/{name}: {verdict}"), said[f"low/{name}"])
+            self.assertTrue(said.get(f"low/{name}", "").startswith(f"low/{name}: {verdict}"), lines)
         self.assertIn("BAD EDIT", said["low/no_edit"])
         self.assertIn("refused", said["high/third_is_fourth"])
         self.assertEqual((ran.returncode, lines[-1]), (1, "5 refused, 6 not"))
