@@ -27,8 +27,8 @@ use Rattle.planner.proofs.Lists.{member_contained}
 use Rattle.planner.proofs.Residual.{each_member}
 use Rattle.plan_exec.specs.Accepting.{Accepts, IsReadableAt}
 use Rattle.plan_exec.specs.Executing.{HasFound, HasNoMeaning, HasStopped, IsExecuted, IsExecutionRefused}
-use Rattle.plan_exec.specs.Executing.{IsExecutionStopped, damage_of, reads_of}
-use Rattle.plan_exec.specs.Reads.{node_reading}
+use Rattle.plan_exec.specs.Executing.{IsExecutionStopped, damage_of}
+use Rattle.plan_exec.specs.Reads.{PlanRead, node_reading}
 use Rattle.plan_exec.specs.declared.error.ExecError.{ExecError}
 use Rattle.plan_exec.specs.declared.error.ExecError.TheVariants.{OtherSchema, IndexNotReadable, Read, Corrupt, Memory}
 use Rattle.plan_exec.proofs.Answers.{answers}
@@ -66,15 +66,15 @@ module _ (opened : Opened) (plan : AskedPlan) (t : TypeDefinition) (accepted : A
     ran = ran_because found.ran (λ m is. record { reads = is.0; meaning = has_meaning m rows is.1; answers = has_answer m rows (has_meaning m rows is.1) });
   }
 
-  no_meaning : (refuses : KeyRange → ReadError → Type 0) (m : Map) (ranges added : List KeyRange) (error : ExecError) → IsExecutionStopped refuses ranges (damage_of opened.prefix (entries m) t (plan_of plan).root) error added → HasNoMeaning opened plan t error m
-  no_meaning refuses m ranges added (Corrupt key) stopped = (unmeant, λ store holds same. let (rows, is, allowed) = answered m store holds same in absurd (let none = sym unmeant ∙ is in cc))
+  no_meaning : (refuses : KeyRange → ReadError → Type 0) (m : Map) (reads : List PlanRead) (added : List KeyRange) (error : ExecError) → IsExecutionStopped refuses reads (damage_of opened.prefix (entries m) t (plan_of plan).root) error added → HasNoMeaning opened plan t error m
+  no_meaning refuses m reads added (Corrupt key) stopped = (unmeant, λ store holds same. let (rows, is, allowed) = answered m store holds same in absurd (let none = sym unmeant ∙ is in cc))
     where
       unmeant : rows_of opened.prefix (entries m) t (plan_of plan) ≡ None
       unmeant = sym (node_ok opened.prefix (entries m) t (plan_of plan).root) ∙ no_rows (node_reading opened.prefix (entries m) t (plan_of plan).root).found key stopped.1
-  no_meaning refuses m ranges added OtherSchema stopped = tt
-  no_meaning refuses m ranges added IndexNotReadable stopped = tt
-  no_meaning refuses m ranges added (Read reason) stopped = tt
-  no_meaning refuses m ranges added Memory stopped = tt
+  no_meaning refuses m reads added OtherSchema stopped = tt
+  no_meaning refuses m reads added IndexNotReadable stopped = tt
+  no_meaning refuses m reads added (Read reason) stopped = tt
+  no_meaning refuses m reads added Memory stopped = tt
 
   -- NOT EXECUTED
   module _ {maps : ℕ → Map} {refuses : KeyRange → ℕ → ReadError → Type 0} {old new : CommitRequest} where

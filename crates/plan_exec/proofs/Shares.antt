@@ -16,13 +16,13 @@ use Rattle.planner.proofs.Residual.{here, each_where, member_where}
 use Rattle.planner.proofs.Lists.{pairwise_where}
 use Rattle.planner.proofs.Rows.{IsRising, in_key_order_rising}
 use Rattle.plan_exec.specs.Merging.{IsInKeyOrder, first_keys_cmp, shared}
-use Rattle.plan_exec.proofs.InOrder.{IsBelow, below_all, below_stays, first_placed, ordered_twice, placed_again, rising_from_order, order_from_rising, turned, turned_back}
+use Rattle.plan_exec.proofs.InOrder.{IsBelow, below_all, below_stays, first_placed, ordered_twice, placed_again, rising_from_order, turned, turned_back, where_in_order}
 use Rattle.plan_exec.proofs.Merges.{Pops}
 
 abbrev pub Key : Type 0
 Key = List Cell
 
-abbrev itself : Key → Key
+abbrev pub itself : Key → Key
 itself k = k
 
 -- the list has the key
@@ -32,19 +32,20 @@ has keys k = list_any (eq_by_cmp cells_cmp k) keys
 -- ---- lists in key order
 
 -- a key below all others isn't there
-absent : (k : Key) (keys : List Key) → Each (IsBelow itself k) keys → has keys k ≡ false
+pub absent : (k : Key) (keys : List Key) → Each (IsBelow itself k) keys → has keys k ≡ false
 absent k [] e = refl
 absent k (y ∷ keys) e = ap (λ o. is_eq o || has keys k) e.0 ∙ absent k keys e.1
 
--- one below all that are looked for doesn't count
-without : (y : Key) (keys looked : List Key) → Each (IsBelow itself y) looked → filter (has (y ∷ keys)) looked ≡ filter (has keys) looked
-without y keys [] e = refl
-without y keys (k ∷ looked) e =
-    (λ i. cond (is_eq (turned y k e.0 i) || has keys k) (k ∷ without y keys looked e.1 i) (without y keys looked e.1 i))
+module _ {X : Type 0} (key : X → Key) where
+  -- a key below all that are looked for doesn't count
+  pub without : (y : Key) (keys : List Key) (looked : List X) → Each (λ x. IsBelow itself y (key x)) looked → filter (λ x. has (y ∷ keys) (key x)) looked ≡ filter (λ x. has keys (key x)) looked
+  without y keys [] e = refl
+  without y keys (x ∷ looked) e = (λ i. cond (is_eq (turned y (key x) e.0 i) || has keys (key x)) (x ∷ without y keys looked e.1 i) (without y keys looked e.1 i))
 
-filter_none : (looked : List Key) → filter (has []) looked ≡ []
-filter_none [] = refl
-filter_none (k ∷ looked) = filter_none looked
+  -- an empty list has no key
+  pub filter_none : (looked : List X) → filter (λ x. has [] (key x)) looked ≡ []
+  filter_none [] = refl
+  filter_none (x ∷ looked) = filter_none looked
 
 -- ---- the lower one of two first keys is taken
 
@@ -67,7 +68,7 @@ module _ (xs ys : List Key) (s : IsInKeyOrder itself xs) (t : IsInKeyOrder itsel
       by (x ∷ xs) [] r q e o rest p = cc
       by (x ∷ xs) (y ∷ ys) r q e o rest p =
           let low : IsBelow itself y x = turned_back x y e in
-          without y ys (x ∷ xs) (low, below_all itself y x xs low r.0) ∙ ap (λ k. filter (has k) (x ∷ xs)) (sym p.1)
+          without itself y ys (x ∷ xs) (low, below_all itself y x xs low r.0) ∙ ap (λ k. filter (has k) (x ∷ xs)) (sym p.1)
 
   pub both_taken : first_keys_cmp itself xs ys ≡ Equal → (o right : Option Key) (rest others : List Key) → Pops xs o rest → Pops ys right others → shared xs ys ≡ option_to_list o ++ shared rest others
   both_taken = by xs ys (rising_from_order itself xs s) (rising_from_order itself ys t)
@@ -79,7 +80,7 @@ module _ (xs ys : List Key) (s : IsInKeyOrder itself xs) (t : IsInKeyOrder itsel
       by (x ∷ xs) (y ∷ ys) r q e o right rest others p u =
           let same : x ≡ y = cells_cmp-IsAntisymmetric x y e in
           ap (λ c. cond (is_eq c || has ys x) (x ∷ filter (has (y ∷ ys)) xs) (filter (has (y ∷ ys)) xs)) e
-          ∙ ap (λ w. x ∷ w) (without y ys xs (subst (λ k. Each (IsBelow itself k) xs) same r.0))
+          ∙ ap (λ w. x ∷ w) (without itself y ys xs (subst (λ k. Each (IsBelow itself k) xs) same r.0))
           ∙ (λ i. option_to_list (sym p.0 i) ++ filter (has (sym u.1 i)) (sym p.1 i))
 
 -- nothing more is shared where a list is empty
@@ -88,7 +89,7 @@ left_empty keys [] ys whole n e z w = sym (append-nil keys) ∙ w
 left_empty keys (x ∷ xs) ys whole n e z w = absurd (omega (arith, e, eqb-true n 0 z))
 
 pub right_empty : (keys xs ys whole : List Key) (n : ℕ) → n ≡ length ys → (n == 0) ≡ true → keys ++ shared xs ys ≡ whole → keys ≡ whole
-right_empty keys xs [] whole n e z w = sym (append-nil keys) ∙ ap (λ k. keys ++ k) (sym (filter_none xs)) ∙ w
+right_empty keys xs [] whole n e z w = sym (append-nil keys) ∙ ap (λ k. keys ++ k) (sym (filter_none itself xs)) ∙ w
 right_empty keys xs (y ∷ ys) whole n e z w = absurd (omega (arith, e, eqb-true n 0 z))
 
 -- ---- keys that pass a test, in key order
@@ -161,7 +162,7 @@ abbrev pub all_have : List (List Key) → Key → Bool
 all_have lists k = list_all (list_any (eq_by_cmp cells_cmp k)) lists
 
 pub shared_stay : (keys others : List Key) → IsInKeyOrder itself keys → IsInKeyOrder itself (shared keys others)
-shared_stay keys others s = order_from_rising itself (filter (has others) keys) (pairwise_where (IsBelow itself) (has others) keys (rising_from_order itself keys s))
+shared_stay keys others s = where_in_order itself (has others) keys s
 
 one_list : (list : List Key) (lists : List (List Key)) (keys : List Key) → filter (all_have lists) (filter (has (in_key_order itself list)) keys) ≡ filter (all_have (list ∷ lists)) keys
 one_list list lists [] = refl

@@ -17,7 +17,7 @@ use Rattle.metadata.specs.Layout.{Pair}
 use Rattle.planner.specs.Plan.{Node}
 use Rattle.planner.specs.Planned.{nodes_of}
 use Rattle.plan_exec.specs.Executing.{HasFound, HasStopped}
-use Rattle.plan_exec.specs.Reads.{PlanReading, in_turn, made_of, node_reading, nodes_reading, read_behind}
+use Rattle.plan_exec.specs.Reads.{PlanRead, PlanReading, in_turn, made_of, node_reading, nodes_reading, read_behind}
 use Rattle.plan_exec.specs.declared.error.ExecError.{ExecError}
 
 -- the lists one behind another
@@ -30,19 +30,19 @@ rows_then : (rows : List Record) (r : Result (List (List Record)) (List ℕ)) �
 rows_then rows (Ok more) = refl
 rows_then rows (Err key) = refl
 
-first_joined : (all : PlanReading (List Record)) (turns : PlanReading (List (List Record))) → all ≡ made_of joined turns → (ranges : List KeyRange) (res : Result (List Record) (List ℕ)) →
-    read_behind ranges (λ rows. made_of (λ more. rows ++ more) all) res ≡ made_of joined (read_behind ranges (λ rows. made_of (λ more. rows ∷ more) turns) res)
-first_joined all turns same ranges (Ok rows) =
-    (λ i. record { ranges = ranges ++ (same i).ranges; found = result_map_both (λ more. rows ++ more) (λ key. key) (same i).found })
-    ∙ (λ i. record { ranges = ranges ++ turns.ranges; found = rows_then rows turns.found i })
-first_joined all turns same ranges (Err key) = refl
+first_joined : (all : PlanReading (List Record)) (turns : PlanReading (List (List Record))) → all ≡ made_of joined turns → (reads : List PlanRead) (res : Result (List Record) (List ℕ)) →
+    read_behind reads (λ rows. made_of (λ more. rows ++ more) all) res ≡ made_of joined (read_behind reads (λ rows. made_of (λ more. rows ∷ more) turns) res)
+first_joined all turns same reads (Ok rows) =
+    (λ i. record { reads = reads ++ (same i).reads; found = result_map_both (λ more. rows ++ more) (λ key. key) (same i).found })
+    ∙ (λ i. record { reads = reads ++ turns.reads; found = rows_then rows turns.found i })
+first_joined all turns same reads (Err key) = refl
 
 -- steps one after another are their readings in turn
 pub nodes_in_turn : (prefix : List ℕ) (t : TypeDefinition) (ns : List Node) (pairs : List Pair) → nodes_reading prefix pairs t (nodes_of ns) ≡ made_of joined (in_turn (map (node_reading prefix pairs t) ns))
 nodes_in_turn prefix t [] pairs = refl
 nodes_in_turn prefix t (n ∷ ns) pairs =
     first_joined (nodes_reading prefix pairs t (nodes_of ns)) (in_turn (map (node_reading prefix pairs t) ns)) (nodes_in_turn prefix t ns pairs)
-    (node_reading prefix pairs t n).ranges (node_reading prefix pairs t n).found
+    (node_reading prefix pairs t n).reads (node_reading prefix pairs t n).found
 
 -- one list more
 pub joined_more : (lists : List (List Record)) (rows : List Record) → joined (lists ++ rows ∷ []) ≡ joined lists ++ rows

@@ -12,7 +12,7 @@ use Rattle.txn.proofs.Running.{ran_still}
 use Rattle.metadata.specs.Layout.{Pair}
 use Rattle.plan_exec.specs.Errors.{exec_memory}
 use Rattle.plan_exec.specs.Executing.{HasFound, HasStopped}
-use Rattle.plan_exec.specs.Reads.{PlanReading, and_then, found_at_once, in_turn, made_of, read_behind}
+use Rattle.plan_exec.specs.Reads.{PlanRead, PlanReading, and_then, in_turn, made_of, read_behind, without_reads}
 use Rattle.plan_exec.specs.declared.error.ExecError.{ExecError}
 use Rattle.plan_exec.proofs.Composing.{found_as, found_made, found_then, stopped_as, stopped_behind, stopped_first, stopped_made, stopped_second}
 
@@ -21,40 +21,40 @@ use Rattle.plan_exec.proofs.Composing.{found_as, found_made, found_then, stopped
 module _ {A : Type 0} where
   -- one reading alone
   one_turn : (r : PlanReading A) → made_of (λ a. a ∷ []) r ≡ in_turn (r ∷ [])
-  one_turn r = by r.ranges r.found
+  one_turn r = by r.reads r.found
     where
-      by : (ranges : List KeyRange) (res : Result A (List ℕ)) → record { ranges = ranges; found = result_map_both (λ a. a ∷ []) (λ key. key) res } ≡ read_behind ranges (λ a. made_of (λ more. a ∷ more) (found_at_once [])) res
-      by ranges (Ok a) = λ i. record { ranges = sym (append-nil ranges) i; found = Ok (a ∷ []) }
-      by ranges (Err key) = refl
+      by : (reads : List PlanRead) (res : Result A (List ℕ)) → record { reads = reads; found = result_map_both (λ a. a ∷ []) (λ key. key) res } ≡ read_behind reads (λ a. made_of (λ more. a ∷ more) (without_reads (Ok []))) res
+      by reads (Ok a) = λ i. record { reads = sym (append-nil reads) i; found = Ok (a ∷ []) }
+      by reads (Err key) = refl
 
-  same_made : (r : Result (List A) (List ℕ)) → r ≡ result_map_both (λ more. [] ++ more) (λ key. key) r
+  pub same_made : (r : Result (List A) (List ℕ)) → r ≡ result_map_both (λ more. [] ++ more) (λ key. key) r
   same_made (Ok a) = refl
   same_made (Err key) = refl
 
-  twice_made : (a : A) (front : List A) (r : Result (List A) (List ℕ)) →
+  pub twice_made : (a : A) (front : List A) (r : Result (List A) (List ℕ)) →
       result_map_both (λ more. a ∷ more) (λ key. key) (result_map_both (λ more. front ++ more) (λ key. key) r) ≡ result_map_both (λ more. (a ∷ front) ++ more) (λ key. key) r
   twice_made a front (Ok more) = refl
   twice_made a front (Err key) = refl
 
   -- the first one, and others in two parts
-  append_more : (ranges : List KeyRange) (a : A) (second : PlanReading (List A)) (firsts : List KeyRange) (res : Result (List A) (List ℕ)) →
+  append_more : (reads : List PlanRead) (a : A) (second : PlanReading (List A)) (firsts : List PlanRead) (res : Result (List A) (List ℕ)) →
       record {
-        ranges = ranges ++ (read_behind firsts (λ front. made_of (λ more. front ++ more) second) res).ranges;
+        reads = reads ++ (read_behind firsts (λ front. made_of (λ more. front ++ more) second) res).reads;
         found = result_map_both (λ more. a ∷ more) (λ key. key) (read_behind firsts (λ front. made_of (λ more. front ++ more) second) res).found;
-      } ≡ read_behind (ranges ++ firsts) (λ front. made_of (λ more. front ++ more) second) (result_map_both (λ more. a ∷ more) (λ key. key) res)
-  append_more ranges a second firsts (Ok front) = λ i. record { ranges = sym (append_assoc ranges firsts second.ranges) i; found = twice_made a front second.found i }
-  append_more ranges a second firsts (Err key) = refl
+      } ≡ read_behind (reads ++ firsts) (λ front. made_of (λ more. front ++ more) second) (result_map_both (λ more. a ∷ more) (λ key. key) res)
+  append_more reads a second firsts (Ok front) = λ i. record { reads = sym (append_assoc reads firsts second.reads) i; found = twice_made a front second.found i }
+  append_more reads a second firsts (Err key) = refl
 
-  first_append : (q : PlanReading A) (all second firsts : PlanReading (List A)) → all ≡ and_then (λ front. made_of (λ more. front ++ more) second) firsts → (ranges : List KeyRange) (res : Result A (List ℕ)) →
-      read_behind ranges (λ a. made_of (λ more. a ∷ more) all) res ≡ and_then (λ front. made_of (λ more. front ++ more) second) (read_behind ranges (λ a. made_of (λ more. a ∷ more) firsts) res)
-  first_append q all second firsts same ranges (Ok a) =
-      (λ i. record { ranges = ranges ++ (same i).ranges; found = result_map_both (λ more. a ∷ more) (λ key. key) (same i).found })
-      ∙ append_more ranges a second firsts.ranges firsts.found
-  first_append q all second firsts same ranges (Err key) = refl
+  first_append : (q : PlanReading A) (all second firsts : PlanReading (List A)) → all ≡ and_then (λ front. made_of (λ more. front ++ more) second) firsts → (reads : List PlanRead) (res : Result A (List ℕ)) →
+      read_behind reads (λ a. made_of (λ more. a ∷ more) all) res ≡ and_then (λ front. made_of (λ more. front ++ more) second) (read_behind reads (λ a. made_of (λ more. a ∷ more) firsts) res)
+  first_append q all second firsts same reads (Ok a) =
+      (λ i. record { reads = reads ++ (same i).reads; found = result_map_both (λ more. a ∷ more) (λ key. key) (same i).found })
+      ∙ append_more reads a second firsts.reads firsts.found
+  first_append q all second firsts same reads (Err key) = refl
 
   pub turn_append : (xs ys : List (PlanReading A)) → in_turn (xs ++ ys) ≡ and_then (λ front. made_of (λ more. front ++ more) (in_turn ys)) (in_turn xs)
-  turn_append [] ys = λ i. record { ranges = (in_turn ys).ranges; found = same_made (in_turn ys).found i }
-  turn_append (q ∷ xs) ys = first_append q (in_turn (xs ++ ys)) (in_turn ys) (in_turn xs) (turn_append xs ys) q.ranges q.found
+  turn_append [] ys = λ i. record { reads = (in_turn ys).reads; found = same_made (in_turn ys).found i }
+  turn_append (q ∷ xs) ys = first_append q (in_turn (xs ++ ys)) (in_turn ys) (in_turn xs) (turn_append xs ys) q.reads q.found
 
 -- ---- loops
 

@@ -1,5 +1,5 @@
 -- What an execution of a plan establishes, whatever map the snapshot turns out to have.
-use Rattle.std.specs.Prelude.{◌≡◌, ℕ, List, Option, Some, None, Ok}
+use Rattle.std.specs.Prelude.{◌≡◌, ℕ, List, map, Option, Some, None, Ok}
 use Rattle.std.specs.FinMap.{entries}
 use Rattle.std.specs.Result.{result_err}
 use Rattle.kv_core.specs.Map.{Map}
@@ -19,13 +19,24 @@ use Rattle.planner.specs.Meaning.{rows_of}
 use Rattle.planner.specs.Plan.{Node}
 use Rattle.planner.specs.View.{plan_of}
 use Rattle.plan_exec.specs.Accepting.{Accepts, IsNotAccepted}
-use Rattle.plan_exec.specs.Reads.{PlanReading, node_reading}
+use Rattle.plan_exec.specs.Reads.{PlanRead, PlanReading, node_reading}
 use Rattle.plan_exec.specs.declared.error.ExecError.{ExecError}
 use Rattle.plan_exec.specs.declared.error.ExecError.TheVariants.{OtherSchema, IndexNotReadable, Read, Corrupt, Memory}
 
--- the ranges that the steps of a plan read, in reading order, through the one that shows the first damage
+-- the ranges that reads ask for, and those that they keep as read
+abbrev pub asked_by : List PlanRead → List KeyRange
+asked_by reads = map (λ read. read.asked) reads
+
+abbrev pub added_by : List PlanRead → List KeyRange
+added_by reads = map (λ read. read.added) reads
+
+-- the ranges that the steps of a plan ask for, in reading order, through the one that shows the first damage
+abbrev pub asks_of : List ℕ → List Pair → TypeDefinition → Node → List KeyRange
+asks_of prefix pairs t n = asked_by (node_reading prefix pairs t n).reads
+
+-- the ranges that they keep as read
 abbrev pub reads_of : List ℕ → List Pair → TypeDefinition → Node → List KeyRange
-reads_of prefix pairs t n = (node_reading prefix pairs t n).ranges
+reads_of prefix pairs t n = added_by (node_reading prefix pairs t n).reads
 
 -- the key of the first damaged pair, if there is one
 abbrev pub damage_of : List ℕ → List Pair → TypeDefinition → Node → Option (List ℕ)
@@ -50,11 +61,11 @@ pub record IsExecuted (maps : ℕ → Map) (opened : Opened) (plan : AskedPlan) 
 -- why reads stopped behind the ones that were added: memory is wanting, or the next read is refused so; or none is, and
 -- the first damaged pair has this key
 abbrev pub IsExecutionStopped :
-    (KeyRange → ReadError → Type 0) → List KeyRange → Option (List ℕ) → ExecError → List KeyRange → Type 0
-IsExecutionStopped refuses reads damage Memory added = IsBeginning added reads
+    (KeyRange → ReadError → Type 0) → List PlanRead → Option (List ℕ) → ExecError → List KeyRange → Type 0
+IsExecutionStopped refuses reads damage Memory added = IsBeginning added (added_by reads)
 IsExecutionStopped refuses reads damage (Read error) added =
-    IsBeginning added reads × IsNextRefused refuses reads added error
-IsExecutionStopped refuses reads damage (Corrupt key) added = (added ≡ reads) × (damage ≡ Some key)
+    IsBeginning added (added_by reads) × IsNextRefused refuses (asked_by reads) added error
+IsExecutionStopped refuses reads damage (Corrupt key) added = (added ≡ added_by reads) × (damage ≡ Some key)
 IsExecutionStopped refuses reads damage error added = ⊥
 
 -- where a damaged pair is told, the plan has no meaning, and the map holds no store that was opened so
@@ -67,7 +78,7 @@ HasNoMeaning opened plan type error m = Unit {0}
 pub record HasNoRows (refuses : KeyRange → ReadError → Type 0) (opened : Opened) (plan : AskedPlan)
     (type : TypeDefinition) (error : ExecError) (added : List KeyRange) (m : Map) : Type 0 where
   pub stopped :
-      IsExecutionStopped refuses (reads_of opened.prefix (entries m) type (plan_of plan).root)
+      IsExecutionStopped refuses (node_reading opened.prefix (entries m) type (plan_of plan).root).reads
       (damage_of opened.prefix (entries m) type (plan_of plan).root) error added
   pub damage : HasNoMeaning opened plan type error m
 
@@ -96,7 +107,7 @@ pub record HasFound {A : Type 0} (maps : ℕ → Map) (reading : List Pair → P
   pub added : List KeyRange
   pub ran :
       DidRead maps added old new
-      (λ m. (added ≡ (reading (entries m)).ranges) × ((reading (entries m)).found ≡ Ok found))
+      (λ m. (added ≡ added_by (reading (entries m)).reads) × ((reading (entries m)).found ≡ Ok found))
 
 -- Private: so it wasn't done
 pub record HasStopped {A : Type 0} (maps : ℕ → Map) (refuses : KeyRange → ℕ → ReadError → Type 0)
@@ -104,5 +115,5 @@ pub record HasStopped {A : Type 0} (maps : ℕ → Map) (refuses : KeyRange → 
   pub added : List KeyRange
   pub ran :
       DidRead maps added old new
-      (λ m. IsExecutionStopped (λ range. refuses range old.read_version) (reading (entries m)).ranges
+      (λ m. IsExecutionStopped (λ range. refuses range old.read_version) (reading (entries m)).reads
       (result_err (reading (entries m)).found) error added)

@@ -4,6 +4,9 @@ pub mod Planning
 pub mod Errors
 pub mod Accepting
 pub mod Reads
+pub mod Course
 pub mod Executing
 pub mod Decoding
+pub mod Streams
+pub mod Levels
 pub mod Merging

@@ -1,6 +1,6 @@
-// What the pairs of records and of entries stand for. Called by `reading` and `entries`.
+// What the pairs of records and of entries stand for. Called by `reading`, `entries`
+// and `record_streams`.
 ghost use Rattle.std.specs.Prelude.{◌≡◌, ◌++◌, IfOk, IfErr, MatchOption, Ok};
-ghost use Rattle.tuple_codec.specs.Item.{AreBytes};
 ghost use Rattle.tuple_codec.specs.Subspace.{BeginsWith};
 ghost use Rattle.metadata.specs.Layout.{place_of_records};
 ghost use Rattle.record_store.specs.Layout.{place};
@@ -15,11 +15,6 @@ use metadata::{Cells, Record, TypeDefinition};
 use record_store::Store;
 use std::alloc::{AllocError, Global};
 use std::rc::Rc;
-
-// Does nothing: its clause tells what the type knows of the numbers.
-fn bytes_known(bytes: &[u8])
-    ensures { AreBytes bytes.now }
-{}
 
 // What stands behind the front in a key.
 fn behind<'a>(front: &[u8], key: &'a [u8]) -> Option<&'a [u8]>
@@ -51,7 +46,6 @@ pub(crate) fn record_in(
 {
     let key = pair.0.as_slice();
     let value = pair.1.as_slice();
-    bytes_known(value);
     match behind(front, key) {
         Some(primary_key) => Record::decode_shared(store.alloc(), definition, primary_key, value),
         None => Ok(None),
@@ -62,18 +56,18 @@ pub(crate) fn record_in(
 pub(crate) fn records_in(
     store: &Store,
     front: &[u8],
-    definition: &TypeDefinition,
+    definition: &Rc<TypeDefinition>,
     pairs: &[Pair],
 ) -> Result<Vec<Record>, ExecError>
     requires { front.now ≡ place store.now.prefix place_of_records }
     ensures found { IfOk result (λ records.
-        each_found (stored_record store.now.prefix definition.now) pairs.now ≡ Ok records.items) }
-    ensures damaged { IfErr result (IsDamage (each_found (stored_record store.now.prefix definition.now) pairs.now)) }
+        each_found (stored_record store.now.prefix definition.now.value) pairs.now ≡ Ok records.items) }
+    ensures damaged { IfErr result (IsDamage
+        (each_found (stored_record store.now.prefix definition.now.value) pairs.now)) }
 {
-    let shared = shared(store.alloc(), definition)?;
     let mut records = Vec::with_capacity(store.alloc(), pairs.len())?;
     for pair in pairs {
-        match record_in(store, front, &shared, pair)? {
+        match record_in(store, front, definition, pair)? {
             Some(found) => records.push(found)?,
             None => return Err(ExecError::Corrupt(pair.0.copy()?)),
         }
@@ -85,7 +79,6 @@ pub(crate) fn records_in(
 pub(crate) fn cells_in(alloc: Global, bytes: &[u8]) -> Result<Option<Cells>, AllocError>
     ensures { IfOk result (λ found. found ≡ unpack bytes.now) }
 {
-    bytes_known(bytes);
     let found = Cells::unpack(alloc, bytes)?;
     Ok(found)
 }

@@ -1,4 +1,5 @@
-// What the pairs of an index's entries stand for. Called by `reading`.
+// What the pairs of an index's entries stand for. Called by `reading`, `readers` and
+// `record_streams`.
 ghost use Rattle.std.specs.Prelude.{◌≡◌, ◌∷◌, [], IfOk, IfErr, MatchBool, Ok, bytes_eq, drop};
 ghost use Rattle.std.specs.Prelude.{if◌then◌else◌, length, not, pos, take, None, Some, ◌&&◌};
 ghost use Rattle.std.specs.List.{list_any};
@@ -212,7 +213,7 @@ fn primary_key_in(
 }
 
 // The entry that a pair stands for, if it is of the written form.
-fn entry_in(
+pub(crate) fn entry_in(
     store: &Store,
     definition: &TypeDefinition,
     index: &IndexDefinition,

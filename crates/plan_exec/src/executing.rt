@@ -14,31 +14,12 @@ use crate::error::ExecError;
 use crate::fetching::fetch;
 use crate::merging::in_key_order;
 use crate::reading::scan;
+use crate::selecting::kept;
 use metadata::{Record, TypeDefinition};
 use planner::Node;
-use query::{Filter, Truth, truth};
+use query::Filter;
 use record_store::Store;
 use txn::{Snapshot, Transaction};
-
-// Whether a filter is true at a record, which unknown isn't.
-fn selects(condition: &Filter, row: &Record) -> bool
-    ensures { result ≡ selects (filter_of condition.now) row.now }
-{
-    match truth(condition, row) {
-        Truth::True => true,
-        Truth::False => false,
-        Truth::Unknown => false,
-    }
-}
-
-// The records at which a filter is true.
-fn selected(condition: &Filter, rows: Vec<Record>) -> Vec<Record>
-    ensures { result.items ≡ filter (selects (filter_of condition.now)) rows.items }
-{
-    let mut rows = rows;
-    rows.retain(|row| selects(condition, row));
-    rows
-}
 
 // Executes a step.
 #[cycle(executing)]
@@ -55,8 +36,8 @@ pub(crate) fn node_rows<S: Snapshot>(
         (λ pairs. node_reading store.now.prefix pairs definition.now (node_of node.now)) error tx.old tx.new) }
 {
     match node {
-        Node::Scan(one) => scan(store, definition, tx, db, one),
-        Node::Fetch(source) => fetch(store, definition, tx, db, source),
+        Node::Scan(one) => scan(store, definition, tx, db, one, None),
+        Node::Fetch(source) => fetch(store, definition, tx, db, source, None),
         Node::Filter(condition, part) => {
             filtered_rows(store, definition, tx, db, part, condition)
         },
@@ -66,7 +47,8 @@ pub(crate) fn node_rows<S: Snapshot>(
     }
 }
 
-// Executes a step, and keeps the records at which the filter is true.
+// Executes a step, and keeps the records at which the filter is true. A scan or a fetch drops the
+// others batch by batch.
 #[cycle(executing)]
 fn filtered_rows<S: Snapshot>(
     store: &Store,
@@ -83,8 +65,14 @@ fn filtered_rows<S: Snapshot>(
         (filter (selects (filter_of condition.now)))
         (node_reading store.now.prefix pairs definition.now (node_of part.now))) error tx.old tx.new) }
 {
-    let rows = node_rows(store, definition, tx, db, part)?;
-    Ok(selected(condition, rows))
+    match part {
+        Node::Scan(one) => scan(store, definition, tx, db, one, Some(condition)),
+        Node::Fetch(source) => fetch(store, definition, tx, db, source, Some(condition)),
+        part => {
+            let rows = node_rows(store, definition, tx, db, part)?;
+            Ok(kept(Some(condition), rows))
+        }
+    }
 }
 
 // Executes steps one after another, and puts their records in key order, each once.

@@ -13,7 +13,9 @@ use txn::{Snapshot, Transaction};
 ///
 /// The store has the plan's type, perhaps with fields appended since, and may read each index that
 /// the plan scans. The rows are then those that the plan's query asks for. Just the ranges that the
-/// plan scans and the keys of the records that it fetches are read, in that order.
+/// plan scans and the keys of the records that it fetches are read: a scan in batches of 64 pairs,
+/// each before the records that are fetched by it. A filter above a scan or a fetch drops what it
+/// doesn't keep batch by batch, so that no more than a batch of it is held.
 ///
 /// # Errors
 ///

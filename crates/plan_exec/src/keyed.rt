@@ -5,6 +5,7 @@ ghost use Rattle.metadata.specs.Cell.{cell_at};
 ghost use Rattle.metadata.specs.Order.{cell_cmp, cells_cmp};
 ghost use Rattle.metadata.specs.Record.{key_cells};
 ghost use Rattle.planner.specs.Layout.{primary_cells};
+ghost use Rattle.plan_exec.specs.Levels.{heads_cmp};
 
 use metadata::{Cell, Cells, Record};
 use std::cmp::Ordering;
@@ -70,5 +71,16 @@ impl Keyed for Cells {
 
     fn compare_keys(&self, other: &Cells) -> Ordering {
         self.compare(other)
+    }
+}
+
+/// The order of the keys of two things. One that isn't there comes last.
+pub(crate) fn compare_heads<T: Keyed>(head: &Option<T>, other: &Option<T>) -> Ordering
+    ensures { result ≡ heads_cmp T.key head.now other.now }
+{
+    match (head, other) {
+        (Some(one), Some(two)) => one.compare_keys(two),
+        (Some(_), None) => Ordering::Less,
+        (None, _) => Ordering::Greater,
     }
 }

@@ -5,6 +5,7 @@
 #![tactic(auto)]
 
 mod accepting;
+mod batches;
 mod common;
 mod decoding;
 mod distinct;
@@ -13,13 +14,21 @@ mod entry;
 mod error;
 mod executing;
 mod execution;
+mod fetch_streams;
 mod fetching;
+mod joined;
 mod keyed;
 mod keys;
 mod laws;
+mod level;
+mod merged;
 mod merging;
 mod planning;
+mod readers;
 mod reading;
+mod record_streams;
+mod selecting;
+mod streams;
 
 pub use error::ExecError;
 pub use execution::execute;

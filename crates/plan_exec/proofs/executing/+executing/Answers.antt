@@ -1,4 +1,4 @@
-use Rattle.std.proofs.Common.{◌∙◌, ◌++◌, ◌∷◌, [], ap, filter, map, refl, sym}
+use Rattle.std.proofs.Common.{◌∙◌, ◌++◌, ◌∷◌, [], None, ap, filter, map, refl, rules, sym}
 use Rattle.std.proofs.lemmas.List.{take_all}
 use Rattle.planner.specs.Planned.{nodes_of}
 use Rattle.txn.proofs.Exits.{exit_with}
@@ -8,10 +8,12 @@ use Rattle.query.specs.Truth.{selects}
 use Rattle.query.specs.View.{filter_of}
 use Rattle.planner.specs.Layout.{primary_cells}
 use Rattle.planner.specs.Meaning.{first_of_each, in_key_order}
-use Rattle.planner.specs.View.{node_of}
+use Rattle.planner.specs.View.{node_of, scan_of, source_of}
 use Rattle.plan_exec.specs.Errors.{exec_memory}
-use Rattle.plan_exec.specs.Reads.{node_reading, nodes_reading}
-use Rattle.plan_exec.proofs.Composing.{stopped_behind, stopped_made}
+use Rattle.plan_exec.specs.Decoding.{is_kept}
+use Rattle.plan_exec.specs.Reads.{fetch_reading, made_of, node_reading, nodes_reading, scan_reading}
+use Rattle.plan_exec.proofs.Composing.{if_found, if_stopped, stopped_behind, stopped_made}
+use Rattle.plan_exec.proofs.Kept.{all_kept}
 use Rattle.plan_exec.proofs.Views.{node_of-Scan, node_of-Fetch, node_of-Filter, node_of-Union, node_of-UnorderedUnion, node_of-Distinct}
 use Rattle.plan_exec.proofs.executing.+executing.Goals as goal
 
@@ -26,16 +28,44 @@ distinct_rows-returns-in_err-first-clause-stopped g t c =
     (stopped_made (λ pairs. node_reading c.args.store.now.prefix pairs c.args.definition.now (node_of c.args.part.now)) (first_of_each primary_cells)
     (stopped_behind (λ pairs. node_reading c.args.store.now.prefix pairs c.args.definition.now (node_of c.args.part.now)) c.in_ok-rows.rows.items c.in_ok-rows.ensures.found))
 
-pub filtered_rows-returns-in_err-rows-clause-stopped : goal.filtered_rows-returns-in_err-rows-clause-stopped
-filtered_rows-returns-in_err-rows-clause-stopped g t c =
-    exit_with c.from_residual.result c.in_err-rows.field-0.0 _ c.from_residual.ensures
-    (stopped_made (λ pairs. node_reading c.args.store.now.prefix pairs c.args.definition.now (node_of c.args.part.now)) (filter (selects (filter_of c.args.condition.now))) c.in_err-rows.ensures.stopped)
+pub filtered_rows-returns-in-Scan-clause-found : goal.filtered_rows-returns-in-Scan-clause-found
+filtered_rows-returns-in-Scan-clause-found g t c = rw (c.in-Scan.is, node_of-Scan c.in-Scan.one) c.scan.ensures.found
+
+pub filtered_rows-returns-in-Scan-clause-stopped : goal.filtered_rows-returns-in-Scan-clause-stopped
+filtered_rows-returns-in-Scan-clause-stopped g t c = rw (c.in-Scan.is, node_of-Scan c.in-Scan.one) c.scan.ensures.stopped
+
+pub filtered_rows-returns-in-Fetch-clause-found : goal.filtered_rows-returns-in-Fetch-clause-found
+filtered_rows-returns-in-Fetch-clause-found g t c = rw (c.in-Fetch.is, node_of-Fetch c.in-Fetch.source) c.fetch.ensures.found
+
+pub filtered_rows-returns-in-Fetch-clause-stopped : goal.filtered_rows-returns-in-Fetch-clause-stopped
+filtered_rows-returns-in-Fetch-clause-stopped g t c = rw (c.in-Fetch.is, node_of-Fetch c.in-Fetch.source) c.fetch.ensures.stopped
+
+pub filtered_rows-returns-in_err-rows-in_default : goal.filtered_rows-returns-in_err-rows-in_default
+filtered_rows-returns-in_err-rows-in_default g t c = record {
+  found = search rules;
+  stopped = exit_with c.from_residual.result c.in_err-rows-in_default.field-0.0 _ c.from_residual.ensures
+      (stopped_made (λ pairs. node_reading c.args.store.now.prefix pairs c.args.definition.now (node_of c.args.part.now)) (filter (selects (filter_of c.args.condition.now))) c.in_err-rows-in_default.ensures.stopped);
+}
+
+pub node_rows-returns-in-Scan-clause-found : goal.node_rows-returns-in-Scan-clause-found
+node_rows-returns-in-Scan-clause-found g t c =
+    rw (c.in-Scan.is, node_of-Scan c.in-Scan.one) (if_found (g.S.Snapshot.map_at c.args.db.now) c.args.tx.now c.scan.new.tx (λ pairs. made_of (filter (is_kept None)) (scan_reading c.args.store.now.prefix pairs c.args.definition.now (scan_of c.in-Scan.one)))
+    (λ pairs. scan_reading c.args.store.now.prefix pairs c.args.definition.now (scan_of c.in-Scan.one)) (λ pairs. all_kept (scan_reading c.args.store.now.prefix pairs c.args.definition.now (scan_of c.in-Scan.one))) c.scan.result c.scan.ensures.found)
 
 pub node_rows-returns-in-Scan-clause-stopped : goal.node_rows-returns-in-Scan-clause-stopped
-node_rows-returns-in-Scan-clause-stopped g t c = rw (c.in-Scan.is, node_of-Scan c.in-Scan.one) c.scan.ensures.stopped
+node_rows-returns-in-Scan-clause-stopped g t c =
+    rw (c.in-Scan.is, node_of-Scan c.in-Scan.one) (if_stopped (g.S.Snapshot.map_at c.args.db.now) c.args.tx.now c.scan.new.tx (λ pairs. made_of (filter (is_kept None)) (scan_reading c.args.store.now.prefix pairs c.args.definition.now (scan_of c.in-Scan.one)))
+    (λ pairs. scan_reading c.args.store.now.prefix pairs c.args.definition.now (scan_of c.in-Scan.one)) (λ pairs. all_kept (scan_reading c.args.store.now.prefix pairs c.args.definition.now (scan_of c.in-Scan.one))) (g.S.Snapshot.may_refuse c.args.db.now) c.scan.result c.scan.ensures.stopped)
+
+pub node_rows-returns-in-Fetch-clause-found : goal.node_rows-returns-in-Fetch-clause-found
+node_rows-returns-in-Fetch-clause-found g t c =
+    rw (c.in-Fetch.is, node_of-Fetch c.in-Fetch.source) (if_found (g.S.Snapshot.map_at c.args.db.now) c.args.tx.now c.fetch.new.tx (λ pairs. made_of (filter (is_kept None)) (fetch_reading c.args.store.now.prefix pairs c.args.definition.now (source_of c.in-Fetch.source)))
+    (λ pairs. fetch_reading c.args.store.now.prefix pairs c.args.definition.now (source_of c.in-Fetch.source)) (λ pairs. all_kept (fetch_reading c.args.store.now.prefix pairs c.args.definition.now (source_of c.in-Fetch.source))) c.fetch.result c.fetch.ensures.found)
 
 pub node_rows-returns-in-Fetch-clause-stopped : goal.node_rows-returns-in-Fetch-clause-stopped
-node_rows-returns-in-Fetch-clause-stopped g t c = rw (c.in-Fetch.is, node_of-Fetch c.in-Fetch.source) c.fetch.ensures.stopped
+node_rows-returns-in-Fetch-clause-stopped g t c =
+    rw (c.in-Fetch.is, node_of-Fetch c.in-Fetch.source) (if_stopped (g.S.Snapshot.map_at c.args.db.now) c.args.tx.now c.fetch.new.tx (λ pairs. made_of (filter (is_kept None)) (fetch_reading c.args.store.now.prefix pairs c.args.definition.now (source_of c.in-Fetch.source)))
+    (λ pairs. fetch_reading c.args.store.now.prefix pairs c.args.definition.now (source_of c.in-Fetch.source)) (λ pairs. all_kept (fetch_reading c.args.store.now.prefix pairs c.args.definition.now (source_of c.in-Fetch.source))) (g.S.Snapshot.may_refuse c.args.db.now) c.fetch.result c.fetch.ensures.stopped)
 
 pub node_rows-returns-in-Filter-clause-found : goal.node_rows-returns-in-Filter-clause-found
 node_rows-returns-in-Filter-clause-found g t c = rw (c.in-Filter.is, node_of-Filter c.in-Filter.condition c.in-Filter.part) (rw c.deref.ensures at c.filtered_rows.ensures.found)
