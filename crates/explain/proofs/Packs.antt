@@ -1,24 +1,22 @@
 -- Bytes read as packs of cells, and as edges.
-use Rattle.std.proofs.Common.{◌≡◌, ◌∙◌, ℕ, List, [], ◌∷◌, ◌++◌, Option, Some, None, Ok, Err, option_map, option_and_then, refl, ap, sym}
+use Rattle.std.proofs.Common.{◌≡◌, ◌∙◌, ℕ, Bool, true, false, cond, List, [], ◌∷◌, ◌++◌, Option, Some, None, Ok, Err, option_map, option_and_then, refl, ap, sym}
+use Rattle.metadata.specs.declared.cells.Cell.{Cell}
 use Rattle.std.specs.Option.{option_or}
-use Rattle.tuple_codec.specs.Item.{Item}
-use Rattle.tuple_codec.specs.Spelling.{Spells}
 use Rattle.tuple_codec.specs.Refusal.{Refuses}
 use Rattle.tuple_codec.specs.declared.UnpackErrorKind.{UnpackErrorKind}
-use Rattle.tuple_codec.proofs.Again.{tuple_again}
 use Rattle.tuple_codec.proofs.Refusals.{tuple_refused}
 use Rattle.metadata.specs.Cell.{cells_of}
-use Rattle.planner.specs.Pack.{unpack}
+use Rattle.planner.specs.Pack.{all_bytes, unpack}
 use Rattle.explain.specs.Told.{edge, edge_behind, edge_in, parted}
 use Rattle.explain.specs.declared.edges.Passed.TheVariants.{Nothing}
 
--- bytes that spell a tuple are the cells that it is
-pub unpack_spelled : (t : List Item) (bytes : List ℕ) → Spells t bytes → unpack bytes ≡ cells_of t
-unpack_spelled t bytes s = ap (λ r. option_and_then cells_of (elim r [ Ok read ↦ Some read.0 | Err fault ↦ None ])) (tuple_again t bytes s)
-
 -- bytes that spell none are no cells
 pub unpack_refused : (bytes : List ℕ) (at : ℕ) (kind : UnpackErrorKind) → Refuses bytes at kind → unpack bytes ≡ None
-unpack_refused bytes at kind r = ap (λ r. option_and_then cells_of (elim r [ Ok read ↦ Some read.0 | Err fault ↦ None ])) ((tuple_refused bytes at kind r).2)
+unpack_refused bytes at kind r = ap (λ o. cond (all_bytes bytes) o None) (ap (λ r. option_and_then cells_of (elim r [ Ok read ↦ Some read.0 | Err fault ↦ None ])) ((tuple_refused bytes at kind r).2)) ∙ either (all_bytes bytes) None
+  where
+    either : (b : Bool) (o : Option (List Cell)) → cond b o o ≡ o
+    either true o = refl
+    either false o = refl
 
 -- a list with one item more
 pub parted_more : {A : Type 0} (front : List A) (last : A) → parted (front ++ last ∷ []) ≡ Some (front, last)

@@ -1,13 +1,11 @@
 -- What the tests of a store's types and indexes say.
-use Rattle.std.specs.Prelude.{◌≡◌, ◌&&◌, ◌==◌, ℕ, ◌+◌, ◌<◌, Bool, true, false, cond, List, [], ◌∷◌, length, drop, map, Option, Some, None, refl, get_or, find}
+use Rattle.std.specs.Prelude.{◌≡◌, ◌&&◌, ◌==◌, ℕ, Bool, true, false, cond, List, [], ◌∷◌, length, drop, map, Option, Some, None, refl, find}
 use Rattle.std.specs.Bool.{Decides}
 use Rattle.std.specs.List.{AllByRecursion, list_all, list_any, starts_with}
 use Rattle.std.specs.Str.{bytes_eq}
 use Rattle.std.proofs.Common.{ap, sym, ◌∙◌, subst, inl, inr}
 use Rattle.std.proofs.lemmas.Bool.{and_parts, or_cases, or_left, or_right, true≢false, eq-eqb, eqb-true}
 use Rattle.std.proofs.lemmas.Bool.Decides.{Decides-and, Decides-eqb, Decides-like}
-use Rattle.std.proofs.lemmas.List.{at_drop_more}
-use Rattle.std.proofs.lemmas.List.Folds.{list_all-append}
 use Rattle.std.proofs.lemmas.Slice.Eq.{bytes_eq-Decides, starts_is}
 use Rattle.metadata.specs.declared.cells.Kind.{Kind}
 use Rattle.metadata.specs.declared.cells.Kind.TheVariants as kind
@@ -25,7 +23,7 @@ use Rattle.metadata.specs.Index.{is_readable}
 use Rattle.record_store.specs.Store.{state_in}
 use Rattle.planner.specs.Plan.{Plan}
 use Rattle.planner.specs.Planned.{nodes_of}
-use Rattle.planner.specs.Right.{Extends, indexes_of, indexes_of_all, indexes_of_scans}
+use Rattle.planner.specs.Right.{Extends, indexes_of_all, indexes_of_scans}
 use Rattle.planner.specs.View.{index_scan_of, node_of}
 use Rattle.planner.specs.declared.plan.IndexScan.{IndexScan}
 use Rattle.planner.specs.declared.plan.Node as step
@@ -115,9 +113,6 @@ module _ (opened : Opened) (plan : Plan) where
       let is = (extends-Decides plan.definition other has.extends.same_name).1 has.extends in
       true≢false (sym is ∙ ap (extends plan.definition) (sym same) ∙ e)
 
-  pub type_none : find_type opened.schema plan.definition.name ≡ None → (other : TypeDefinition) → HasType opened plan other → ⊥
-  type_none none other has = let both = sym none ∙ has.named in cc
-
 -- ---- the indexes
 
 readable_state : (s : State) → Decides (is_readable s) (s ≡ Readable)
@@ -161,10 +156,3 @@ scans_all p (s ∷ scans) = ap (λ b. p s.index && b) (scans_all p scans)
 -- the test over nodes is that over the first and over the rest
 abbrev pub nodes_all : (IndexDefinition → Bool) → List step.Node → Bool
 nodes_all p parts = list_all p (indexes_of_all (nodes_of (map node_of parts)))
-
-pub next_all : (p : IndexDefinition → Bool) (parts : List step.Node) (i : ℕ) (part : step.Node) → i < length parts → part ≡ get_or parts i part →
-    nodes_all p (drop i parts) ≡ (list_all p (indexes_of (node_of part)) && nodes_all p (drop (i + 1) parts))
-next_all p parts i part within is =
-    at_drop_more (nodes_all p) parts i part within
-    ∙ ap (λ x. nodes_all p (x ∷ drop (i + 1) parts)) (sym is)
-    ∙ list_all-append p (indexes_of (node_of part)) (indexes_of_all (nodes_of (map node_of (drop (i + 1) parts))))

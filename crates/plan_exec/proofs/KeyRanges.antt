@@ -1,5 +1,5 @@
 -- The keys of records and entries lie below the end of the keys, and the ranges of scans are ranges of keys.
-use Rattle.std.specs.Prelude.{◌≡◌, ℕ, Bool, true, false, not, ◌&&◌, cond, List, [], ◌∷◌, ◌++◌, filter, refl, IsTrue, pos}
+use Rattle.std.specs.Prelude.{◌≡◌, ℕ, Bool, true, false, not, ◌&&◌, cond, List, [], ◌∷◌, ◌++◌, filter, reverse, refl, IsTrue, pos}
 use Rattle.std.specs.FinMap.{entries, get, get-entries}
 use Rattle.std.specs.FinMap.Entries.{find}
 use Rattle.std.specs.Ordering.{is_le, is_lt, ordering_reverse}
@@ -13,10 +13,8 @@ use Rattle.tuple_codec.specs.Spelling.{int_spelling, spelling}
 use Rattle.tuple_codec.specs.Spelling as written
 use Rattle.kv_core.specs.Bytes.{end_of_keys, key_le, key_lt}
 use Rattle.kv_core.specs.Map.{Map}
-use Rattle.kv_core.specs.Map as map
 use Rattle.kv_core.specs.Range.{contains, is_key_range}
 use Rattle.kv_core.proofs.Order.{le_from, le_from_lt, le_gives, le_refl, le_trans}
-use Rattle.kv_core.proofs.Pairs.{entries-kept}
 use Rattle.metadata.specs.declared.cells.Cell.{Cell}
 use Rattle.metadata.specs.declared.definition.TypeDefinition.{TypeDefinition}
 use Rattle.metadata.specs.declared.index.IndexDefinition.{IndexDefinition}
@@ -25,7 +23,7 @@ use Rattle.record_store.proofs.Keys.{below_with, record_below}
 use Rattle.metadata.specs.Layout.{Pair, entries_prefix, record_key, records_prefix}
 use Rattle.planner.specs.Meaning.{pairs_scanned}
 use Rattle.planner.specs.Range as planned
-use Rattle.plan_exec.specs.Reads.{scan_range}
+use Rattle.plan_exec.specs.Reads.{pairs_within, scan_range}
 
 module _ (prefix : List ℕ) (below : key_lt prefix end_of_keys ≡ true) where
   -- what begins with the key of the records of a type, or of the entries of an index, is below the end of the keys
@@ -81,9 +79,9 @@ same_within key range k = by (key_lt (key ++ range.begin) (key ++ range.end)) re
     by true is = refl
     by false is = none (key_le (key ++ range.begin) k) refl is
 
--- PAIRS: those of a map in the range that is read are those that the planner speaks of
-pub pairs_are : (m : Map) (key : List ℕ) (range : planned.PlanRange) → map.pairs_in m (scan_range key range) ≡ pairs_scanned (planned.behind key range) false (entries m)
-pairs_are m key range = entries-kept m (contains (scan_range key range)) ∙ (λ i. filter (λ (p : Pair). same_within key range p.0 i) (entries m))
+-- PAIRS: those in the range that is read are those that the planner speaks of
+pub scanned_within : (key : List ℕ) (range : planned.PlanRange) (reversed : Bool) (pairs : List Pair) → pairs_within (scan_range key range) reversed pairs ≡ pairs_scanned (planned.behind key range) reversed pairs
+scanned_within key range reversed pairs = λ i. cond reversed (reverse (filter (λ (p : Pair). same_within key range p.0 i) pairs)) (filter (λ (p : Pair). same_within key range p.0 i) pairs)
 
 -- VALUE: what a map has at a key is what is found among its pairs
 pub value_is : (m : Map) (key : List ℕ) → get m key ≡ find bytes_cmp key (entries m)

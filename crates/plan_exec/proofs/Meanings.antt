@@ -1,80 +1,30 @@
--- What is found where nothing is damaged is the planner's meaning.
-use Rattle.std.specs.Prelude.{◌≡◌, ℕ, List, [], ◌∷◌, ◌++◌, filter, map, Option, Some, None, option_map, Result, Ok, Err, refl}
-use Rattle.std.specs.FinMap.Entries.{find}
-use Rattle.std.specs.Option.{option_and_then, option_zip}
+-- What is given of each of a list, the primary keys in entries, and where there is damage.
+use Rattle.std.specs.Prelude.{◌≡◌, ℕ, List, [], ◌∷◌, ◌++◌, map, Option, Some, None, option_map, Result, Ok, Err, refl}
+use Rattle.std.specs.Option.{option_zip}
 use Rattle.std.specs.Result.{result_err, result_map_both, result_ok}
-use Rattle.std.proofs.Common.{ap, sym, ◌∙◌}
-use Rattle.tuple_codec.specs.Order.{bytes_cmp}
+use Rattle.std.proofs.Common.{ap, ◌∙◌}
 use Rattle.metadata.specs.declared.cells.Cell.{Cell}
 use Rattle.metadata.specs.declared.definition.TypeDefinition.{TypeDefinition}
 use Rattle.metadata.specs.declared.index.IndexDefinition.{IndexDefinition}
-use Rattle.metadata.specs.Record.{Record}
-use Rattle.query.specs.Truth.{selects}
-use Rattle.metadata.specs.Cell.{items_of}
-use Rattle.metadata.specs.Layout.{Pair, entries_prefix, record_key}
-use Rattle.planner.specs.Layout.{entry_primary_key, primary_cells, stored_record}
-use Rattle.planner.specs.Meaning.{all_rows, fetched, first_of_each, in_key_order, keys_in_all, node_rows, of_each}
-use Rattle.planner.specs.Meaning.{pairs_scanned, scanned_keys, source_keys}
-use Rattle.planner.specs.Plan.{IndexScan, Node, Nodes, Source, distinct, fetch, filtered, intersection, no_nodes, node, one, scan, union, unordered_union}
-use Rattle.planner.specs.Range as planned
-use Rattle.plan_exec.specs.Reads.{PlanReading, Wanted, and_then, each_found, entries_reading, fetch_reading}
-use Rattle.plan_exec.specs.Reads.{first_entries, in_front, in_turn, keys_of, made_of, node_reading, nodes_reading}
-use Rattle.plan_exec.specs.Reads.{or_damaged, read_behind, record_found, record_reading, source_reading, stored_entry}
+use Rattle.metadata.specs.Layout.{Pair}
+use Rattle.planner.specs.Layout.{entry_primary_key}
+use Rattle.planner.specs.Meaning.{of_each}
+use Rattle.plan_exec.specs.Reads.{stored_entry}
 use Rattle.plan_exec.specs.declared.entry.Entry.{Entry}
 
 -- ---- readings
 
-front_ok : {A : Type 0} (key : List ℕ) (o : Option A) (r : Result (List A) (List ℕ)) → result_ok (in_front (or_damaged key o) r) ≡ option_map (λ p. p.0 ∷ p.1) (option_zip o (result_ok r))
-front_ok key None r = refl
-front_ok key (Some a) (Err other) = refl
-front_ok key (Some a) (Ok more) = refl
-
-pub each_ok : {A : Type 0} (h : Pair → Option A) (pairs : List Pair) → result_ok (each_found h pairs) ≡ of_each h pairs
-each_ok h [] = refl
-each_ok h (pair ∷ pairs) = front_ok pair.0 (h pair) (each_found h pairs) ∙ ap (λ o. option_map (λ p. p.0 ∷ p.1) (option_zip (h pair) o)) (each_ok h pairs)
-
-made_ok : {A B : Type 0} (f : A → B) (r : Result A (List ℕ)) → result_ok (result_map_both f (λ key. key) r) ≡ option_map f (result_ok r)
+pub made_ok : {A B : Type 0} (f : A → B) (r : Result A (List ℕ)) → result_ok (result_map_both f (λ key. key) r) ≡ option_map f (result_ok r)
 made_ok f (Ok a) = refl
 made_ok f (Err key) = refl
 
-then_ok : {A B : Type 0} (next : A → PlanReading B) (first : PlanReading A) → result_ok (and_then next first).found ≡ option_and_then (λ a. result_ok (next a).found) (result_ok first.found)
-then_ok {A = A} next first = by first.found
-  where
-    by : (r : Result A (List ℕ)) → result_ok (read_behind first.ranges next r).found ≡ option_and_then (λ a. result_ok (next a).found) (result_ok r)
-    by (Ok a) = refl
-    by (Err key) = refl
-
--- one element and then the others
-one_more : {A : Type 0} (o : Option A) (rest : Option (List A)) → option_and_then (λ a. option_map (λ more. a ∷ more) rest) o ≡ option_map (λ p. p.0 ∷ p.1) (option_zip o rest)
-one_more None rest = refl
-one_more (Some a) None = refl
-one_more (Some a) (Some more) = refl
-
-rows_more : {A : Type 0} (o rest : Option (List A)) → option_and_then (λ a. option_map (λ more. a ++ more) rest) o ≡ option_map (λ p. p.0 ++ p.1) (option_zip o rest)
-rows_more None rest = refl
-rows_more (Some a) None = refl
-rows_more (Some a) (Some more) = refl
-
-turn_ok : {X A : Type 0} (g : X → PlanReading A) (xs : List X) → result_ok (in_turn (map g xs)).found ≡ of_each (λ x. result_ok (g x).found) xs
-turn_ok g [] = refl
-turn_ok {A = A} g (x ∷ xs) =
-    then_ok (λ a. made_of (λ more. a ∷ more) (in_turn (map g xs))) (g x)
-    ∙ by_found (result_ok (g x).found)
-    ∙ one_more (result_ok (g x).found) (result_ok (in_turn (map g xs)).found)
-    ∙ ap (λ o. option_map (λ p. p.0 ∷ p.1) (option_zip (result_ok (g x).found) o)) (turn_ok g xs)
-  where
-    by_found : (o : Option A) → option_and_then (λ a. result_ok (made_of (λ more. a ∷ more) (in_turn (map g xs))).found) o
-        ≡ option_and_then (λ a. option_map (λ more. a ∷ more) (result_ok (in_turn (map g xs)).found)) o
-    by_found None = refl
-    by_found (Some a) = made_ok (λ more. a ∷ more) (in_turn (map g xs)).found
-
 -- ---- what is given of each of a list
 
-each_map : {X Y A : Type 0} (h : Y → Option A) (g : X → Y) (xs : List X) → of_each h (map g xs) ≡ of_each (λ x. h (g x)) xs
+pub each_map : {X Y A : Type 0} (h : Y → Option A) (g : X → Y) (xs : List X) → of_each h (map g xs) ≡ of_each (λ x. h (g x)) xs
 each_map h g [] = refl
 each_map h g (x ∷ xs) = ap (λ o. option_map (λ p. p.0 ∷ p.1) (option_zip (h (g x)) o)) (each_map h g xs)
 
-each_same : {X A : Type 0} (h g : X → Option A) → ((x : X) → h x ≡ g x) → (xs : List X) → of_each h xs ≡ of_each g xs
+pub each_same : {X A : Type 0} (h g : X → Option A) → ((x : X) → h x ≡ g x) → (xs : List X) → of_each h xs ≡ of_each g xs
 each_same h g same [] = refl
 each_same h g same (x ∷ xs) = λ i. option_map (λ p. p.0 ∷ p.1) (option_zip (same x i) (each_same h g same xs i))
 
@@ -84,15 +34,24 @@ map_zip f None rest = refl
 map_zip f (Some a) None = refl
 map_zip f (Some a) (Some more) = refl
 
-map_each : {X A B : Type 0} (f : A → B) (h : X → Option A) (xs : List X) → option_map (map f) (of_each h xs) ≡ of_each (λ x. option_map f (h x)) xs
+pub map_each : {X A B : Type 0} (f : A → B) (h : X → Option A) (xs : List X) → option_map (map f) (of_each h xs) ≡ of_each (λ x. option_map f (h x)) xs
 map_each f h [] = refl
 map_each f h (x ∷ xs) = map_zip f (h x) (of_each h xs) ∙ ap (λ o. option_map (λ p. p.0 ∷ p.1) (option_zip (option_map f (h x)) o)) (map_each f h xs)
 
-twice : {A B C : Type 0} (g : B → C) (f : A → B) (o : Option A) → option_map g (option_map f o) ≡ option_map (λ a. g (f a)) o
+pub twice : {A B C : Type 0} (g : B → C) (f : A → B) (o : Option A) → option_map g (option_map f o) ≡ option_map (λ a. g (f a)) o
 twice g f None = refl
 twice g f (Some a) = refl
 
--- ---- steps
+-- of two lists one behind the other
+pub behind_no : {A : Type 0} (o : Option (List A)) → o ≡ option_map (λ p. p.0 ++ p.1) (option_zip (Some []) o)
+behind_no None = refl
+behind_no (Some more) = refl
+
+-- ---- entries
+
+-- the primary keys in entries
+abbrev pub keys_of : List Entry → List (List Cell)
+keys_of entries = map (λ e. e.primary_key) entries
 
 module _ (prefix : List ℕ) (pairs : List Pair) (t : TypeDefinition) where
   entry_key : (i : IndexDefinition) (pair : Pair) → option_map (λ (e : Entry). e.primary_key) (stored_entry prefix t i pair) ≡ entry_primary_key prefix t i pair
@@ -102,78 +61,15 @@ module _ (prefix : List ℕ) (pairs : List Pair) (t : TypeDefinition) where
       by None = refl
       by (Some key) = refl
 
-  scanned_ok : (s : IndexScan) → option_map keys_of (result_ok (entries_reading prefix pairs t s).found) ≡ scanned_keys prefix pairs t s
-  scanned_ok s =
-      let found = pairs_scanned (planned.behind (entries_prefix prefix s.index.number) s.range) s.reverse pairs in
-      ap (option_map keys_of) (each_ok (stored_entry prefix t s.index) found)
-      ∙ map_each (λ (e : Entry). e.primary_key) (stored_entry prefix t s.index) found
-      ∙ each_same (λ p. option_map (λ (e : Entry). e.primary_key) (stored_entry prefix t s.index p)) (entry_primary_key prefix t s.index) (entry_key s.index) found
-
-  source_ok : (s : Source) → option_map (λ (w : Wanted). w.keys) (result_ok (source_reading prefix pairs t s).found) ≡ source_keys prefix pairs t s
-  source_ok (one s) =
-      ap (option_map (λ (w : Wanted). w.keys)) (made_ok (λ es. record { entries = es; keys = keys_of es }) (entries_reading prefix pairs t s).found)
-      ∙ twice (λ (w : Wanted). w.keys) (λ es. record { entries = es; keys = keys_of es }) (result_ok (entries_reading prefix pairs t s).found)
-      ∙ scanned_ok s
-  source_ok (intersection ss) =
-      ap (option_map (λ (w : Wanted). w.keys)) (made_ok (λ ess. record { entries = first_entries ess; keys = in_key_order (λ k. k) (keys_in_all (map keys_of ess)) }) (in_turn (map (entries_reading prefix pairs t) ss)).found)
-      ∙ twice (λ (w : Wanted). w.keys) (λ ess. record { entries = first_entries ess; keys = in_key_order (λ k. k) (keys_in_all (map keys_of ess)) }) (result_ok (in_turn (map (entries_reading prefix pairs t) ss)).found)
-      ∙ sym (twice (λ ks. in_key_order (λ k. k) (keys_in_all ks)) (map keys_of) (result_ok (in_turn (map (entries_reading prefix pairs t) ss)).found))
-      ∙ ap (option_map (λ ks. in_key_order (λ k. k) (keys_in_all ks)))
-      (ap (option_map (map keys_of)) (turn_ok (entries_reading prefix pairs t) ss) ∙ map_each keys_of (λ s. result_ok (entries_reading prefix pairs t s).found) ss ∙ each_same _ _ scanned_ok ss)
-
-  record_ok : (entries : List Entry) (key : List Cell) → result_ok (record_reading prefix pairs t entries key).found ≡ fetched prefix pairs t key
-  record_ok entries key = by (find bytes_cmp (record_key prefix (items_of key)) pairs)
-    where
-      whether : (o : Option Record) → result_ok (or_damaged (record_key prefix (items_of key)) o) ≡ o
-      whether None = refl
-      whether (Some r) = refl
-
-      by : (o : Option (List ℕ)) → result_ok (record_found prefix t entries key o) ≡ option_and_then (λ value. stored_record prefix t (record_key prefix (items_of key), value)) o
-      by None = refl
-      by (Some value) = whether (stored_record prefix t (record_key prefix (items_of key), value))
-
-  fetch_ok : (s : Source) → result_ok (fetch_reading prefix pairs t s).found ≡ option_and_then (of_each (fetched prefix pairs t)) (source_keys prefix pairs t s)
-  fetch_ok s =
-      then_ok (λ w. in_turn (map (record_reading prefix pairs t w.entries) w.keys)) (source_reading prefix pairs t s)
-      ∙ by (result_ok (source_reading prefix pairs t s).found)
-      ∙ ap (option_and_then (of_each (fetched prefix pairs t))) (source_ok s)
-    where
-      by : (o : Option Wanted) → option_and_then (λ w. result_ok (in_turn (map (record_reading prefix pairs t w.entries) w.keys)).found) o ≡ option_and_then (of_each (fetched prefix pairs t)) (option_map (λ (w : Wanted). w.keys) o)
-      by None = refl
-      by (Some w) =
-          turn_ok (record_reading prefix pairs t w.entries) w.keys
-          ∙ each_same (λ k. result_ok (record_reading prefix pairs t w.entries k).found) (fetched prefix pairs t) (record_ok w.entries) w.keys
-
-  mutual
-    -- MEANING: a step finds its rows
-    pub node_ok : (n : Node) → result_ok (node_reading prefix pairs t n).found ≡ node_rows prefix pairs t n
-    node_ok (scan s) = each_ok (stored_record prefix t) _
-    node_ok (fetch s) = fetch_ok s
-    node_ok (filtered f n) = made_ok (filter (selects f)) (node_reading prefix pairs t n).found ∙ ap (option_map (filter (selects f))) (node_ok n)
-    node_ok (union ns) = made_ok (in_key_order primary_cells) (nodes_reading prefix pairs t ns).found ∙ ap (option_map (in_key_order primary_cells)) (nodes_ok ns)
-    node_ok (unordered_union ns) = nodes_ok ns
-    node_ok (distinct n) = made_ok (first_of_each primary_cells) (node_reading prefix pairs t n).found ∙ ap (option_map (first_of_each primary_cells)) (node_ok n)
-
-    pub nodes_ok : (ns : Nodes) → result_ok (nodes_reading prefix pairs t ns).found ≡ all_rows prefix pairs t ns
-    nodes_ok no_nodes = refl
-    nodes_ok (node n ns) =
-        then_ok (λ rows. made_of (λ more. rows ++ more) (nodes_reading prefix pairs t ns)) (node_reading prefix pairs t n)
-        ∙ by (result_ok (node_reading prefix pairs t n).found)
-        ∙ rows_more (result_ok (node_reading prefix pairs t n).found) (result_ok (nodes_reading prefix pairs t ns).found)
-        ∙ (λ i. option_map (λ p. p.0 ++ p.1) (option_zip (node_ok n i) (nodes_ok ns i)))
-      where
-        by : (o : Option (List Record)) → option_and_then (λ rows. result_ok (made_of (λ more. rows ++ more) (nodes_reading prefix pairs t ns)).found) o
-            ≡ option_and_then (λ rows. option_map (λ more. rows ++ more) (result_ok (nodes_reading prefix pairs t ns).found)) o
-        by None = refl
-        by (Some rows) = made_ok (λ more. rows ++ more) (nodes_reading prefix pairs t ns).found
+  -- the primary keys in the entries that pairs stand for
+  pub keys_ok : (i : IndexDefinition) (found : List Pair) → option_map keys_of (of_each (stored_entry prefix t i) found) ≡ of_each (entry_primary_key prefix t i) found
+  keys_ok i found =
+      map_each (λ (e : Entry). e.primary_key) (stored_entry prefix t i) found
+      ∙ each_same (λ p. option_map (λ (e : Entry). e.primary_key) (stored_entry prefix t i p)) (entry_primary_key prefix t i) (entry_key i) found
 
 -- ---- damage
 
--- there is damage where there is no meaning, and none where there is one
+-- where there is damage there is no meaning
 pub no_rows : {A : Type 0} (r : Result A (List ℕ)) (key : List ℕ) → result_err r ≡ Some key → result_ok r ≡ None
 no_rows (Ok a) key is = cc
 no_rows (Err other) key is = refl
-
-pub no_damage : {A : Type 0} (r : Result A (List ℕ)) (a : A) → result_ok r ≡ Some a → result_err r ≡ None
-no_damage (Ok b) a is = refl
-no_damage (Err key) a is = cc

@@ -7,7 +7,6 @@ use Rattle.std.specs.Cmp.Lexicographic.{nat_list_cmp_total}
 use Rattle.std.proofs.Common.{ap, sym, ◌∙◌, subst, inl, inr}
 use Rattle.std.proofs.lemmas.Cmp.{tied_itself}
 use Rattle.std.proofs.lemmas.Option.{same_Some}
-use Rattle.std.specs.declared.cmp.Ordering.TheVariants.{Less}
 use Rattle.tuple_codec.specs.Subspace.{BeginsWith}
 use Rattle.kv_core.specs.Bytes.{key_cmp}
 use Rattle.kv_core.specs.Map.{Map}
@@ -15,9 +14,9 @@ use Rattle.kv_core.proofs.Lists.{is_true}
 use Rattle.kv_core.proofs.Order.{tied_keys}
 use Rattle.metadata.specs.Layout.{Pair}
 use Rattle.record_store.specs.Holds.{HasPairs}
-use Rattle.planner.proofs.Lists.{Pairwise}
 use Rattle.planner.proofs.Residual.{Member, here, there}
 use Rattle.planner.proofs.Scans.{front_or_later}
+use Rattle.planner.proofs.Sorted.{Rise}
 use Rattle.planner.proofs.Sound.{find_member, rising as rises_from}
 
 -- ---- look-ups in lists of pairs
@@ -49,15 +48,16 @@ module _ (m : Map) where
   pub in_order : is_sorted key_cmp (entries m) ≡ true
   in_order = is_true (is_sorted key_cmp (entries m)) (entries_sorted m)
 
-  map_rises : Pairwise (λ p q. key_cmp p.0 q.0 ≡ Less) (entries m)
-  map_rises = rises_from (entries m) in_order
+  -- RISING: the pairs' keys rise
+  pub rise_of : Rise (entries m)
+  rise_of = rises_from (entries m) in_order
 
   -- a map has a pair where its value is found
   map_has : (p : Pair) → get m p.0 ≡ Some p.1 → Member p (entries m)
   map_has p e = found_pair p.0 p.1 (entries m) (sym (get-entries m p.0) ∙ e)
 
   map_gives : (p : Pair) → Member p (entries m) → get m p.0 ≡ Some p.1
-  map_gives p e = get-entries m p.0 ∙ find_member (entries m) map_rises p e
+  map_gives p e = get-entries m p.0 ∙ find_member (entries m) rise_of p e
 
   -- where a map has just these pairs at the keys that begin so, its pairs there are these
   pub just_these : (begin : List ℕ) (es : List Pair) → HasPairs begin es m → (p : Pair) → BeginsWith begin p.0 → Member p (entries m) → Member p es

@@ -5,20 +5,16 @@ use Rattle.std.specs.Result.{result_ok}
 use Rattle.std.proofs.Common.{ap, sym, ◌∙◌, subst}
 use Rattle.std.proofs.lemmas.Slice.Eq.{bytes_eq-Decides}
 use Rattle.std.proofs.lemmas.List.{append_cancel_left}
-use Rattle.tuple_codec.specs.Item.{Item, AreBytes}
-use Rattle.tuple_codec.specs.Reading.{tuple_at}
-use Rattle.tuple_codec.specs.Spelling.{Spells, spelling}
+use Rattle.tuple_codec.specs.Spelling.{spelling}
 use Rattle.tuple_codec.specs.Subspace.{BeginsWith}
-use Rattle.tuple_codec.proofs.Again as codec
-use Rattle.tuple_codec.proofs.Outcome.{Answers, low_from_bytes, tuple_answers}
 use Rattle.metadata.specs.declared.cells.Cell.{Cell}
 use Rattle.metadata.specs.declared.definition.TypeDefinition.{TypeDefinition}
 use Rattle.metadata.specs.declared.refusal.Refusal.{Refusal}
-use Rattle.metadata.specs.Cell.{IsCell, cells_of, items_of}
+use Rattle.metadata.specs.Cell.{IsCell, items_of}
 use Rattle.metadata.specs.Record.{Record, primary_key, record_in}
 use Rattle.metadata.specs.Stored.{AreStoredAs, IsOfNoCells, IsOfNoRecord, IsStoredAs}
 use Rattle.metadata.proofs.CellItems.{cells_of-items_of}
-use Rattle.metadata.proofs.StoredCells.{cells_found, value_spells}
+use Rattle.metadata.proofs.StoredCells.{value_spells}
 use Rattle.metadata.proofs.StoredOnce.{made_is}
 use Rattle.record_store.specs.Layout.{place}
 use Rattle.record_store.proofs.Keys.{record_key_is}
@@ -27,34 +23,18 @@ use Rattle.planner.specs.Layout.{keyed, stored_record}
 use Rattle.planner.specs.Pack.{unpack}
 use Rattle.planner.proofs.CodecLaws.{reads_back}
 use Rattle.planner.proofs.Lists.{all_each}
+use Rattle.planner.proofs.Unpacked.{packed_so, unpack_spelled}
 
 -- ---- bytes as cells
 
--- bytes that spell a tuple are unpacked as its cells
-pub unpacked : (bytes : List ℕ) (tuple : List Item) → Spells tuple bytes → cells_of tuple ≡ unpack bytes
-unpacked bytes tuple spelled = ap (λ r. option_and_then cells_of (elim r [ Ok read ↦ Some read.0 | Err fault ↦ None ])) (sym (codec.tuple_again tuple bytes spelled))
-
--- what is unpacked of bytes is that of a tuple that they spell
-pub record IsUnpacked (bytes : List ℕ) (cells : List Cell) : Type 0 where
-  pub tuple : List Item
-  pub spelled : Spells tuple bytes
-  pub is : cells_of tuple ≡ Some cells
-
-pub spelled_so : (bytes : List ℕ) (cells : List Cell) → AreBytes bytes → unpack bytes ≡ Some cells → IsUnpacked bytes cells
-spelled_so bytes cells are is = by (tuple_at bytes) (λ read ok. subst (Answers bytes) ok (tuple_answers bytes (low_from_bytes bytes are))) is
-  where
-    by : {E : Type 0} (r : Result (List Item × List ℕ) E) → ((read : List Item × List ℕ) → r ≡ Ok read → Spells read.0 bytes) → option_and_then cells_of (elim r [ Ok read ↦ Some read.0 | Err fault ↦ None ]) ≡ Some cells → IsUnpacked bytes cells
-    by (Ok read) spells of = record { tuple = read.0; spelled = spells read refl; is = of }
-    by (Err fault) spells of = cc
-
 -- the cells that are found by what is stored are those that are unpacked
-pub as_unpacked : (bytes : List ℕ) → AreBytes bytes → (found : Option (List Cell)) → IfSome found (AreStoredAs bytes) → IfNone found (IsOfNoCells bytes) → found ≡ unpack bytes
-as_unpacked bytes are (Some cells) stored none = sym (cells_of-items_of cells stored.cells) ∙ unpacked bytes (items_of cells) (value_spells bytes cells stored)
-as_unpacked bytes are None stored none = by (unpack bytes) refl
+pub as_unpacked : (bytes : List ℕ) (found : Option (List Cell)) → IfSome found (AreStoredAs bytes) → IfNone found (IsOfNoCells bytes) → found ≡ unpack bytes
+as_unpacked bytes (Some cells) stored none = sym (unpack_spelled (items_of cells) bytes (value_spells bytes cells stored) ∙ cells_of-items_of cells stored.cells)
+as_unpacked bytes None stored none = by (unpack bytes) refl
   where
     by : (o : Option (List Cell)) → unpack bytes ≡ o → None ≡ o
     by None is = refl
-    by (Some cells) is = let w = spelled_so bytes cells are is in absurd (none cells (cells_found bytes w.tuple (Some cells) w.spelled (sym w.is)))
+    by (Some cells) is = absurd (none cells (packed_so bytes cells is))
 
 -- ---- pairs as records
 
@@ -92,11 +72,10 @@ read_as prefix t pair rest r begins is =
     ∙ ap (λ b. cond b (Some r) None) ((bytes_eq-Decides pair.0 (record_key prefix (primary_key r))).1 key)
 
 -- what is read as a record is stored as it
-stored_so : (prefix : List ℕ) (t : TypeDefinition) (pair : Pair) (rest : List ℕ) (r : Record) → AreBytes pair.1 → pair.0 ≡ place prefix 1 ++ rest → stored_record prefix t pair ≡ Some r → IsStoredAs t rest pair.1 r
-stored_so prefix t pair rest r are begins is =
+stored_so : (prefix : List ℕ) (t : TypeDefinition) (pair : Pair) (rest : List ℕ) (r : Record) → pair.0 ≡ place prefix 1 ++ rest → stored_record prefix t pair ≡ Some r → IsStoredAs t rest pair.1 r
+stored_so prefix t pair rest r begins is =
     let s = split prefix t pair r is in
-    let w = spelled_so pair.1 s.cells are s.unpacked in
-    let stored : AreStoredAs pair.1 s.cells = cells_found pair.1 w.tuple (Some s.cells) w.spelled (sym w.is) in
+    let stored : AreStoredAs pair.1 s.cells = packed_so pair.1 s.cells s.unpacked in
     let same : s.cells ≡ r.cells = ap (λ (x : Record). x.cells) (made_is t s.cells r s.made) in
     record {
       made = ap (record_in t) (sym same) ∙ s.made;
@@ -106,12 +85,12 @@ stored_so prefix t pair rest r are begins is =
     }
 
 -- NONE: a key and a value that are those of no record are read as none
-pub read_as_none : (prefix : List ℕ) (t : TypeDefinition) (pair : Pair) (rest : List ℕ) → AreBytes pair.1 → pair.0 ≡ place prefix 1 ++ rest → IsOfNoRecord t rest pair.1 → None ≡ stored_record prefix t pair
-read_as_none prefix t pair rest are begins none = by (stored_record prefix t pair) refl
+pub read_as_none : (prefix : List ℕ) (t : TypeDefinition) (pair : Pair) (rest : List ℕ) → pair.0 ≡ place prefix 1 ++ rest → IsOfNoRecord t rest pair.1 → None ≡ stored_record prefix t pair
+read_as_none prefix t pair rest begins none = by (stored_record prefix t pair) refl
   where
     by : (o : Option Record) → stored_record prefix t pair ≡ o → None ≡ o
     by None is = refl
-    by (Some r) is = absurd (none r (stored_so prefix t pair rest r are begins is))
+    by (Some r) is = absurd (none r (stored_so prefix t pair rest r begins is))
 
 -- NONE: so are those whose key stands elsewhere
 pub read_elsewhere : (prefix : List ℕ) (t : TypeDefinition) (pair : Pair) → (BeginsWith (place prefix 1) pair.0 → ⊥) → None ≡ stored_record prefix t pair
@@ -122,7 +101,7 @@ read_elsewhere prefix t pair never = by (stored_record prefix t pair) refl
     by (Some r) is = let s = split prefix t pair r is in absurd (never (spelling (primary_key r), s.key ∙ sym (record_key_is prefix (primary_key r))))
 
 -- what the record codec says of a pair, as the planner's word
-pub decoded : (prefix : List ℕ) (t : TypeDefinition) (pair : Pair) (rest : List ℕ) (found : Option Record) → AreBytes pair.1 → pair.0 ≡ place prefix 1 ++ rest →
+pub decoded : (prefix : List ℕ) (t : TypeDefinition) (pair : Pair) (rest : List ℕ) (found : Option Record) → pair.0 ≡ place prefix 1 ++ rest →
     IfSome found (IsStoredAs t rest pair.1) → IfNone found (IsOfNoRecord t rest pair.1) → found ≡ stored_record prefix t pair
-decoded prefix t pair rest None are begins some none = read_as_none prefix t pair rest are begins none
-decoded prefix t pair rest (Some r) are begins some none = sym (read_as prefix t pair rest r begins some)
+decoded prefix t pair rest None begins some none = read_as_none prefix t pair rest begins none
+decoded prefix t pair rest (Some r) begins some none = sym (read_as prefix t pair rest r begins some)

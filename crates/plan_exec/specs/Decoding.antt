@@ -1,8 +1,5 @@
--- Private: beneath whole plans, why pairs stand for nothing, and where entries of an index stand and of what form they
--- are.
+-- Private: why pairs stand for nothing, and of what form the entries of an index are.
 use Rattle.std.specs.Prelude.{◌≡◌, ℕ, List, Result, Err}
-use Rattle.kv_core.specs.Range.{KeyRange}
-use Rattle.cluster_core.specs.declared.answers.ReadError.{ReadError}
 use Rattle.metadata.specs.declared.definition.TypeDefinition.{TypeDefinition}
 use Rattle.metadata.specs.declared.index.IndexDefinition.{IndexDefinition}
 use Rattle.metadata.specs.Schema.{key_kinds}
@@ -10,7 +7,7 @@ use Rattle.metadata.specs.Layout.{entries_prefix}
 use Rattle.planner.specs.Layout.{column_kinds}
 use Rattle.plan_exec.specs.declared.entry.EntryForm.{EntryForm}
 use Rattle.plan_exec.specs.declared.error.ExecError.{ExecError}
-use Rattle.plan_exec.specs.declared.error.ExecError.TheVariants.{Read, Corrupt, Memory}
+use Rattle.plan_exec.specs.declared.error.ExecError.TheVariants.{Corrupt, Memory}
 
 -- why something isn't made of pairs: memory is wanting, or the first of which it isn't has this key
 abbrev pub IsDamage : {A : Type 0} → Result A (List ℕ) → ExecError → Type 0
@@ -23,9 +20,3 @@ pub record IsFormOf (prefix : List ℕ) (t : TypeDefinition) (i : IndexDefinitio
   pub front : form.front.items ≡ entries_prefix prefix i.number
   pub columns : form.columns.items ≡ column_kinds t i
   pub key : form.key.items ≡ key_kinds t
-
--- why a range wasn't read: memory is wanting, or the read is refused so
-abbrev pub IsRefusedRead : (KeyRange → ℕ → ReadError → Type 0) → KeyRange → ℕ → ExecError → Type 0
-IsRefusedRead refuses range version Memory = Unit {0}
-IsRefusedRead refuses range version (Read error) = refuses range version error
-IsRefusedRead refuses range version error = ⊥

@@ -4,6 +4,11 @@ pub mod Planning
 pub mod Errors
 pub mod Accepting
 pub mod Reads
+pub mod Course
 pub mod Executing
+pub mod Handing
 pub mod Decoding
-pub mod Merging
+pub mod Streams
+pub mod Levels
+pub mod Sources
+pub mod Rows

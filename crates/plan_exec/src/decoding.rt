@@ -1,25 +1,17 @@
-// What the pairs of records and of entries stand for. Called by `reading` and `entries`.
-ghost use Rattle.std.specs.Prelude.{◌≡◌, ◌++◌, IfOk, IfErr, MatchOption, Ok};
-ghost use Rattle.tuple_codec.specs.Item.{AreBytes};
+// What the pairs of records and of entries stand for. Called by `readers`, `entries` and
+// `record_streams`.
+ghost use Rattle.std.specs.Prelude.{◌≡◌, ◌++◌, IfOk, MatchOption};
 ghost use Rattle.tuple_codec.specs.Subspace.{BeginsWith};
 ghost use Rattle.metadata.specs.Layout.{place_of_records};
 ghost use Rattle.record_store.specs.Layout.{place};
 ghost use Rattle.planner.specs.Layout.{stored_record};
 ghost use Rattle.planner.specs.Pack.{unpack};
-ghost use Rattle.plan_exec.specs.Decoding.{IsDamage};
-ghost use Rattle.plan_exec.specs.Reads.{each_found};
 
-use crate::error::ExecError;
 use kv_core::Pair;
 use metadata::{Cells, Record, TypeDefinition};
 use record_store::Store;
 use std::alloc::{AllocError, Global};
 use std::rc::Rc;
-
-// Does nothing: its clause tells what the type knows of the numbers.
-fn bytes_known(bytes: &[u8])
-    ensures { AreBytes bytes.now }
-{}
 
 // What stands behind the front in a key.
 fn behind<'a>(front: &[u8], key: &'a [u8]) -> Option<&'a [u8]>
@@ -51,41 +43,16 @@ pub(crate) fn record_in(
 {
     let key = pair.0.as_slice();
     let value = pair.1.as_slice();
-    bytes_known(value);
     match behind(front, key) {
         Some(primary_key) => Record::decode_shared(store.alloc(), definition, primary_key, value),
         None => Ok(None),
     }
 }
 
-// The records of the type that pairs stand for.
-pub(crate) fn records_in(
-    store: &Store,
-    front: &[u8],
-    definition: &TypeDefinition,
-    pairs: &[Pair],
-) -> Result<Vec<Record>, ExecError>
-    requires { front.now ≡ place store.now.prefix place_of_records }
-    ensures found { IfOk result (λ records.
-        each_found (stored_record store.now.prefix definition.now) pairs.now ≡ Ok records.items) }
-    ensures damaged { IfErr result (IsDamage (each_found (stored_record store.now.prefix definition.now) pairs.now)) }
-{
-    let shared = shared(store.alloc(), definition)?;
-    let mut records = Vec::with_capacity(store.alloc(), pairs.len())?;
-    for pair in pairs {
-        match record_in(store, front, &shared, pair)? {
-            Some(found) => records.push(found)?,
-            None => return Err(ExecError::Corrupt(pair.0.copy()?)),
-        }
-    }
-    Ok(records)
-}
-
 // The cells whose pack these bytes are.
 pub(crate) fn cells_in(alloc: Global, bytes: &[u8]) -> Result<Option<Cells>, AllocError>
     ensures { IfOk result (λ found. found ≡ unpack bytes.now) }
 {
-    bytes_known(bytes);
     let found = Cells::unpack(alloc, bytes)?;
     Ok(found)
 }

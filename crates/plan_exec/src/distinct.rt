@@ -1,11 +1,11 @@
-//! Records of which each primary key stands once. Called by `executing`.
-ghost use Rattle.std.specs.Prelude.{◌≡◌, ◌∷◌, List, IfOk, Some, pos, refl};
+// The primary keys that were seen. Used by `rows` and `opening`.
+ghost use Rattle.std.specs.Prelude.{◌≡◌, ◌∷◌, [], ◌||◌, List, IfOk, OnOk, Some, not, pos, refl};
+ghost use Rattle.std.specs.BTreeSet.{contains};
 ghost use Rattle.std.specs.Ordering.{eq_by_cmp};
 ghost use Rattle.std.specs.Cmp.{eq_by_cmp_equiv, partial_equiv_from_equiv, partial_order_from_agreeing_total};
 ghost use Rattle.metadata.specs.declared.cells.Cell.{Cell};
 ghost use Rattle.metadata.specs.Order.{cells_cmp};
 ghost use Rattle.planner.specs.Layout.{primary_cells};
-ghost use Rattle.planner.specs.Meaning.{first_of_each};
 ghost use Rattle.query.proofs.CellLaws.{cells_cmp_total};
 
 use metadata::{Cells, Record};
@@ -16,7 +16,7 @@ use std::marker::Model;
 
 // The primary key of a record: the number of its type, and the cells of its key fields.
 #[derive(Drop)]
-struct PrimaryKey {
+pub(crate) struct PrimaryKey {
     number: u64,
     cells: Cells,
 }
@@ -85,16 +85,34 @@ impl Ord for PrimaryKey {
     }
 }
 
-/// The records without those whose primary key stood before, in the order in which they come.
-pub(crate) fn first_of_each(alloc: Global, records: Vec<Record>) -> Result<Vec<Record>, AllocError>
-    ensures { IfOk result (λ first. first.items ≡ first_of_each primary_cells records.items) }
-{
-    let mut first = Vec::new(alloc);
-    let mut keys = BTreeSet::new(alloc);
-    for record in records {
-        if keys.insert(PrimaryKey::of(alloc, &record)?)? {
-            first.push(record)?;
+/// Primary keys, each once.
+#[derive(Drop)]
+pub(crate) struct PrimaryKeys {
+    pub(crate) alloc: Global,
+    pub(crate) keys: BTreeSet<PrimaryKey>,
+}
+
+impl PrimaryKeys {
+    /// None yet.
+    pub(crate) fn new(alloc: Global) -> PrimaryKeys
+        ensures { result.keys.keys ≡ [] }
+    {
+        PrimaryKeys {
+            alloc,
+            keys: BTreeSet::new(alloc),
         }
     }
-    Ok(first)
+
+    /// Adds that of a row, and answers whether it is new.
+    pub(crate) fn insert(&mut self, row: &Record) -> Result<bool, AllocError>
+        ensures added { IfOk result (λ added.
+            added ≡ not (contains cells_cmp self.old.keys (primary_cells row.now))) }
+        ensures keys { OnOk result ((key : List Cell) → contains cells_cmp self.new.keys key
+            ≡ (eq_by_cmp cells_cmp (primary_cells row.now) key
+            || contains cells_cmp self.old.keys key)) }
+    {
+        let key = PrimaryKey::of(self.alloc, row)?;
+        let added = self.keys.insert(key)?;
+        Ok(added)
+    }
 }

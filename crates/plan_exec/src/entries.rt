@@ -1,5 +1,6 @@
-// What the pairs of an index's entries stand for. Called by `reading`.
-ghost use Rattle.std.specs.Prelude.{◌≡◌, ◌∷◌, [], IfOk, IfErr, MatchBool, Ok, bytes_eq, drop};
+// What the pairs of an index's entries stand for. Called by `reading`, `readers` and
+// `record_streams`.
+ghost use Rattle.std.specs.Prelude.{◌≡◌, ◌∷◌, [], IfOk, MatchBool, bytes_eq, drop};
 ghost use Rattle.std.specs.Prelude.{if◌then◌else◌, length, not, pos, take, None, Some, ◌&&◌};
 ghost use Rattle.std.specs.List.{list_any};
 ghost use Rattle.metadata.specs.declared.cells.Cell.TheVariants.{Int};
@@ -7,12 +8,11 @@ ghost use Rattle.metadata.specs.Cell.{all_fit, is_null};
 ghost use Rattle.metadata.specs.Schema.{key_kinds, kind_at};
 ghost use Rattle.planner.specs.Layout.{column_kinds, entry_primary_key, is_entry, is_primary_key};
 ghost use Rattle.planner.specs.Pack.{pack};
-ghost use Rattle.plan_exec.specs.Decoding.{IsDamage, IsFormOf};
-ghost use Rattle.plan_exec.specs.Reads.{each_found, stored_entry};
+ghost use Rattle.plan_exec.specs.Decoding.{IsFormOf};
+ghost use Rattle.plan_exec.specs.Reads.{stored_entry};
 
 use crate::decoding::cells_in;
 use crate::entry::{Entry, EntryForm};
-use crate::error::ExecError;
 use crate::keys::entries_key;
 use kv_core::Pair;
 use metadata::{Cell, Cells, Field, IndexDefinition, Kind, TypeDefinition};
@@ -212,7 +212,7 @@ fn primary_key_in(
 }
 
 // The entry that a pair stands for, if it is of the written form.
-fn entry_in(
+pub(crate) fn entry_in(
     store: &Store,
     definition: &TypeDefinition,
     index: &IndexDefinition,
@@ -229,28 +229,4 @@ fn entry_in(
         }
         None => Ok(None),
     }
-}
-
-// The entries that pairs stand for.
-pub(crate) fn entries_in(
-    store: &Store,
-    definition: &TypeDefinition,
-    index: &IndexDefinition,
-    form: &EntryForm,
-    pairs: &[Pair],
-) -> Result<Vec<Entry>, ExecError>
-    requires { IsFormOf store.now.prefix definition.now index.now form.now }
-    ensures found { IfOk result (λ entries.
-        each_found (stored_entry store.now.prefix definition.now index.now) pairs.now ≡ Ok entries.items) }
-    ensures damaged { IfErr result (IsDamage
-        (each_found (stored_entry store.now.prefix definition.now index.now) pairs.now)) }
-{
-    let mut entries = Vec::new(store.alloc());
-    for pair in pairs {
-        match entry_in(store, definition, index, form, pair)? {
-            Some(entry) => entries.push(entry)?,
-            None => return Err(ExecError::Corrupt(pair.0.copy()?)),
-        }
-    }
-    Ok(entries)
 }

@@ -1,7 +1,4 @@
-// Decoded entries of indexes. Used by `entries`, `reading` and `fetching`.
-ghost use Rattle.std.specs.Prelude.{◌≡◌, List};
-ghost use Rattle.metadata.specs.declared.cells.Cell.{Cell as CellValue};
-
+// Decoded entries of indexes. Used by `entries`, `readers` and the streams of entries.
 use kv_core::Bytes;
 use metadata::{Cells, Kind};
 
@@ -19,31 +16,4 @@ pub(crate) struct EntryForm {
     pub(crate) front: Vec<u8>,
     pub(crate) columns: Vec<Kind>,
     pub(crate) key: Vec<Kind>,
-}
-
-/// What has a primary key, by which a record is fetched.
-pub(crate) trait PrimaryKeyed {
-    ghost key: { Self → List CellValue };
-
-    /// The cells of the primary key.
-    fn primary_key(&self) -> &Cells
-        ensures { result.now ≡ key self.now };
-}
-
-// The cells of a primary key are one themselves.
-impl PrimaryKeyed for Cells {
-    ghost key = { λ cells. cells };
-
-    fn primary_key(&self) -> &Cells {
-        self
-    }
-}
-
-// An entry has that of its record.
-impl PrimaryKeyed for Entry {
-    ghost key = { λ entry. entry.primary_key };
-
-    fn primary_key(&self) -> &Cells {
-        &self.primary_key
-    }
 }

@@ -1,19 +1,26 @@
-//! The call that executes a plan. Called by `schedule` and `embed`.
-ghost use Rattle.std.specs.Prelude.{IfOk, IfErr};
-ghost use Rattle.plan_exec.specs.Executing.{IsExecuted, IsExecutionRefused};
+//! The calls that execute a plan. Called by `schedule` and `embed`.
+ghost use Rattle.std.specs.Prelude.{IfOk, IfErr, List};
+ghost use Rattle.metadata.specs.Record.{Record as RecordValue};
+ghost use Rattle.plan_exec.specs.Executing.{IsExecuted, IsExecutionRefused, IsGivenBefore};
+ghost use Rattle.plan_exec.specs.Handing.{IsHanded, TakesEach};
 
 use crate::accepting::accepted_type;
 use crate::error::ExecError;
-use crate::executing::node_rows;
+use crate::opening::rows_of;
+use crate::readers::RecordsOf;
+use metadata::Record;
 use planner::Plan;
 use record_store::{Records, Store};
+use std::alloc::AllocError;
 use txn::{Snapshot, Transaction};
 
 /// The rows of a plan over an open store, as the transaction sees it: all of them, or none.
 ///
 /// The store has the plan's type, perhaps with fields appended since, and may read each index that
 /// the plan scans. The rows are then those that the plan's query asks for. Just the ranges that the
-/// plan scans and the keys of the records that it fetches are read, in that order.
+/// plan scans and the keys of the records that it fetches are read: a scan in batches of 64 pairs,
+/// each once its first pair is wanted, and a record once its entry is found. So no more is held
+/// than the rows, a batch of each scan, and the primary keys that a step has to tell apart.
 ///
 /// # Errors
 ///
@@ -39,7 +46,48 @@ pub fn execute<S: Snapshot>(
         tx.new) }
 {
     plan.query();
-    let definition = accepted_type(store, plan)?;
-    let rows = node_rows(store, definition, tx, db, plan.root())?;
-    Ok(Records::new(rows))
+    let records = RecordsOf::new(store, accepted_type(store, plan)?)?;
+    let mut rows = rows_of(&records, plan.root())?;
+    let mut found = Vec::new(store.alloc());
+    while let Some(row) = rows.next(tx, db)? {
+        found.push(row)?;
+    }
+    Ok(Records::new(found))
+}
+
+/// Hands the rows of a plan over an open store, as the transaction sees it, to a closure, one by
+/// one in their order, each as soon as it is found.
+///
+/// The rows are those that `execute` answers. After an error those that were handed out, with the
+/// one at which the closure answered an error, are the first ones of them: only where this answers
+/// `Ok` they were all. What is read, and so the transaction's read conflict ranges, is as with
+/// `execute`, as far as it came.
+///
+/// # Errors
+///
+/// As with `execute`; and `Memory` where the closure answers an error, after which it isn't called
+/// again.
+pub fn execute_each<S: Snapshot, F: FnMut(Record) -> Result<(), AllocError>>(
+    plan: &Plan,
+    store: &Store,
+    tx: &mut Transaction,
+    db: &S,
+    row: &mut F,
+) -> Result<(), ExecError>
+    requires { F.IsAlwaysCallable row.old }
+    ensures executed { IfOk result (λ _. (rows : List RecordValue)
+        × TakesEach F.step row.old rows row.new
+        × IsExecuted (S.map_at db.now) store.now plan.now rows tx.old tx.new) }
+    ensures refused { IfErr result (λ error. (rows : List RecordValue)
+        × IsHanded F.step row.old rows row.new
+        × IsGivenBefore (S.map_at db.now) (S.may_refuse db.now) store.now plan.now rows error tx.old
+        tx.new) }
+{
+    plan.query();
+    let records = RecordsOf::new(store, accepted_type(store, plan)?)?;
+    let mut rows = rows_of(&records, plan.root())?;
+    while let Some(given) = rows.next(tx, db)? {
+        row(given)?;
+    }
+    Ok(())
 }

@@ -1,12 +1,14 @@
-// The sort key of records and of primary keys. Used by `merging`.
+// The keys by which records and entries are merged and joined. Used by `rows`, `level` and `joined`.
 ghost use Rattle.std.specs.Prelude.{◌≡◌, List};
 ghost use Rattle.metadata.specs.declared.cells.Cell.{Cell as CellValue};
 ghost use Rattle.metadata.specs.Cell.{cell_at};
 ghost use Rattle.metadata.specs.Order.{cell_cmp, cells_cmp};
 ghost use Rattle.metadata.specs.Record.{key_cells};
 ghost use Rattle.planner.specs.Layout.{primary_cells};
+ghost use Rattle.plan_exec.specs.Levels.{heads_cmp};
 
-use metadata::{Cell, Cells, Record};
+use crate::entry::Entry;
+use metadata::{Cell, Record};
 use std::cmp::Ordering;
 
 /// What has a key of cells, and is ordered by it.
@@ -64,11 +66,22 @@ impl Keyed for Record {
     }
 }
 
-// The cells of a primary key are a key themselves.
-impl Keyed for Cells {
-    ghost key = { λ cells. cells };
+// An entry's key is the primary key in it.
+impl Keyed for Entry {
+    ghost key = { λ entry. entry.primary_key };
 
-    fn compare_keys(&self, other: &Cells) -> Ordering {
-        self.compare(other)
+    fn compare_keys(&self, other: &Entry) -> Ordering {
+        self.primary_key.compare(&other.primary_key)
+    }
+}
+
+/// The order of the keys of two things. One that isn't there comes last.
+pub(crate) fn compare_heads<T: Keyed>(head: &Option<T>, other: &Option<T>) -> Ordering
+    ensures { result ≡ heads_cmp T.key head.now other.now }
+{
+    match (head, other) {
+        (Some(one), Some(two)) => one.compare_keys(two),
+        (Some(_), None) => Ordering::Less,
+        (None, _) => Ordering::Greater,
     }
 }

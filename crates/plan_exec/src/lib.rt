@@ -5,23 +5,27 @@
 #![tactic(auto)]
 
 mod accepting;
-mod common;
 mod decoding;
 mod distinct;
 mod entries;
 mod entry;
 mod error;
-mod executing;
 mod execution;
-mod fetching;
+mod fetch_streams;
+mod joined;
 mod keyed;
 mod keys;
 mod laws;
-mod merging;
+mod level;
+mod opening;
 mod planning;
-mod reading;
+mod readers;
+mod record_streams;
+mod rows;
+mod selecting;
+mod streams;
 
 pub use error::ExecError;
-pub use execution::execute;
+pub use execution::{execute, execute_each};
 pub use laws::{plans_answer, states_are_told, stores_are_exact, usable_are_scannable};
 pub use planning::plan_for_store;

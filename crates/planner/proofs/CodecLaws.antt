@@ -1,7 +1,6 @@
 -- What the codec gives the planner: packs of cells are ordered as cells, their ranges are those of bounds, and they are read back.
-use Rattle.std.specs.Prelude.{◌≡◌, ◌↔◌, refl, ℕ, true, ◌&&◌, nat_eq, List, [], ◌∷◌, ◌++◌, length, take, drop, Some, None, Option, Ok, Err, unwrap_or, bytes_eq}
+use Rattle.std.specs.Prelude.{◌≡◌, ◌↔◌, refl, ℕ, true, ◌&&◌, nat_eq, List, [], ◌∷◌, ◌++◌, length, take, drop, Some, None, Option, unwrap_or, bytes_eq}
 use Rattle.std.specs.List.{starts_with}
-use Rattle.std.specs.Option.{option_and_then}
 use Rattle.std.proofs.Common.{ap, sym, ◌∙◌, subst, arith}
 use Rattle.std.proofs.lemmas.List.{take-append-drop}
 use Rattle.std.specs.Cmp.{both_ways, first_so, second_so}
@@ -12,9 +11,8 @@ use Rattle.std.specs.Cmp.Lexicographic.{nat_list_cmp_total}
 use Rattle.std.proofs.Math.Seq.{take-append_seam}
 use Rattle.std.proofs.lemmas.Slice.Eq.{bytes_eq-Decides}
 use Rattle.tuple_codec.specs.Order.{bytes_cmp}
-use Rattle.tuple_codec.specs.Spelling.{escaped, outer, spelling}
+use Rattle.tuple_codec.specs.Spelling.{escaped, outer}
 use Rattle.tuple_codec.specs.Subspace.{BeginsWith, IsBefore, IsWithin, raised_last, strinc}
-use Rattle.tuple_codec.proofs.Again.{tuple_again}
 use Rattle.tuple_codec.proofs.ClosedStrings.{AreLow}
 use Rattle.tuple_codec.proofs.Outcome.{bytes_from_low, low_from_bytes}
 use Rattle.tuple_codec.proofs.Prefixes.{prefix_is_range}
@@ -22,17 +20,18 @@ use Rattle.tuple_codec.proofs.Spellings.{spelling_spells}
 use Rattle.tuple_codec.proofs.TupleOrder.{begins}
 use Rattle.metadata.specs.declared.cells.Cell.{Cell}
 use Rattle.metadata.specs.declared.cells.Cell.TheVariants.{Null, Int, Text, Bytes}
-use Rattle.metadata.specs.Cell.{IsCell, cells_of, item_of, items_of}
+use Rattle.metadata.specs.Cell.{IsCell, item_of, items_of}
 use Rattle.metadata.specs.Order.{BeginsAs, is_stop, is_string, is_tail, open_pack}
 use Rattle.metadata.proofs.CellItems.{cells_of-items_of, is_tuple-items_of}
 use Rattle.metadata.proofs.PackBegins.{low, null_first, opens}
 use Rattle.metadata.proofs.PackOrder.{decides}
 use Rattle.query.specs.Truth.{known, is_true, prefix_test}
-use Rattle.planner.specs.Pack.{behind_all, pack_cell}
+use Rattle.planner.specs.Pack.{behind_all, pack, pack_cell}
 use Rattle.planner.proofs.Ranges.{IsNonEmpty, PackLaws, known_true, low_append}
 use Rattle.planner.proofs.LowBytes.{low_escaped, low_pack_cell, low_text}
 use Rattle.planner.proofs.Lists.{each_all}
 use Rattle.planner.proofs.Sound.{ReadsBack}
+use Rattle.planner.proofs.Unpacked.{unpack_spelled}
 
 -- ---- prefixes
 
@@ -163,5 +162,4 @@ pub reads_back : ReadsBack IsCell
 reads_back cells each =
     let all = each_all IsCell cells each in
     let t = is_tuple-items_of cells all in
-    ap (λ r. option_and_then cells_of (elim r [ Ok read ↦ Some read.0 | Err fault ↦ None ])) (tuple_again (items_of cells) (spelling (items_of cells)) (spelling_spells (items_of cells) t.items t.depth))
-    ∙ cells_of-items_of cells all
+    unpack_spelled (items_of cells) (pack cells) (spelling_spells (items_of cells) t.items t.depth) ∙ cells_of-items_of cells all

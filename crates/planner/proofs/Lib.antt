@@ -2,6 +2,7 @@ pub mod Size
 pub mod Admits
 pub mod CodecLaws
 pub mod LowBytes
+pub mod Unpacked
 pub mod Packs
 pub mod Made
 pub mod Lawful
@@ -25,3 +26,6 @@ pub mod Theorem
 pub mod KeyOrder
 pub mod Bodies
 pub mod ByField
+pub mod RisingKeys
+pub mod RisingRows
+pub mod RisingPlans

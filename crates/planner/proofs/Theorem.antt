@@ -62,6 +62,8 @@ use Rattle.planner.proofs.Extended.{planned_same}
 use Rattle.planner.specs.Choice.{IsChosen}
 use Rattle.planner.proofs.Choices.{planned_served, planned_chosen}
 use Rattle.planner.proofs.Uses.{planned_uses, value_is}
+use Rattle.planner.specs.Rising.{MergesRising}
+use Rattle.planner.proofs.RisingPlans.{planned_merging}
 
 -- ---- a query's answer
 
@@ -263,12 +265,17 @@ module _ (laws : PackLaws IsCell) (reads_back : ReadsBack IsCell) (schema : Sche
                 (λ r. list_all-enumerated (λ f. selects f r) (conjuncts query.filter) 0 ∙ sym (selects-conjuncts query.filter r)) g.in_order,
           )
 
+  -- it merges only what rises
+  pub planned_merges : (root : Node) → planned t (usable schema states t) query ≡ Some root → MergesRising root
+  planned_merges root plan_is = planned_merging t (usable schema states t) query have_value root plan_is
+
   -- and it is of the type that the query names
   pub planned_for : (root : Node) → planned t (usable schema states t) query ≡ Some root → IsPlanFor query (record { definition = t; root = root })
   planned_for root plan_is = record {
     typed = found_named schema query.record_type t its_type;
     over = λ i c. let may = each_member (MayBeUsed schema states t) (planned_usable schema states t query root plan_is) (member_contained i (indexes_of root) c) in record { kind = value_is i.kind may.of_values; type = may.of_type };
     right = planned_right root plan_is;
+    merges = planned_merges root plan_is;
   }
 
   -- it is the promised one

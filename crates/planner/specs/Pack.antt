@@ -1,5 +1,7 @@
 -- The packed bytes of cells, and the cells that bytes are packed from.
-use Rattle.std.specs.Prelude.{ℕ, List, [], Option, Some, None, Ok, Err, unwrap_or, option_and_then}
+use Rattle.std.specs.Prelude.{ℕ, Bool, nat_lt, if◌then◌else◌, List, [], Option, Some, None, Ok, Err}
+use Rattle.std.specs.Prelude.{unwrap_or, option_and_then}
+use Rattle.std.specs.List.{list_all}
 use Rattle.tuple_codec.specs.Item.{Item}
 use Rattle.tuple_codec.specs.Reading.{tuple_at}
 use Rattle.tuple_codec.specs.Spelling.{item_spelling, outer, spelling}
@@ -18,9 +20,13 @@ pack cells = spelling (items_of cells)
 abbrev pub tuple_in : List ℕ → Option (List Item)
 tuple_in bytes = elim (tuple_at bytes) [ Ok read ↦ Some read.0 | Err fault ↦ None ]
 
--- the cells whose pack bytes are, if they are one
+-- each number is a byte
+abbrev pub all_bytes : List ℕ → Bool
+all_bytes numbers = list_all (λ b. nat_lt b 256) numbers
+
+-- the cells whose pack bytes are, if they are one; numbers that aren't bytes are none
 abbrev pub unpack : List ℕ → Option (List Cell)
-unpack bytes = option_and_then cells_of (tuple_in bytes)
+unpack bytes = if all_bytes bytes then option_and_then cells_of (tuple_in bytes) else None
 
 -- the least bytes above all that begin with these, where they aren't FF alone
 abbrev pub behind_all : List ℕ → List ℕ

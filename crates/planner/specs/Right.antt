@@ -21,6 +21,7 @@ use Rattle.planner.specs.Planned.{is_empty}
 use Rattle.planner.specs.Rules.{usable}
 use Rattle.planner.specs.Meaning.{rows_of}
 use Rattle.planner.specs.Exact.{IsExact}
+use Rattle.planner.specs.Rising.{MergesRising}
 
 -- the type is the same one, perhaps with fields appended
 pub record Extends (old new : TypeDefinition) : Type 0 where
@@ -68,12 +69,13 @@ pub record IsValueOver (t : TypeDefinition) (i : IndexDefinition) : Type 0 where
 abbrev pub ScansOwn : Plan → Type 0
 ScansOwn plan = (i : IndexDefinition) → Contains (indexes_of plan.root) i → IsValueOver plan.definition i
 
--- Private: a plan for a query: of the type that the query names, scanning VALUE indexes over that type alone, and right
--- for the query
+-- Private: a plan for a query: of the type that the query names, scanning VALUE indexes over that type alone, right for
+-- the query, and merging only what rises by primary key
 pub record IsPlanFor (query : Query) (plan : Plan) : Type 0 where
   pub typed : plan.definition.name ≡ query.record_type
   pub over : ScansOwn plan
   pub right : IsRightFor query plan
+  pub merges : MergesRising plan.root
 
 -- whether a path to the records of the type serves the query's sort
 abbrev pub has_sorted_path : Schema → List (ℕ × State) → Query → TypeDefinition → Bool

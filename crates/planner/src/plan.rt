@@ -66,8 +66,8 @@ pub enum Node {
 }
 
 /// How the records of a query are found: those of a type, by the steps from the last one to the
-/// first. Each plan is of the type that its query names, scans indexes over that type alone, and is
-/// right for its query.
+/// first. Each plan is of the type that its query names, scans indexes over that type alone, is
+/// right for its query, and merges only steps and scans that go by primary key.
 #[derive(Drop)]
 pub struct Plan {
     pub(crate) definition: TypeDefinition,
@@ -96,6 +96,7 @@ impl Model for Plan {
 
 impl Plan {
     ghost use Rattle.planner.specs.Right.{IsRightFor, ScansOwn};
+    ghost use Rattle.planner.specs.Rising.{MergesRising};
     ghost use Rattle.planner.specs.View.{node_of, plan_of};
     ghost use Rattle.query.specs.View.{query_of};
 
@@ -113,12 +114,14 @@ impl Plan {
         &self.root
     }
 
-    /// The query that the plan is for.
+    /// The query that the plan is for. In each union of the plan each part goes by primary key by
+    /// its form alone, and in each intersection each scan.
     pub fn query(&self) -> &Query
         ensures query { result.now ≡ self.now.query }
         ensures typed { (plan_of self.now).definition.name ≡ (query_of result.now).record_type }
         ensures over { ScansOwn (plan_of self.now) }
         ensures right { IsRightFor (query_of result.now) (plan_of self.now) }
+        ensures merges { MergesRising (plan_of self.now).root }
     {
         &self.query
     }

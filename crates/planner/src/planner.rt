@@ -6,6 +6,7 @@ ghost use Rattle.query.specs.View.{query_of};
 ghost use Rattle.planner.specs.Choice.{IsChosen};
 ghost use Rattle.planner.specs.Planned.{planned};
 ghost use Rattle.planner.specs.Right.{IsRightFor, is_served};
+ghost use Rattle.planner.specs.Rising.{MergesRising};
 ghost use Rattle.planner.specs.Rules.{MayBeUsed, usable};
 ghost use Rattle.planner.specs.Right.{indexes_of};
 ghost use Rattle.planner.specs.View.{plan_of};
@@ -19,7 +20,8 @@ use query::{Query, values_known};
 use std::alloc::Global;
 
 /// The plan of a query that `Query::check` doesn't refuse, from one state for each index: an index
-/// without a state isn't readable. It uses the readable VALUE indexes of the query's type alone.
+/// without a state isn't readable. It uses the readable VALUE indexes of the query's type alone. In
+/// each union each part goes by primary key by its form alone, and in each intersection each scan.
 ///
 /// It is refused with `SortNotServed` where neither the primary key nor such an index serves the
 /// sort, and else with `Memory` where memory runs out. Without a sort there is always a plan.
@@ -37,6 +39,7 @@ pub fn plan(
         (query_of query.now) ≡ Some (plan_of p).root) }
     ensures right { IfOk result (λ p. IsRightFor (query_of query.now) (plan_of p)) }
     ensures query { IfOk result (λ p. query_of p.query ≡ query_of query.now) }
+    ensures merges { IfOk result (λ p. MergesRising (plan_of p).root) }
     ensures usable { IfOk result (λ p. All (MayBeUsed schema.now states.now (plan_of p).definition)
         (indexes_of (plan_of p).root)) }
     ensures chosen { IfOk result

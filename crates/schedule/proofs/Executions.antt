@@ -9,7 +9,7 @@ use Rattle.kv_core.specs.Map.{Map}
 use Rattle.kv_core.specs.declared.change.CommitRequest.{CommitRequest}
 use Rattle.kv_core.specs.declared.change.Mutation.{Mutation}
 use Rattle.cluster_core.specs.declared.answers.ReadError.{ReadError}
-use Rattle.txn.proofs.Running.{ran_then}
+use Rattle.txn.proofs.Running.{ran_because, ran_then}
 use Rattle.metadata.specs.declared.definition.TypeDefinition.{TypeDefinition}
 use Rattle.metadata.specs.declared.index.IndexDefinition.{IndexDefinition}
 use Rattle.metadata.specs.Record.{Record}
@@ -23,7 +23,7 @@ use Rattle.record_store.specs.Holds.{Holds}
 use Rattle.record_store.specs.Opening.{AtSerials, HasSchema, IsOpened, IsThereAs, opening_reach}
 use Rattle.record_store.specs.Steps.{IsBeginning, IsNextRefused}
 use Rattle.record_store.specs.Store.{Serial, Store}
-use Rattle.record_store.proofs.Stopping.{begin_behind}
+use Rattle.record_store.proofs.Stopping.{all_begin, begin_behind}
 use Rattle.query.specs.Query.{Allows}
 use Rattle.query.specs.View.{query_of}
 use Rattle.planner.specs.Asked.{AskedPlan}
@@ -32,12 +32,10 @@ use Rattle.planner.specs.Plan.{Plan}
 use Rattle.planner.specs.Right.{indexes_of}
 use Rattle.planner.specs.View.{plan_of}
 use Rattle.plan_exec.specs.Accepting.{Accepts, IsNotAccepted, IsReadableAt, extends, may_read}
-use Rattle.plan_exec.specs.Executing.{HasNoRows, HasRows, IsExecuted, IsUnexecuted, damage_of, reads_of}
-use Rattle.plan_exec.specs.Reads.{node_reading}
+use Rattle.plan_exec.specs.Executing.{HasNoRows, HasRows, IsExecuted, IsUnexecuted, asks_of, damage_of, reads_of}
 use Rattle.plan_exec.specs.declared.error.ExecError.{ExecError}
 use Rattle.plan_exec.specs.declared.error.ExecError.TheVariants as execution
 use Rattle.plan_exec.proofs.Accepted.{all_readable, extends-Decides, found_name}
-use Rattle.plan_exec.proofs.Meanings.{no_damage, node_ok}
 use Rattle.schedule.specs.declared.refusal.Refusal.{Refusal}
 use Rattle.schedule.specs.declared.refusal.Refusal.TheVariants.{IndexNotReadable, OtherSchema}
 use Rattle.metadata.specs.declared.cells.Cell.{Cell}
@@ -108,7 +106,7 @@ executed_at {refuses = refuses} {old = old} opened command plan rows executes is
     sound : (m : Map) → HasRows (at opened) plan is.type rows is.added m → IsCommandSound (Some (at opened)) command answer m
     sound m fact = (
       subst (λ (r : Reading). call.IsSound (at opened) r m) (sym so.reads) tt,
-      so.damage m ∙ no_damage (node_reading store_prefix (entries m) is.type (plan_of plan).root).found rows (node_ok store_prefix (entries m) is.type (plan_of plan).root ∙ fact.meaning),
+      so.damage m ∙ fact.undamaged,
     )
 
     here : (m : Map) → HasRows (at opened) plan is.type rows is.added m → (serial : Serial) → Stands m serial → IsThereAs (at opened) serial →
@@ -152,8 +150,8 @@ unexecuted_at {maps = maps} {refuses = refuses} {old = old} {mid = mid} {new = n
       held = λ serial stands. (
         λ answer same. inr (read_right refused (reach (opened_in serial) command m) reason answer same
             (subst (λ s. IsReadRefusedAs refused (reach s command m) reason) (sym (opened_is (at opened) serial refl (has.1 serial stands)))
-            (next_within refused (reads_of store_prefix (entries m) t (plan_of plan).root) ranges (reach (Some (at opened)) command m) reason (own_asked (Some (at opened)) command m (steps_reading (at opened) (Some (t, (plan_of plan).root))) so.reads)
-            (subst (λ v. IsNextRefused (λ range. refuses range v) (reads_of store_prefix (entries m) t (plan_of plan).root) ranges reason) same_version met.stopped.1)))),
+            (next_within refused (asks_of store_prefix (entries m) t (plan_of plan).root) ranges (reach (Some (at opened)) command m) reason (own_asked (Some (at opened)) command m (steps_reading (at opened) (Some (t, (plan_of plan).root))) so.reads)
+            (subst (λ v. IsNextRefused (λ range. refuses range v) (asks_of store_prefix (entries m) t (plan_of plan).root) ranges reason) same_version met.stopped.1)))),
         begin_serial opened command m serial (opening_reach store_prefix ++ ranges) stands (has.1 serial stands) (first_ranges opened command plan t so ranges m met.stopped.0),
       );
     }
@@ -183,6 +181,15 @@ unexecuted_at {maps = maps} {refuses = refuses} {old = old} {mid = mid} {new = n
     by_error fault.NotReadable is = absurd is
     by_error fault.WrongState is = absurd is
     by_error fault.NotBuilt is = absurd is
+
+-- MEMORY was wanting once a plan was executed
+pub executed_memory : {maps : ℕ → Map} {refuses : KeyRange → ℕ → ReadError → Type 0} {opened : Opened} {plan : AskedPlan} {rows : List Record} {old new : CommitRequest} → IsExecuted maps opened plan rows old new → IsUnexecuted maps refuses opened plan execution.Memory old new
+executed_memory is = record {
+  type = is.type;
+  accepted = is.accepted;
+  added = is.added;
+  ran = ran_because is.ran (λ m fact. record { stopped = subst (IsBeginning is.added) fact.reads (all_begin is.added); damage = tt });
+}
 
 -- ---- the same where the opened store stands at the store's prefix
 

@@ -16,7 +16,7 @@ use Rattle.planner.specs.Planned.{planned}
 use Rattle.planner.specs.Right.{indexes_of, is_served}
 use Rattle.planner.specs.Rules.{usable}
 use Rattle.plan_exec.specs.Accepting.{extends, may_read}
-use Rattle.plan_exec.specs.Executing.{damage_of, reads_of}
+use Rattle.plan_exec.specs.Executing.{asks_of, damage_of, reads_of}
 
 -- the type of the records of a plan's steps, and its last step
 abbrev pub PlanSteps : Type 0
@@ -52,7 +52,7 @@ plan_steps opened plan = option_and_then (steps_with opened plan) (find_type ope
 abbrev pub steps_reading : Opened → Option PlanSteps → Reading
 steps_reading opened None = whole []
 steps_reading opened (Some steps) = record {
-  asked = λ m. reads_of opened.prefix (entries m) steps.0 steps.1;
+  asked = λ m. asks_of opened.prefix (entries m) steps.0 steps.1;
   added = λ m. reads_of opened.prefix (entries m) steps.0 steps.1;
   set = None;
   pairs = λ m. [];

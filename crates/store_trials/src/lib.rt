@@ -2,6 +2,8 @@
 #![tactic(auto)]
 
 #[cfg(test)]
+mod handed;
+#[cfg(test)]
 mod lines;
 #[cfg(test)]
 mod queries;

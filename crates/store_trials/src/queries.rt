@@ -59,6 +59,31 @@ static ROWS: [(&str, u64, &str); 6] = [
     ),
 ];
 
+/// How many records there are, a query of one of them, and how many reads it takes: a range is read
+/// 64 pairs at a time, until a read finds fewer.
+static LONG: [(u32, &str, &str); 4] = [
+    (
+        200,
+        r#"["query",0,{"type":"t","filter":["not",["!=","k",5]]}]"#,
+        "6",
+    ),
+    (
+        128,
+        r#"["query",0,{"type":"t","filter":["not",["!=","k",5]]}]"#,
+        "5",
+    ),
+    (
+        63,
+        r#"["query",0,{"type":"t","filter":["not",["!=","k",5]]}]"#,
+        "3",
+    ),
+    (
+        65,
+        r#"["query",0,{"type":"t","filter":["and",["=","a",7],["not",["!=","k",5]]]}]"#,
+        "69",
+    ),
+];
+
 /// Performs the command of a step, which must make this line.
 fn answers(
     alloc: Global,
@@ -137,6 +162,36 @@ fn refused_queries_leave_transactions(rt: HostRuntime) -> Result<(), Fail> {
     for row in &ROWS {
         reads_taken(rt.alloc(), row)?;
         each_refused(rt.alloc(), row)?;
+    }
+    Ok(())
+}
+
+/// A store of so many records.
+pub(crate) fn filled(alloc: Global, records: u32) -> Result<KvMap, Fail> {
+    let db = Watched::new(KvMap::new(alloc));
+    let mut tx = Transaction::begin(alloc, 0);
+    accepted(alloc, &db, &mut tx, &MADE[..1])?;
+    for key in 0..records {
+        let step = format!(in alloc; "[\"save\",0,\"t\",[{key},7,8]]")?;
+        answers(alloc, &db, &mut tx, step.as_str(), "saved new")?;
+    }
+    let request = tx.into_request();
+    Ok(KvMap::new(alloc).with_all(request.mutations.as_slice())?)
+}
+
+/// A query over so many records takes so many reads.
+fn batches_taken(alloc: Global, row: &(u32, &str, &str)) -> Result<(), Fail> {
+    let (records, query, reads) = row;
+    let db = Watched::new(filled(alloc, *records)?);
+    let mut tx = Transaction::begin(alloc, 0);
+    answers(alloc, &db, &mut tx, query, "rows [[5,7,8]]")?;
+    tells(alloc, &db.reads(), reads)
+}
+
+#[test]
+fn long_ranges_are_read_in_batches(rt: HostRuntime) -> Result<(), Fail> {
+    for row in &LONG {
+        batches_taken(rt.alloc(), row)?;
     }
     Ok(())
 }

@@ -8,7 +8,7 @@ use trial_parts::{
     Watched, alike, bytes_of, mutation_of, mutations_of, pairs_of, range_of, ranges_of, same,
     shown, tells,
 };
-use txn::Transaction;
+use txn::{RangeCursor, Transaction};
 
 /// What is done with a transaction: a step takes a number and a text.
 #[derive(Clone, Copy)]
@@ -25,6 +25,10 @@ enum Step {
     Back,
     /// Reads the whole range of the text.
     All,
+    /// Reads the range of the text by a cursor, from the front or from the back, in batches of these
+    /// sizes.
+    Batches,
+    BackBatches,
     /// Ends the transaction and asks for the ranges that it read, for its mutations, or for their number.
     Reads,
     Mutations,
@@ -40,8 +44,8 @@ enum Step {
 }
 
 use Step::{
-    All, Back, ClearEach, Count, Fill, Get, Length, Mutations, New, One, Range, Reads, SetLarge,
-    Write,
+    All, Back, BackBatches, Batches, ClearEach, Count, Fill, Get, Length, Mutations, New, One,
+    Range, Reads, SetLarge, Write,
 };
 
 type Row = (Step, usize, &'static str, &'static str);
@@ -53,7 +57,7 @@ const BEHIND_A_THOUSAND: &str = "61000003e8= 61000003e9= 61000003ea= 61000003eb=
     61000003ed= 61000003ee= 61000003ef= 61000003f0= 61000003f1=";
 
 /// Steps, and what is told of each.
-static STEPS: [Row; 85] = [
+static STEPS: [Row; 109] = [
     // Own writes are seen.
     (New, 0, "61=61 62=62 63=63", ""),
     (One, 0, "64=00", "Ok(())"),
@@ -144,6 +148,32 @@ static STEPS: [Row; 85] = [
     (ClearEach, 1_000, "", ""),
     (Range, 10, "61-62", BEHIND_A_THOUSAND),
     (Count, 0, "", "7"),
+    // A cursor reads 64 pairs at a time, and its last batch has fewer.
+    (New, 0, "", ""),
+    (Fill, 200, "", ""),
+    (Batches, 0, "61-62", "64 64 64 8"),
+    (Count, 0, "", "4"),
+    (New, 0, "", ""),
+    (Fill, 128, "", ""),
+    (Batches, 0, "61-62", "64 64 0"),
+    (Count, 0, "", "3"),
+    (BackBatches, 0, "61-62", "64 64 0"),
+    (Count, 0, "", "6"),
+    (Batches, 0, "63-64", "0"),
+    (Count, 0, "", "7"),
+    (New, 0, "", ""),
+    (Fill, 65, "", ""),
+    (Batches, 0, "61-62", "64 1"),
+    (Reads, 0, "", "61-610000003f00 610000003f00-62"),
+    (BackBatches, 0, "61-62", "64 1"),
+    (Reads, 0, "", "6100000001-62 61-6100000001"),
+    // It sees what the transaction has written.
+    (New, 0, "", ""),
+    (Fill, 65, "", ""),
+    (One, 0, "6100000000-6100000002", "Ok(())"),
+    (One, 0, "61000000ff=01", "Ok(())"),
+    (Batches, 0, "61-62", "64 0"),
+    (Reads, 0, "", "61-61000000ff00 61000000ff00-62"),
     // A transaction has as many bytes as it may have.
     (New, 0, "", ""),
     (SetLarge, 100, "", ""),
@@ -213,6 +243,27 @@ impl Trial {
         alike(alloc, &pairs, &pairs_of(alloc, told)?)
     }
 
+    /// Reads by a cursor, whose batches have these sizes.
+    fn batches(
+        &mut self,
+        alloc: Global,
+        range: &str,
+        reverse: bool,
+        sizes: &str,
+    ) -> Result<(), Fail> {
+        let mut cursor = RangeCursor::new(range_of(alloc, range)?, reverse);
+        for size in sizes.split_whitespace() {
+            match cursor.next(&mut self.transaction, &self.db)? {
+                Some(batch) => tells(alloc, &batch.len(), size)?,
+                None => return Err(Fail::from("too few batches")),
+            }
+        }
+        match cursor.next(&mut self.transaction, &self.db)? {
+            Some(_) => Err(Fail::from("too many batches")),
+            None => Ok(()),
+        }
+    }
+
     /// Ends the transaction, begins another one, and says what is asked of the ended one.
     fn end(&mut self, alloc: Global, step: Step, told: &str) -> Result<(), Fail> {
         let ended = mem::replace(&mut self.transaction, Transaction::begin(alloc, 0));
@@ -279,6 +330,8 @@ fn take(alloc: Global, trial: &mut Trial, row: &Row) -> Result<(), Fail> {
         }
         Get => return trial.get(alloc, text, told),
         Range | Back | All => return trial.read(alloc, row),
+        Batches => return trial.batches(alloc, text, false, told),
+        BackBatches => return trial.batches(alloc, text, true, told),
         Count => return tells(alloc, &trial.db.reads(), told),
         Reads | Mutations | Length => return trial.end(alloc, *step, told),
         Fill | ClearEach | SetLarge => return repeat(alloc, trial, *step, *number),

@@ -6,4 +6,5 @@ pub mod Narrowing
 pub mod Own
 pub mod Reading
 pub mod Reads
+pub mod Cursor
 pub mod Runs

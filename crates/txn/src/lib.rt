@@ -2,6 +2,7 @@
 #![tactic(auto)]
 
 mod commit;
+mod cursor;
 mod laws;
 mod merge;
 mod own;
@@ -13,6 +14,7 @@ mod sum;
 mod transaction;
 
 pub use commit::{Commit, HoldError};
+pub use cursor::{BATCH, RangeCursor};
 pub use laws::reads_decide;
 pub use retry::{Ended, Next, Retry};
 pub use snapshot::Snapshot;

@@ -15,7 +15,7 @@ use kv_core::{Bytes, KeyRange, Pair};
 use std::alloc::AllocError;
 
 /// The key of the last pair, or the one given where there is none.
-fn last_key<'a>(key: &'a Bytes, pairs: &'a [Pair]) -> &'a Bytes
+pub(crate) fn last_key<'a>(key: &'a Bytes, pairs: &'a [Pair]) -> &'a Bytes
     ensures { result.now ≡ last_key key.now pairs.now }
 {
     match pairs.last() {

@@ -104,7 +104,7 @@ impl Transaction {
 
     /// The pairs of a range as the transaction sees them, up to the limit. Nothing is added to the
     /// ranges read.
-    fn seen_pairs<S: Snapshot>(
+    pub(crate) fn seen_pairs<S: Snapshot>(
         &mut self,
         db: &S,
         range: &KeyRange,
@@ -126,6 +126,14 @@ impl Transaction {
         self.own.catch_up(self.request.mutations.as_slice())?;
         let pairs = read_under(db, &self.own, version, range, limit, reverse)?;
         Ok(pairs)
+    }
+
+    /// Adds a range to the ranges read, unless memory runs out. The transaction is as it was then.
+    pub(crate) fn add_read(&mut self, range: KeyRange) -> Result<(), AllocError>
+        ensures ok { OnOk result (self.new ≡ has_read range self.old) }
+        ensures kept { OnErr result (self.new ≡ self.old) }
+    {
+        self.request.reads.add(range)
     }
 
     /// The pairs of a range as the transaction sees them: the first ones in the order of their
@@ -155,7 +163,7 @@ impl Transaction {
     {
         let pairs = self.seen_pairs(db, range, limit, reverse)?;
         let read = range_read(range, limit, reverse, pairs.as_slice())?;
-        self.request.reads.add(read)?;
+        self.add_read(read)?;
         Ok(pairs)
     }
 

@@ -1,5 +1,6 @@
 use Rattle.std.proofs.Common.{sym}
-use Rattle.explain.proofs.Packs.{unpack_refused, unpack_spelled}
+use Rattle.planner.proofs.Unpacked.{unpack_spelled}
+use Rattle.explain.proofs.Packs.{unpack_refused}
 use Rattle.explain.proofs.edges.unpacked.Goals as goal
 
 pub returns-in-Ok : goal.returns-in-Ok

@@ -5,7 +5,7 @@ use Rattle.planner.specs.Planned.{planned}
 use Rattle.planner.specs.Rules.{MayBeUsed, usable}
 use Rattle.planner.specs.View.{node_of}
 use Rattle.planner.proofs.CodecLaws.{codec_laws, reads_back}
-use Rattle.planner.proofs.Theorem.{planned_for, planned_right, planned_promised, planned_usable, planned_where_served}
+use Rattle.planner.proofs.Theorem.{planned_for, planned_right, planned_merges, planned_promised, planned_usable, planned_where_served}
 use Rattle.planner.proofs.Lists.{each_all}
 use Rattle.planner.specs.Right.{IsPlanFor, indexes_of}
 use Rattle.planner.proofs.planner.plan.Goals as goal
@@ -30,6 +30,11 @@ returns-in-Some-2-clause-is c =
 pub returns-in-Some-2-clause-right : goal.returns-in-Some-2-clause-right
 returns-in-Some-2-clause-right c =
     planned_right codec_laws reads_back c.args.schema.now c.args.states.now (query_of c.args.query.now) c.in_ok-definition.definition c.types.ensures.lawful c.requires c.values_known.ensures
+    (sym c.type_named.ensures ∙ ap option_copied c.in-Some.is ∙ ap Some (sym c.in_ok-definition.ensures)) (node_of c.in-Some-2.root) (returns-in-Some-2-clause-is c)
+
+pub returns-in-Some-2-clause-merges : goal.returns-in-Some-2-clause-merges
+returns-in-Some-2-clause-merges c =
+    planned_merges codec_laws reads_back c.args.schema.now c.args.states.now (query_of c.args.query.now) c.in_ok-definition.definition c.types.ensures.lawful c.requires c.values_known.ensures
     (sym c.type_named.ensures ∙ ap option_copied c.in-Some.is ∙ ap Some (sym c.in_ok-definition.ensures)) (node_of c.in-Some-2.root) (returns-in-Some-2-clause-is c)
 
 pub returns-in-Some-2-clause-chosen : goal.returns-in-Some-2-clause-chosen

@@ -15,3 +15,7 @@ returns-clause-over c =
 pub returns-clause-right : goal.returns-clause-right
 returns-clause-right c =
     (subst (λ p. IsPlanFor (query_of c.self.inside.query) (plan_of p)) c.self.view_is c.self.invariant).right
+
+pub returns-clause-merges : goal.returns-clause-merges
+returns-clause-merges c =
+    (subst (λ p. IsPlanFor (query_of c.self.inside.query) (plan_of p)) c.self.view_is c.self.invariant).merges

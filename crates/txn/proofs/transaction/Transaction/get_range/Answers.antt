@@ -11,6 +11,6 @@ range_read-requires g c = λ full.
 
 pub returns-clause-answer : goal.returns-clause-answer
 returns-clause-answer g c = λ m agree.
-    range_answer (g.S.Snapshot.map_at c.args.db.now) c.args.self.now c.args.self.now c.args.range.now c.in_ok-read.read c.args.limit c.args.reverse c.in_ok-pairs.pairs.items c.add.new.self
+    range_answer (g.S.Snapshot.map_at c.args.db.now) c.args.self.now c.args.self.now c.args.range.now c.in_ok-read.read c.args.limit c.args.reverse c.in_ok-pairs.pairs.items c.add_read.new.self.reads
     refl c.requires c.in_ok-pairs.ensures.pairs (c.in_ok-read.ensures ∙ ap (range_read c.args.range.now c.args.limit c.args.reverse) c.as_slice.ensures.value)
-    (c.in_ok-add.ensures.ok ∙ ap (λ t. with_range c.in_ok-read.read t.reads) (c.self.view_is ∙ c.in_ok-pairs.ensures.kept)) m agree
+    (ap (λ t. t.reads) c.in_ok-add_read.ensures.ok ∙ ap (λ t. with_range c.in_ok-read.read t.reads) c.in_ok-pairs.ensures.kept) m agree

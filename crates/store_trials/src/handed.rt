@@ -1,0 +1,99 @@
+// Rows of plans that are handed out one by one, all of them or only the first ones. Run as a test.
+use crate::queries::filled;
+use crate::scene::command_of;
+use json_forms::rows_text;
+use metadata::{Cells, Record};
+use plan_exec::{ExecError, execute_each, plan_for_store};
+use query::Query;
+use record_store::Store;
+use schedule::Command;
+use std::alloc::{AllocError, Global};
+use std::test::Fail;
+use trial_parts::{Watched, alike, same};
+use txn::Transaction;
+
+/// Under which key the store of commands stands.
+const PREFIX: [u8; 2] = [0x15, 0x01];
+
+/// Queries over 130 records, how many rows they have, and the first three of these.
+static HANDED: [(&str, usize, &str); 4] = [
+    (
+        r#"["query",0,{"type":"t","filter":["or",["<","k",2],[">","k",127]]}]"#,
+        4,
+        "[[0,7,8],[1,7,8],[128,7,8]]",
+    ),
+    (
+        r#"["query",0,{"type":"t","filter":["and",["=","a",7],["=","b",8],["<","k",4]]}]"#,
+        4,
+        "[[0,7,8],[1,7,8],[2,7,8]]",
+    ),
+    (
+        r#"["query",0,{"type":"t","filter":["or",[">","a",6],["<","b",0]]}]"#,
+        130,
+        "[[0,7,8],[1,7,8],[2,7,8]]",
+    ),
+    (
+        r#"["query",0,{"type":"t","filter":["<","k",3],"sort":["k"],"reverse":true}]"#,
+        3,
+        "[[2,7,8],[1,7,8],[0,7,8]]",
+    ),
+];
+
+/// The query of a script's step.
+fn asked(alloc: Global, step: &str) -> Result<Query, Fail> {
+    match command_of(alloc, step)? {
+        Command::Query(asked) => Ok(asked.query().copy(alloc)?),
+        _ => Err(Fail::from("no query")),
+    }
+}
+
+/// The cells of the rows that are handed out before a closure takes no more.
+fn first_rows(
+    alloc: Global,
+    db: &Watched,
+    query: &Query,
+    most: usize,
+) -> Result<(Vec<Cells>, Result<(), ExecError>), Fail> {
+    let mut tx = Transaction::begin(alloc, 0);
+    let store = Store::open(alloc, &PREFIX, &mut tx, db)?;
+    query.check(store.schema())?;
+    let plan = plan_for_store(alloc, &store, query)?;
+    let mut rows = Vec::new(alloc);
+    let ended = execute_each(
+        &plan,
+        &store,
+        &mut tx,
+        db,
+        &mut |row: Record| {
+            if rows.len() == most {
+                return Err(AllocError);
+            }
+            rows.push(row.cells().copy()?)?;
+            Ok(())
+        },
+    );
+    Ok((rows, ended))
+}
+
+/// All rows are handed out; and three of them alone, where no more are taken.
+fn handed_out(alloc: Global, db: &Watched, row: &(&str, usize, &str)) -> Result<(), Fail> {
+    let (step, count, first) = row;
+    let query = asked(alloc, step)?;
+    let (mut all, ended) = first_rows(alloc, db, &query, 1000)?;
+    ended?;
+    alike(alloc, &all.len(), count)?;
+    all.truncate(3);
+    same(rows_text(alloc, all.as_slice())?.as_str(), first)?;
+    let (three, ended) = first_rows(alloc, db, &query, 3)?;
+    same(rows_text(alloc, three.as_slice())?.as_str(), first)?;
+    alike(alloc, &ended.is_err(), &(*count > 3))
+}
+
+#[test]
+fn rows_are_handed_out(rt: HostRuntime) -> Result<(), Fail> {
+    let db = Watched::new(filled(rt.alloc(), 130)?);
+    for row in &HANDED {
+        handed_out(rt.alloc(), &db, row)?;
+    }
+    Ok(())
+}
