@@ -114,6 +114,7 @@ impl Cell {
     }
 
     /// What stands behind the pack of the cell, where the bytes begin with it.
+    #[inline(always)]
     pub fn strip_pack<'a>(&self, bytes: &'a [u8]) -> Option<&'a [u8]>
         ensures { MatchOption result
             (BeginsWith (item_spelling outer (item_of self.now)) bytes.now → ⊥)
@@ -158,6 +159,7 @@ pub(crate) fn flat_tuple(elements: Vec<Element>) -> Tuple
 }
 
 // The cell that an element of a tuple is, if it is one.
+#[inline(always)]
 fn cell_in(element: Element) -> Option<Cell>
     ensures { result ≡ cell_of (item_in element) }
 {

@@ -153,6 +153,7 @@ impl Record {
     }
 
     /// The cells, handed back.
+    #[inline(always)]
     pub fn into_cells(self) -> Cells
         ensures { result ≡ self.cells }
     {

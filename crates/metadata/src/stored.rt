@@ -19,6 +19,7 @@ use tuple_codec::{TupleInt, strip_int};
 
 // Whether these bytes are the pack of the primary key of the type's number and the cells of its
 // key.
+#[inline(always)]
 fn is_key(definition: &TypeDefinition, cells: &Cells, key: &[u8]) -> bool
     ensures { let items = key_items definition.now.number (cells_at cells.now definition.now.key) in
         MatchBool result (key.now ≡ spelling items) (key.now ≡ spelling items → ⊥) }
@@ -80,6 +81,7 @@ impl Record {
     }
 
     /// The same, where the record shares the definition.
+    #[inline(always)]
     pub fn decode_shared(
         alloc: Global,
         definition: &Rc<TypeDefinition>,

@@ -1,9 +1,11 @@
 -- A range whose pairs are given one by one, and which is read in batches.
-use Rattle.std.specs.Prelude.{◌≡◌, ℕ, ◌<◌, Bool, true, false, cond, nat_lt, List, [], ◌∷◌, ◌++◌, length, map, take, drop, Some, None, refl}
+use Rattle.std.specs.Prelude.{◌≡◌, ℕ, suc, ◌+◌, ◌<◌, ◌≤◌, Bool, true, false, cond, nat_lt, List, [], ◌∷◌, ◌++◌, length, map, take, drop, slice_get, Option, Some, None, IfSome, refl}
 use Rattle.std.specs.FinMap.{entries}
-use Rattle.std.proofs.Common.{ap, eqb, sym, ◌∙◌, subst, inl, inr}
-use Rattle.std.proofs.lemmas.Bool.{eqb-true}
-use Rattle.std.proofs.lemmas.List.{nil_from_length}
+use Rattle.std.specs.Vec.{vec_len}
+use Rattle.std.proofs.Common.{ap, get_or, arith, sym, ◌∙◌, subst, inl, inr}
+use Rattle.std.proofs.Math.Seq.{drop-cons}
+use Rattle.std.proofs.lemmas.List.{drop_all}
+use Rattle.std.proofs.lemmas.Option.{get_or_from_slice_get, slice_get-get_or, slice_get_read, slice_get_within}
 use Rattle.kv_core.specs.Map.{Map, pairs_in}
 use Rattle.kv_core.specs.Range.{KeyRange, contains}
 use Rattle.kv_core.specs.Read.{range_read}
@@ -19,7 +21,7 @@ use Rattle.metadata.specs.Layout.{Pair}
 use Rattle.plan_exec.specs.Course.{batches_course, finds, reads}
 use Rattle.plan_exec.specs.Errors.{exec_read}
 use Rattle.plan_exec.specs.Reads.{batches, pairs_within}
-use Rattle.plan_exec.specs.Streams.{HasGiven, HasNotGiven, left_course, pair_course}
+use Rattle.plan_exec.specs.Streams.{HasGiven, HasNotGiven, left_course, pair_at, pair_course}
 use Rattle.plan_exec.specs.declared.streams.PairStream.{PairStream}
 use Rattle.plan_exec.proofs.InBatches.{IsFirstOf, batch_ran, batch_read, batches_behind, fewer_left, first_batch, left_count}
 use Rattle.plan_exec.proofs.Streaming.{AsksFirst, HasGone, gone_not, gone_still, gone_then, not_memory, not_read, ran_here, same_seen}
@@ -87,13 +89,17 @@ batch_not {maps = maps} {refuses = refuses} {mid = mid} {new = new} cursor error
     not_read (left_course cursor) range error
     (λ m. subst (λ o. AsksFirst range (left_course (record { rest = o; reverse = cursor.reverse }) (entries m))) (sym was) (asks_left m cursor.reverse range)) same (inr met)
 
-module _ (stream : PairStream) (empty : true ≡ eqb stream.batch.len 0) where
-  -- where no batch is left, only what the cursor has is
+-- all of a batch was given, by its length
+pub used_up : (stream : PairStream) (n : ℕ) → n ≡ vec_len stream.batch → n ≤ stream.place → length stream.batch.items ≤ stream.place
+used_up stream n is used = subst (λ k. k ≤ stream.place) (is ∙ stream.batch.ok.0) used
+
+module _ (stream : PairStream) (used : length stream.batch.items ≤ stream.place) where
+  -- where all of a batch was given, only what the cursor has is left
   stream_left : (pairs : List Pair) → pair_course stream pairs ≡ left_course stream.cursor pairs
-  stream_left pairs = ap (λ batch. map (λ pair. finds pair) batch ++ left_course stream.cursor pairs) (nil_from_length stream.batch.items (sym stream.batch.ok.0 ∙ eqb-true stream.batch.len 0 (sym empty)))
+  stream_left pairs = ap (λ batch. map (λ pair. finds pair) batch ++ left_course stream.cursor pairs) (drop_all stream.place stream.batch.items used)
 
   -- GONE: a batch was read for the stream
-  pub stream_gone : {maps : ℕ → Map} {mid read : CommitRequest} (next : PairStream) (batch : List Pair) → HasBatch maps stream.cursor batch next.cursor mid read → next.batch.items ≡ batch → HasGone maps (pair_course stream) (pair_course next) mid read
+  pub stream_gone : {maps : ℕ → Map} {mid read : CommitRequest} (next : PairStream) (batch : List Pair) → HasBatch maps stream.cursor batch next.cursor mid read → drop next.place next.batch.items ≡ batch → HasGone maps (pair_course stream) (pair_course next) mid read
   stream_gone {maps = maps} {mid = mid} {read = read} next batch one is =
       gone_then (gone_still (pair_course stream) (left_course stream.cursor) (λ m. stream_left (entries m)) refl)
       (subst (λ items. HasGone maps (left_course stream.cursor) (λ pairs. map (λ pair. finds pair) items ++ left_course next.cursor pairs) mid read) (sym is) (batch_gone one))
@@ -111,3 +117,30 @@ module _ (stream : PairStream) (empty : true ≡ eqb stream.batch.len 0) where
         let ended : pair_course stream (entries m) ≡ [] = stream_left (entries m) ∙ ap (λ o. left_course (record { rest = o; reverse = stream.cursor.reverse }) (entries m)) none in
         ([], refl, (ended, ended)));
   }
+
+-- the pair at a place stands in front of what is behind it
+drop_there : (xs : List Pair) (i : ℕ) (x : Pair) → slice_get xs i ≡ Some x → drop i xs ≡ x ∷ drop (i + 1) xs
+drop_there xs i x there = drop-cons xs i x (slice_get_within xs i x there) ∙ ap (λ y. y ∷ drop (suc i) xs) (get_or_from_slice_get xs i x x there) ∙ (let same : suc i ≡ i + 1 = omega (arith) in ap (λ k. x ∷ drop k xs) same)
+
+-- GIVEN: the pair at the place, which is no longer left then
+pub stream_given : {maps : ℕ → Map} {old : CommitRequest} (stream : PairStream) (n : ℕ) → n ≡ vec_len stream.batch → stream.place < n →
+    HasGiven maps (pair_course stream) (slice_get stream.batch.items stream.place) (pair_course (record { cursor = stream.cursor; batch = stream.batch; place = stream.place + 1 })) old old
+stream_given {maps = maps} {old = old} stream n is within = by (slice_get stream.batch.items stream.place) refl
+  where
+    next : PairStream
+    next = record { cursor = stream.cursor; batch = stream.batch; place = stream.place + 1 }
+
+    inside : stream.place < length stream.batch.items
+    inside = subst (λ k. stream.place < k) (is ∙ stream.batch.ok.0) within
+
+    by : (o : Option Pair) → slice_get stream.batch.items stream.place ≡ o → HasGiven maps (pair_course stream) o (pair_course next) old old
+    by None none = absurd (let some = slice_get-get_or stream.batch.items stream.place ([], []) inside in cc)
+    by (Some pair) there = record {
+      added = [];
+      ran = ran_still refl (λ m. ([], refl, ap (λ items. map (λ pair. finds pair) items ++ left_course stream.cursor (entries m)) (drop_there stream.batch.items stream.place pair there)));
+    }
+
+-- what is read at the place that was told is the pair there
+pub pair_there : (stream : PairStream) (given : Option ℕ) (place : ℕ) (pair : Pair) → given ≡ Some place → IfSome given (λ there. there < length stream.batch.items) → pair ≡ get_or stream.batch.items place pair → pair_at stream given ≡ Some pair
+pair_there stream given place pair is within read =
+    ap (pair_at stream) is ∙ slice_get_read stream.batch.items (length stream.batch.items) place pair refl (subst (λ o. IfSome o (λ there. there < length stream.batch.items)) is within) read

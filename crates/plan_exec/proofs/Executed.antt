@@ -1,5 +1,5 @@
 -- What the call that executes a plan establishes, from what its steps do.
-use Rattle.std.specs.Prelude.{◌≡◌, ℕ, List, Option, Some, None, Result, Ok, Err, refl}
+use Rattle.std.specs.Prelude.{◌≡◌, ℕ, List, [], Option, Some, None, Result, Ok, Err, refl}
 use Rattle.std.specs.FinMap.{entries}
 use Rattle.std.specs.Result.{result_err, result_ok}
 use Rattle.std.proofs.Common.{ap, sym, ◌∙◌, subst}
@@ -28,10 +28,12 @@ use Rattle.metadata.specs.Layout.{Pair}
 use Rattle.planner.specs.View.{plan_of}
 use Rattle.planner.proofs.Lists.{member_contained}
 use Rattle.planner.proofs.Residual.{each_member}
-use Rattle.plan_exec.specs.Accepting.{Accepts, IsReadableAt}
+use Rattle.plan_exec.specs.Accepting.{Accepts, IsNotAccepted, IsReadableAt}
 use Rattle.plan_exec.specs.Executing.{HasBegun, HasFound, HasNoMeaning, HasStopped, IsCutShort, IsExecuted}
 use Rattle.plan_exec.specs.Executing.{IsExecutionRefused, IsExecutionStopped, IsGivenBefore, IsUnexecuted, damage_of}
 use Rattle.plan_exec.specs.Course.{Course, node_course, outcome_of}
+use Rattle.plan_exec.specs.Errors.{exec_memory}
+use Rattle.plan_exec.specs.Handing.{IsExecutedUntil}
 use Rattle.plan_exec.specs.Reads.{PlanRead}
 use Rattle.plan_exec.specs.Rows.{RowsLevel, level_of, new_level}
 use Rattle.plan_exec.specs.declared.readers.RecordsOf.{RecordsOf}
@@ -42,7 +44,7 @@ use Rattle.plan_exec.proofs.Answers.{answers}
 use Rattle.plan_exec.proofs.CourseMeanings.{node_course_ok}
 use Rattle.plan_exec.proofs.Meanings.{no_rows}
 use Rattle.plan_exec.proofs.Pairs.{rise_of}
-use Rattle.plan_exec.proofs.Taken.{Begins, HasEndedBehind}
+use Rattle.plan_exec.proofs.Taken.{Begins, HasEndedBehind, HasGivenUntil, none_taken}
 
 -- what is found where there is something
 ok_by : {A E : Type 0} (r : Result A E) (a : A) → result_ok r ≡ Some a → r ≡ Ok a
@@ -53,6 +55,14 @@ ok_by (Err e) a is = absurd (cc)
 pub opened_course : (rows : Rows) (records : RecordsOf) (opened : Opened) (t : TypeDefinition) (n root : Node) → level_of rows ≡ new_level (λ pairs. node_course records.store.now.prefix pairs records.definition.value n) →
     records.store.now ≡ opened → records.definition.value ≡ t → n ≡ root → (level_of rows).stream ≡ (λ pairs. node_course opened.prefix pairs t root)
 opened_course rows records opened t n root is store type same = ap (λ (level : RowsLevel). level.stream) is ∙ (λ i pairs. node_course (store i).prefix pairs (type i) (same i))
+
+-- NOT ACCEPTED: nothing was handed out, and nothing was read
+pub none_given : (maps : ℕ → Map) (refuses : KeyRange → ℕ → ReadError → Type 0) (opened : Opened) (plan : AskedPlan) (error : ExecError) (request : CommitRequest) → IsNotAccepted opened (plan_of plan) error → IsGivenBefore maps refuses opened plan [] error request request
+none_given maps refuses opened plan OtherSchema request none = (none, refl, refl)
+none_given maps refuses opened plan IndexNotReadable request none = (none, refl, refl)
+none_given maps refuses opened plan (Read reason) request none = absurd none
+none_given maps refuses opened plan (Corrupt key) request none = absurd none
+none_given maps refuses opened plan Memory request none = absurd none
 
 module _ (opened : Opened) (plan : AskedPlan) (t : TypeDefinition) (accepted : Accepts opened (plan_of plan) t) (over : ScansOwn (plan_of plan)) (right : IsRightFor (query_of plan.query) (plan_of plan)) (merges : MergesRising (plan_of plan).root) where
   -- over the map of a store that was opened so the plan has rows, and they answer its query
@@ -112,6 +122,12 @@ module _ (opened : Opened) (plan : AskedPlan) (t : TypeDefinition) (accepted : A
     meaning = λ all meaning. begins.whole all (ok_by (outcome_of (plan_course (entries m))).found all (means m ∙ meaning));
   }
 
+  -- EXECUTED until these rows were found
+  pub executed_until : {maps : ℕ → Map} {old new : CommitRequest} {whole : List Pair → Course Record} (rows : List Record) → whole ≡ plan_course → HasGivenUntil maps whole rows old new → IsExecutedUntil maps opened plan rows old new
+  executed_until {maps = maps} {old = old} {new = new} rows opens given =
+      let until : HasGivenUntil maps plan_course rows old new = subst (λ (course : List Pair → Course Record). HasGivenUntil maps course rows old new) opens given in
+      record { type = t; accepted = accepted; added = until.added; ran = ran_because until.ran (λ m says. (says.0, begun rows m says.1)) }
+
   -- NOT EXECUTED
   module _ {maps : ℕ → Map} {refuses : KeyRange → ℕ → ReadError → Type 0} {old new : CommitRequest} where
     unexecuted : (error : ExecError) → HasStopped maps refuses (λ pairs. outcome_of (plan_course pairs)) error old new → IsUnexecuted maps refuses opened plan error old new
@@ -150,3 +166,7 @@ module _ (opened : Opened) (plan : AskedPlan) (t : TypeDefinition) (accepted : A
 
     pub given_before : {whole : List Pair → Course Record} (rows : List Record) (error : ExecError) → whole ≡ plan_course → HasEndedBehind maps refuses whole rows error old new → IsGivenBefore maps refuses opened plan rows error old new
     given_before rows error opens ended = cut_plan rows error (subst (λ (course : List Pair → Course Record). HasEndedBehind maps refuses course rows error old new) opens ended)
+
+  -- MEMORY was wanting before anything was read
+  pub memory_first : (maps : ℕ → Map) (refuses : KeyRange → ℕ → ReadError → Type 0) (request : CommitRequest) → IsGivenBefore maps refuses opened plan [] exec_memory request request
+  memory_first maps refuses request = given_before [] exec_memory refl (none_taken plan_course)

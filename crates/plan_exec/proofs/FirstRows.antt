@@ -1,7 +1,7 @@
 -- The rows that are kept, and the first row of each key with a set of the keys that stood before: what is given of them,
 -- what is left then, and where they stopped.
 use Rattle.std.specs.Prelude.{◌≡◌, ℕ, Bool, true, false, cond, not, ◌||◌, List, [], ◌∷◌, ◌++◌, Some, None, refl}
-use Rattle.std.specs.BTreeSet.{contains}
+use Rattle.std.specs.BTreeSet.{BTreeSet, contains}
 use Rattle.std.specs.FinMap.{entries}
 use Rattle.std.specs.Ordering.{eq_by_cmp}
 use Rattle.std.proofs.Common.{ap, sym, ◌∙◌}
@@ -19,7 +19,6 @@ use Rattle.plan_exec.specs.Reads.{PlanRead}
 use Rattle.plan_exec.specs.Streams.{HasGiven, HasNotGiven, StopsHere, reads_then}
 use Rattle.plan_exec.specs.declared.error.ExecError.{ExecError}
 use Rattle.plan_exec.specs.declared.error.ExecError.TheVariants.{OtherSchema, IndexNotReadable, Read, Corrupt, Memory}
-use Rattle.plan_exec.proofs.FirstOnes.{Keys}
 use Rattle.plan_exec.proofs.Streaming.{HasGone, each_none, each_not, each_then, stops_each}
 
 -- ---- what is kept
@@ -34,6 +33,10 @@ module _ {maps : ℕ → Map} {A : Type 0} (keeps : A → Bool) where
   kept_not e one = each_not (λ pairs a. cond (keeps a) (finds a ∷ []) []) e one
 
 -- ---- the first of each key
+
+-- keys, each once
+abbrev pub Keys : Type 0
+Keys = BTreeSet (List Cell)
 
 -- the set has the keys of another, and this one
 abbrev pub HasKeyToo : Keys → Keys → List Cell → Type 0

@@ -10,7 +10,6 @@ pub mod KeyRanges
 pub mod EntryNumbers
 pub mod SingleReads
 pub mod InOrder
-pub mod FirstOnes
 pub mod Shares
 pub mod InBatches
 pub mod Executed

@@ -1,5 +1,5 @@
 -- Private: what a stream has still to give, and what it gives next.
-use Rattle.std.specs.Prelude.{◌≡◌, ℕ, List, [], ◌∷◌, ◌++◌, map, Option, Some, None}
+use Rattle.std.specs.Prelude.{◌≡◌, ℕ, List, [], ◌∷◌, ◌++◌, drop, map, option_and_then, slice_get, Option, Some, None}
 use Rattle.std.specs.FinMap.{entries}
 use Rattle.kv_core.specs.Map.{Map}
 use Rattle.kv_core.specs.Range.{KeyRange}
@@ -61,9 +61,14 @@ pub record HasNotGiven {A : Type 0} (maps : ℕ → Map) (refuses : KeyRange →
 abbrev pub left_course : RangeCursor → List Pair → Course Pair
 left_course cursor pairs = elim cursor.rest [ None ↦ [] | Some range ↦ range_course cursor.reverse range pairs ]
 
--- what is left of a batch, and then what its cursor has still to give
+-- what was not yet given of a batch, and then what its cursor has still to give
 abbrev pub pair_course : PairStream → List Pair → Course Pair
-pair_course stream pairs = map (λ pair. finds pair) stream.batch.items ++ left_course stream.cursor pairs
+pair_course stream pairs =
+    map (λ pair. finds pair) (drop stream.place stream.batch.items) ++ left_course stream.cursor pairs
+
+-- the pair at a place of a stream's batch, where there is a place
+abbrev pub pair_at : PairStream → Option ℕ → Option Pair
+pair_at stream place = option_and_then (slice_get stream.batch.items) place
 
 -- the entries that pairs stand for
 abbrev pub entries_made : EntriesOf → Course Pair → Course Entry

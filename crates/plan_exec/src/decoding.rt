@@ -14,6 +14,7 @@ use std::alloc::{AllocError, Global};
 use std::rc::Rc;
 
 // What stands behind the front in a key.
+#[inline(always)]
 fn behind<'a>(front: &[u8], key: &'a [u8]) -> Option<&'a [u8]>
     ensures { MatchOption result (BeginsWith front.now key.now → ⊥) (λ rest. key.now ≡ front.now ++ rest.now) }
 {
@@ -32,6 +33,7 @@ pub(crate) fn shared(
 }
 
 // The record of the type that a pair stands for, if it is of the written form.
+#[inline(always)]
 pub(crate) fn record_in(
     store: &Store,
     front: &[u8],

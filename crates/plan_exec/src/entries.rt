@@ -1,5 +1,4 @@
-// What the pairs of an index's entries stand for. Called by `reading`, `readers` and
-// `record_streams`.
+// What the pairs of an index's entries stand for. Called by `readers` and `record_streams`.
 ghost use Rattle.std.specs.Prelude.{◌≡◌, ◌∷◌, [], IfOk, MatchBool, bytes_eq, drop};
 ghost use Rattle.std.specs.Prelude.{if◌then◌else◌, length, not, pos, take, None, Some, ◌&&◌};
 ghost use Rattle.std.specs.List.{list_any};

@@ -1,8 +1,9 @@
 //! The calls that execute a plan. Called by `schedule` and `embed`.
-ghost use Rattle.std.specs.Prelude.{IfOk, IfErr, List};
+ghost use Rattle.std.specs.Prelude.{◌≡◌, ◌⊎◌, IfOk, IfErr, List};
 ghost use Rattle.metadata.specs.Record.{Record as RecordValue};
+ghost use Rattle.plan_exec.specs.Errors.{exec_memory};
 ghost use Rattle.plan_exec.specs.Executing.{IsExecuted, IsExecutionRefused, IsGivenBefore};
-ghost use Rattle.plan_exec.specs.Handing.{IsHanded, TakesEach};
+ghost use Rattle.plan_exec.specs.Handing.{IsExecutedUntil, RefusesLast, TakesEach};
 
 use crate::accepting::accepted_type;
 use crate::error::ExecError;
@@ -66,7 +67,7 @@ pub fn execute<S: Snapshot>(
 /// # Errors
 ///
 /// As with `execute`; and `Memory` where the closure answers an error, after which it isn't called
-/// again.
+/// again and nothing more is read.
 pub fn execute_each<S: Snapshot, F: FnMut(Record) -> Result<(), AllocError>>(
     plan: &Plan,
     store: &Store,
@@ -79,9 +80,11 @@ pub fn execute_each<S: Snapshot, F: FnMut(Record) -> Result<(), AllocError>>(
         × TakesEach F.step row.old rows row.new
         × IsExecuted (S.map_at db.now) store.now plan.now rows tx.old tx.new) }
     ensures refused { IfErr result (λ error. (rows : List RecordValue)
-        × IsHanded F.step row.old rows row.new
+        × ((TakesEach F.step row.old rows row.new
         × IsGivenBefore (S.map_at db.now) (S.may_refuse db.now) store.now plan.now rows error tx.old
-        tx.new) }
+        tx.new)
+        ⊎ ((error ≡ exec_memory) × RefusesLast F.step row.old rows row.new
+        × IsExecutedUntil (S.map_at db.now) store.now plan.now rows tx.old tx.new))) }
 {
     plan.query();
     let records = RecordsOf::new(store, accepted_type(store, plan)?)?;

@@ -60,7 +60,7 @@ fn fetch_record<S: Snapshot>(
     let key = record_key(records.store, records.front.as_slice(), &entry.primary_key)?;
     match tx.get(db, &key)? {
         Some(value) => {
-            let row = record_of(records, (key, value))?;
+            let row = record_of(records, &(key, value))?;
             Ok(row)
         }
         None => Err(ExecError::Corrupt(entry.key.copy()?)),

@@ -1,5 +1,5 @@
 // The keys under which records and entries stand, and the ranges that are read for scans. Called by
-// `reading` and `entries`.
+// `opening`, `readers`, `entries` and `fetch_streams`.
 ghost use Rattle.std.specs.Prelude.{◌≡◌, ◌∷◌, ◌++◌, [], List, ℕ, IfOk, IsTrue, OnOk, pos};
 ghost use Rattle.tuple_codec.specs.Item.{int};
 ghost use Rattle.kv_core.specs.Bytes.{end_of_keys, key_lt, key_max};

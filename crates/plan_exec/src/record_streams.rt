@@ -16,43 +16,47 @@ use metadata::Record;
 use txn::{Snapshot, Transaction};
 
 // What a pair stands for: where that is nothing the pair is damaged.
-fn or_corrupt<T: Drop>(found: Option<T>, pair: Pair) -> Result<T, ExecError>
+#[inline(always)]
+fn or_corrupt<T: Drop>(found: Option<T>, pair: &Pair) -> Result<T, ExecError>
     ensures found { IfOk result (λ made. found ≡ Some made) }
-    ensures damaged { IfErr result (IsDamage (or_damaged pair.0 found)) }
+    ensures damaged { IfErr result (IsDamage (or_damaged pair.now.0 found)) }
 {
     match found {
         Some(made) => Ok(made),
-        None => Err(ExecError::Corrupt(pair.0)),
+        None => Err(ExecError::Corrupt(pair.0.copy()?)),
     }
 }
 
 // The entry that a pair stands for.
-fn entry_of(entries: &EntriesOf<'_>, pair: Pair) -> Result<Entry, ExecError>
+#[inline(always)]
+fn entry_of(entries: &EntriesOf<'_>, pair: &Pair) -> Result<Entry, ExecError>
     ensures found { IfOk result (λ entry. stored_entry entries.now.store.now.prefix
-        entries.now.definition.now entries.now.index.now pair ≡ Some entry) }
-    ensures damaged { IfErr result (IsDamage (or_damaged pair.0
+        entries.now.definition.now entries.now.index.now pair.now ≡ Some entry) }
+    ensures damaged { IfErr result (IsDamage (or_damaged pair.now.0
         (stored_entry entries.now.store.now.prefix entries.now.definition.now entries.now.index.now
-        pair))) }
+        pair.now))) }
 {
     let found = entry_in(
         entries.store,
         entries.definition,
         entries.index,
         &entries.form,
-        &pair,
+        pair,
     )?;
     or_corrupt(found, pair)
 }
 
 // The record that a pair stands for.
-pub(crate) fn record_of(records: &RecordsOf<'_>, pair: Pair) -> Result<Record, ExecError>
+#[inline(always)]
+pub(crate) fn record_of(records: &RecordsOf<'_>, pair: &Pair) -> Result<Record, ExecError>
     ensures found { IfOk result (λ row.
-        stored_record records.now.store.now.prefix records.now.definition.value pair ≡ Some row) }
-    ensures damaged { IfErr result (IsDamage (or_damaged pair.0
-        (stored_record records.now.store.now.prefix records.now.definition.value pair))) }
+        stored_record records.now.store.now.prefix records.now.definition.value pair.now ≡
+        Some row) }
+    ensures damaged { IfErr result (IsDamage (or_damaged pair.now.0
+        (stored_record records.now.store.now.prefix records.now.definition.value pair.now))) }
 {
     let front = records.front.as_slice();
-    let found = record_in(records.store, front, &records.definition, &pair)?;
+    let found = record_in(records.store, front, &records.definition, pair)?;
     or_corrupt(found, pair)
 }
 
@@ -74,9 +78,9 @@ impl Stream for EntryStream<'_> {
         tx: &mut Transaction,
         db: &S,
     ) -> Result<Option<Entry>, ExecError> {
-        match self.pairs.next(tx, db)? {
-            Some(pair) => {
-                let entry = entry_of(&self.entries, pair)?;
+        match self.pairs.next_place(tx, db)? {
+            Some(place) => {
+                let entry = entry_of(&self.entries, &self.pairs.batch[place])?;
                 Ok(Some(entry))
             }
             None => Ok(None),
@@ -103,9 +107,9 @@ impl Stream for RecordStream<'_> {
         tx: &mut Transaction,
         db: &S,
     ) -> Result<Option<Record>, ExecError> {
-        match self.pairs.next(tx, db)? {
-            Some(pair) => {
-                let row = record_of(self.records, pair)?;
+        match self.pairs.next_place(tx, db)? {
+            Some(place) => {
+                let row = record_of(self.records, &self.pairs.batch[place])?;
                 Ok(Some(row))
             }
             None => Ok(None),

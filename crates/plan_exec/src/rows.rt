@@ -71,7 +71,11 @@ impl<'a> Rows<'a> {
         ensures stopped { IfErr result (λ error. HasNotGiven (S.map_at db.now) (S.may_refuse db.now)
             (level_of self.old).stream error tx.old tx.new) }
     {
-        next_row(&mut self.step, self.parts.as_mut_slice(), tx, db)
+        match &mut self.step {
+            Step::Scanned(records) => records.next(tx, db),
+            Step::Fetched(records) => records.next(tx, db),
+            step => next_row(step, self.parts.as_mut_slice(), tx, db),
+        }
     }
 }
 

@@ -4,6 +4,7 @@ use crate::scene::command_of;
 use json_forms::rows_text;
 use metadata::{Cells, Record};
 use plan_exec::{ExecError, execute_each, plan_for_store};
+use planner::Plan;
 use query::Query;
 use record_store::Store;
 use schedule::Command;
@@ -47,6 +48,19 @@ fn asked(alloc: Global, step: &str) -> Result<Query, Fail> {
     }
 }
 
+/// An open store, and the plan of a query over it.
+fn planned(
+    alloc: Global,
+    tx: &mut Transaction,
+    db: &Watched,
+    query: &Query,
+) -> Result<(Store, Plan), Fail> {
+    let store = Store::open(alloc, &PREFIX, tx, db)?;
+    query.check(store.schema())?;
+    let plan = plan_for_store(alloc, &store, query)?;
+    Ok((store, plan))
+}
+
 /// The cells of the rows that are handed out before a closure takes no more.
 fn first_rows(
     alloc: Global,
@@ -55,9 +69,7 @@ fn first_rows(
     most: usize,
 ) -> Result<(Vec<Cells>, Result<(), ExecError>), Fail> {
     let mut tx = Transaction::begin(alloc, 0);
-    let store = Store::open(alloc, &PREFIX, &mut tx, db)?;
-    query.check(store.schema())?;
-    let plan = plan_for_store(alloc, &store, query)?;
+    let (store, plan) = planned(alloc, &mut tx, db, query)?;
     let mut rows = Vec::new(alloc);
     let ended = execute_each(
         &plan,
@@ -75,25 +87,45 @@ fn first_rows(
     Ok((rows, ended))
 }
 
-/// All rows are handed out; and three of them alone, where no more are taken.
-fn handed_out(alloc: Global, db: &Watched, row: &(&str, usize, &str)) -> Result<(), Fail> {
-    let (step, count, first) = row;
-    let query = asked(alloc, step)?;
-    let (mut all, ended) = first_rows(alloc, db, &query, 1000)?;
+/// The rows have this text.
+fn have_text(alloc: Global, rows: &[Cells], text: &str) -> Result<(), Fail> {
+    let found = rows_text(alloc, rows)?;
+    same(found.as_str(), text)
+}
+
+/// All rows are handed out.
+fn all_are_handed_out(
+    alloc: Global,
+    db: &Watched,
+    query: &Query,
+    row: &(&str, usize, &str),
+) -> Result<(), Fail> {
+    let (mut rows, ended) = first_rows(alloc, db, query, 1000)?;
     ended?;
-    alike(alloc, &all.len(), count)?;
-    all.truncate(3);
-    same(rows_text(alloc, all.as_slice())?.as_str(), first)?;
-    let (three, ended) = first_rows(alloc, db, &query, 3)?;
-    same(rows_text(alloc, three.as_slice())?.as_str(), first)?;
-    alike(alloc, &ended.is_err(), &(*count > 3))
+    alike(alloc, &rows.len(), &row.1)?;
+    rows.truncate(3);
+    have_text(alloc, rows.as_slice(), row.2)
+}
+
+/// Three of them alone are, where no more are taken, and then it is told that they weren't all.
+fn three_are_handed_out(
+    alloc: Global,
+    db: &Watched,
+    query: &Query,
+    row: &(&str, usize, &str),
+) -> Result<(), Fail> {
+    let (rows, ended) = first_rows(alloc, db, query, 3)?;
+    have_text(alloc, rows.as_slice(), row.2)?;
+    alike(alloc, &ended.is_err(), &(row.1 > 3))
 }
 
 #[test]
 fn rows_are_handed_out(rt: HostRuntime) -> Result<(), Fail> {
     let db = Watched::new(filled(rt.alloc(), 130)?);
     for row in &HANDED {
-        handed_out(rt.alloc(), &db, row)?;
+        let query = asked(rt.alloc(), row.0)?;
+        all_are_handed_out(rt.alloc(), &db, &query, row)?;
+        three_are_handed_out(rt.alloc(), &db, &query, row)?;
     }
     Ok(())
 }

@@ -17,6 +17,7 @@ pub(crate) struct NumberForm {
 }
 
 // These bytes.
+#[inline(always)]
 fn form(code: u8, count: usize, word: u64) -> NumberForm
     requires { count ≤ 8 }
     ensures bytes { form_bytes result ≡ code ∷ bytes_high_first count word }
@@ -40,6 +41,7 @@ macro_rules! form_by_size {
 
 // A number above 0.
 #[tactic(auto, using(crate::proofs::Sizes::sizes))]
+#[inline(always)]
 fn form_above(n: u64) -> NumberForm
     requires { 0 < n }
     ensures bytes { form_bytes result ≡ int_spelling (pos n) }
@@ -66,6 +68,7 @@ fn form_below(n: u64) -> NumberForm
 
 impl NumberForm {
     // Those of this number.
+    #[inline(always)]
     pub(crate) fn of(value: TupleInt) -> NumberForm
         ensures bytes { form_bytes result ≡ int_spelling value }
         ensures count { result.count ≤ 8 }

@@ -10,6 +10,7 @@ use crate::codes::{BYTE_STRING_CODE, ESCAPE_CODE, NULL_CODE, TERMINATOR, UNICODE
 use crate::number::NumberForm;
 
 // What stands behind a byte.
+#[inline(always)]
 fn behind_byte(byte: u8, key: &[u8]) -> Option<&[u8]>
     ensures { MatchOption result (BeginsWith (byte ∷ []) key.now → ⊥)
         (λ rest. key.now ≡ byte ∷ rest.now) }
@@ -57,6 +58,7 @@ fn behind_closed<'a>(code: u8, string: &[u8], key: &'a [u8]) -> Option<&'a [u8]>
 }
 
 // What stands behind the lowest count bytes of a word, high first, behind their code.
+#[inline(always)]
 fn behind_number(code: u8, count: usize, word: u64, key: &[u8]) -> Option<&[u8]>
     requires { count ≤ 8 }
     ensures { MatchOption result
@@ -79,6 +81,7 @@ pub fn strip_null(key: &[u8]) -> Option<&[u8]>
 }
 
 /// What stands behind the pack of a whole number, where the bytes begin with it.
+#[inline(always)]
 pub fn strip_int(value: TupleInt, key: &[u8]) -> Option<&[u8]>
     ensures { MatchOption result
         (BeginsWith (item_spelling outer (int value)) key.now → ⊥)

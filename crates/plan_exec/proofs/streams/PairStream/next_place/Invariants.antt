@@ -2,7 +2,7 @@ use Rattle.txn.specs.Reads.{seen}
 use Rattle.plan_exec.specs.Streams.{pair_course}
 use Rattle.plan_exec.proofs.InBatches.{left_count}
 use Rattle.plan_exec.proofs.Streaming.{HasGone}
-use Rattle.plan_exec.proofs.streams.PairStreamStream.next.Given as goal
+use Rattle.plan_exec.proofs.streams.PairStream.next_place.Given as goal
 
 -- the stream has gone on by reads alone
 abbrev pub invariant-loop-self : goal.invariant-loop-self
