@@ -2,8 +2,9 @@
 """Proves, builds and tests everything: the test command of the repository. It is run at the top of the repository.
 
 1. `rt ci`: every proof from nothing, the tests, the programs as two compilers build them, and the edits of must-fail/.
-2. Beside it, with what processors are left: the wrong bodies, which the prover must refuse (tools/wrong_bodies). One
-   isn't tried again where the record has that it was refused over the same texts; with --whole all are. The lines that
+2. Beside it, with what processors are left: the wrong bodies, which the prover must refuse (tools/wrong_bodies), each
+   once `rt ci` has proved the crates below its own. One isn't tried again where the record has that it was refused over
+   the same texts, nor where nothing near it has changed, but for a tenth of these; with --whole all are. The lines that
    the record takes are printed as they come, so that a run that is cut short has told them.
 3. Beside it too: the tools' own tests, and the house's rules over the files as they stand (tools/house_rules).
 4. The cases of cases/, the examples and the program's edge, against both built programs (tools/program_tests), and
@@ -11,6 +12,7 @@
 
 The last line is 'N passed, M failed', and the status is 0 where M is 0.
 """
+import contextlib
 import os
 import re
 import resource
@@ -26,7 +28,7 @@ COUNTED = re.compile(r"(\d+) (?:passed|refused), (\d+) (?:failed|not)")
 # what the wrong bodies' tool says of each of its checks
 CHECKED = re.compile(r"\w+: (?:proved without edits|a round of \d+, \d+ told|\w+ alone): .*\n")
 # what it says for the record
-ROW = re.compile(r"\w+: all \d+ refused, by the sum ")
+ROW = re.compile(r"\w+/\w+: refused, by the sum ")
 TESTED = re.compile(r"Ran (\d+) tests?.*?(?:FAILED \((.*)\)|OK)", re.S)
 
 
@@ -45,22 +47,36 @@ def tool_counts(text):
 
 
 class Command:
-    """A command that has begun, and what it prints; lines for the record are printed as they come."""
+    """A command that has begun, and what it prints; lines for the record are printed as they come.
 
-    def __init__(self, *words):
-        self.lines, self.process = [], subprocess.Popen(
-            words, stdin=subprocess.DEVNULL, stdout=subprocess.PIPE, stderr=subprocess.STDOUT, text=True,
-            errors="replace")
+    What it prints is handed on, line by line, to another command that has begun, where there is one to read it.
+    """
+
+    def __init__(self, *words, reads=False, reader=None):
+        self.lines, self.reader, self.process = [], reader, subprocess.Popen(
+            words, stdin=subprocess.PIPE if reads else subprocess.DEVNULL, stdout=subprocess.PIPE,
+            stderr=subprocess.STDOUT, text=True, errors="replace")
         self.reading = threading.Thread(target=self.read)
         self.reading.start()
+
+    def hand_on(self, text=None):
+        """Hands a text to the command that reads it, or its end; who has ended reads no more."""
+        with contextlib.suppress(OSError, ValueError):
+            if self.reader and text is None:
+                self.reader.process.stdin.close()
+            elif self.reader:
+                self.reader.process.stdin.write(text)
+                self.reader.process.stdin.flush()
 
     def read(self):
         with self.process.stdout:
             for line in self.process.stdout:
+                self.hand_on(line)
                 if ROW.match(line):
                     print(line, end="", flush=True)
                 elif not CHECKED.match(line):
                     self.lines.append(line)
+        self.hand_on()
 
     def ended(self, title, count):
         """Waits for its end, prints what it prints, and answers its counts."""
@@ -83,10 +99,13 @@ def spent(since):
 def main():
     python, since = sys.executable, time.monotonic()
     recorded = [] if "--whole" in sys.argv[1:] else ["--recorded"]
-    wrong = Command("nice", "-n", "10", python, "tools/wrong_bodies", "--from-nothing", *recorded)
+    jobs = str(max(1, len(os.sched_getaffinity(0)) // 2))
+    wrong = Command("nice", "-n", "10", python, "tools/wrong_bodies", "--over-ci", "--from-nothing", "--jobs", jobs,
+                    *recorded, reads=True)
+    proofs = Command("rt", "ci", reader=wrong)
     tools = [Command("nice", "-n", "10", python, f"tools/{it}/tests.py") for it in ("wrong_bodies", "house_rules")]
     rules = Command(python, "tools/house_rules")
-    tests = [Command("rt", "ci").ended("rt ci", counts)]
+    tests = [proofs.ended("rt ci", counts)]
     for title, tool, programs in PROGRAM_TESTS:
         there = filter(os.path.isfile, programs)
         tests.append(Command(python, f"tools/{tool}", *there).ended(title, counts))

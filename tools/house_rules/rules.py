@@ -8,8 +8,9 @@ from sources import bodies, comments, data, files, line_at, lines_of, public_ite
 TOOLS = os.path.dirname(os.path.dirname(os.path.abspath(__file__)))
 sys.path += [TOOLS, os.path.join(TOOLS, "wrong_bodies")]
 from crate_tree import CRATES, DRAWING, drawing, used_by
-from edits import BadEdit, Edit, texts_of
+from edits import BadEdit, texts_of
 from promises import Promises
+from records import all_edits
 
 README_LINES, README_COLUMNS = 80, 100
 FILE_LINES, BODY_LINES, COLUMNS = 400, 40, 120
@@ -19,7 +20,7 @@ SPECS = "crates/*/specs/**/*.antt"
 PROOFS = "crates/*/proofs/**/*.antt"
 PYTHON = "tools/**/*.py"
 DOCUMENTS = ("*.md", "docs/**/*.md", "crates/*/README.md")
-EDITS = ("crates/*/wrong-bodies/*.edit", "crates/*/must-fail/*.edit")
+EDITS = ("crates/*/wrong-bodies/*.edits", "crates/*/must-fail/*.edit")
 OTHERS = ("crates.txt", "cases/**/*", "examples/**/*")
 
 # what stands counted of repeats, wide clauses and words with two homes
@@ -110,17 +111,19 @@ def files_are_introduced(root):
 
 
 def edits_apply(root):
-    """Each wrong body can be put into the sources: what it takes out stands there once."""
-    paths, faults, texts = files(root, *EDITS), [], {}
-    for path in paths:
-        crate = os.path.dirname(os.path.dirname(path))
-        if crate not in texts:
-            texts[crate] = texts_of(os.path.join(root, crate))
-        try:
-            Edit(path, read(root, path)).applied(texts[crate])
-        except BadEdit as why:
-            faults.append((path, str(why)))
-    return len(paths), faults
+    """Each wrong body is an edit that can be put into the sources of its crate, and no other there has its name."""
+    seen, faults = 0, []
+    for crate in sorted({path.split("/")[1] for path in files(root, *EDITS)}):
+        home = os.path.join(root, "crates", crate)
+        edits, bad = all_edits(root, crate)
+        seen, texts = seen + len(edits) + len(bad), texts_of(home)
+        faults += [(f"crates/{crate}", f"{name}: {why}") for name, why in bad]
+        for it in edits:
+            try:
+                it.applied(texts)
+            except BadEdit as why:
+                faults.append((f"crates/{crate}", f"{it.name}: {why}"))
+    return seen, faults
 
 
 def counted(root):

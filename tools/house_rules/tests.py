@@ -16,7 +16,7 @@ HIGH, SERVING = "crates/high/specs/High.antt", "definitions say whom they serve"
 # in two parts, so that these tests break no rule themselves
 PUBLISHED, LABEL = "pa" + "per", "D" + "12"
 CRATES = "# each crate\nlow:\n"
-EDIT, KNOWN = "crates/low/wrong-bodies/one.edit", "tools/house_rules/known.txt"
+EDIT, KNOWN = "crates/low/wrong-bodies/edited.edits", "tools/house_rules/known.txt"
 SIX = "".join(f"    n{it};\n" for it in range(6))
 
 RIGHT = {
@@ -30,7 +30,7 @@ RIGHT = {
     PROOF: f"-- {'a wide line of a proof ' * 10}\n",
     "tools/one.py": '"""A tool."""\n',
     EDITED: "// Edited.\nfn edited(n: u64) -> u64 {\n    n + 3\n}\n",
-    EDIT: "file: src/edited.rt\nold: n + 3\nnew: n\n",
+    EDIT: "name: one\nold: n + 3\nnew: n\n",
 }
 
 
@@ -62,8 +62,10 @@ WRONG = {
     ],
     "files are introduced": [("crates/low/src/two.rt", "fn two() {}\n"), ("crates/low/src/two.rt", "")],
     "wrong bodies apply": [
-        (EDIT, "file: src/edited.rt\nold: n + 2\nnew: n\n"), (EDIT, "file: src/edited.rt\nold: n\nnew: m\n"),
-        (EDIT, "file: src/edited.rt\nold: n + 3\n"), (EDIT, "file: src/two.rt\nold: n\nnew: m\n"),
+        (EDIT, "name: one\nold: n + 2\nnew: n\n"), (EDIT, "name: one\nold: n\nnew: m\n"),
+        (EDIT, "name: one\nold: n + 3\n"), (EDIT, "name: one\nfile: src/two.rt\nold: n\nnew: m\n"),
+        (EDIT, "old: n + 3\nnew: n\n"), (EDIT, 2 * "name: one\nold: n + 3\nnew: n\n"),
+        ("crates/low/must-fail/one.edit", "file: src/edited.rt\nold: n + 3\nnew: n\n"),
     ],
     "nothing surprises": [
         (KNOWN, "# what stands\nhome next high low\n"), (HIGH, "-- Private: one\npub next : ℕ\n"),
@@ -74,7 +76,7 @@ WRONG = {
     ],
     "nothing is cited": [
         ("README.md", f"As the {PUBLISHED} has it.\n"), (SOURCE, f"// as in {LABEL}\n"), (PROOF, f"-- {LABEL}\n"),
-        ("crates/low/must-fail/one.edit", f"file: src/edited.rt\nold: {{\nnew: {{ // the {PUBLISHED}\n"),
+        ("crates/low/must-fail/other.edit", f"file: src/edited.rt\nold: {{\nnew: {{ // the {PUBLISHED}\n"),
     ],
     SERVING: [
         (SPEC, "-- the next number\nabbrev pub next : ℕ → ℕ\nnext n = n + 1\n"), (SPEC, "pub next : ℕ\n"),
@@ -100,7 +102,7 @@ ALSO_RIGHT = [
     (HIGH, "-- Private: one\npub record High : Type 0 where\n  pub next : ℕ\n"),
     (SPEC, "-- Low.\nuse Rattle.std.specs.Prelude.{ℕ}\n\n-- Private: one that\n-- is next\npub one : ℕ\n"),
     (SPEC, "-- Private: these.\nuse Rattle.std.specs.Prelude.{ℕ}\n\npub one : ℕ\n\n-- two\npub two : ℕ\n"),
-    (EDIT, "file: src/edited.rt\nold: n + 3\nnew: n + 2\nfile: src/edited.rt\nold: n + 2\nnew: n\n"),
+    (EDIT, "name: one\nbug: it is n\nold: n + 3\nnew: n + 2\nfile: src/edited.rt\nold: n + 2\nnew: n\n"),
     (SOURCE, f"const {LABEL}: u64 = 1;\n// a wallpa" + "pers' T\n"),
 ]
 

@@ -3,7 +3,8 @@ import os
 import threading
 from concurrent.futures import FIRST_COMPLETED, ThreadPoolExecutor, wait
 import records
-from edits import BadEdit, dealt, edits_in, texts_of
+from edits import BadEdit, dealt, texts_of
+from records import Grade
 from trials import Workshop, below
 from verdicts import Verdict
 
@@ -15,26 +16,28 @@ def spent(checks):
 
 
 class Task:
-    """A piece of work: what it does, the crate whose proof it waits for, and its weight, the heaviest first."""
+    """A piece of work: what it does, its crate, the crates whose proof it waits for, and its weight, the heaviest
+    first."""
 
-    def __init__(self, weight, waits, work):
-        self.weight, self.waits, self.work = weight, waits, work
+    def __init__(self, weight, name, waits, work):
+        self.weight, self.name, self.waits, self.work = weight, name, waits, work
 
 
 class Crew:
     """Those who try the edits of a repository's crates."""
 
-    def __init__(self, root, folder, folders, options):
-        self.workshop = Workshop(root, folder, options.from_nothing)
-        self.options, self.folders = options, folders
+    def __init__(self, root, folder, options, told=None):
+        """`told` are the crates that `rt ci` has proved so far, where the edits are tried over its libraries."""
+        self.workshop = Workshop(root, folder, options.from_nothing, told is not None)
+        self.options, self.told = options, told
         self.printing, self.proved, self.tasks = threading.Lock(), set(), []
-        # edits by crate and name: those that are refused, and those that aren't
-        self.refused, self.others = set(), set()
+        # edits by crate and name: those that are refused, the ones of them that were tried, and those that aren't
+        self.refused, self.tried, self.others = set(), set(), set()
         chosen = options.crates or list(self.workshop.crates)
         self.edits = {name: edits for name in chosen if (edits := self.edits_of(name))}
-        sums = records.Sums(root, self.workshop.crates)
-        self.sums = {(name, it.name): sums.of(name, it) for name, edits in self.edits.items() for it in edits}
-        if options.recorded:
+        self.sums, every = records.Sums(root, self.workshop.crates), self.edits.items()
+        self.made = {(name, it.name): self.sums.of(name, it) for name, edits in every for it in edits}
+        if options.recorded or options.aged:
             self.pass_over(records.recorded(root))
 
     def say(self, text):
@@ -42,37 +45,47 @@ class Crew:
             print(text, flush=True)
 
     def judge(self, name, edit, verdict, line):
-        """Counts an edit by its verdict, and says so where it isn't plainly refused."""
+        """Counts an edit by its verdict, and says so."""
         is_refused = verdict is Verdict.REFUSED
         with self.printing:
             (self.refused if is_refused else self.others).add((name, edit))
-            is_whole = is_refused and all(it in self.refused for it in self.sums if it[0] == name)
-        if not is_refused or self.options.verbose:
-            self.say(f"{name}/{edit}: {verdict.value}{': ' if line else ''}{line[:200]}")
-        if is_whole and not self.options.only:
-            self.say(records.row(name, self.sums))
+            if is_refused:
+                self.tried.add((name, edit))
+        shown = f": {line[:200]}" if line and (self.options.verbose or not is_refused) else ""
+        said = records.row(name, edit, self.made[name, edit]) if is_refused else f"{name}/{edit}: {verdict.value}"
+        self.say(said + shown)
 
     def pass_over(self, recorded):
-        """Counts the edits as refused of which the record says so, and doesn't try them."""
+        """Counts edits as refused of which the record says so, and says how many are of which grade.
+
+        Those that are fresh aren't tried, and of the aged ones a tenth, or those of the crates that are asked for.
+        """
+        grades = {it: made.grade(recorded.get(it)) for it, made in self.made.items()}
+        aged = {it for it, grade in grades.items() if grade is Grade.AGED}
+        drawn = aged if self.options.aged else records.tenth(self.sums.tree(), aged) if aged else set()
+        passed = {it for it, grade in grades.items() if grade is not Grade.CHANGED} - drawn
+        self.refused |= passed
         for name, edits in list(self.edits.items()):
-            found = {it for it in edits if recorded.get((name, it.name)) == self.sums[name, it.name]}
-            self.refused |= {(name, it.name) for it in found}
-            if found:
-                self.say(f"{name}: {len(found)} of {len(edits)} refused by the record")
-            self.edits[name] = [it for it in edits if it not in found]
+            self.edits[name] = [it for it in edits if (name, it.name) not in passed]
             if not self.edits[name]:
                 del self.edits[name]
+        counts = ", ".join(f"{sum(it is grade for it in grades.values())} {grade.value}" for grade in Grade)
+        self.say(f"{len(grades)} edits: {counts}; {len(grades) - len(passed)} are tried, {len(drawn)} of them aged")
 
     def rows(self):
-        """The sums of the edits that are refused."""
-        return {it: made for it, made in self.sums.items() if it in self.refused}
+        """The sums of the edits that were tried and refused."""
+        return {it: self.made[it] for it in self.tried}
 
     def work(self):
         """Tries all edits, and answers how many are refused and how many aren't."""
-        needed = {it for name in self.edits for it in [name, *below(self.workshop.crates, name)]}
+        crates = self.workshop.crates
+        needed = {it for name in self.edits for it in below(crates, name)} if self.told is None else set()
         for name in needed:
-            above = sum(name in below(self.workshop.crates, it) for it in needed)
-            self.tasks.append(Task(1_000_000 * (1 + above), self.workshop.crates[name], lambda it=name: self.prove(it)))
+            above = sum(name in below(crates, it) for it in needed)
+            self.tasks.append(Task(1_000_000 * (1 + above), name, crates[name], lambda it=name: self.prove(it)))
+        for name in self.edits:
+            waits = [name] if name in needed else below(crates, name)
+            self.tasks.append(Task(1000, name, waits, lambda it=name: self.begin(it)))
         self.run()
         return len(self.refused), len(self.others)
 
@@ -81,44 +94,54 @@ class Crew:
         running = set()
         with ThreadPoolExecutor(self.options.jobs) as pool:
             while self.tasks or running:
-                ready = [it for it in self.tasks if self.proved.issuperset(it.waits)]
+                is_all_told = self.told is None or self.told.is_all()
+                proved = self.proved | (self.told.crates() if self.told else set())
+                ready = [it for it in self.tasks if proved.issuperset(it.waits)]
                 for task in sorted(ready, key=lambda it: -it.weight)[:self.options.jobs - len(running)]:
                     self.tasks.remove(task)
                     running.add(pool.submit(task.work))
-                if not running:
-                    raise RuntimeError("crates.txt has a cycle, or a crate that isn't proved")
-                done, running = wait(running, return_when=FIRST_COMPLETED)
+                if not running and not ready and is_all_told:
+                    break
+                done, running = wait(running, timeout=1, return_when=FIRST_COMPLETED) if running else self.pause()
                 for it in done:
                     self.tasks += it.result()
-                if self.options.record:
+                if done and self.options.record:
                     records.record(self.workshop.root, self.rows())
+        for task in self.tasks:
+            for edit in self.edits.get(task.name, []):
+                self.judge(task.name, edit.name, Verdict.UNTRIED, "")
+
+    def pause(self):
+        """Waits for word of further crates that are proved."""
+        self.told.wait()
+        return set(), set()
 
     def edits_of(self, name):
-        """The edits of a crate that are asked for; files of such names that are none count as not refused."""
-        found = []
-        for folder in self.folders:
-            edits, bad = edits_in(os.path.join(self.workshop.root, "crates", name, folder))
-            found += [it for it in edits if self.is_asked(it.name)]
-            for edit, why in bad:
-                if self.is_asked(edit):
-                    self.judge(name, edit, Verdict.UNREAD, why)
-        return found
+        """The edits of a crate that are asked for; what is written as one and is none counts as not refused."""
+        edits, bad = records.all_edits(self.workshop.root, name)
+        for edit, why in bad:
+            if self.is_asked(edit):
+                self.judge(name, edit, Verdict.UNREAD, why)
+        return [it for it in edits if self.is_asked(it.name)]
 
     def is_asked(self, edit):
         """Whether the edit of this name is asked for."""
         return any(part in edit for part in self.options.only.split(","))
 
     def prove(self, name):
-        """Proves a crate, and answers the tasks that try its edits."""
-        self.say(f"{name}: proved without edits: {spent([self.workshop.prove(name, name in self.edits)])}")
+        """Proves a library, for the crates above it and for its own edits."""
+        self.say(f"{name}: proved without edits: {spent([self.workshop.prove(name)])}")
         self.proved.add(name)
-        return self.trials_of(name)
+        return []
 
-    def trials_of(self, name):
-        """The tasks that try the edits of a crate."""
+    def begin(self, name):
+        """The tasks that try the edits of a crate; its functions are checked as they stand first, where no proof was.
+
+        Over the libraries of `rt ci`, which proves the crate itself too, that is left out where there is one round.
+        """
         texts = texts_of(os.path.join(self.workshop.root, "crates", name))
         bodies, alone = {}, []
-        for edit in self.edits.get(name, []):
+        for edit in self.edits[name]:
             try:
                 edit.applied(texts)
             except BadEdit as why:
@@ -130,17 +153,35 @@ class Crew:
             else:
                 bodies[edit] = changed
         rounds = dealt(list(bodies), bodies)
+        is_proved = name in self.workshop.bases or self.told is not None and len(rounds) + len(alone) < 2
+        if not is_proved and not self.seed(name, frozenset() if alone else frozenset().union(*bodies.values())):
+            return []
         shared = Rounds(self, name, bodies, len(rounds))
-        return [*[shared.task(it) for it in rounds], *[self.lone(name, it) for it in alone]]
+        return [*[shared.task(it) for it in rounds], *[self.lone(name, it, frozenset()) for it in alone]]
 
-    def lone(self, name, edit):
-        """The task that tries one edit by itself."""
+    def seed(self, name, bodies):
+        """Checks functions of a crate as they stand, and says whether they are proved; else its edits aren't tried."""
+        check = self.workshop.seed(name, bodies)
+        self.say(f"{name}: proved without edits: {spent([check])}")
+        if check.status:
+            for edit in self.edits[name]:
+                self.judge(name, edit.name, Verdict.UNTRIED, check.lines[-1])
+        return not check.status
+
+    def lone(self, name, edit, bodies):
+        """The task that tries one edit by itself, without answers of its proof where these alone refuse it."""
         def work():
-            (verdict, line), check = self.workshop.try_alone(name, edit)
-            self.say(f"{name}: {edit.name} alone: {spent([check])}")
+            tried, checks = edit, []
+            while True:
+                (verdict, line, answers), check = self.workshop.try_alone(name, tried, bodies)
+                checks.append(check)
+                if verdict is not Verdict.UNFIT or answers <= tried.aside:
+                    break
+                tried = tried.without(answers)
+            self.say(f"{name}: {edit.name} alone: {spent(checks)}")
             self.judge(name, edit.name, verdict, line)
             return []
-        return Task(1, [name], work)
+        return Task(1, name, [], work)
 
 
 class Rounds:
@@ -151,14 +192,20 @@ class Rounds:
         self.left, self.untold, self.is_last = left, [], False
 
     def task(self, edits):
-        return Task(1 + len(edits), [self.name], lambda: self.work(edits))
+        return Task(1 + len(edits), self.name, [], lambda: self.work(edits))
 
     def work(self, edits):
-        """Tries a round, and answers the tasks for what it and those before it said nothing of, once all are done."""
+        """Tries a round, and answers the tasks for what it and those before it said nothing of, once all are done.
+
+        Where answers of a proof are all that refuses an edit, it is tried again without them.
+        """
         untold, (verdicts, checks) = [], self.crew.workshop.try_round(self.name, edits, self.bodies)
-        for edit, (verdict, line) in verdicts.items():
+        for edit, (verdict, line, answers) in verdicts.items():
             if verdict is Verdict.UNTOLD:
                 untold.append(edit)
+            elif verdict is Verdict.UNFIT and not answers <= edit.aside:
+                untold.append(edit.without(answers))
+                self.bodies[untold[-1]] = self.bodies[edit]
             else:
                 self.crew.judge(self.name, edit.name, verdict, line)
         self.crew.say(f"{self.name}: a round of {len(edits)}, {len(edits) - len(untold)} told: {spent(checks)}")
@@ -174,7 +221,7 @@ class Rounds:
     def further(self, untold):
         """The tasks for edits that the first rounds said nothing of: further rounds, and then each alone."""
         if self.is_last or len(untold) < 2:
-            return [self.crew.lone(self.name, it) for it in untold]
+            return [self.crew.lone(self.name, it, self.bodies[it]) for it in untold]
         rounds = dealt(untold, self.bodies)
         self.left, self.is_last = len(rounds), True
         return [self.task(it) for it in rounds]

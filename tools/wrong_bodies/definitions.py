@@ -88,3 +88,13 @@ class Definitions:
         words = words_in(parts[name])
         own = [(crate, file, it) for it in parts if it != name and is_named(it, words)]
         return name, parts[name], own + [it[:3] for it in imports if is_named(it[3], words)]
+
+    def named(self, crate, file, name):
+        """The place and the text of a definition that an import names, which its file may pass on from another one."""
+        parts, text, imports = self.read(crate, file)
+        if parts is not None and name in parts:
+            return "definition", crate, file, name, parts[name]
+        passed = [it for it in imports if it[3] == name and it[2]]
+        if name and passed and passed[0][:2] != (crate, file):
+            return self.named(*passed[0][:3])
+        return "definition", crate, file, name or "", text

@@ -1,34 +1,33 @@
 """Edits of a crate: how they are written, what they change, and which can be tried at once."""
 import os
+import re
 from bodies import bodies_in, innermost, innermost_function, is_proof_of
 
 PARTS = ("src", "specs", "proofs")
+# the folders of a crate that hold edits
+FOLDERS = ("wrong-bodies", "must-fail")
+# why the second edit of a name is none
+TWICE = "another edit of this crate has its name"
+# where an answer to a goal of a function begins in its file of answers
+ANSWER = re.compile(r"(?:pub |abbrev |unfolding |unfoldable )*([^\s:]+) :")
 
 
 class BadEdit(Exception):
-    """Why an edit can't be applied."""
+    """Why an edit can't be read or applied."""
 
 
 class Edit:
-    """A change of a crate's text: pairs of a text that stands once in a file and the text in its place."""
+    """A change of a crate's text: pairs of a text that stands once in a file and the text in its place.
 
-    def __init__(self, name, text):
-        self.name, self.pairs = name, []
-        file = old = None
-        for line in text.split("\n"):
-            if line.startswith("file: "):
-                file = line[len("file: "):].strip()
-            elif line.startswith("old: "):
-                old = line[len("old: "):]
-            elif line.startswith("new:"):
-                if file is None or old is None:
-                    raise BadEdit("a line 'new:' stands before its lines 'file:' and 'old:'")
-                self.pairs.append((file, old, line[len("new:"):].removeprefix(" ")))
-                old = None
-            elif line.strip():
-                raise BadEdit(f"it has a line that is none of 'file:', 'old:' and 'new:': {line[:60]}")
-        if not self.pairs or old is not None:
-            raise BadEdit("it has no pair of lines 'old:' and 'new:', or half of one")
+    Beside its pairs it has answers that are set aside: files of answers, each with the goals whose answers go.
+    """
+
+    def __init__(self, name, pairs, aside=frozenset()):
+        self.name, self.pairs, self.aside = name, pairs, aside
+
+    def without(self, answers):
+        """The same edit with these answers set aside too."""
+        return Edit(self.name, self.pairs, self.aside | answers)
 
     def applied(self, texts):
         """The texts of a crate, by file, after the edit."""
@@ -38,7 +37,7 @@ class Edit:
             if found != 1:
                 raise BadEdit(f"an 'old:' text stands in {file} {found} times, and not once")
             after[file] = after[file].replace(old, new)
-        return after
+        return set_aside(self.aside, after)
 
     def bodies(self, texts):
         """The bodies that the edit changes, or None where it changes anything else than these and their own proofs.
@@ -61,6 +60,64 @@ class Edit:
         return frozenset(changed) if changed and is_own else None
 
 
+def pairs_in(lines, file=None):
+    """The pairs of an edit that these lines write, which begin in this file."""
+    pairs, old = [], None
+    for line in lines:
+        if line.startswith("file: "):
+            file = line[len("file: "):].strip()
+        elif line.startswith("old: "):
+            old = line[len("old: "):]
+        elif line.startswith("new:"):
+            if file is None or old is None:
+                raise BadEdit("a line 'new:' stands before its lines 'file:' and 'old:'")
+            pairs.append((file, old, line[len("new:"):].removeprefix(" ")))
+            old = None
+        elif line.strip() and not line.startswith("bug: "):
+            raise BadEdit(f"it has a line that is none of 'bug:', 'file:', 'old:' and 'new:': {line[:60]}")
+    if not pairs or old is not None:
+        raise BadEdit("it has no pair of lines 'old:' and 'new:', or half of one")
+    return pairs
+
+
+def written_in(path):
+    """The edits that a file writes, each as its name and its lines, and the source that they change unless they say so.
+
+    A file NAME.edit is one edit. In SOURCE.edits each begins with a line 'name: NAME', and changes src/SOURCE.rt.
+    """
+    stem, kind = os.path.splitext(os.path.basename(path))
+    with open(path, encoding="utf-8") as source:
+        lines = source.read().split("\n")
+    if kind == ".edit":
+        return [(stem, lines)], None
+    starts = [at for at, line in enumerate(lines) if line.startswith("name: ")]
+    found = [(lines[at].removeprefix("name: ").strip(), lines[at + 1:end])
+             for at, end in zip(starts, [*starts[1:], len(lines)])]
+    if any(line.strip() for line in lines[:starts[0] if starts else len(lines)]):
+        found.insert(0, (stem, lines[:1]))
+    return found, f"src/{stem}.rt"
+
+
+def edits_in(folder):
+    """The edits of a folder by name, and why what else its files write is none."""
+    edits, bad = {}, []
+    for file in sorted(os.listdir(folder)) if os.path.isdir(folder) else []:
+        try:
+            written, source = written_in(os.path.join(folder, file))
+        except UnicodeDecodeError as why:
+            bad.append((file, str(why)))
+            continue
+        for name, lines in written:
+            try:
+                pairs = pairs_in(lines, source)
+                if name in edits:
+                    raise BadEdit(TWICE)
+                edits[name] = Edit(name, pairs)
+            except BadEdit as why:
+                bad.append((name, str(why)))
+    return list(edits.values()), bad
+
+
 def texts_of(folder):
     """The texts of a crate's sources, specifications and proofs, by their paths in its folder."""
     texts = {}
@@ -73,6 +130,20 @@ def texts_of(folder):
     return texts
 
 
+def set_aside(answers, texts):
+    """The texts of a crate without these answers, each a file and a goal that is answered there."""
+    after = dict(texts)
+    for file in {file for file, _ in answers}:
+        goals, is_kept, kept = {goal for it, goal in answers if it == file}, True, []
+        for line in after[file].split("\n"):
+            begun = ANSWER.match(line)
+            is_kept = begun[1] not in goals if begun else is_kept
+            if is_kept:
+                kept.append(line)
+        after[file] = "\n".join(kept)
+    return after
+
+
 def all_applied(edits, texts):
     """The texts of a crate after edits of different bodies, of which none sees what another one wrote."""
     places = {}
@@ -82,19 +153,7 @@ def all_applied(edits, texts):
     for file, changes in places.items():
         for begin, old, new in sorted(changes, reverse=True):
             after[file] = after[file][:begin] + new + after[file][begin + len(old):]
-    return after
-
-
-def edits_in(folder):
-    """The edits of a folder by name, and why others of its files are none."""
-    edits, bad = [], []
-    for name in sorted(os.listdir(folder)) if os.path.isdir(folder) else []:
-        try:
-            with open(os.path.join(folder, name), encoding="utf-8") as source:
-                edits.append(Edit(name.removesuffix(".edit"), source.read()))
-        except (BadEdit, UnicodeDecodeError) as why:
-            bad.append((name.removesuffix(".edit"), str(why)))
-    return edits, bad
+    return set_aside(frozenset().union(*(it.aside for it in edits)), after)
 
 
 def dealt(edits, bodies):

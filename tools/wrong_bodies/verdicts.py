@@ -1,4 +1,5 @@
 """What the lines of a check say of the functions that edits changed."""
+import os
 import re
 from enum import Enum
 from bodies import is_goal_of, is_proof_of
@@ -6,19 +7,42 @@ from bodies import is_goal_of, is_proof_of
 # a proof file that names what the edit took away
 STALE = re.compile(r"has no field|\(nearest: |is not in scope|has no `|was not admitted|were not checked")
 NOTE = re.compile(r"note: (?:\./)?(\S+?):(\d+):\d+: it is not proved")
-ANSWER = re.compile(r"(?:\./)?proofs/(\S+)/[^/]+\.antt:\d+:\d+: error(?:: `(?:decreases-|invariant-)?([^`]+)`)?")
+ANSWER = re.compile(r"(?:\./)?(proofs/(\S+)/[^/\s]+\.antt):\d+:\d+: error(?:: `((?:decreases-|invariant-)?)([^`]+)`)?")
+ERROR = re.compile(r"\S+:\d+:\d+: error")
 
 
 class Verdict(Enum):
     """What a check says of an edit."""
 
+    # a goal of the function is open: its contract refuses the body
     REFUSED = "refused"
+    # only answers in the function's proof don't fit any more, which may be the answer's fault: it is tried without them
+    UNFIT = "refused by a term of a proof alone, which says nothing of the contract"
     # refused only because a proof file names what the edit took away, which says little of the contract
     WEAK = "refused only because a proof file names what it took away: change a value, and keep the names"
     # nothing is said of the function, or only that it calls one that isn't proved; alone this is 'still proved'
     UNTOLD = "NOT REFUSED: the crate is still proved"
     # the edit can't be read or applied, or the edited text doesn't reach the prover
     UNREAD = "BAD EDIT"
+    # its crate isn't proved without any edit, or one below it
+    UNTRIED = "NOT TRIED: its crate isn't proved as it stands, or one below it"
+
+
+def joined(lines):
+    """The lines of a check, each with those that go on with what it says, which begin with two blanks."""
+    found = []
+    for line in lines:
+        if line.startswith("  ") and found:
+            found[-1] += " " + line.strip()
+        else:
+            found.append(line)
+    return found
+
+
+def answers_in(lines):
+    """The answers of which these lines say that they don't fit: the file of each, and the goal that it answers."""
+    found = (it for it in map(ANSWER.match, lines) if it and it[4])
+    return frozenset((it[1], it[3] + it[4]) for it in found if os.path.basename(it[1]) == "Answers.antt")
 
 
 def speaks_of(body, line):
@@ -27,29 +51,37 @@ def speaks_of(body, line):
     if note:
         return note[1] == body.file and body.first <= int(note[2]) <= body.last
     answer = ANSWER.match(line)
-    return bool(answer) and is_proof_of(body, answer[1]) and is_goal_of(body, answer[1], answer[2] or "")
+    return bool(answer) and is_proof_of(body, answer[2]) and is_goal_of(body, answer[2], answer[4] or "")
+
+
+def verdict_of_lines(told):
+    """What lines on an edited function say of the edit, and the line that says it.
+
+    Only an open goal says something of the contract. An answer that doesn't fit says that this term proves it no more.
+    """
+    open_goal = next((line for line in told if NOTE.match(line)), None)
+    if open_goal:
+        return Verdict.REFUSED, open_goal
+    unfit = next((line for line in told if not STALE.search(line)), None)
+    if unfit:
+        return Verdict.UNFIT, unfit
+    return (Verdict.WEAK, told[0]) if told else (Verdict.UNTOLD, "")
 
 
 def verdict_of(bodies, lines):
-    """What the lines of a check say of an edit that changed these bodies, and the line that says it."""
-    told = [line for line in lines if any(speaks_of(body, line) for body in bodies)]
-    strong = next((line for line in told if not STALE.search(line)), None)
-    if strong:
-        return Verdict.REFUSED, strong
-    return (Verdict.WEAK, told[0]) if told else (Verdict.UNTOLD, "")
+    """What the lines of a check say of an edit that changed these bodies, and the lines that say so."""
+    told = [line for line in joined(lines) if any(speaks_of(body, line) for body in bodies)]
+    return *verdict_of_lines(told), answers_in(told)
 
 
 def reached_prover(lines):
     """Whether a check got as far as the proofs."""
-    return any(line.startswith(("logic=", "rattle: no verdict")) for line in lines)
+    return any(re.match(r"logic=|only=\d+ proved=|rattle: no verdict", line) for line in lines)
 
 
 def verdict_alone(status, lines):
-    """What a check of a crate with one edit says of it, and the line that says it."""
-    if status == 0 or not any(line.startswith("logic=not-proved") for line in lines):
-        return Verdict.UNTOLD, ""
-    told = [line for line in lines if NOTE.match(line) or re.match(r"\S+:\d+:\d+: error", line)]
-    strong = next((line for line in told if not STALE.search(line)), None)
-    if strong or not told:
-        return Verdict.REFUSED, strong or ""
-    return Verdict.WEAK, told[0]
+    """What a check of a crate with one edit says of it, the line that says so, and the answers that don't fit."""
+    if status == 0 or not any(re.match(r"logic=not-proved|only=\d+ proved=", line) for line in lines):
+        return Verdict.UNTOLD, "", frozenset()
+    told = [line for line in joined(lines) if NOTE.match(line) or ERROR.match(line)]
+    return *verdict_of_lines(told), answers_in(told)
