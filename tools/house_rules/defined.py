@@ -12,12 +12,14 @@ PRIVATE = "-- Private: "
 @dataclass
 class Definition:
     """A definition, or several that name each other: its line (from 1), the names that it defines, its text with what
-    is given to its module, and the comment straight above it, or above the first of several."""
+    is given to its module, the comment straight above it, or above the first of several, and how many lines it has
+    with all comments, without empty ones."""
 
     line: int
     names: list
     text: str
     comment: list
+    size: int = 0
 
     @property
     def is_told_private(self):
@@ -65,9 +67,10 @@ def definitions_in(text):
 
 
 def note(definition, line, at, comment):
-    """Adds a line to the definition that it belongs to, and the names that it defines."""
+    """Adds a line to the definition that it belongs to, with the comment above it, and the names that it defines."""
     words, text = line.split(), definition.text
     definition.text += line + "\n"
+    definition.size += 1 + len(comment)
     depth = indentation(line) - at
     if depth and words[0] != "pub" and words[1:2] != [":"]:
         return

@@ -1,11 +1,8 @@
 """What the crates of a repository promise: the definitions to which the contracts lead that they hand out."""
-import functools
 import re
-from dataclasses import dataclass
-from defined import PRIVATE, definitions_in
-from definitions import imports_in, is_named
-from items import items_in, words_in
+from items import items_in
 from sources import files, read
+from specifications import Specifications
 from trials import crates_of
 
 # what the root of a library hands out
@@ -73,75 +70,21 @@ class Items:
                 yield seen_of_model(it, it.name in opened) if it.trait == "Model" else it.text, text
 
 
-@dataclass
-class Specification:
-    """A file of definitions: these, which of them has a name, what it imports, and whether it says of all of them that
-    they are private."""
-
-    definitions: list
-    at: dict
-    imports: list
-    is_told_private: bool
-
-
 class Promises:
-    """The specifications of a repository, and the places of the definitions that serve promises: their crates, their
-    files, and which ones of these they are."""
+    """The specifications of a repository, and the places of the definitions that serve promises."""
 
     def __init__(self, root, paths):
         crates = crates_of(root)
-        self.imports = functools.cache(lambda text: list(imports_in(root, crates, text)))
-        self.specifications = {self.place(path): self.specification(read(root, path)) for path in paths}
-        self.reached, items = set(), Items(root, crates)
+        self.specifications = Specifications(root, crates, {path: read(root, path) for path in paths})
+        items, named = Items(root, crates), set()
         for crate in crates:
             for told, text in items.promises(crate):
-                self.reach(self.named(told, self.imports(text)))
-
-    @staticmethod
-    def place(path):
-        """The crate and the file of a specification."""
-        return tuple(path.split("/", 2)[1:])
-
-    def specification(self, text):
-        """A specification with this text."""
-        found = definitions_in(text)
-        told = "".join(line for line in text.splitlines(True) if not line.lstrip().startswith("--"))
-        at = {name: number for number, it in enumerate(found) for name in it.names}
-        return Specification(found, at, self.imports(told), text.startswith(PRIVATE))
-
-    def find(self, crate, file, name):
-        """The places of what has a name in a file, which may hand on what it imports."""
-        there = self.specifications.get((crate, file))
-        if there is None or name in there.at:
-            return {(crate, file, there.at[name])} if there else set()
-        return {place for it in there.imports if it[2] and it[3] == name for place in self.find(*it[:3])}
-
-    def named(self, text, imports):
-        """The places of the definitions that a text names of those that are imported."""
-        words, found = words_in(text), set()
-        for crate, file, there, here in imports:
-            if there is None and here in words:
-                for name in re.findall(rf"(?<![\w.]){re.escape(here)}\.([\w'-]+)", text):
-                    found |= self.find(crate, file, name)
-            elif there and is_named(here, words):
-                found |= self.find(crate, file, there)
-        return found
-
-    def reach(self, places):
-        """Notes that these definitions serve promises, and with them what they name in turn."""
-        new = places - self.reached
-        while new:
-            crate, file, number = place = new.pop()
-            self.reached.add(place)
-            there = self.specifications[crate, file]
-            text = there.definitions[number].text
-            words = words_in(text)
-            own = {(crate, file, at) for name, at in there.at.items() if is_named(name, words)}
-            new |= (own | self.named(text, there.imports)) - self.reached
+                named |= self.specifications.named(told, self.specifications.imports(text))
+        self.reached = self.specifications.reached(named)
 
     def said(self, path):
         """The definitions of a file, each with whether it serves a promise, and whether it is said to be private."""
-        there = self.specifications[self.place(path)]
+        place = self.specifications.place(path)
+        there = self.specifications.files[place]
         for number, it in enumerate(there.definitions):
-            is_promised = (*self.place(path), number) in self.reached
-            yield it, is_promised, there.is_told_private or it.is_told_private
+            yield it, (*place, number) in self.reached, there.is_told_private or it.is_told_private

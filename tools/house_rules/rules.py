@@ -10,6 +10,7 @@ sys.path += [TOOLS, os.path.join(TOOLS, "wrong_bodies")]
 from crate_tree import CRATES, DRAWING, drawing, used_by
 from edits import BadEdit, texts_of
 from promises import Promises
+from reading_lists import faults_in
 from records import all_edits
 
 README_LINES, README_COLUMNS = 80, 100
@@ -172,6 +173,11 @@ def definitions_say_whom_they_serve(root):
     return seen, faults
 
 
+def lists_have_what_is_needed(root):
+    """The lists of what to read have just the files with definitions to which theirs lead, and about their lines."""
+    return faults_in(root, files(root, SPECS))
+
+
 RULES = {
     "README.md is short": readme_is_short,
     "the code of README.md stands": readme_code_stands,
@@ -186,4 +192,5 @@ RULES = {
     "nothing surprises": nothing_surprises,
     "nothing is cited": nothing_is_cited,
     "definitions say whom they serve": definitions_say_whom_they_serve,
+    "lists have what is needed": lists_have_what_is_needed,
 }

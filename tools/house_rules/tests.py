@@ -6,18 +6,36 @@ import sys
 import tempfile
 import unittest
 from defined import definitions_in
-from rules import RULES, drawing, used_by
-from sources import bodies, data, is_documented, public_items, wide_lines
+from rules import RULES, SPECS, drawing, used_by
+from reading_lists import NAMES as NAMING, is_about
+from seen import Needs
+from sources import bodies, data, files, is_documented, public_items, wide_lines
 
 HERE = os.path.dirname(os.path.abspath(__file__))
 SOURCE, SPEC, PROOF = "crates/low/src/lib.rt", "crates/low/specs/Low.antt", "crates/low/proofs/Low.antt"
 SHOWN, EDITED = "crates/low/src/shown.rt", "crates/low/src/edited.rt"
 HIGH, SERVING = "crates/high/specs/High.antt", "definitions say whom they serve"
+CONTRACT, HEADLINE = "crates/schedule/specs/Contract.antt", "docs/HEADLINE.md"
 # in two parts, so that these tests break no rule themselves
 PUBLISHED, LABEL = "pa" + "per", "D" + "12"
 CRATES = "# each crate\nlow:\n"
 EDIT, KNOWN = "crates/low/wrong-bodies/edited.edits", "tools/house_rules/known.txt"
 SIX = "".join(f"    n{it};\n" for it in range(6))
+RUN = "-- Private: a run\npub IsRightRun : ℕ → Type 0\nIsRightRun n = n ≡ n\n"
+LISTED = """# The promise
+
+## What to read, in this order
+
+It rests on the definitions in these 1 files, about 100 lines in all.
+
+| | Files | What they say |
+|---|---|---|
+| 1 | `schedule`: `Contract` 5 | what a run is |
+
+## More
+
+| 2 | `low`: `Low` 5 | the next number |
+"""
 
 RIGHT = {
     "README.md": "# A store\n\nIt is small.\n\n```rust\n    n + 1\n```\n",
@@ -27,12 +45,14 @@ RIGHT = {
     SOURCE: "/// The next number.\npub fn next(n: u64) -> u64\n    ensures { result ≡ n + 1 }\n{\n    n + 1\n}\n",
     SHOWN: "// Shown.\nfn shown(n: u64) -> u64\n    ensures { result ≡ n + 1 }\n{\n    n + 1\n}\n",
     SPEC: "-- Private: the next number\nabbrev pub next : ℕ → ℕ\nnext n = n + 1\n",
+    CONTRACT: RUN,
+    HEADLINE: LISTED,
+    NAMING: "| right run | what a run is | `schedule/Contract`: `IsRightRun` |\n",
     PROOF: f"-- {'a wide line of a proof ' * 10}\n",
     "tools/one.py": '"""A tool."""\n',
     EDITED: "// Edited.\nfn edited(n: u64) -> u64 {\n    n + 3\n}\n",
     EDIT: "name: one\nold: n + 3\nnew: n\n",
 }
-
 
 
 def lines(count, word="a"):
@@ -84,6 +104,17 @@ WRONG = {
         (SPEC, "-- Low.\n\n-- Private: one\npub one : ℕ\n\n-- two\n-- Private: too\npub two : ℕ\n"),
         (SOURCE, "ghost use Rattle.low.specs.Low.{next};\n/// A.\npub fn a() -> u64\n    ensures { next 0 }\n{ 1 }\n"),
     ],
+    "lists have what is needed": [
+        *[(HEADLINE, LISTED.replace(old, new)) for old, new in (
+            ("## What", "## Which"), ("| 1 |", "| |"), ("| `sch", "| of `sch"), ("`Contract` 5", "of `Contract` 5"),
+            ("`Contract` 5", "`Contract` 10"), ("`Contract` 5", "`Contract` 4"), ("`Contract` 5", "`Contract`"),
+            ("`Contract` 5", "`Contract` 5, `Other` 5"), ("`Contract` 5", "`Contract` 5; `low`: `Low` 5"),
+            ("1 files", "2 files"), ("100 lines", "200 lines"), ("100 lines", "50 lines"), ("these ", ""))],
+        (HEADLINE, None), (NAMING, None), (CONTRACT, None), (CONTRACT, RUN + "\n-- Private: more\npub more : ℕ\n"),
+        (CONTRACT, RUN.replace("Right", "Wrong")),
+        (CONTRACT, RUN + "".join(f"IsRightRun {it} = 0 ≡ {it}\n" for it in range(8))),
+        (CONTRACT, "use Rattle.low.specs.Low.{next}\n\n" + RUN.replace("≡ n", "≡ next n")),
+    ],
 }
 
 # Texts that break none, in the same manner.
@@ -104,6 +135,8 @@ ALSO_RIGHT = [
     (SPEC, "-- Private: these.\nuse Rattle.std.specs.Prelude.{ℕ}\n\npub one : ℕ\n\n-- two\npub two : ℕ\n"),
     (EDIT, "name: one\nbug: it is n\nold: n + 3\nnew: n + 2\nfile: src/edited.rt\nold: n + 2\nnew: n\n"),
     (SOURCE, f"const {LABEL}: u64 = 1;\n// a wallpa" + "pers' T\n"),
+    (CONTRACT, RUN + "IsRightRun m =\n    -- none\n\n    m ≡ 0\n"), (CONTRACT, RUN.replace("pub", "\npub")),
+    (HEADLINE, LISTED.replace("these 1 files, about", "these\n1 files, about")),
 ]
 
 
@@ -148,10 +181,10 @@ class Rules(unittest.TestCase):
 
 
 # a definition for each kind of clause that names one
-NAMES = "shown own bare seen view kept opened coded law rule apart of_type again above".split()
+NAMES = "shown own bare seen shape kept opened coded law rule apart of_type again above".split()
 NAMED = "".join(f"-- it\npub {it} : ℕ\n\n" for it in NAMES)
 SAID = """// Said.
-ghost use Rattle.low.specs.Low.{shown, own, bare, seen, view, kept, opened, coded, law, rule, apart, of_type, again};
+ghost use Rattle.low.specs.Low.{shown, own, bare, seen, shape, kept, opened, coded, law, rule, apart, of_type, again};
 pub fn shown() ensures { shown } { own() }
 fn own() requires { own } {}
 pub fn bare() ensures { bare } {}
@@ -163,7 +196,7 @@ struct Inner { a: u64 }
 impl Model for Low {
     ghost Value = { seen };
     ghost coded = { coded };
-    ghost view = { view };
+    ghost view = { shape };
     ghost invariant = { kept };
 }
 impl Model for Open {
@@ -222,9 +255,46 @@ class Promises(unittest.TestCase):
             (6, ["one"], ["-- one", "-- more"]), (11, ["two"], []), (15, ["Pair"], ["-- pair"]),
             (18, ["Tree", "leaf", "fork", "Trees", "none"], ["-- trees"]), (30, ["odd", "even"], ["-- in"]),
             (38, ["◌+◌"], ["-- sum"])])
+        self.assertEqual([it.size for it in found], [6, 2, 3, 7, 5, 3])
         self.assertEqual(found[0].text, "abbrev pub one : ℕ → ℕ\none 0 = 1\none n =\n    n\n")
         self.assertTrue(found[4].text.startswith("module _ (n : ℕ)\n    (m : ℕ) where\n  abbrev mutual\n"))
         self.assertEqual(found[5].text, "pub ◌+◌ : ℕ\n(a) + b = c\n")
+
+
+class Lists(unittest.TestCase):
+    def test_what_is_needed(self):
+        far = "use low::{Low, Open as Wide};\nuse low::Ghost as G;\npub enum Far { One(Wide), Two { g: G } }\n"
+        run = "use Rattle.LINE\n\npub IsRightRun : NAMED → Type 0\n"
+        texts = {
+            "crates.txt": "low:\nschedule: low\n", SPEC: NAMED, SHOWN: SAID, "crates/schedule/src/lib.rt": far,
+            "crates/low/src/any.rt": "use crate::shown::Low;\nstruct Any { low: Vec<Low> }\n",
+        }
+        for line, named, wanted in (
+            ("low.specs.Low.{above}", "above", ["above"]), ("low.specs.Low as low", "low.above", ["above"]),
+            # what a model says to all of a type whose fields aren't public
+            ("low.specs.declared.shown.Low.{Low}", "Low", ["seen", "shape"]),
+            ("low.specs.declared.shown.Low.{Low as Deep}", "Deep", ["seen", "shape"]),
+            ("low.specs.declared.shown.Low.TheVariants as low", "low.One", ["seen", "shape"]),
+            ("low.specs.declared.shown.Low.{Low}", "ℕ", []), ("low.specs.declared.shown.TheConstants.{ONE}", "ONE", []),
+            ("low.specs.declared.shown.Open.{Open}", "Open", ["opened"]),
+            # fields of a type without a model, public or not; another crate's type by another name
+            ("low.specs.declared.any.Any.{Any}", "Any", ["seen", "shape"]),
+            ("schedule.specs.declared.Far.{Far}", "Far", ["opened"]),
+        ):
+            with tempfile.TemporaryDirectory() as root:
+                for path, text in {**texts, CONTRACT: run.replace("LINE", line).replace("NAMED", named)}.items():
+                    write(root, path, text)
+                needs = Needs(root, files(root, SPECS))
+                found = needs.of([("schedule", "specs/Contract.antt", "IsRightRun")])
+            names = [needs.specifications.definition(it).names[0] for it in sorted(found)]
+            self.assertEqual(names, [*wanted, "IsRightRun"], (line, named))
+
+    def test_numbers_of_lines(self):
+        for told, counted, step, wanted in (
+            (5, 1, 5, True), (10, 5, 5, True), (10, 4, 5, False), (12, 12, 5, False), (100, 91, 5, True),
+            (100, 90, 5, False), (100, 112, 5, False), (3600, 3582, 100, True), (3600, 4001, 100, False),
+        ):
+            self.assertEqual(is_about(told, counted, step), wanted, (told, counted))
 
 
 class Command(unittest.TestCase):

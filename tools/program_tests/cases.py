@@ -13,11 +13,15 @@ A file NAME.words has lines 'KIND `TEXT` => LINE'. The text is given to the prog
 as a race (`race`), as what it says of the index and the clients (`raced`) or as its configuration (`race_config`). The
 line is what must be printed, alone, or the lines between which ' / ' stands; behind '! ' it is the line of a fault,
 with status 1 and nothing printed.
+
+The folder scripts/ has whole scripts, each beside its output, as examples/ has.
 """
 import os
 import re
 from dataclasses import dataclass
 
+# the folder of scripts beside the case files
+SCRIPTS = "scripts"
 WORD = re.compile(r"(\w+) `([^`]*)` =>(?: (! )?(.*))?")
 # a race over the type t, and an index that counts all its records
 RACE = '{"schema":{"types":[{"name":"t","fields":[["k","int"],["a","int"],["b","int"]],"key":["k"]}]},"type":"t",%s}'
@@ -109,9 +113,9 @@ def word_case(name, line):
 
 
 def cases_in(folder):
-    """The cases of all files of a folder."""
-    cases = []
-    for name in sorted(os.listdir(folder)):
+    """The cases of all files of a folder, and of its folder of scripts."""
+    cases = example_cases(os.path.join(folder, SCRIPTS))
+    for name in sorted(set(os.listdir(folder)) - {SCRIPTS}):
         with open(os.path.join(folder, name), encoding="utf-8") as file:
             text = file.read()
         if name.endswith(".steps"):

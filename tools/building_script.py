@@ -1,5 +1,5 @@
 #!/usr/bin/env python3
-"""Prints examples/building.json, or with --lines what `recordctl run` must print of it, by a model of its own.
+"""Prints cases/scripts/building.json, or with --lines what `recordctl run` must print of it, by a model of its own.
 
 Three clients write records while a fourth one builds a VALUE, a COUNT and a SUM index over 2,000 of them, a hundred
 records of each index in a transaction. All four begin together, commit in turn, and are settled together; who conflicts
