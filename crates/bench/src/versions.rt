@@ -1,5 +1,5 @@
 // Versions pulled by one storage server: ten sets each, over keys that are written again and again.
-// Called by `main` for `bench versions`, and by `held`, which fills a server.
+// Called by `main` for `bench versions`, and by `server`, which fills one.
 use crate::keys::key;
 use cluster_core::{Config, Splits, Tier};
 use kv_core::Mutation;

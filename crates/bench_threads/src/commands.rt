@@ -1,10 +1,8 @@
-// Commands on the type t of whole numbers k and v, whose key is k. Called by `threads`, and by
-// `held`, which sets the pairs of records.
-use kv_core::{Bytes, Mutation};
+// Commands on the type t of whole numbers k and v, whose key is k. Called by `threads`.
 use metadata::{Cell, Cells, Field, Fields, Kind, Names, SchemaRequest, TypeRequest};
 use schedule::Command;
 use std::alloc::{AllocError, Global};
-use tuple_codec::{Text, pack};
+use tuple_codec::Text;
 
 fn field(alloc: Global, name: &str) -> Result<Field, AllocError> {
     let name = Text::from_str(alloc, name)?;
@@ -43,19 +41,4 @@ pub fn save(alloc: Global, key: i64, value: i64) -> Result<Command, AllocError> 
 pub fn load(alloc: Global, key: i64) -> Result<Command, AllocError> {
     let cells = vec![in alloc; Cell::Int(key)]?;
     Ok(Command::Load(Text::from_str(alloc, "t")?, Cells::new(cells)))
-}
-
-// The pack of these cells.
-fn packed(alloc: Global, cells: Vec<Cell>) -> Result<Bytes, AllocError> {
-    let tuple = Cells::new(cells).tuple(alloc)?;
-    Ok(Bytes::new(pack(alloc, &tuple)?))
-}
-
-/// Sets the pair that a record is in the map: the same bytes as `save` does.
-pub fn set(alloc: Global, key: i64, value: i64) -> Result<Mutation, AllocError> {
-    let cells = vec![in alloc; Cell::Int(1), Cell::Int(1), Cell::Int(1), Cell::Int(key)]?;
-    let place = packed(alloc, cells)?;
-    let cells = vec![in alloc; Cell::Int(key), Cell::Int(value)]?;
-    let value = packed(alloc, cells)?;
-    Ok(Mutation::Set { key: place, value })
 }

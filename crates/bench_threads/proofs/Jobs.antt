@@ -4,8 +4,8 @@ use denote.Param.Send.{IsSend, struct_send, recorded_send}
 use denote.Struct.Declared.{shape}
 use Rattle.runtime.specs.declared.turn.End.{Ghosts}
 use Rattle.runtime.proofs.Sendable.{client_send}
-use Rattle.bench.proofs.threads.Work.TheSendSync as work
-use Rattle.bench.specs.contracts.threads.Job as Job
+use Rattle.bench_threads.proofs.threads.Work.TheSendSync as work
+use Rattle.bench_threads.specs.contracts.threads.Job as Job
 
 pub job_send : (E : RattleType) (g : Ghosts E.Denot) → IsSend E → IsSend (Job.the_row E g)
 job_send E g s =

@@ -1,8 +1,8 @@
 use denote.Param.Send.{sendable}
 use Rattle.std.proofs.Crossing.{crosses}
 use Rattle.runtime.proofs.turn.Waits.TheSendSync as waits
-use Rattle.bench.proofs.Jobs.{job_send}
-use Rattle.bench.proofs.threads.counts.Goals as goal
+use Rattle.bench_threads.proofs.Jobs.{job_send}
+use Rattle.bench_threads.proofs.threads.counts.Goals as goal
 
 -- src/threads.rt:185:5
 pub map_vec-requires-send-J : goal.map_vec-requires-send-J

@@ -1,5 +1,5 @@
 // Clients of the running database on threads: loads beside a writer, and commits. Called by `main`
-// for `bench loads` and `bench commits`, and by `held`, which opens a database.
+// for `bench_threads loads` and `bench_threads commits`, and by `database`, which opens one.
 use crate::commands::{create, load, save};
 use cluster_core::{Config, Splits};
 use runtime::{Client, CommitError, Done, End, EnterError, Waits, begin, open};
