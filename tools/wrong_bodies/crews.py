@@ -17,7 +17,7 @@ def spent(checks):
 
 class Task:
     """A piece of work: what it does, its crate, the crates whose proof it waits for, and its weight, the heaviest
-    first."""
+    first: proofs, then what is left to do of a crate that is begun, then other crates."""
 
     def __init__(self, weight, name, waits, work):
         self.weight, self.name, self.waits, self.work = weight, name, waits, work
@@ -85,7 +85,7 @@ class Crew:
             self.tasks.append(Task(1_000_000 * (1 + above), name, crates[name], lambda it=name: self.prove(it)))
         for name in self.edits:
             waits = [name] if name in needed else below(crates, name)
-            self.tasks.append(Task(1000, name, waits, lambda it=name: self.begin(it)))
+            self.tasks.append(Task(1, name, waits, lambda it=name: self.begin(it)))
         self.run()
         return len(self.refused), len(self.others)
 
@@ -181,7 +181,7 @@ class Crew:
             self.say(f"{name}: {edit.name} alone: {spent(checks)}")
             self.judge(name, edit.name, verdict, line)
             return []
-        return Task(1, name, [], work)
+        return Task(2, name, [], work)
 
 
 class Rounds:
@@ -192,7 +192,7 @@ class Rounds:
         self.left, self.untold, self.is_last = left, [], False
 
     def task(self, edits):
-        return Task(1 + len(edits), self.name, [], lambda: self.work(edits))
+        return Task(2 + len(edits), self.name, [], lambda: self.work(edits))
 
     def work(self, edits):
         """Tries a round, and answers the tasks for what it and those before it said nothing of, once all are done.

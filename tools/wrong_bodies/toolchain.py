@@ -38,3 +38,12 @@ def stamp_libraries(home):
         if os.path.isdir(crate.rlib):
             with open(os.path.join(crate.folder, "out", "rlib", "stamp"), "w", encoding="utf-8") as stamp:
                 stamp.write(crate.stamp())
+
+
+def proof_from_nothing(home, name):
+    """The words that prove a crate of a repository by one job, over its built libraries, with nothing that was kept.
+
+    A line is printed as the prover ends with each function.
+    """
+    crate = next(it for it in rtlib().crates_below(home) if it.name == name)
+    return [rtlib().RATTLE, "check", *crate.words(["--jobs", "1"], keeps=False), "--progress"]

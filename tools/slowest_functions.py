@@ -1,0 +1,56 @@
+#!/usr/bin/env python3
+"""Prints which functions of crates take longest to prove: `tools/slowest_functions.py NAME..`, at the top.
+
+Each crate is proved from nothing, alone and by one job, in a copy, over the libraries below it as `rt ci` or `rt lib`
+has built them in this checkout. A line is printed for the crate and for each of its ten slowest functions, with the
+seconds that went by until the prover had ended with it, since it had ended with the one before. So nothing else should
+run beside, and of functions that are proved together the last one has the time of all.
+"""
+import os
+import re
+import subprocess
+import sys
+import tempfile
+import time
+
+sys.path.append(os.path.join(os.path.dirname(os.path.abspath(__file__)), "wrong_bodies"))
+from toolchain import proof_from_nothing
+from trials import Workshop
+
+CHECKED, MOST = re.compile(r"checked (\S+), \d+ of \d+"), 10
+
+
+def spans_of(home, name):
+    """The functions of a crate in a repository, with the seconds that each took, and whether all are proved."""
+    process = subprocess.Popen(
+        proof_from_nothing(home, name), cwd=os.path.join(home, "crates", name), stdin=subprocess.DEVNULL,
+        stdout=subprocess.PIPE, stderr=subprocess.STDOUT, text=True, errors="replace")
+    spans, since = {}, time.monotonic()
+    with process.stdout:
+        for line in process.stdout:
+            found, now = CHECKED.match(line), time.monotonic()
+            if found:
+                spans[found[1]], since = now - since, now
+    return spans, process.wait() == 0
+
+
+def main():
+    if not sys.argv[1:]:
+        print("usage: tools/slowest_functions.py CRATE..", file=sys.stderr)
+        return 2
+    failed = False
+    for name in sys.argv[1:]:
+        with tempfile.TemporaryDirectory(prefix="slowest-") as room:
+            workshop, home = Workshop(os.getcwd(), room, over_ci=True), os.path.join(room, "home")
+            workshop.furnish(home, name, os.path.join(os.getcwd(), "crates", name), [])
+            begun = time.monotonic()
+            spans, is_proved = spans_of(home, name)
+        failed = failed or not is_proved
+        print(f"{name}: {'' if is_proved else 'NOT '}proved in {time.monotonic() - begun:.0f} s", flush=True)
+        for function, span in sorted(spans.items(), key=lambda it: -it[1])[:MOST]:
+            print(f"  {span:5.1f} {function}", flush=True)
+    return 1 if failed else 0
+
+
+if __name__ == "__main__":
+    sys.exit(main())
