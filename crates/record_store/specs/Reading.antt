@@ -1,11 +1,10 @@
 -- What the reads of a store and the decoding of what they find establish, beneath whole calls.
-use Rattle.std.specs.Prelude.{◌≡◌, ◌⊎◌, ℕ, ℤ, Bool, false, ◌&&◌, if◌then◌else◌, List, [], ◌∷◌, ◌++◌}
+use Rattle.std.specs.Prelude.{◌≡◌, ◌⊎◌, ℕ, ℤ, pos, Bool, false, if◌then◌else◌, List, [], ◌∷◌, ◌++◌, IsTrue}
 use Rattle.std.specs.Prelude.{Option, Some, None, length, map}
 use Rattle.std.specs.List.{AllByRecursion, Contains, flat_map}
-use Rattle.std.specs.Ordering.{is_eq}
-use Rattle.tuple_codec.specs.Item.{Item, IsTuple}
+use Rattle.tuple_codec.specs.Item.{Item, IsTuple, int}
+use Rattle.tuple_codec.specs.Spelling.{spelling}
 use Rattle.kv_core.specs.Addition.{number_of}
-use Rattle.kv_core.specs.Bytes.{key_cmp}
 use Rattle.kv_core.specs.Range.{KeyRange, point}
 use Rattle.kv_core.specs.Map.{Map}
 use Rattle.kv_core.specs.Read.{range_read, read_of}
@@ -17,7 +16,7 @@ use Rattle.metadata.specs.declared.definition.TypeDefinition.{TypeDefinition}
 use Rattle.metadata.specs.declared.index.IndexDefinition.{IndexDefinition}
 use Rattle.metadata.specs.declared.index.IndexKind.TheVariants.{Value}
 use Rattle.metadata.specs.declared.index.State.{State}
-use Rattle.metadata.specs.declared.index.State.TheVariants.{Readable, WriteOnly, Disabled}
+use Rattle.metadata.specs.declared.index.State.TheVariants.{Readable}
 use Rattle.metadata.specs.Lawful.{IsLawfulSchema}
 use Rattle.metadata.specs.Record.{Record, key_items}
 use Rattle.metadata.specs.Records.{of_type, record_at}
@@ -27,9 +26,9 @@ use Rattle.metadata.specs.Written.{schema_bytes}
 use Rattle.index_maint.specs.Totals.{as_signed, group_key}
 use Rattle.record_store.specs.declared.error.StoreError.{StoreError}
 use Rattle.record_store.specs.declared.error.StoreError.TheVariants.{Memory, Read, Corrupt, NoStore, AlreadyThere}
-use Rattle.record_store.specs.Layout.{record_key, schema_key, state_pair, type_range}
+use Rattle.record_store.specs.Layout.{record_key, schema_key, state_pair, state_value, type_range}
 use Rattle.record_store.specs.Form.{IsFirstBad, IsStatePair, IsWritten, read_in}
-use Rattle.record_store.specs.Holds.{IsListed}
+use Rattle.record_store.specs.Holds.{IsListed, has_number}
 use Rattle.record_store.specs.Call.{AtStore, IsUnread, Opened, Reading}
 use Rattle.record_store.specs.Calls.{total_of}
 use Rattle.record_store.specs.Store.{Store, built_of, new_state, state_in}
@@ -50,10 +49,6 @@ pub record HasNotRead (maps : ℕ → Map) (refuses : KeyRange → ℕ → ReadE
     (error : StoreError) (old new : CommitRequest) : Type 0 where
   pub added : List KeyRange
   pub ran : DidRead maps added old new (λ m. IsReadError (λ range. refuses range old.read_version) asked added error)
-
--- Private: two pairs have the same key and the same value
-abbrev pub same_pair : List ℕ × List ℕ → List ℕ × List ℕ → Bool
-same_pair pair other = is_eq (key_cmp pair.0 other.0) && is_eq (key_cmp pair.1 other.1)
 
 -- Private: what was found where a schema may stand is the bytes of this schema
 pub record IsSchema (written : Option (List ℕ)) (schema : Schema) : Type 0 where
@@ -76,12 +71,17 @@ abbrev pub IsNoSchemaFound : List ℕ → Option (List ℕ) → StoreError → T
 IsNoSchemaFound prefix None error = error ≡ NoStore
 IsNoSchemaFound prefix (Some bytes) error = IsBadSchema prefix bytes error
 
--- Private: the state of the index with this number whose pair this is, if it is one: that of a readable index is never
--- written
-abbrev pub state_told : List ℕ → ℕ → List ℕ × List ℕ → Option State
-state_told prefix number pair =
-    if same_pair pair (state_pair prefix (number, WriteOnly)) then Some WriteOnly
-    else if same_pair pair (state_pair prefix (number, Disabled)) then Some Disabled else None
+-- Private: the bytes of a whole number alone
+abbrev pub number_pack : ℕ → List ℕ
+number_pack number = spelling (int (pos number) ∷ [])
+
+-- Private: the bytes are those of the number of one of these indexes
+abbrev pub IsNumber : List IndexDefinition → List ℕ → ℕ → Type 0
+IsNumber indexes bytes number = IsTrue (has_number indexes number) × (bytes ≡ number_pack number)
+
+-- Private: the bytes are the value of a state, which isn't that of a readable index
+abbrev pub IsStateValue : List ℕ → State → Type 0
+IsStateValue bytes state = (bytes ≡ state_value state) × (state ≡ Readable → ⊥)
 
 -- Private: a pair is that of the state of one of the indexes
 pub record IsPairOfState (prefix : List ℕ) (indexes : List IndexDefinition) (pair : List ℕ × List ℕ)

@@ -120,7 +120,7 @@ pub(crate) fn positions_range(
 }
 
 // The number that stands for a state.
-fn state_number(state: State) -> u64
+pub(crate) fn state_number(state: State) -> u64
     ensures { result ≡ state_number state }
 {
     match state {

@@ -21,6 +21,7 @@ mod reading;
 mod remove;
 mod save;
 mod scan;
+mod state_bytes;
 mod store;
 mod types;
 

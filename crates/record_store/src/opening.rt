@@ -1,23 +1,25 @@
 // How a store is opened. Called by `schedule` for every command but `create`, and by `embed`; what
 // an opening reads, `create` reads too.
-ghost use Rattle.std.specs.Prelude.{◌≡◌, ◌∷◌, [], IfOk, IfErr, IsTrue};
+ghost use Rattle.std.specs.Prelude.{◌≡◌, ◌∷◌, [], IfOk, IfErr, IsTrue, MatchOption};
 ghost use Rattle.std.specs.FinMap.{get as value_at};
 ghost use Rattle.kv_core.specs.Bytes.{end_of_keys, key_lt};
 ghost use Rattle.kv_core.specs.Map.{pairs_in};
 ghost use Rattle.kv_core.specs.Range.{point};
-ghost use Rattle.record_store.specs.Layout.{schema_key, state_pair, states_range};
+ghost use Rattle.record_store.specs.Form.{IsStatePair};
+ghost use Rattle.record_store.specs.Layout.{schema_key, states_range};
 ghost use Rattle.record_store.specs.Opening.{IsOpened, IsUnopened};
 ghost use Rattle.record_store.specs.Reading.{AreStates, HasNotRead, HaveNoStates, IsNoSchemaFound};
-ghost use Rattle.record_store.specs.Reading.{IsNoState, IsPairOfState, IsSchema, same_pair, state_told};
+ghost use Rattle.record_store.specs.Reading.{IsNoState, IsPairOfState, IsSchema};
 ghost use Rattle.record_store.specs.Steps.{DidRead};
 
 use crate::error::StoreError;
 use crate::known::KnownSchema;
-use crate::layout::{schema_key, state_key, state_value, states_range};
+use crate::layout::{schema_key, states_range};
+use crate::state_bytes::{after_states_place, numbered_from, state_of_value};
 use crate::store::Store;
 use kv_core::{Bytes, Pair};
 use metadata::{IndexDefinition, Schema, State};
-use std::alloc::{AllocError, Global};
+use std::alloc::Global;
 use std::rc::Rc;
 use txn::{Snapshot, Transaction};
 
@@ -75,62 +77,46 @@ fn schema_found(
     }
 }
 
-// Whether the pair is that of this state of the index with this number.
-fn is_pair_of(
-    alloc: Global,
-    prefix: &[u8],
-    number: u64,
-    state: State,
-    pair: &Pair,
-) -> Result<bool, AllocError>
-    requires { IsTrue (key_lt prefix.now end_of_keys) }
-    ensures { IfOk result (λ same. same ≡ same_pair pair.now (state_pair prefix.now (number, state))) }
-{
-    let key = state_key(alloc, prefix, number)?;
-    let value = state_value(alloc, state)?;
-    Ok(pair.0 == key && pair.1 == value)
-}
-
-// The state of the index with this number whose pair this is, if it is one.
+// The state that a pair stands for, of one of these indexes, if it does. The index is looked for
+// from a place on first, then the place is the one after it; any place gives the same answer.
 fn state_told(
-    alloc: Global,
-    prefix: &[u8],
-    number: u64,
-    pair: &Pair,
-) -> Result<Option<State>, AllocError>
-    requires { IsTrue (key_lt prefix.now end_of_keys) }
-    ensures { IfOk result (λ told. told ≡ state_told prefix.now number pair.now) }
-{
-    let is_write_only = is_pair_of(alloc, prefix, number, State::WriteOnly, pair)?;
-    if is_write_only {
-        return Ok(Some(State::WriteOnly));
-    }
-    let is_disabled = is_pair_of(alloc, prefix, number, State::Disabled, pair)?;
-    Ok(if is_disabled {
-        Some(State::Disabled)
-    } else {
-        None
-    })
-}
-
-// The state that a pair stands for, of one of these indexes.
-fn state_found(
-    alloc: Global,
     prefix: &[u8],
     indexes: &[IndexDefinition],
+    from: &mut usize,
+    pair: &Pair,
+) -> Option<(u64, State)>
+    ensures { MatchOption result
+        (IsStatePair prefix.now indexes.now pair.now → ⊥)
+        (IsPairOfState prefix.now indexes.now pair.now) }
+{
+    let Some(bytes) = after_states_place(prefix, pair.0.as_slice()) else {
+        return None;
+    };
+    let Some((at, number)) = numbered_from(indexes, *from, bytes) else {
+        return None;
+    };
+    let Some(state) = state_of_value(pair.1.as_slice()) else {
+        return None;
+    };
+    *from = at + 1;
+    Some((number, state))
+}
+
+// The state that a pair stands for, of one of these indexes, which is looked for as above.
+fn state_found(
+    prefix: &[u8],
+    indexes: &[IndexDefinition],
+    from: &mut usize,
     pair: &Pair,
 ) -> Result<(u64, State), StoreError>
     requires { IsTrue (key_lt prefix.now end_of_keys) }
     ensures found { IfOk result (IsPairOfState prefix.now indexes.now pair.now) }
     ensures refused { IfErr result (IsNoState prefix.now indexes.now pair.now) }
 {
-    for index in indexes {
-        let told = state_told(alloc, prefix, index.number, pair)?;
-        if let Some(state) = told {
-            return Ok((index.number, state));
-        }
+    match state_told(prefix, indexes, from, pair) {
+        Some(listed) => Ok(listed),
+        None => Err(StoreError::Corrupt(pair.0.copy()?)),
     }
-    Err(StoreError::Corrupt(pair.0.copy()?))
 }
 
 // The states that pairs stand for.
@@ -144,9 +130,10 @@ fn states_found(
     ensures found { IfOk result (λ states. AreStates prefix.now indexes.now pairs.now states.items) }
     ensures refused { IfErr result (HaveNoStates prefix.now indexes.now pairs.now) }
 {
-    let mut states = Vec::new(alloc);
+    let mut states = Vec::with_capacity(alloc, pairs.len())?;
+    let mut from = 0;
     for pair in pairs {
-        let found = state_found(alloc, prefix, indexes, pair)?;
+        let found = state_found(prefix, indexes, &mut from, pair)?;
         states.push(found)?;
     }
     Ok(states)

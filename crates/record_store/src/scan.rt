@@ -56,7 +56,7 @@ impl Records {
 }
 
 // What stands behind the place in a key.
-fn behind<'a>(place: &[u8], key: &'a [u8]) -> Option<&'a [u8]>
+pub(crate) fn behind<'a>(place: &[u8], key: &'a [u8]) -> Option<&'a [u8]>
     ensures { MatchOption result (BeginsWith place.now key.now → ⊥) (λ rest. key.now ≡ place.now ++ rest.now) }
 {
     key.strip_prefix(place)

@@ -15,6 +15,6 @@ loop-pair-preserved c =
 
 pub returns-in_err-found-clause-refused : goal.returns-in_err-found-clause-refused
 returns-in_err-found-clause-refused c =
-    exit_with c.from_residual.result c.in_err-found.field-0.0 (HaveNoStates c.args.prefix.now c.args.indexes.now c.args.pairs.now) c.from_residual.ensures
+    exit_with c.from_residual-in_err-found.result c.in_err-found.field-0.0 (HaveNoStates c.args.prefix.now c.args.indexes.now c.args.pairs.now) c.from_residual-in_err-found.ensures
     (bad_state_among c.args.prefix.now c.loop-pair.pair-index c.args.indexes.now c.args.pairs.now c.pair-item.result c.loop-pair.states.items c.in_err-found.field-0.0
     c.loop-pair-test.true c.pair-item.is c.loop-pair.invariant c.in_err-found.ensures.refused)
