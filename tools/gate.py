@@ -23,6 +23,7 @@ import time
 
 PROGRAMS = ["crates/recordctl/out/recordctl", "crates/recordctl/out/recordctl.by-rattle"]
 ASKING = ["crates/memory_trials/out/memory_trials", "crates/memory_trials/out/memory_trials.by-rattle"]
+TESTED_TOOLS = ("wrong_bodies", "house_rules", "quick_build")
 PROGRAM_TESTS = (("the program", "program_tests", PROGRAMS), ("want of memory", "refused_growths", ASKING))
 COUNTED = re.compile(r"(\d+) (?:passed|refused), (\d+) (?:failed|not)")
 # what the wrong bodies' tool says of each of its checks
@@ -103,7 +104,7 @@ def main():
     wrong = Command("nice", "-n", "10", python, "tools/wrong_bodies", "--over-ci", "--from-nothing", "--jobs", jobs,
                     *recorded, reads=True)
     proofs = Command("rt", "ci", reader=wrong)
-    tools = [Command("nice", "-n", "10", python, f"tools/{it}/tests.py") for it in ("wrong_bodies", "house_rules")]
+    tools = [Command("nice", "-n", "10", python, f"tools/{it}/tests.py") for it in TESTED_TOOLS]
     rules = Command(python, "tools/house_rules")
     tests = [proofs.ended("rt ci", counts)]
     for title, tool, programs in PROGRAM_TESTS:
