@@ -6,7 +6,7 @@ import sys
 import tempfile
 import unittest
 from defined import definitions_in
-from rules import RULES, SPECS, drawing, used_by
+from rules import DRAWING, RULES, SPECS, drawing, used_by
 from reading_lists import NAMES as NAMING, is_about
 from seen import Needs
 from sources import bodies, data, files, is_documented, public_items, wide_lines
@@ -15,7 +15,7 @@ HERE = os.path.dirname(os.path.abspath(__file__))
 SOURCE, SPEC, PROOF = "crates/low/src/lib.rt", "crates/low/specs/Low.antt", "crates/low/proofs/Low.antt"
 SHOWN, EDITED = "crates/low/src/shown.rt", "crates/low/src/edited.rt"
 HIGH, SERVING = "crates/high/specs/High.antt", "definitions say whom they serve"
-CONTRACT, HEADLINE = "crates/schedule/specs/Contract.antt", "docs/HEADLINE.md"
+CONTRACT, HEADLINE = "crates/schedule/specs/Contract.antt", "docs/proof/HEADLINE.md"
 # in two parts, so that these tests break no rule themselves
 PUBLISHED, LABEL = "pa" + "per", "D" + "12"
 CRATES = "# each crate\nlow:\n"
@@ -40,7 +40,7 @@ It rests on the definitions in these 1 files, about 100 lines in all.
 RIGHT = {
     "README.md": "# A store\n\nIt is small.\n\n```rust\n    n + 1\n```\n",
     "crates.txt": CRATES,
-    "docs/crates.svg": drawing(CRATES),
+    DRAWING: drawing(CRATES),
     "crates/low/README.md": "# low\n",
     SOURCE: "/// The next number.\npub fn next(n: u64) -> u64\n    ensures { result ≡ n + 1 }\n{\n    n + 1\n}\n",
     SHOWN: "// Shown.\nfn shown(n: u64) -> u64\n    ensures { result ≡ n + 1 }\n{\n    n + 1\n}\n",
@@ -78,7 +78,7 @@ WRONG = {
     ],
     "crates have a README.md": [("crates/low/README.md", None)],
     "crates are drawn": [
-        ("docs/crates.svg", None), ("docs/crates.svg", "<svg/>\n"), ("docs/crates.svg", drawing("high:\n")),
+        (DRAWING, None), (DRAWING, "<svg/>\n"), (DRAWING, drawing("high:\n")),
     ],
     "files are introduced": [("crates/low/src/two.rt", "fn two() {}\n"), ("crates/low/src/two.rt", "")],
     "wrong bodies apply": [
