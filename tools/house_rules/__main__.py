@@ -23,7 +23,9 @@
    ones lead in turn, also by what types of sources are seen as. It says of which files only a part is needed, and how
    many lines are needed, of each and of all: rounded to 5 and to 100, and right to within that or a tenth. And
    docs/proof/DEFINITIONS.md names each of these files.
-15. Each relative link of a document leads to a file that is there, and where it has an anchor to a heading of that one.
+15. No line of another document than README.md is wide, counted in characters, but for a row of a table, a line of a
+   block of code, and a line that is one link.
+16. Each relative link of a document leads to a file that is there, and where it has an anchor to a heading of that one.
 
 A line is printed for each fault, and then one for each rule, with the number of things that it was held against. A rule
 passes where nothing breaks it and there was something to break it. The last line is 'N passed, M failed'; the status is

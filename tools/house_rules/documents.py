@@ -1,8 +1,8 @@
-"""What stands in a document: its blocks of code, its headings and its links."""
+"""What stands in a document: its blocks of code, its wide lines, its headings and its links."""
 import os
 import re
 from collections import Counter
-from sources import files, line_at, lines_of, read
+from sources import files, line_at, lines_of, read, wide_lines
 
 FENCE = re.compile(r"\s*(`{3,}|~{3,})")
 # an item of a list, up to where its text begins
@@ -13,6 +13,7 @@ HEADING = re.compile(r" {0,3}#{1,6} +(.*?)(?: +#+)? *")
 # a link, and the place to which it leads: [..](PLACE), or [..]: PLACE on a line of its own
 LINKED = re.compile(r"!?\[([^]]*)\]\([^)]*\)")
 PLACE = re.compile(r"\]\(\s*([^\s()]*)[^()]*\)|^ {0,3}\[[^]\n]+\]:[ \t]*(\S+)", re.M)
+ONE_LINK = re.compile(rf"\s*(?:{ITEM.pattern})?{LINKED.pattern}[^\w\s]*")
 # what begins a link that leads out of the repository
 SCHEME = re.compile(r"[A-Za-z][A-Za-z0-9+.-]*:")
 
@@ -42,6 +43,14 @@ def without_blocks(text):
     """A document with an empty line for each of its blocks of code."""
     coded = code_lines(text)
     return "\n".join("" if number in coded else line for number, line in enumerate(lines_of(text), 1))
+
+
+def wide_text(text, columns):
+    """The numbers of the lines with more columns that aren't code, a row of a table, or just one link."""
+    coded, lines = code_lines(text), lines_of(text)
+    return [number for number in wide_lines(text, columns)
+            if number not in coded and not lines[number - 1].lstrip().startswith("|")
+            and not ONE_LINK.fullmatch(lines[number - 1])]
 
 
 def anchors(text):

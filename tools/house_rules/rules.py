@@ -3,7 +3,7 @@ import os
 import re
 import sys
 from counts import repeats, wide_clause_lines, words_with_two_homes
-from documents import links, wrong_of_link
+from documents import links, wide_text, wrong_of_link
 from sources import bodies, comments, data, files, line_at, lines_of, public_items, read, wide_lines
 
 TOOLS = os.path.dirname(os.path.dirname(os.path.abspath(__file__)))
@@ -14,7 +14,7 @@ from promises import Promises
 from reading_lists import faults_in
 from records import all_edits
 
-README, README_LINES, README_COLUMNS = "README.md", 80, 100
+README, README_LINES, DOCUMENT_COLUMNS = "README.md", 80, 100
 FILE_LINES, BODY_LINES, COLUMNS = 400, 40, 120
 
 RATTLE = "crates/*/src/**/*.rt"
@@ -46,7 +46,7 @@ def readme_is_short(root):
         text = read(root, path)
         if len(lines_of(text)) > README_LINES:
             faults.append((path, f"{len(lines_of(text))} lines, above {README_LINES}"))
-        faults += [(f"{path}:{it}", f"above {README_COLUMNS} columns") for it in wide_lines(text, README_COLUMNS)]
+        faults += [(f"{path}:{it}", f"above {DOCUMENT_COLUMNS} columns") for it in wide_lines(text, DOCUMENT_COLUMNS)]
     return len(paths), faults
 
 
@@ -179,6 +179,14 @@ def lists_have_what_is_needed(root):
     return faults_in(root, files(root, SPECS))
 
 
+def documents_are_narrow(root):
+    """No line of a document has many columns, but for code, tables and links; README.md is held to more."""
+    texts = [(path, read(root, path)) for path in files(root, *DOCUMENTS) if path != README]
+    faults = [(f"{path}:{it}", f"above {DOCUMENT_COLUMNS} columns")
+              for path, text in texts for it in wide_text(text, DOCUMENT_COLUMNS)]
+    return sum(len(lines_of(text)) for _, text in texts), faults
+
+
 def links_lead_somewhere(root):
     """Each relative link of a document leads to a file that is there, and to a heading of it where it has an anchor."""
     found = [(path, *it) for path in files(root, *DOCUMENTS) for it in links(read(root, path))]
@@ -201,5 +209,6 @@ RULES = {
     "nothing is cited": nothing_is_cited,
     "definitions say whom they serve": definitions_say_whom_they_serve,
     "lists have what is needed": lists_have_what_is_needed,
+    "documents are narrow": documents_are_narrow,
     "links lead somewhere": links_lead_somewhere,
 }

@@ -120,6 +120,10 @@ WRONG = {
         (CONTRACT, RUN + "".join(f"IsRightRun {it} = 0 ≡ {it}\n" for it in range(8))),
         (CONTRACT, "use Rattle.low.specs.Low.{next}\n\n" + RUN.replace("≡ n", "≡ next n")),
     ],
+    "documents are narrow": [
+        (LOW, "a" * 101 + "\n"), (GUIDE, f"- {'é' * 99}\n"), (EXAMPLES, f"```\n```\na\n    {'a' * 97}\n"),
+        (GUIDE, f"# {'a ' * 50}\n\n- a\n\n    {'a' * 97}\n"), (GUIDE, f"[a](#a)\nand [{'a' * 91}](#a)\n# A\n"),
+    ],
     "links lead somewhere": [
         ("README.md", "[a](docs)\n[b](b.md)\n"), (LOW, "[low](../low/README.md#lower)\n# low\n"),
         (GUIDE, "[`low`](../crates/low/README.md)\n"), (EXAMPLES, "# a\n\n[a\n](#A)\n"), (GUIDE, "[low]: low.md\n"),
@@ -146,6 +150,8 @@ ALSO_RIGHT = [
     (SOURCE, f"const {LABEL}: u64 = 1;\n// a wallpa" + "pers' T\n"),
     (CONTRACT, RUN + "IsRightRun m =\n    -- none\n\n    m ≡ 0\n"), (CONTRACT, RUN.replace("pub", "\npub")),
     (HEADLINE, LISTED.replace("these 1 files, about", "these\n1 files, about")),
+    (LOW, "é" * 100 + f"\n\n| {'a' * 100} |\n\n    {'a' * 97}\n- a\n\n  ```\n  {'a' * 99}\n  ```\n"),
+    (GUIDE, f"# A\n\n[{'a ' * 50}](#a)\n- [`{'a' * 90}`](../../crates/low/README.md).\n"),
     (EXAMPLES, "[a](../docs/proof), `[b](c)`\n\n    [d](e)\n\n[f](https://f), [g](../tools/one.py)\n"),
 ]
 

@@ -1,7 +1,7 @@
 """Tests of house_rules: how documents are read."""
 import tempfile
 import unittest
-from documents import anchors, code_lines, links, wrong_of_link
+from documents import anchors, code_lines, links, wide_text, wrong_of_link
 from samples import write
 
 
@@ -14,6 +14,12 @@ class Documents(unittest.TestCase):
             ("- a\n\n    b\n\n      c\nd\n\n    e\n", [5, 8]), ("1. a\n  - b\n\n       c\n\n        d\n", [6]),
         ):
             self.assertEqual(sorted(code_lines(text)), coded, text)
+
+    def test_wide_text(self):
+        for text in ("aaa bbb", "aa `bb` cc", "    aaaa", "- [a](b) c", "[a](b) [c](d)", "# aaaa", "aa | b", "é é é é"):
+            self.assertEqual(wide_text(f"a\n{text}\n", 5), [2], text)
+        for text in ("a b c", "| aaa | bbb |", "    a\n\n    aaaa", "[a](bcd)", "- [a `b`](c).", "2. ![a](b)", "ééééé"):
+            self.assertEqual(wide_text(f"{text}\n", 5), [], text)
 
     def test_anchors(self):
         for text, found in (
