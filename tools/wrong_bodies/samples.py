@@ -1,8 +1,11 @@
 """A repository of two small crates, with edits, for the tests of wrong_bodies."""
 import argparse
+import contextlib
+import io
 import os
 import subprocess
 import sys
+from crews import Crew
 from edits import Edit, pairs_in
 
 HERE = os.path.dirname(os.path.abspath(__file__))
@@ -204,8 +207,10 @@ def ran(root, *words, said=None):
     return done.returncode, lines, {line.split(": ")[0]: line for line in lines}
 
 
-def options(**words):
-    """Options as the command line gives them, but for these."""
-    return argparse.Namespace(**{
+def crew_of(root, **words):
+    """The crew that the command line would give with these options, which prints nothing as it is made."""
+    options = argparse.Namespace(**{
         "crates": [], "only": "", "verbose": False, "jobs": 1, "from_nothing": True, "recorded": False, "aged": False,
         "record": False, **words})
+    with contextlib.redirect_stdout(io.StringIO()):
+        return Crew(root, root, options)

@@ -2,9 +2,8 @@
 import os
 import tempfile
 import unittest
-from crews import Crew
 from records import Grade, Sum, Sums, all_edits, record, recorded, row, rows_in
-from samples import EDITS, LOW, NAMED, TOLD, TYPES, WORDS, options, repository, write
+from samples import EDITS, LOW, NAMED, TOLD, TYPES, WORDS, crew_of, repository, write
 
 # A further source of high, whose function names types of low.
 NAMING = """use low::{Modelled as Other, Seen};
@@ -142,7 +141,7 @@ class Recording(unittest.TestCase):
             record(root, {("high", "third_is_fourth"): sums["third_is_fourth"], ("low", "next_is_later"): other})
             self.assertEqual(sorted(recorded(root)), [
                 ("high", "third_is_fourth"), ("low", "next_is_later"), ("low", "next_is_same")])
-            crew = Crew(root, root, options(recorded=True))
+            crew = crew_of(root, recorded=True)
             # one of low's is recorded over other texts
             self.assertEqual((sorted(crew.edits), len(crew.edits["low"])), (["low"], len(EDITS) - 1))
             self.assertEqual(crew.refused, {("low", "next_is_same"), ("high", "third_is_fourth")})

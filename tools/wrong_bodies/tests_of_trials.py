@@ -3,9 +3,8 @@ import os
 import subprocess
 import tempfile
 import unittest
-from crews import Crew
 from records import Sums, all_edits, record, tenth
-from samples import AGING, EDITS, RESTING, WEAKER, options, ran, repository, write
+from samples import AGING, EDITS, RESTING, WEAKER, crew_of, ran, repository, write
 
 
 class ByTheProver(unittest.TestCase):
@@ -48,7 +47,6 @@ class ByTheProver(unittest.TestCase):
             said = "rt: low proved\nrt: high NOT PROVED\n"
             _, before, _ = ran(root, "high", "--over-ci", said="rt: low NOT PROVED\n")
             subprocess.run(["git", "init", "-q"], cwd=root, check=True)
-            subprocess.run(["rt", "ci", "low"], cwd=root, stdout=subprocess.DEVNULL, check=True)
             subprocess.run(["rt", "ci"], cwd=root, stdout=subprocess.DEVNULL, check=False)
             status, lines, found = ran(root, "high", "--over-ci", said=said)
         self.assertEqual(before[-1], "0 refused, 1 not")
@@ -67,7 +65,7 @@ class Choosing(unittest.TestCase):
                 (["high"], "next", {}),
                 ([], "third,second_is", {"low": ["second_is_first"], "high": ["third_is_fourth"]}),
             ]:
-                crew = Crew(root, root, options(crates=crates, only=only))
+                crew = crew_of(root, crates=crates, only=only)
                 found = {name: [it.name for it in edits] for name, edits in crew.edits.items()}
                 self.assertEqual((found, crew.others), (wanted, set()))
 
@@ -99,5 +97,5 @@ class Choosing(unittest.TestCase):
                     text = source.read()
                 write(f"{root}/crates/low/{file}", text.replace(old, new))
                 for words in ({"recorded": True}, {"aged": True}):
-                    tried.append(len(Crew(root, root, options(**words)).edits["low"]))
+                    tried.append(len(crew_of(root, **words).edits["low"]))
         self.assertEqual(tried, [2, 12, 12, 12, 12, 12])
