@@ -64,7 +64,7 @@ def options_of(words):
     parser.add_argument("--aged", action="store_true", help="pass over what is fresh alone")
     parser.add_argument("--record", action="store_true", help="put the edits that are tried and refused there")
     parser.add_argument("--take", metavar="FILE", help="try nothing, and put what a run printed there")
-    parser.add_argument("--verbose", action="store_true", help="print what refuses each edit too")
+    parser.add_argument("--verbose", action="store_true", help="print the goals that are open for each edit too")
     return parser.parse_args(words)
 
 

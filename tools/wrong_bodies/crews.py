@@ -51,7 +51,7 @@ class Crew:
             (self.refused if is_refused else self.others).add((name, edit))
             if is_refused:
                 self.tried.add((name, edit))
-        shown = f": {line[:200]}" if line and (self.options.verbose or not is_refused) else ""
+        shown = f": {line[:400]}" if line and (self.options.verbose or not is_refused) else ""
         said = records.row(name, edit, self.made[name, edit]) if is_refused else f"{name}/{edit}: {verdict.value}"
         self.say(said + shown)
 

@@ -7,6 +7,8 @@ from bodies import is_goal_of, is_proof_of
 # a proof file that names what the edit took away
 STALE = re.compile(r"has no field|\(nearest: |is not in scope|has no `|was not admitted|were not checked")
 NOTE = re.compile(r"note: (?:\./)?(\S+?):(\d+):\d+: it is not proved")
+# how such a note names its goal
+GOAL = re.compile(r"\(`([^`]+)`\)")
 ANSWER = re.compile(r"(?:\./)?(proofs/(\S+)/[^/\s]+\.antt):\d+:\d+: error(?:: `((?:decreases-|invariant-)?)([^`]+)`)?")
 ERROR = re.compile(r"\S+:\d+:\d+: error")
 
@@ -55,13 +57,13 @@ def speaks_of(body, line):
 
 
 def verdict_of_lines(told):
-    """What lines on an edited function say of the edit, and the line that says it.
+    """What lines on an edited function say of the edit, and the goals that are open, or else the line that says it.
 
     Only an open goal says something of the contract. An answer that doesn't fit says that this term proves it no more.
     """
-    open_goal = next((line for line in told if NOTE.match(line)), None)
-    if open_goal:
-        return Verdict.REFUSED, open_goal
+    open_goals = [line for line in told if NOTE.match(line)]
+    if open_goals:
+        return Verdict.REFUSED, ", ".join(goal[1] for goal in map(GOAL.search, open_goals) if goal)
     unfit = next((line for line in told if not STALE.search(line)), None)
     if unfit:
         return Verdict.UNFIT, unfit
