@@ -17,8 +17,8 @@ use Rattle.cluster_core.specs.History.{map_at}
 use Rattle.cluster_core.specs.Roles.{PipelineState, entries as requested, history}
 use Rattle.cluster_core.specs.Server.{maps_down}
 use Rattle.cluster_core.specs.Tier.{Makes, absorb, first_refusal, map_of, part, refusal, refusal_of, whole_map}
-use Rattle.cluster_core.specs.declared.answers.ReadError.{ReadError}
-use Rattle.cluster_core.specs.declared.answers.ReadError.TheVariants.{FutureVersion, TooOld}
+use Rattle.kv_core.specs.declared.read_error.ReadError.{ReadError}
+use Rattle.kv_core.specs.declared.read_error.ReadError.TheVariants.{FutureVersion, TooOld}
 use Rattle.cluster_core.proofs.LogMaps.{empty_before, log_makes_history}
 use Rattle.cluster_core.proofs.Ownership.{some_owner}
 use Rattle.cluster_core.proofs.OwnMaps.{has_keys-own, none_elsewhere, own-map_of, part-part}

@@ -4,6 +4,8 @@ pub mod Laws
 pub mod Serial
 pub mod Roles
 pub mod Tier
+pub mod Refusing
+pub mod Narrowing
 pub mod Configuration
 pub mod Cluster
 pub mod Segments

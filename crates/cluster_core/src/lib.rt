@@ -14,10 +14,11 @@ mod pipeline;
 mod resolver;
 mod segments;
 mod server;
+mod snapshots;
 mod tier;
 mod tree;
 
-pub use answers::{Config, ConfigError, ReadError, Reported, Splits, SubmitError, Work};
+pub use answers::{Config, ConfigError, Reported, Splits, SubmitError, Work};
 pub use cluster::Cluster;
 pub use laws::{
     agreement_by_versions, cause_is_exact, history_is_legal, history_only_grows,

@@ -5,11 +5,12 @@ ghost use Rattle.cluster_core.specs.Roles.{is_caught_up};
 use crate::books::books;
 use crate::error::EmbedError;
 use cluster_core::{Cluster, Reported};
+use commits::Commit;
 use metadata::{Cell, Cells, Record, Schema};
 use record_store::{Store, StoreError};
 use std::alloc::{AllocError, Global};
 use tuple_codec::Text;
-use txn::{Commit, Transaction};
+use txn::Transaction;
 
 /// What each key of the store begins with: the pack of (1).
 pub(crate) const PREFIX: [u8; 2] = [0x15, 0x01];

@@ -1,5 +1,6 @@
 // The errors of the program. Used by `main`, `copies` and `queries`.
 use cluster_core::ConfigError;
+use commits::HoldError;
 use metadata::MetadataError;
 use plan_exec::ExecError;
 use planner::PlanError;
@@ -7,7 +8,6 @@ use query::QueryError;
 use record_store::StoreError;
 use std::alloc::{AllocError, AllocFailed};
 use thiserror::Error;
-use txn::HoldError;
 
 /// Why the program stops.
 #[derive(Debug, Drop, Error)]

@@ -11,13 +11,14 @@ mod error;
 mod queries;
 
 use cluster_core::{Cluster, Config, Reported};
+use commits::Commit;
 use copies::{add_copies, copies, make_store};
 use error::EmbedError;
 use queries::books_with;
 use std::alloc::{AllocError, Global};
 use std::io;
 use std::process::ExitCode;
-use txn::{Commit, Ended, Next, Retry, Transaction};
+use txn::{Ended, Next, Retry, Transaction};
 
 /// How often a transaction is tried.
 const ATTEMPTS: Retry = Retry { limit: 3 };

@@ -14,6 +14,7 @@ mod pair;
 mod range;
 mod range_index;
 mod range_list;
+mod read_error;
 mod removal;
 mod short_bytes;
 mod size;
@@ -31,4 +32,5 @@ pub use limits::{MAX_KEY_BYTES, MAX_RANGE_END_BYTES, MAX_TRANSACTION_BYTES, MAX_
 pub use pair::Pair;
 pub use range::KeyRange;
 pub use range_list::RangeList;
+pub use read_error::ReadError;
 pub use size::total_size;

@@ -9,8 +9,8 @@ use Rattle.kv_core.specs.Map.{Agree, Map}
 use Rattle.kv_core.specs.Range.{KeyRange}
 use Rattle.kv_core.specs.Read.{range_read, read_of}
 use Rattle.kv_core.specs.declared.change.CommitRequest.{CommitRequest}
-use Rattle.cluster_core.specs.declared.answers.ReadError.{ReadError}
-use Rattle.cluster_core.specs.declared.answers.ReadError.TheVariants as read
+use Rattle.kv_core.specs.declared.read_error.ReadError.{ReadError}
+use Rattle.kv_core.specs.declared.read_error.ReadError.TheVariants as read
 use Rattle.txn.specs.Reads.{has_read, seen}
 use Rattle.txn.proofs.Running.{ran_read, ran_still, ran_then}
 use Rattle.range_set.specs.Calls.{last_upto, upto_range}

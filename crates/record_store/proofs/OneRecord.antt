@@ -7,7 +7,7 @@ use Rattle.tuple_codec.specs.Spelling.{int_spelling, spelling}
 use Rattle.kv_core.specs.Range.{KeyRange, point}
 use Rattle.kv_core.specs.Map.{Map, pairs_in}
 use Rattle.kv_core.specs.declared.change.CommitRequest.{CommitRequest}
-use Rattle.cluster_core.specs.declared.answers.ReadError.{ReadError}
+use Rattle.kv_core.specs.declared.read_error.ReadError.{ReadError}
 use Rattle.txn.proofs.Running.{ran_because}
 use Rattle.metadata.specs.declared.definition.TypeDefinition.{TypeDefinition}
 use Rattle.metadata.specs.Lawful.{IsLawfulSchema}

@@ -10,7 +10,7 @@ use Rattle.cluster_core.specs.declared.answers.SubmitError.TheVariants.{TooOld, 
 use Rattle.cluster_core.specs.Decision.{Cause, cause, numbered}
 use Rattle.cluster_core.specs.Roles.{PipelineState, all_handled, submit, submit_refusal, submitted, told}
 use Rattle.cluster_core.proofs.Growth.{later_changes_nothing}
-use Rattle.txn.specs.Holds.{verdict}
+use Rattle.commits.specs.Holds.{verdict}
 use Rattle.schedule.specs.Standing.{is_told}
 use Rattle.runtime.specs.declared.entry.Entry.{Entry}
 use Rattle.runtime.specs.History.{Name}

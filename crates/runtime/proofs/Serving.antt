@@ -11,8 +11,8 @@ use Rattle.kv_core.specs.Range.{KeyRange, has_keys}
 use Rattle.kv_core.specs.declared.change.CommitRequest.{CommitRequest}
 use Rattle.kv_core.specs.declared.change.Mutation.{Mutation}
 use Rattle.cluster_core.specs.declared.answers.Config.{Config}
-use Rattle.cluster_core.specs.declared.answers.ReadError.{ReadError}
-use Rattle.cluster_core.specs.declared.answers.ReadError.TheVariants as reads
+use Rattle.kv_core.specs.declared.read_error.ReadError.{ReadError}
+use Rattle.kv_core.specs.declared.read_error.ReadError.TheVariants as reads
 use Rattle.cluster_core.specs.Configuration.{first_tier}
 use Rattle.cluster_core.specs.Decision.{Owned, owners, numbered, cut, is_committed, logged}
 use Rattle.cluster_core.specs.History as histories
@@ -40,7 +40,7 @@ use Rattle.runtime.specs.Lists.{requests_of, version_of, numbered_of, history_of
 use Rattle.runtime.specs.Lists.{logged_mutations, list_tier, attempts_of, opened, submissions_of, committed_at}
 use Rattle.runtime.specs.Lists.{IsOpenOver, IsLawfulList}
 use Rattle.runtime.specs.Serves.{IsAnswer, stopped}
-use Rattle.txn.specs.Refusing.{MayRefuse}
+use Rattle.cluster_core.specs.Refusing.{MayRefuse}
 use Rattle.txn.specs.Runs.{Ran}
 use Rattle.txn.proofs.Running.{ran_because}
 use Rattle.runtime.proofs.Entries.{map_begins, version_begins}

@@ -19,12 +19,12 @@ use crate::law::StateReader;
 use crate::published::Step;
 use crate::trace::Trace;
 use cluster_core::{Config, ConfigError, Pipeline, Reported, SubmitError};
+use commits::{Commit, HoldError as TxnError};
 use kv_core::{CommitRequest, Mutations};
 use std::alloc::{AllocError, Global};
 use std::marker::Model;
 use std::mem::replace;
 use std::sync::Wait;
-use txn::{Commit, HoldError as TxnError};
 
 /// The history has room for so many entries.
 const MOST: u64 = 1 << 60;

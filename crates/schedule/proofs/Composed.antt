@@ -15,7 +15,7 @@ use Rattle.cluster_core.specs.History.{Entry, map_at, IsRising, IsLegal}
 use Rattle.cluster_core.specs.Decision.{numbered, cause, is_committed, committed as committed_entries}
 use Rattle.cluster_core.specs.Roles.{PipelineState, entries, history, outcome, told, told_of}
 use Rattle.cluster_core.specs.Serial.{after_commands, AllReplied, Replays, state_at}
-use Rattle.txn.specs.Refusing.{MayRefuse}
+use Rattle.cluster_core.specs.Refusing.{MayRefuse}
 use Rattle.cluster_core.proofs.Causes.{cause_decides}
 use Rattle.cluster_core.proofs.Composition.{holds_at, replied_at}
 use Rattle.cluster_core.proofs.Versions.{rising-filter, rising-numbered}
@@ -284,7 +284,7 @@ module _ (p : PipelineState) (subs : List Submission) where
     requests_all = requests_each p.start subs p.requests are
 
     -- a reply that was right over every map is right by what the transaction sees
-    pub performed_right : (open_now : Open) (request new : CommitRequest) (refuses : ℕ → KeyRange → Rattle.cluster_core.specs.declared.answers.ReadError.ReadError → Type 0) (command : Command) (answer : Reply) →
+    pub performed_right : (open_now : Open) (request new : CommitRequest) (refuses : ℕ → KeyRange → Rattle.kv_core.specs.declared.read_error.ReadError.ReadError → Type 0) (command : Command) (answer : Reply) →
         IsOpenTransaction maps p.reported open_now request → IsPerformed maps (refuses request.read_version) command answer request new →
         IsServed (commands_written (committed_store (commits_of p subs) open_now.read_version) (accepted open_now.attempts)) (view (commits_of p subs) open_now) command answer
         ⊎ IsReadRefused (refuses open_now.read_version) (view (commits_of p subs) open_now) command answer

@@ -10,7 +10,7 @@ use Rattle.kv_core.specs.declared.change.Mutation.{Mutation}
 use Rattle.kv_core.specs.declared.change.WriteError.{WriteError}
 use Rattle.kv_core.specs.declared.change.WriteError.TheVariants as limits
 use Rattle.kv_core.proofs.Changes.{after_all-append}
-use Rattle.cluster_core.specs.declared.answers.ReadError.{ReadError}
+use Rattle.kv_core.specs.declared.read_error.ReadError.{ReadError}
 use Rattle.txn.specs.Reads.{seen}
 use Rattle.txn.specs.Runs.{with_ranges}
 use Rattle.txn.proofs.Running.{ran_because, ran_keeps, with_ranges_append}

@@ -5,8 +5,8 @@ use Rattle.kv_core.specs.Map.{Map}
 use Rattle.kv_core.specs.declared.change.CommitRequest.{CommitRequest}
 use Rattle.kv_core.specs.declared.change.WriteError.{WriteError}
 use Rattle.kv_core.specs.declared.change.WriteError.TheVariants as write
-use Rattle.cluster_core.specs.declared.answers.ReadError.{ReadError}
-use Rattle.cluster_core.specs.declared.answers.ReadError.TheVariants as read
+use Rattle.kv_core.specs.declared.read_error.ReadError.{ReadError}
+use Rattle.kv_core.specs.declared.read_error.ReadError.TheVariants as read
 use Rattle.schedule.specs.declared.refusal.Refusal.TheVariants.{FutureVersion, TooOld, KeyOutside, KeyTooLarge}
 use Rattle.schedule.specs.declared.refusal.Refusal.TheVariants.{ValueTooLarge, TransactionTooLarge}
 use Rattle.schedule.specs.declared.refusal.Refusal.TheVariants.{NoStore, AlreadyThere}

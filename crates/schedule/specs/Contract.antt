@@ -8,7 +8,7 @@ use Rattle.kv_core.specs.Range.{KeyRange}
 use Rattle.kv_core.specs.declared.change.CommitRequest.{CommitRequest}
 use Rattle.kv_core.specs.declared.change.Mutation.{Mutation}
 use Rattle.cluster_core.specs.declared.answers.Config.{Config}
-use Rattle.cluster_core.specs.declared.answers.ReadError.{ReadError}
+use Rattle.kv_core.specs.declared.read_error.ReadError.{ReadError}
 use Rattle.cluster_core.specs.declared.answers.Reported.{Reported}
 use Rattle.cluster_core.specs.declared.answers.Reported.TheVariants as reported
 use Rattle.cluster_core.specs.declared.answers.SubmitError.{SubmitError}
@@ -17,7 +17,7 @@ use Rattle.cluster_core.specs.Cluster.{ClusterState, database_at, may_pull, tier
 use Rattle.cluster_core.specs.History.{IsLegal}
 use Rattle.cluster_core.specs.Roles.{PipelineState, history, may_append, may_report}
 use Rattle.cluster_core.specs.Roles.{may_resolve, outcome, submit_refusal, submitted}
-use Rattle.txn.specs.Refusing.{MayRefuse}
+use Rattle.cluster_core.specs.Refusing.{MayRefuse}
 use Rattle.schedule.specs.declared.refusal.Refusal.TheVariants.{NoSuchClient, NoSuchRole, Busy}
 use Rattle.schedule.specs.declared.refusal.Refusal.TheVariants.{NoPlan, NoTransaction, TooOld, VersionsExhausted}
 use Rattle.schedule.specs.declared.step.Command.{Command}

@@ -9,8 +9,8 @@ use Rattle.kv_core.specs.declared.change.CommitRequest.{CommitRequest}
 use Rattle.kv_core.specs.declared.change.Mutation.{Mutation}
 use Rattle.kv_core.specs.declared.change.WriteError.{WriteError}
 use Rattle.kv_core.specs.declared.change.WriteError.TheVariants as limits
-use Rattle.cluster_core.specs.declared.answers.ReadError.{ReadError}
-use Rattle.cluster_core.specs.declared.answers.ReadError.TheVariants as reads
+use Rattle.kv_core.specs.declared.read_error.ReadError.{ReadError}
+use Rattle.kv_core.specs.declared.read_error.ReadError.TheVariants as reads
 use Rattle.txn.specs.Runs.{Ran}
 use Rattle.metadata.specs.declared.refusal.Refusal.{Refusal}
 use Rattle.schedule.specs.declared.refusal.Refusal.TheVariants.{AlreadyThere, FutureVersion, TooOld, KeyOutside}

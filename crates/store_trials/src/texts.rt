@@ -1,7 +1,8 @@
 // The texts of errors. Run as a test.
-use cluster_core::{ConfigError, ReadError, Reported, SubmitError};
+use cluster_core::{ConfigError, Reported, SubmitError};
+use commits::HoldError;
 use explain::ExplainError;
-use kv_core::{Bytes, WriteError};
+use kv_core::{Bytes, ReadError, WriteError};
 use metadata::{MetadataError, Refusal};
 use plan_exec::ExecError;
 use planner::PlanError;
@@ -11,7 +12,6 @@ use std::alloc::{AllocError, Global};
 use std::test::Fail;
 use trial_parts::same;
 use tuple_codec::{StripError, UnpackError, UnpackErrorKind, UnpackFailure};
-use txn::HoldError;
 
 /// An error of any of the libraries.
 #[derive(Clone, Copy)]

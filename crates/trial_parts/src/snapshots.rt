@@ -2,10 +2,9 @@
 // `store_trials` and `memory_trials`.
 ghost use Rattle.std.specs.Prelude.{◌≡◌, IfErr};
 ghost use Rattle.std.proofs.Common.{inl};
-ghost use Rattle.cluster_core.specs.declared.answers.ReadError.TheVariants.{TooOld};
+ghost use Rattle.kv_core.specs.declared.read_error.ReadError.TheVariants.{TooOld};
 
-use cluster_core::ReadError;
-use kv_core::{Bytes, KeyRange, KvMap, Pair};
+use kv_core::{Bytes, KeyRange, KvMap, Pair, ReadError};
 use std::cell::Cell;
 use txn::Snapshot;
 

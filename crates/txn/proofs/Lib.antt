@@ -1,5 +1,4 @@
 pub mod Exits
-pub mod Handling
 pub mod Merging
 pub mod Rounds
 pub mod OneMore

@@ -1,8 +1,6 @@
 pub mod Parts
-pub mod Holds
 pub mod Attempts
 pub mod Refusing
-pub mod Narrowing
 pub mod Own
 pub mod Reading
 pub mod Reads

@@ -1,16 +1,7 @@
--- When servers refuse a read of a range at a version: always with the same error, or never.
-use Rattle.std.specs.Prelude.{◌≡◌, ℕ, None, Some}
+-- What a map refuses that stands at each version.
+use Rattle.std.specs.Prelude.{ℕ}
 use Rattle.kv_core.specs.Range.{KeyRange}
-use Rattle.cluster_core.specs.Tier.{TierState, refusal}
-use Rattle.cluster_core.specs.declared.answers.ReadError.{ReadError}
-
--- this is the error with which they refuse it
-abbrev pub MayRefuse : TierState → KeyRange → ℕ → ReadError → Type 0
-MayRefuse tier range version error = refusal tier range version ≡ Some error
-
--- they refuse it
-abbrev pub MustRefuse : TierState → KeyRange → ℕ → Type 0
-MustRefuse tier range version = refusal tier range version ≡ None → ⊥
+use Rattle.kv_core.specs.declared.read_error.ReadError.{ReadError}
 
 -- no read is refused
 abbrev pub NeverRefuses : KeyRange → ℕ → ReadError → Type 0

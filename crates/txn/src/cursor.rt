@@ -8,8 +8,7 @@ ghost use Rattle.txn.specs.Cursor.{IsNextBatch, IsNoBatch, rest_behind};
 use crate::read::{last_key, range_read};
 use crate::snapshot::Snapshot;
 use crate::transaction::Transaction;
-use cluster_core::ReadError;
-use kv_core::{KeyRange, Pair};
+use kv_core::{KeyRange, Pair, ReadError};
 use std::alloc::AllocError;
 
 /// How many pairs a cursor reads at a time.

@@ -1,4 +1,5 @@
-// Snapshots: the trait of what a transaction reads from, met by storage servers, clusters and maps.
+// Snapshots: the trait of what a transaction reads from, met by maps, and by the servers and clusters
+// of `cluster_core`.
 // Called by `read` and `transaction`; each call above that reads in a transaction is given one.
 ghost use Rattle.std.specs.Prelude.{◌≡◌, ◌⊎◌, ℕ, ◌≤◌, IfOk, IfErr, OnOk, IsTrue};
 ghost use Rattle.std.specs.FinMap.{get};
@@ -6,15 +7,11 @@ ghost use Rattle.kv_core.specs.Bytes.{key_lt, end_of_keys};
 ghost use Rattle.kv_core.specs.Map.{Map};
 ghost use Rattle.kv_core.specs.Range.{KeyRange as Range, point};
 ghost use Rattle.kv_core.specs.Read.{read_of};
-ghost use Rattle.cluster_core.specs.Cluster.{database_at, tier_of};
-ghost use Rattle.cluster_core.specs.Tier.{whole_map};
-ghost use Rattle.cluster_core.specs.declared.answers.ReadError.{ReadError as Refused};
+ghost use Rattle.kv_core.specs.declared.read_error.ReadError.{ReadError as Refused};
 ghost use Rattle.txn.specs.Parts.{IsPart};
-ghost use Rattle.txn.specs.Narrowing.{cluster-narrows, tier-narrows};
-ghost use Rattle.txn.specs.Refusing.{MayRefuse, MustRefuse, NeverRefuses};
+ghost use Rattle.txn.specs.Refusing.{NeverRefuses};
 
-use cluster_core::{Cluster, ReadError, Tier};
-use kv_core::{Bytes, KeyRange, KvMap, Pair};
+use kv_core::{Bytes, KeyRange, KvMap, Pair, ReadError};
 
 /// A database that can be read at versions.
 pub trait Snapshot {
@@ -61,56 +58,6 @@ pub trait Snapshot {
     ghost narrows: { (snapshot : Self) (whole part : Range) (version : ℕ) (error : Refused) →
         IsPart part whole → may_refuse snapshot part version error →
         may_refuse snapshot whole version error ⊎ must_refuse snapshot whole version };
-}
-
-/// The servers, each as far as it has pulled.
-impl Snapshot for Tier {
-    ghost map_at = { whole_map };
-
-    ghost may_refuse = { MayRefuse };
-
-    ghost must_refuse = { MustRefuse };
-
-    ghost narrows = { tier-narrows };
-
-    fn read(
-        &self,
-        range: &KeyRange,
-        version: u64,
-        limit: usize,
-        reverse: bool,
-    ) -> Result<Vec<Pair>, ReadError> {
-        Tier::read(self, range, version, limit, reverse)
-    }
-
-    fn value(&self, key: &Bytes, version: u64) -> Result<Option<Bytes>, ReadError> {
-        Tier::value(self, key, version)
-    }
-}
-
-/// The database, read from its servers.
-impl Snapshot for Cluster {
-    ghost map_at = { database_at };
-
-    ghost may_refuse = { λ cluster. MayRefuse (tier_of cluster) };
-
-    ghost must_refuse = { λ cluster. MustRefuse (tier_of cluster) };
-
-    ghost narrows = { cluster-narrows };
-
-    fn read(
-        &self,
-        range: &KeyRange,
-        version: u64,
-        limit: usize,
-        reverse: bool,
-    ) -> Result<Vec<Pair>, ReadError> {
-        Cluster::read(self, range, version, limit, reverse)
-    }
-
-    fn value(&self, key: &Bytes, version: u64) -> Result<Option<Bytes>, ReadError> {
-        Cluster::value(self, key, version)
-    }
 }
 
 /// One map, which stands at each version and refuses no read but where memory runs out.

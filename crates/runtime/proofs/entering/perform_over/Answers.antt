@@ -1,7 +1,7 @@
 use Rattle.std.proofs.Common.{◌≡◌, ℕ, ◌-◌, ◌≤◌, List, [], ◌∷◌, ◌++◌, sym, ap, ◌∙◌, refl, subst, arith}
 use Rattle.cluster_core.specs.declared.answers.Config.{Config}
 use Rattle.cluster_core.specs.Tier.{TierState, whole_map}
-use Rattle.txn.specs.Refusing.{MayRefuse}
+use Rattle.cluster_core.specs.Refusing.{MayRefuse}
 use Rattle.schedule.specs.Performed.{IsCommandStopped, IsPerformed}
 use Rattle.runtime.specs.declared.entry.Entry.{Entry}
 use Rattle.runtime.specs.declared.trace.Performed.{Performed}

@@ -1,8 +1,8 @@
 -- What a commit leaves, with an answer and without one.
 use Rattle.std.specs.Prelude.{◌≡◌, ◌⊎◌, ℕ, ◌+◌, ◌<◌, ◌≤◌, Some, None, List, ◌++◌, length, map, take, drop}
 use Rattle.kv_core.specs.declared.change.CommitRequest.{CommitRequest}
-use Rattle.txn.specs.declared.commit.HoldError.{HoldError}
-use Rattle.txn.specs.declared.commit.HoldError.TheVariants.{Submit, Unknown, Behind}
+use Rattle.commits.specs.declared.commit.HoldError.{HoldError}
+use Rattle.commits.specs.declared.commit.HoldError.TheVariants.{Submit, Unknown, Behind}
 use Rattle.cluster_core.specs.declared.answers.SubmitError.TheVariants.{Memory}
 use Rattle.cluster_core.specs.declared.answers.Reported.{Reported}
 use Rattle.cluster_core.specs.Cluster.{ClusterState, IsReadable, with_pipeline}

@@ -1,7 +1,7 @@
 use Rattle.std.proofs.Common.{refl, subst, sym}
 use Rattle.cluster_core.specs.Roles.{is_caught_up}
-use Rattle.txn.proofs.Handling.{held_appending, held_resolving, logs-there, new-is, result-decided, result-told, waiting}
-use Rattle.txn.proofs.roles.handle.Goals as goal
+use Rattle.commits.proofs.Handling.{held_appending, held_resolving, logs-there, new-is, result-decided, result-told, waiting}
+use Rattle.commits.proofs.roles.handle.Goals as goal
 
 pub returns-in_default-clause-refused :
     goal.returns-in_default-clause-refused

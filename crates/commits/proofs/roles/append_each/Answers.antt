@@ -1,6 +1,6 @@
 use Rattle.std.proofs.Common.{arith}
-use Rattle.txn.proofs.Handling.{appended_next}
-use Rattle.txn.proofs.roles.append_each.Goals as goal
+use Rattle.commits.proofs.Handling.{appended_next}
+use Rattle.commits.proofs.roles.append_each.Goals as goal
 
 pub loop-l-preserved : goal.loop-l-preserved
 loop-l-preserved g c =

@@ -1,9 +1,9 @@
 use Rattle.cluster_core.proofs.ClusterSteps.{none_from}
 use Rattle.cluster_core.specs.Roles.{submit_refusal}
-use Rattle.txn.proofs.Handling.{behind-unread, now-readable}
-use Rattle.txn.proofs.commit.ClusterCommit.commit.Goals as goal
+use Rattle.commits.proofs.Handling.{behind-unread, now-readable}
+use Rattle.commits.proofs.commit.ClusterCommit.commit.Goals as goal
 use Rattle.std.proofs.Common.{◌∙◌, ap, sym}
-use Rattle.txn.specs.Holds.{verdict}
+use Rattle.commits.specs.Holds.{verdict}
 
 pub returns-in-Ok-clause-readable : goal.returns-in-Ok-clause-readable
 returns-in-Ok-clause-readable c =

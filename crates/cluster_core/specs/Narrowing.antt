@@ -9,9 +9,9 @@ use Rattle.cluster_core.proofs.Ownership.{cut_has}
 use Rattle.cluster_core.specs.Cluster.{ClusterState, tier_of}
 use Rattle.cluster_core.specs.Decision.{Owned, cut, owners}
 use Rattle.cluster_core.specs.Tier.{ServerState, TierState, first_refusal, refusal, refusal_of}
-use Rattle.cluster_core.specs.declared.answers.ReadError.{ReadError}
+use Rattle.kv_core.specs.declared.read_error.ReadError.{ReadError}
 use Rattle.txn.specs.Parts.{IsPart}
-use Rattle.txn.specs.Refusing.{MayRefuse, MustRefuse}
+use Rattle.cluster_core.specs.Refusing.{MayRefuse, MustRefuse}
 
 -- who has keys of a part has keys of the whole
 reaches :

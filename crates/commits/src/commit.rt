@@ -3,7 +3,7 @@ ghost use Rattle.std.specs.Prelude.{◌≡◌, ◌≤◌, IfOk, IfErr, IsNone, O
 ghost use Rattle.cluster_core.specs.Cluster.{ClusterState, HasPulled, IsReadable, with_pipeline};
 ghost use Rattle.cluster_core.specs.Roles.{all_handled, is_caught_up};
 ghost use Rattle.cluster_core.specs.Roles.{outcome, submit, submit_refusal, submitted};
-ghost use Rattle.txn.specs.Holds.{HeldError, verdict};
+ghost use Rattle.commits.specs.Holds.{HeldError, verdict};
 
 use crate::roles::handle;
 use cluster_core::{Cluster, Pipeline, Reported, SubmitError};
@@ -26,7 +26,7 @@ pub enum HoldError {
 }
 
 impl From<SubmitError> for HoldError {
-    ghost use Rattle.txn.specs.declared.commit.HoldError.TheVariants.{Submit};
+    ghost use Rattle.commits.specs.declared.commit.HoldError.TheVariants.{Submit};
 
     ghost from_gives = { λ error made. made ≡ Submit error };
 

@@ -7,7 +7,7 @@ ghost use Rattle.cluster_core.specs.Roles.{AreInOrder, all_handled, append as wi
 ghost use Rattle.cluster_core.specs.Roles.{is_caught_up, may_append, may_report, may_resolve, outcome};
 ghost use Rattle.cluster_core.specs.Roles.{report as with_reported, resolve as with_resolved};
 ghost use Rattle.cluster_core.specs.Roles.{submit, submit_refusal, submitted};
-ghost use Rattle.txn.specs.Holds.{HeldError, verdict, with_handled};
+ghost use Rattle.commits.specs.Holds.{HeldError, verdict, with_handled};
 
 use crate::commit::HoldError;
 use cluster_core::{Cluster, Pipeline, Reported, SubmitError, Ticket, Work};

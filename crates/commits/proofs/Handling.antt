@@ -16,7 +16,7 @@ use Rattle.cluster_core.specs.History.{Entry}
 use Rattle.cluster_core.specs.Roles.{AreInOrder, PipelineState, all_handled, append, entries, is_caught_up, may_append, may_report, may_resolve, outcome, raised, report, resolve, submit, submit_refusal, submitted, told_of}
 use Rattle.cluster_core.proofs.Bridge.{entry_of, numbered_at}
 use Rattle.cluster_core.proofs.ClusterSteps.{none_from}
-use Rattle.txn.specs.Holds.{IsHeldAt, first_handled, first_raised, newest, verdict, with_handled}
+use Rattle.commits.specs.Holds.{IsHeldAt, first_handled, first_raised, newest, verdict, with_handled}
 
 -- one clock more is raised
 raised_suc : (clocks : List ℕ) (i : ℕ) → i < length clocks → first_raised (suc i) clocks ≡ raised (first_raised i clocks) i

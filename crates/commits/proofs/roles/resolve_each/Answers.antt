@@ -1,6 +1,6 @@
 use Rattle.std.proofs.Common.{arith}
-use Rattle.txn.proofs.Handling.{resolved_next}
-use Rattle.txn.proofs.roles.resolve_each.Goals as goal
+use Rattle.commits.proofs.Handling.{resolved_next}
+use Rattle.commits.proofs.roles.resolve_each.Goals as goal
 
 pub loop-r-preserved : goal.loop-r-preserved
 loop-r-preserved g c =
