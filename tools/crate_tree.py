@@ -1,5 +1,5 @@
 #!/usr/bin/env python3
-"""Draws the crates of crates.txt, each above those that it uses, as docs/crates.svg. It is run at the top of the
+"""Draws the crates of crates.txt, each above those that it uses, as docs/guide/crates.svg. It is run at the top of the
 repository.
 
 A crate stands one row above the highest of those that it uses, and one that uses none just below those that use it. A
@@ -8,7 +8,7 @@ is written, and the status is 1 where the drawing isn't that of crates.txt.
 """
 import sys
 
-CRATES, DRAWING = "crates.txt", "docs/crates.svg"
+CRATES, DRAWING = "crates.txt", "docs/guide/crates.svg"
 ROW, HEIGHT, LETTER, GAP = 64, 28, 8, 20
 SWEEPS = 24
 

@@ -12,6 +12,7 @@
 
 The last line is 'N passed, M failed', and the status is 0 where M is 0.
 """
+import argparse
 import contextlib
 import os
 import re
@@ -98,8 +99,10 @@ def spent(since):
 
 
 def main():
+    parser = argparse.ArgumentParser(description=__doc__, formatter_class=argparse.RawDescriptionHelpFormatter)
+    parser.add_argument("--whole", action="store_true", help="try all wrong bodies")
+    recorded = [] if parser.parse_args().whole else ["--recorded"]
     python, since = sys.executable, time.monotonic()
-    recorded = [] if "--whole" in sys.argv[1:] else ["--recorded"]
     jobs = str(max(1, len(os.sched_getaffinity(0)) // 2))
     wrong = Command("nice", "-n", "10", python, "tools/wrong_bodies", "--over-ci", "--from-nothing", "--jobs", jobs,
                     *recorded, reads=True)

@@ -9,7 +9,7 @@
    to it, since proof terms are laid out by the formatter, which breaks no line of its own.
 6. Each public item of a crate has a doc comment.
 7. Each crate of crates.txt has a README.md.
-8. The drawing of the crates, docs/crates.svg, is that of crates.txt.
+8. The drawing of the crates, docs/guide/crates.svg, is that of crates.txt.
 9. Each file of Rattle begins with a comment, which says what it holds.
 10. Each wrong body can be put into the sources.
 11. The words that specifications of several crates define, the stretches of six lines or more that two files share, and
@@ -19,10 +19,13 @@
 13. A definition that serves private clauses, invariants or proofs alone, to which no contract leads that a crate hands
    out, has a comment that begins with `-- Private: `; a file that has no others may say so once, at its begin. No other
    definition says so.
-14. A list of what to read, as docs/HEADLINE.md has one, has just the files with a definition to which its first ones
-   lead in turn, also by what types of sources are seen as. It says of which files only a part is needed, and how many
-   lines are needed, of each and of all: rounded to 5 and to 100, and right to within that or a tenth. And
-   docs/DEFINITIONS.md names each of these files.
+14. A list of what to read, as docs/proof/HEADLINE.md has one, has just the files with a definition to which its first
+   ones lead in turn, also by what types of sources are seen as. It says of which files only a part is needed, and how
+   many lines are needed, of each and of all: rounded to 5 and to 100, and right to within that or a tenth. And
+   docs/proof/DEFINITIONS.md names each of these files.
+15. No line of another document than README.md is wide, counted in characters, but for a row of a table, a line of a
+   block of code, and a line that is one link.
+16. Each relative link of a document leads to a file that is there, and where it has an anchor to a heading of that one.
 
 A line is printed for each fault, and then one for each rule, with the number of things that it was held against. A rule
 passes where nothing breaks it and there was something to break it. The last line is 'N passed, M failed'; the status is

@@ -18,7 +18,7 @@ WHOLE = re.compile(r"these\s(\d+)\sfiles,\sabout\s([\d,]+)\slines")
 # to what numbers of lines are rounded: that of a file, and that of a list
 FILE_STEP, LIST_STEP = 5, 100
 # the document that names what each file defines
-NAMES = "docs/DEFINITIONS.md"
+NAMES = "docs/proof/DEFINITIONS.md"
 
 
 @dataclass
@@ -32,7 +32,8 @@ class ReadingList:
 
 
 LISTS = [
-    ReadingList("docs/HEADLINE.md", "What to read, in this order", [("schedule", "specs/Contract.antt", "IsRightRun")]),
+    ReadingList(
+        "docs/proof/HEADLINE.md", "What to read, in this order", [("schedule", "specs/Contract.antt", "IsRightRun")]),
 ]
 
 

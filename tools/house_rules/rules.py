@@ -3,6 +3,7 @@ import os
 import re
 import sys
 from counts import repeats, wide_clause_lines, words_with_two_homes
+from documents import links, wide_text, wrong_of_link
 from sources import bodies, comments, data, files, line_at, lines_of, public_items, read, wide_lines
 
 TOOLS = os.path.dirname(os.path.dirname(os.path.abspath(__file__)))
@@ -13,14 +14,14 @@ from promises import Promises
 from reading_lists import faults_in
 from records import all_edits
 
-README_LINES, README_COLUMNS = 80, 100
+README, README_LINES, DOCUMENT_COLUMNS = "README.md", 80, 100
 FILE_LINES, BODY_LINES, COLUMNS = 400, 40, 120
 
 RATTLE = "crates/*/src/**/*.rt"
 SPECS = "crates/*/specs/**/*.antt"
 PROOFS = "crates/*/proofs/**/*.antt"
 PYTHON = "tools/**/*.py"
-DOCUMENTS = ("*.md", "docs/**/*.md", "crates/*/README.md")
+DOCUMENTS = ("*.md", "docs/**/*.md", "crates/*/README.md", "examples/*.md")
 EDITS = ("crates/*/wrong-bodies/*.edits", "crates/*/must-fail/*.edit")
 OTHERS = ("crates.txt", "cases/**/*", "examples/**/*")
 
@@ -40,22 +41,22 @@ LABELS = re.compile(r"\b[DTRW]\d+\b|\b(?:TODO|FIXME|XXX)\b|(?<![\w&(])#\d+\b")
 
 def readme_is_short(root):
     """README.md has few lines and few columns."""
-    paths, faults = files(root, "README.md"), []
+    paths, faults = files(root, README), []
     for path in paths:
         text = read(root, path)
         if len(lines_of(text)) > README_LINES:
             faults.append((path, f"{len(lines_of(text))} lines, above {README_LINES}"))
-        faults += [(f"{path}:{it}", f"above {README_COLUMNS} columns") for it in wide_lines(text, README_COLUMNS)]
+        faults += [(f"{path}:{it}", f"above {DOCUMENT_COLUMNS} columns") for it in wide_lines(text, DOCUMENT_COLUMNS)]
     return len(paths), faults
 
 
 def readme_code_stands(root):
     """Each part of the code in README.md, up to a blank line, stands in a file of Rattle."""
-    code = "\n\n".join(it for path in files(root, "README.md") for it in CODE.findall(read(root, path)))
+    code = "\n\n".join(it for path in files(root, README) for it in CODE.findall(read(root, path)))
     parts = [part.strip("\n") for part in code.split("\n\n") if part.strip()]
     sources = ["\n" + read(root, path) for path in files(root, RATTLE)]
     gone = [part for part in parts if not any(f"\n{part}\n" in source for source in sources)]
-    return len(parts), [("README.md", f"no file has the code at '{lines_of(part)[0].strip()}'") for part in gone]
+    return len(parts), [(README, f"no file has the code at '{lines_of(part)[0].strip()}'") for part in gone]
 
 
 def files_are_short(root):
@@ -178,6 +179,21 @@ def lists_have_what_is_needed(root):
     return faults_in(root, files(root, SPECS))
 
 
+def documents_are_narrow(root):
+    """No line of a document has many columns, but for code, tables and links; README.md is held to more."""
+    texts = [(path, read(root, path)) for path in files(root, *DOCUMENTS) if path != README]
+    faults = [(f"{path}:{it}", f"above {DOCUMENT_COLUMNS} columns")
+              for path, text in texts for it in wide_text(text, DOCUMENT_COLUMNS)]
+    return sum(len(lines_of(text)) for _, text in texts), faults
+
+
+def links_lead_somewhere(root):
+    """Each relative link of a document leads to a file that is there, and to a heading of it where it has an anchor."""
+    found = [(path, *it) for path in files(root, *DOCUMENTS) for it in links(read(root, path))]
+    wrong = [(f"{path}:{line}", wrong_of_link(root, path, place)) for path, line, place in found]
+    return len(found), [(place, what) for place, what in wrong if what]
+
+
 RULES = {
     "README.md is short": readme_is_short,
     "the code of README.md stands": readme_code_stands,
@@ -193,4 +209,6 @@ RULES = {
     "nothing is cited": nothing_is_cited,
     "definitions say whom they serve": definitions_say_whom_they_serve,
     "lists have what is needed": lists_have_what_is_needed,
+    "documents are narrow": documents_are_narrow,
+    "links lead somewhere": links_lead_somewhere,
 }

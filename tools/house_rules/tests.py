@@ -6,16 +6,21 @@ import sys
 import tempfile
 import unittest
 from defined import definitions_in
-from rules import RULES, SPECS, drawing, used_by
+from rules import DRAWING, RULES, SPECS, drawing, used_by
 from reading_lists import NAMES as NAMING, is_about
+from samples import write
 from seen import Needs
 from sources import bodies, data, files, is_documented, public_items, wide_lines
+from tests_of_documents import Documents
+
+__all__ = ["Command", "Documents", "Drawing", "Lists", "Promises", "Reading", "Rules"]
 
 HERE = os.path.dirname(os.path.abspath(__file__))
 SOURCE, SPEC, PROOF = "crates/low/src/lib.rt", "crates/low/specs/Low.antt", "crates/low/proofs/Low.antt"
 SHOWN, EDITED = "crates/low/src/shown.rt", "crates/low/src/edited.rt"
+LOW, GUIDE, EXAMPLES = "crates/low/README.md", "docs/guide/GUIDE.md", "examples/README.md"
 HIGH, SERVING = "crates/high/specs/High.antt", "definitions say whom they serve"
-CONTRACT, HEADLINE = "crates/schedule/specs/Contract.antt", "docs/HEADLINE.md"
+CONTRACT, HEADLINE = "crates/schedule/specs/Contract.antt", "docs/proof/HEADLINE.md"
 # in two parts, so that these tests break no rule themselves
 PUBLISHED, LABEL = "pa" + "per", "D" + "12"
 CRATES = "# each crate\nlow:\n"
@@ -40,8 +45,8 @@ It rests on the definitions in these 1 files, about 100 lines in all.
 RIGHT = {
     "README.md": "# A store\n\nIt is small.\n\n```rust\n    n + 1\n```\n",
     "crates.txt": CRATES,
-    "docs/crates.svg": drawing(CRATES),
-    "crates/low/README.md": "# low\n",
+    DRAWING: drawing(CRATES),
+    LOW: "# low\n\n[Its crates](../../crates.txt), and [itself](#low).\n",
     SOURCE: "/// The next number.\npub fn next(n: u64) -> u64\n    ensures { result ≡ n + 1 }\n{\n    n + 1\n}\n",
     SHOWN: "// Shown.\nfn shown(n: u64) -> u64\n    ensures { result ≡ n + 1 }\n{\n    n + 1\n}\n",
     SPEC: "-- Private: the next number\nabbrev pub next : ℕ → ℕ\nnext n = n + 1\n",
@@ -76,9 +81,9 @@ WRONG = {
         (SOURCE, "#[derive(Clone)]\npub struct Low;\n"), (SOURCE, "/// A type.\npub struct Low {\n}\npub fn a() {}\n"),
         (SOURCE, "// A trait.\npub trait Low {}\n"), (SOURCE, "/// Of low.\nimpl Low {\n    pub const fn a() {}\n}\n"),
     ],
-    "crates have a README.md": [("crates/low/README.md", None)],
+    "crates have a README.md": [(LOW, None)],
     "crates are drawn": [
-        ("docs/crates.svg", None), ("docs/crates.svg", "<svg/>\n"), ("docs/crates.svg", drawing("high:\n")),
+        (DRAWING, None), (DRAWING, "<svg/>\n"), (DRAWING, drawing("high:\n")),
     ],
     "files are introduced": [("crates/low/src/two.rt", "fn two() {}\n"), ("crates/low/src/two.rt", "")],
     "wrong bodies apply": [
@@ -115,6 +120,14 @@ WRONG = {
         (CONTRACT, RUN + "".join(f"IsRightRun {it} = 0 ≡ {it}\n" for it in range(8))),
         (CONTRACT, "use Rattle.low.specs.Low.{next}\n\n" + RUN.replace("≡ n", "≡ next n")),
     ],
+    "documents are narrow": [
+        (LOW, "a" * 101 + "\n"), (GUIDE, f"- {'é' * 99}\n"), (EXAMPLES, f"```\n```\na\n    {'a' * 97}\n"),
+        (GUIDE, f"# {'a ' * 50}\n\n- a\n\n    {'a' * 97}\n"), (GUIDE, f"[a](#a)\nand [{'a' * 91}](#a)\n# A\n"),
+    ],
+    "links lead somewhere": [
+        ("README.md", "[a](docs)\n[b](b.md)\n"), (LOW, "[low](../low/README.md#lower)\n# low\n"),
+        (GUIDE, "[`low`](../crates/low/README.md)\n"), (EXAMPLES, "# a\n\n[a\n](#A)\n"), (GUIDE, "[low]: low.md\n"),
+    ],
 }
 
 # Texts that break none, in the same manner.
@@ -137,14 +150,10 @@ ALSO_RIGHT = [
     (SOURCE, f"const {LABEL}: u64 = 1;\n// a wallpa" + "pers' T\n"),
     (CONTRACT, RUN + "IsRightRun m =\n    -- none\n\n    m ≡ 0\n"), (CONTRACT, RUN.replace("pub", "\npub")),
     (HEADLINE, LISTED.replace("these 1 files, about", "these\n1 files, about")),
+    (LOW, "é" * 100 + f"\n\n| {'a' * 100} |\n\n    {'a' * 97}\n- a\n\n  ```\n  {'a' * 99}\n  ```\n"),
+    (GUIDE, f"# A\n\n[{'a ' * 50}](#a)\n- [`{'a' * 90}`](../../crates/low/README.md).\n"),
+    (EXAMPLES, "[a](../docs/proof), `[b](c)`\n\n    [d](e)\n\n[f](https://f), [g](../tools/one.py)\n"),
 ]
-
-
-def write(root, path, text):
-    path = os.path.join(root, path)
-    os.makedirs(os.path.dirname(path), exist_ok=True)
-    with open(path, "w", encoding="utf-8") as file:
-        file.write(text)
 
 
 def introduced(path, text):
