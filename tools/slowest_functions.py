@@ -4,7 +4,8 @@
 Each crate is proved from nothing, alone and by one job, in a copy, over the libraries below it as `rt ci` or `rt lib`
 has built them in this checkout. A line is printed for the crate and for each of its ten slowest functions, with the
 seconds that went by until the prover had ended with it, since it had ended with the one before. So nothing else should
-run beside, and of functions that are proved together the last one has the time of all.
+run beside, what the prover does between functions counts for the next one, and the first one, before which all is
+loaded, is told apart.
 """
 import os
 import re
@@ -21,7 +22,8 @@ CHECKED, MOST = re.compile(r"checked (\S+), \d+ of \d+"), 10
 
 
 def spans_of(home, name):
-    """The functions of a crate in a repository, with the seconds that each took, and whether all are proved."""
+    """The functions of a crate in a repository, with the seconds that each took, the first one first, and whether all
+    are proved."""
     process = subprocess.Popen(
         proof_from_nothing(home, name), cwd=os.path.join(home, "crates", name), stdin=subprocess.DEVNULL,
         stdout=subprocess.PIPE, stderr=subprocess.STDOUT, text=True, errors="replace")
@@ -47,7 +49,9 @@ def main():
             spans, is_proved = spans_of(home, name)
         failed = failed or not is_proved
         print(f"{name}: {'' if is_proved else 'NOT '}proved in {time.monotonic() - begun:.0f} s", flush=True)
-        for function, span in sorted(spans.items(), key=lambda it: -it[1])[:MOST]:
+        first, *others = spans.items()
+        print(f"  {first[1]:5.1f} until the first one, {first[0]}", flush=True)
+        for function, span in sorted(others, key=lambda it: -it[1])[:MOST]:
             print(f"  {span:5.1f} {function}", flush=True)
     return 1 if failed else 0
 
