@@ -32,9 +32,9 @@ use Rattle.index_maint.proofs.FirstParts.{first_parts}
 use Rattle.record_store.specs.declared.error.StoreError.{StoreError}
 use Rattle.record_store.specs.declared.error.StoreError.TheVariants.{Memory, Read, Write, Corrupt, Refused, NoStore, AlreadyThere, OtherSchema, NotAggregate, NotReadable, WrongState, NotBuilt}
 use Rattle.record_store.specs.Building.{HasReadPart, built_writes, gap_of, limited_to, positions_range}
-use Rattle.record_store.specs.Call.{AtStore, IsAnswered, IsDamagedAt, IsOpenAs, IsRefused, IsSound, IsUnread, Opened, Reading, Service, all_built}
+use Rattle.record_store.specs.Call.{AtStore, IsAnswered, IsDamagedAt, IsOpenAs, IsRefused, IsSound, IsUnread, Opened, Reading, Service, all_built, call_on, service_of}
 use Rattle.record_store.specs.Form.{IsFirstBad}
-use Rattle.record_store.specs.Calls.{done_or_refused, write_only_named}
+use Rattle.record_store.specs.Meaning.{write_only_named}
 use Rattle.record_store.specs.Holds.{Holds, has_number}
 use Rattle.record_store.specs.Layout.{built_place}
 use Rattle.record_store.specs.Reading.{HasNotFound}
@@ -50,16 +50,16 @@ use Rattle.record_store.proofs.Stopping.{begin_behind, begin_more, next_behind, 
 use Rattle.online_builder.specs.declared.progress.Progress.{Progress}
 use Rattle.online_builder.specs.declared.progress.Progress.TheVariants.{Built, Finished}
 use Rattle.online_builder.specs.Stepping.{BuildTask, part_made, progress_in, reading_behind, reading_by, step_call}
-use Rattle.online_builder.specs.Stepping.{step_service, step_writes, stepped}
+use Rattle.online_builder.specs.Stepping.{step_footprint, step_meaning, step_writes, stepped}
 use Rattle.online_builder.proofs.Parts.{part_is}
 
 -- ---- before the gap is found
 
 -- OWN REFUSAL: there is no such index, or it isn't write-only
-pub refused_named : (maps : ℕ → Map) (refuses : KeyRange → ℕ → ReadError → Type 0) {old new : CommitRequest} (opened : Opened) (plan : BuildTask) (error : StoreError) → write_only_named opened plan.name ≡ Err error → new ≡ old →
+pub refused_named : (maps : ℕ → Map) (refuses : KeyRange → ℕ → ReadError → Type 0) {old new : CommitRequest} (opened : Opened) (plan : BuildTask) (error : StoreError) → write_only_named opened.schema opened.states plan.name ≡ Err error → new ≡ old →
     IsRefused maps refuses opened (step_call opened plan) error old new
 refused_named maps refuses {old = old} {new = new} opened plan error is same =
-    subst (λ o. IsRefused maps refuses opened (done_or_refused (step_service opened plan.limit) o) error old new) (sym is) (inr refl, same)
+    subst (λ o. IsRefused maps refuses opened (call_on (step_meaning plan.limit) (step_footprint opened plan.limit) o) error old new) (sym is) (inr refl, same)
 
 -- what is written isn't nothing
 some_written : (xs : List Mutation) (x : Mutation) → (length (xs ++ x ∷ []) == 0) ≡ false
@@ -82,7 +82,7 @@ damaged_gap place key m damage = by_told (ranges_in place (pairs_in m (whole_ran
     by_told None is = ap (option_and_then first_gap) is
     by_told (Some ranges) is = absurd (not_damaged place (pairs_in m (whole_range place)) key (ranges, ranges_told place (pairs_in m (whole_range place)) ranges is) damage)
 
-module _ (maps : ℕ → Map) (refuses : KeyRange → ℕ → ReadError → Type 0) (opened : Opened) (plan : BuildTask) (index : IndexDefinition) (named : write_only_named opened plan.name ≡ Ok index) where
+module _ (maps : ℕ → Map) (refuses : KeyRange → ℕ → ReadError → Type 0) (opened : Opened) (plan : BuildTask) (index : IndexDefinition) (named : write_only_named opened.schema opened.states plan.name ≡ Ok index) where
   known : has_number opened.schema.indexes index.number ≡ true
   known = named_there opened.schema plan.name index.number (number_named opened plan.name index named)
 
@@ -96,23 +96,23 @@ module _ (maps : ℕ → Map) (refuses : KeyRange → ℕ → ReadError → Type
   place = built_place opened.prefix index.number
 
   abbrev service_here : Service Progress
-  service_here = step_service opened plan.limit index
+  service_here = service_of (step_meaning plan.limit) (step_footprint opened plan.limit) index
 
   abbrev by : Option KeyRange → Reading
   by gap = reading_by opened plan.limit index gap
 
   accepted : step_call opened plan ≡ Ok service_here
-  accepted = ap (done_or_refused (step_service opened plan.limit)) named
+  accepted = ap (call_on (step_meaning plan.limit) (step_footprint opened plan.limit)) named
 
   -- ---- the gap that a map tells
 
-  added_so : (gap : Option KeyRange) (added : List KeyRange) (m : Map) → gap ≡ gap_in place m → added ≡ (by gap).added m → added ≡ service_here.reading.added m
+  added_so : (gap : Option KeyRange) (added : List KeyRange) (m : Map) → gap ≡ gap_in place m → added ≡ (by gap).added m → added ≡ service_here.footprint.reading.added m
   added_so gap added m is all = all ∙ ap (λ g. (by g).added m) is
 
-  sound_so : (gap : Option KeyRange) (m : Map) → gap ≡ gap_in place m → IsSound opened (by gap) m → IsSound opened service_here.reading m
+  sound_so : (gap : Option KeyRange) (m : Map) → gap ≡ gap_in place m → IsSound opened (by gap) m → IsSound opened service_here.footprint.reading m
   sound_so gap m is sound = subst (λ g. IsSound opened (by g) m) is sound
 
-  unread_so : (refused : KeyRange → ReadError → Type 0) (gap : Option KeyRange) (error : StoreError) (added : List KeyRange) (m : Map) → gap ≡ gap_in place m → IsUnread refused opened (by gap) error added m → IsUnread refused opened service_here.reading error added m
+  unread_so : (refused : KeyRange → ReadError → Type 0) (gap : Option KeyRange) (error : StoreError) (added : List KeyRange) (m : Map) → gap ≡ gap_in place m → IsUnread refused opened (by gap) error added m → IsUnread refused opened service_here.footprint.reading error added m
   unread_so refused gap Memory added m is says = subst (λ g. IsBeginning added ((by g).added m)) is says
   unread_so refused gap (Read error) added m is says = (subst (λ g. IsBeginning added ((by g).added m)) is says.0, subst (λ g. IsNextRefused refused ((by g).asked m) added error) is says.1)
   unread_so refused gap (Corrupt key) added m is says = (added_so gap added m is says.0, subst (λ g. IsDamagedAt opened (by g) key m) is says.1, says.2)
@@ -127,12 +127,12 @@ module _ (maps : ℕ → Map) (refuses : KeyRange → ℕ → ReadError → Type
   unread_so refused gap NotBuilt added m is says = absurd says
 
   -- UNFOUND: the built ranges weren't read
-  first_unread : (refused : KeyRange → ReadError → Type 0) (error : StoreError) (added : List KeyRange) (m : Map) → IsUnread refused opened (all_built opened.prefix index.number) error added m → IsUnread refused opened service_here.reading error added m
+  first_unread : (refused : KeyRange → ReadError → Type 0) (error : StoreError) (added : List KeyRange) (m : Map) → IsUnread refused opened (all_built opened.prefix index.number) error added m → IsUnread refused opened service_here.footprint.reading error added m
   first_unread refused Memory added m says = begin_more ((reading_behind opened plan.limit index (gap_in place m)).added m) says
   first_unread refused (Read error) added m says = (begin_more ((reading_behind opened plan.limit index (gap_in place m)).added m) says.0, next_more ((reading_behind opened plan.limit index (gap_in place m)).asked m) says.1)
   first_unread refused (Corrupt key) added m says = by_damage says.1
     where
-      by_damage : IsDamagedAt opened (all_built opened.prefix index.number) key m → IsUnread refused opened service_here.reading (Corrupt key) added m
+      by_damage : IsDamagedAt opened (all_built opened.prefix index.number) key m → IsUnread refused opened service_here.footprint.reading (Corrupt key) added m
       by_damage (inl damage) = (added_so None added m (sym (damaged_gap place key m damage)) says.0, inl damage, says.2)
       by_damage (inr bad) = absurd (none_bad key bad.1)
   first_unread refused (Write error) added m says = absurd says
@@ -176,8 +176,7 @@ module _ (maps : ℕ → Map) (refuses : KeyRange → ℕ → ReadError → Type
         (ran_because was_found (λ m found. let is : None ≡ gap_in place m = sym none ∙ found.0 in (added_so None (there.added ∷ []) m is found.1.0, (sound_so None m is found.1.1.0, found.1.1.1))))
         (λ m store holds same first.
         let nothing : None ≡ gap_of store index.number = sym none ∙ first in record {
-          accepted = refl;
-          answers = ap (progress_in plan.limit index store) nothing;
+          answers = sym (ap (λ g. Ok (progress_in plan.limit index store g)) nothing);
           wrote = ap (step_writes opened.prefix plan.limit index store) nothing;
           holds = subst (λ g. Holds opened.prefix m (Some (stepped plan.limit index store g))) nothing holds;
         })
@@ -220,7 +219,7 @@ module _ (maps : ℕ → Map) (refuses : KeyRange → ℕ → ReadError → Type
         abbrev Told : Store → Type 0
         Told store = (Some first ≡ gap_of store index.number) × (rows ≡ take plan.limit (records_within first index store.records))
 
-        was_read : DidRead maps (there.added ∷ part.added ∷ []) old last (λ m. (there.added ∷ part.added ∷ [] ≡ service_here.reading.added m) × (IsSound opened service_here.reading m × AtStore opened m Told))
+        was_read : DidRead maps (there.added ∷ part.added ∷ []) old last (λ m. (there.added ∷ part.added ∷ [] ≡ service_here.footprint.reading.added m) × (IsSound opened service_here.footprint.reading m × AtStore opened m Told))
         was_read =
             ran_then was_found part.ran (λ m one two.
             let is : Some first ≡ gap_in place m = sym some ∙ one.0 in (
@@ -271,14 +270,14 @@ module _ (maps : ℕ → Map) (refuses : KeyRange → ℕ → ReadError → Type
               (λ m store holds same seen. absurd (true≢false (sym (some_keys store m holds same seen) ∙ none)))
 
           module _ (list : List Mutation) (wrote : list ≡ build_writes opened.prefix index rows ++ insertion place range ∷ []) where
-            wrote_there : (m : Map) (store : Store) → Holds opened.prefix m (Some store) → IsOpenAs opened store → Told store → list ≡ service_here.writes store
+            wrote_there : (m : Map) (store : Store) → Holds opened.prefix m (Some store) → IsOpenAs opened store → Told store → list ≡ service_here.footprint.writes store
             wrote_there m store holds same seen = wrote ∙ here_writes store m holds same seen ∙ ap (step_writes opened.prefix plan.limit index store) seen.0
 
             -- LIMIT: what is to be written was refused
             pub step_limited : {new : CommitRequest} (error : WriteError) → new ≡ last → (error ≡ write.Memory) ⊎ (write_all_refusal last.mutations list ≡ Some error) → IsRefused maps refuses opened (step_call opened plan) (of_write error) old new
             step_limited error same says =
                 refused_limit maps refuses opened (step_call opened plan) service_here list error accepted was_read
-                (λ m store holds alike seen. (refl, wrote_there m store holds alike seen)) same says
+                (λ m store holds alike seen. (record { answer = _; is = refl }, wrote_there m store holds alike seen)) same says
 
             -- BUILT: the part is built
             pub step_built : {new : CommitRequest} (records : ℕ) → records ≡ length rows → ((n : Map) → Joins place range n (after (insertion place range) n)) → new ≡ with_mutations list last → IsNone (write_all_refusal last.mutations list) →
@@ -287,10 +286,9 @@ module _ (maps : ℕ → Map) (refuses : KeyRange → ℕ → ReadError → Type
                 answered maps refuses opened (step_call opened plan) service_here (Built records range) list accepted
                 (ap (λ ms. length ms == 0) wrote ∙ some_written (build_writes opened.prefix index rows) (insertion place range)) was_read is allowed
                 (λ m store holds same seen. record {
-                  accepted = refl;
                   answers =
-                      (λ i. Built (many i) (range_is store m holds same seen i)) ∙ ap (λ rs. Built (length rs) (here store m holds same seen)) (rows_are store m holds same seen)
-                      ∙ ap (progress_in plan.limit index store) seen.0;
+                      ap Ok (sym ((λ i. Built (many i) (range_is store m holds same seen i)) ∙ ap (λ rs. Built (length rs) (here store m holds same seen)) (rows_are store m holds same seen)
+                      ∙ ap (progress_in plan.limit index store) seen.0));
                   wrote = wrote_there m store holds same seen;
                   holds =
                       subst (λ g. Holds opened.prefix (after_all list m) (Some (stepped plan.limit index store g))) seen.0

@@ -1,5 +1,6 @@
 -- What a step of a builder reads, answers, leaves and writes.
-use Rattle.std.specs.Prelude.{ℕ, Bool, true, false, List, [], ◌∷◌, length, Option, Some, None, nat_lt, if◌then◌else◌}
+use Rattle.std.specs.Prelude.{ℕ, Bool, true, false, List, [], ◌∷◌, length, Option, Some, None, Ok, nat_lt}
+use Rattle.std.specs.Prelude.{if◌then◌else◌}
 use Rattle.kv_core.specs.Bytes.{next_key}
 use Rattle.kv_core.specs.Range.{KeyRange, part_before}
 use Rattle.kv_core.specs.declared.change.Mutation.{Mutation}
@@ -10,9 +11,9 @@ use Rattle.index_maint.specs.Built.{position}
 use Rattle.index_maint.specs.Kept.{records_within}
 use Rattle.index_maint.specs.Parts.{first_part}
 use Rattle.record_store.specs.Building.{built_writes, gap_of, limited_to, positions_range}
-use Rattle.record_store.specs.Call.{Call, Never, Opened, Reading, Service, whole}
-use Rattle.record_store.specs.Calls.{done_or_refused, write_only_named}
+use Rattle.record_store.specs.Call.{Call, Footprint, Opened, Reading, call_on, whole}
 use Rattle.record_store.specs.Layout.{built_place, built_range}
+use Rattle.record_store.specs.Meaning.{Meaning, write_only_named}
 use Rattle.record_store.specs.Store.{Store, built}
 use Rattle.online_builder.specs.declared.progress.Progress.{Progress}
 use Rattle.online_builder.specs.declared.progress.Progress.TheVariants.{Built, Finished}
@@ -70,18 +71,23 @@ step_reading opened limit index = record {
 }
 
 -- STEP: a part of the first gap is built
-abbrev pub step_service : Opened → ℕ → IndexDefinition → Service Progress
-step_service opened limit index = record {
-  reading = step_reading opened limit index;
-  objection = Never;
-  answer = λ store. progress_in limit index store (gap_of store index.number);
+abbrev pub step_meaning : ℕ → IndexDefinition → Meaning Progress
+step_meaning limit index = record {
+  answer = λ store. Ok (progress_in limit index store (gap_of store index.number));
   after = λ store. stepped limit index store (gap_of store index.number);
-  writes = λ store. step_writes opened.prefix limit index store (gap_of store index.number);
   changes = has_built;
 }
 
+abbrev pub step_footprint : Opened → ℕ → IndexDefinition → Footprint
+step_footprint opened limit index = record {
+  reading = step_reading opened limit index;
+  writes = λ store. step_writes opened.prefix limit index store (gap_of store index.number);
+}
+
 abbrev pub step_call : Opened → BuildTask → Call Progress
-step_call opened plan = done_or_refused (step_service opened plan.limit) (write_only_named opened plan.name)
+step_call opened plan =
+    call_on (step_meaning plan.limit) (step_footprint opened plan.limit)
+    (write_only_named opened.schema opened.states plan.name)
 
 -- ---- beneath the call
 

@@ -29,14 +29,15 @@ use Rattle.record_store.specs.declared.error.StoreError.{StoreError}
 use Rattle.record_store.specs.declared.error.StoreError.TheVariants.{Memory}
 use Rattle.record_store.specs.Layout.{schema_key, type_range}
 use Rattle.record_store.specs.Holds.{Holds}
-use Rattle.record_store.specs.Call.{AtStore, IsAnswered, IsOpenAs, IsRefused, Opened, first_of}
+use Rattle.record_store.specs.Call.{AtStore, IsAnswered, IsOpenAs, IsRefused, Opened, first_of, service_of}
 use Rattle.record_store.specs.Form.{IsWritten}
 use Rattle.txn.proofs.Running.{ran_because}
-use Rattle.record_store.specs.Calls.{IsIndexedAs, done_with, index_call, index_service}
+use Rattle.record_store.specs.Calls.{IsIndexedAs, index_call, index_footprint}
+use Rattle.record_store.specs.Meaning.{index_meaning}
 use Rattle.record_store.specs.Reading.{HasNotFound, HasRead}
 use Rattle.record_store.specs.Steps.{DidRead, of_write}
 use Rattle.record_store.specs.IndexWrites.{index_added_writes, state_writes}
-use Rattle.record_store.proofs.Answered.{IsServed, answered, refused_limit, refused_memory, refused_unread}
+use Rattle.record_store.proofs.Answered.{IsServed, answered, done_with, refused_limit, refused_memory, refused_unread}
 use Rattle.record_store.proofs.NewIndexes.{indexed_holds}
 use Rattle.record_store.proofs.RecordCalls.{filled}
 
@@ -87,11 +88,10 @@ index_wrote opened index state list wrote store same is =
 -- INDEX: the index is there, with its state
 pub index_served : (opened : Opened) (index : IndexDefinition) (state : State) (list : List Mutation) → list ≡ Set (schema_key opened.prefix) (schema_bytes (with_index opened.schema index)) ∷ state_writes opened.prefix index.number state →
     IsLawfulSchema (with_index opened.schema index) → (m : Map) (store : Store) → Holds opened.prefix m (Some store) → IsOpenAs opened store → state ≡ new_state (of_type index.type_number store.records) →
-    IsServed opened (index_service opened index) state list m store
+    IsServed opened (service_of index_meaning (index_footprint opened) index) state list m store
 index_served opened index state list wrote made m store holds same is =
     let writes = index_wrote opened index state list wrote store same is in record {
-      accepted = refl;
-      answers = is;
+      answers = ap Ok (sym is);
       wrote = writes;
       holds =
           subst (λ ms. Holds opened.prefix (after_all ms m) (Some (indexed store index))) (sym writes)
@@ -103,28 +103,28 @@ module _ (maps : ℕ → Map) (refuses : KeyRange → ℕ → ReadError → Type
   same_number : type.number ≡ index.type_number
   same_number = sym (type_number_is opened.schema request index type made found)
 
-  accepted : index_call opened request ≡ Ok (index_service opened index)
-  accepted = ap (done_with (index_service opened)) made
+  accepted : index_call opened request ≡ Ok (service_of index_meaning (index_footprint opened) index)
+  accepted = ap (done_with index_meaning (index_footprint opened)) made
 
   -- UNREAD: the first record wasn't read
   pub index_unread : {old new : CommitRequest} (error : StoreError) →
       HasNotFound maps refuses opened (first_of (type_range opened.prefix type.number)) error old new →
       IsRefused maps refuses opened (index_call opened request) error old new
   index_unread {old = old} {new = new} error unread =
-      refused_unread maps refuses opened (index_call opened request) (index_service opened index) error accepted
+      refused_unread maps refuses opened (index_call opened request) (service_of index_meaning (index_footprint opened) index) error accepted
       (subst (λ (n : ℕ). HasNotFound maps refuses opened (first_of (type_range opened.prefix n)) error old new) same_number unread)
 
   module _ {old mid : CommitRequest} (state : State) (first : HasRead maps opened type.number state old mid) where
     own : HasRead maps opened index.type_number state old mid
     own = subst (λ (n : ℕ). HasRead maps opened n state old mid) same_number first
 
-    read : DidRead maps (own.added ∷ []) old mid (λ m. (own.added ∷ [] ≡ (index_service opened index).reading.added m)
-        × (AllByRecursion (IsWritten opened.prefix opened.schema) ((index_service opened index).reading.pairs m) × AtStore opened m (λ store. state ≡ new_state (of_type index.type_number store.records))))
+    read : DidRead maps (own.added ∷ []) old mid (λ m. (own.added ∷ [] ≡ (index_footprint opened index).reading.added m)
+        × (AllByRecursion (IsWritten opened.prefix opened.schema) ((index_footprint opened index).reading.pairs m) × AtStore opened m (λ store. state ≡ new_state (of_type index.type_number store.records))))
     read = ran_because own.ran (λ m found. (ap (λ range. range ∷ []) found.0, (found.1, found.2)))
 
     -- MEMORY: it was wanting after the read
     pub index_memory : IsRefused maps refuses opened (index_call opened request) Memory old mid
-    index_memory = refused_memory maps refuses opened (index_call opened request) (index_service opened index) accepted read
+    index_memory = refused_memory maps refuses opened (index_call opened request) (service_of index_meaning (index_footprint opened) index) accepted read
 
     module _ (next : Schema) (list : List Mutation) (added : add_index opened.schema request ≡ Ok next) (wrote : list ≡ Set (schema_key opened.prefix) (schema_bytes next) ∷ state_writes opened.prefix index.number state) where
       next_is : next ≡ with_index opened.schema index
@@ -136,13 +136,13 @@ module _ (maps : ℕ → Map) (refuses : KeyRange → ℕ → ReadError → Type
       -- LIMIT: what is to be written was refused
       pub index_limited : {new : CommitRequest} (error : WriteError) → new ≡ mid → (error ≡ write.Memory) ⊎ (write_all_refusal mid.mutations list ≡ Some error) → IsRefused maps refuses opened (index_call opened request) (of_write error) old new
       index_limited error same says =
-          refused_limit maps refuses opened (index_call opened request) (index_service opened index) list error accepted read
-          (λ m store holds schema is. (refl, index_wrote opened index state list list_is store schema is)) same says
+          refused_limit maps refuses opened (index_call opened request) (service_of index_meaning (index_footprint opened) index) list error accepted read
+          (λ m store holds schema is. (record { answer = _; is = refl }, index_wrote opened index state list list_is store schema is)) same says
 
       -- ANSWERED: the index is there
       pub index_answered : {new : CommitRequest} → IsLawfulSchema next → new ≡ with_mutations list mid → IsNone (write_all_refusal mid.mutations list) → IsAnswered maps opened (index_call opened request) state old new
       index_answered lawful is allowed =
-          answered maps refuses opened (index_call opened request) (index_service opened index) state list accepted
+          answered maps refuses opened (index_call opened request) (service_of index_meaning (index_footprint opened) index) state list accepted
           (ap (λ ms. length ms == 0) list_is ∙ filled (Set (schema_key opened.prefix) (schema_bytes (with_index opened.schema index))) (state_writes opened.prefix index.number state)) read is allowed
           (λ m store holds schema found. index_served opened index state list list_is (subst IsLawfulSchema next_is lawful) m store holds schema found)
 

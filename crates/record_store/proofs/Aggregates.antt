@@ -39,8 +39,9 @@ use Rattle.record_store.specs.Layout.{built_place, record_key}
 use Rattle.index_maint.proofs.Places.{entries_elsewhere}
 use Rattle.record_store.specs.Holds.{Holds}
 use Rattle.record_store.specs.Form.{IsFirstBad, IsWritten, read_in}
-use Rattle.record_store.specs.Call.{IsOpenAs, IsUnread, Opened, whole}
-use Rattle.record_store.specs.Calls.{aggregate_call, aggregate_service, total_of, total_refusal, unless}
+use Rattle.record_store.specs.Call.{IsOpenAs, IsUnread, Opened, call_on, service_of, whole}
+use Rattle.record_store.specs.Calls.{aggregate_call, total_footprint}
+use Rattle.record_store.specs.Meaning.{total_meaning, total_of, total_refusal, totalled_index, unless}
 use Rattle.record_store.specs.Reading.{HasNotFound, IsNoTotal, IsTotalFound, IsTotalRead, IsTotalled}
 use Rattle.record_store.specs.Steps.{DidRead}
 use Rattle.record_store.proofs.Answered.{IsServed}
@@ -216,15 +217,12 @@ module _ (opened : Opened) (index : IndexDefinition) (group : List Cell) (known 
 
 -- where nothing refuses the total, it is read
 pub total_accepted : (opened : Opened) (name : List ℕ) (index : IndexDefinition) (group : List Cell) → find_index opened.schema name ≡ Some index →
-    total_refusal index.kind (fits_group opened.schema index group) (state_in opened.states index.number) ≡ None → aggregate_call opened name group ≡ Ok (aggregate_service opened index group)
+    total_refusal index.kind (fits_group opened.schema index group) (state_in opened.states index.number) ≡ None → aggregate_call opened name group ≡ Ok (service_of (total_meaning group) (total_footprint opened group) index)
 total_accepted opened name index group found none =
-    ap (λ o. elim o [
-      | None ↦ Err (Refused UnknownIndex)
-      | Some i ↦ unless (total_refusal i.kind (fits_group opened.schema i group) (state_in opened.states i.number)) (aggregate_service opened i group)
-    ]) found
-    ∙ ap (λ o. unless o (aggregate_service opened index group)) none
+    ap (λ o. call_on (total_meaning group) (total_footprint opened group) (totalled_index opened.schema opened.states group o)) found
+    ∙ ap (λ o. call_on (total_meaning group) (total_footprint opened group) (unless o index)) none
 
 -- AGGREGATE: it answers the total that is there
 pub total_served : (opened : Opened) (index : IndexDefinition) (group : List Cell) (total : ℤ) (m : Map) (store : Store) → Holds opened.prefix m (Some store) →
-    total ≡ total_of index.kind index group store.records → IsServed opened (aggregate_service opened index group) total [] m store
-total_served opened index group total m store holds is = record { accepted = refl; answers = is; wrote = refl; holds = holds }
+    total ≡ total_of index.kind index group store.records → IsServed opened (service_of (total_meaning group) (total_footprint opened group) index) total [] m store
+total_served opened index group total m store holds is = record { answers = ap Ok (sym is); wrote = refl; holds = holds }

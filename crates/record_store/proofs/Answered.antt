@@ -31,8 +31,8 @@ use Rattle.record_store.specs.declared.error.StoreError.{StoreError}
 use Rattle.record_store.specs.declared.error.StoreError.TheVariants.{Memory, Read, Write, Corrupt, Refused, NoStore, AlreadyThere, OtherSchema, NotAggregate, NotReadable, WrongState, NotBuilt}
 use Rattle.record_store.specs.Store.{Store}
 use Rattle.record_store.specs.Holds.{Holds, IsOfSchema}
-use Rattle.record_store.specs.Call.{AtStore, Call, IsAnswered, IsFailure, IsOpenAs, IsRefused, IsUndone, IsSound, IsUnread, Opened, Service, is_objected}
-use Rattle.record_store.specs.Calls.{done_with, is_own}
+use Rattle.record_store.specs.Call.{AtStore, Call, IsAnswered, IsFailure, IsOpenAs, IsRefused, IsUndone, IsSound, IsUnread, Opened, Service, Footprint, IsAccepted, call_on}
+use Rattle.record_store.specs.Meaning.{Meaning, by_schema, is_own}
 use Rattle.record_store.specs.Reading.{HasNotFound, IsKeyOf}
 use Rattle.record_store.specs.Steps.{DidRead, IsBeginning, no_memory, of_metadata, of_write}
 use Rattle.record_store.proofs.Stopping.{all_begin, none_begin}
@@ -89,12 +89,15 @@ own_typed schema r is made = ap (λ t. elim t [ None ↦ Err UnknownType | Some 
 
 -- ---- calls
 
+-- the call on what the schema accepts, or that has its refusal
+abbrev pub done_with : {K A : Type 0} → (K → Meaning A) → (K → Footprint) → Result K Refusal → Call A
+done_with meaning footprint outcome = call_on meaning footprint (by_schema outcome)
+
 -- what is so at a store once the call is done, but for the limits
 pub record IsServed {A : Type 0} (opened : Opened) (service : Service A) (answer : A) (list : List Mutation) (m : Map) (store : Store) : Type 0 where
-  pub accepted : is_objected service.objection store ≡ false
-  pub answers : answer ≡ service.answer store
-  pub wrote : list ≡ service.writes store
-  pub holds : Holds opened.prefix (after_all list m) (Some (service.after store))
+  pub answers : service.meaning.answer store ≡ Ok answer
+  pub wrote : list ≡ service.footprint.writes store
+  pub holds : Holds opened.prefix (after_all list m) (Some (service.meaning.after store))
 
 -- ANYWAY: a call is refused so whatever reads may be refused, where it is so and none may
 pub refused_anyway : {A : Type 0} (maps : ℕ → Map) (refuses : KeyRange → ℕ → ReadError → Type 0) (opened : Opened) (call : Call A) (error : StoreError) (old new : CommitRequest) →
@@ -119,15 +122,15 @@ refused_anyway maps refuses opened (Ok service) error old new is = record { adde
 
 module _ {A : Type 0} (maps : ℕ → Map) (refuses : KeyRange → ℕ → ReadError → Type 0) (opened : Opened) where
   -- OWN REFUSAL: the call's own, before it read anything
-  pub refused_own : {K : Type 0} {old new : CommitRequest} (service : K → Service A) (outcome : Result K Refusal) (error : MetadataError) → IsRefusedAs error outcome → new ≡ old →
-      IsRefused maps refuses opened (done_with service outcome) (of_metadata error) old new
-  refused_own service (Ok value) meta.Memory is same = record { added = []; ran = ran_still same (λ m. none_begin ((service value).reading.added m)) }
-  refused_own service (Ok value) (meta.Refused refusal) is same = absurd (cc)
-  refused_own service (Err refusal) meta.Memory is same = (inl refl, same)
-  refused_own service (Err refusal) (meta.Refused other) is same = (inr (let one : refusal ≡ other = cc in ap Refused (sym one)), same)
+  pub refused_own : {K : Type 0} {old new : CommitRequest} (meaning : K → Meaning A) (footprint : K → Footprint) (outcome : Result K Refusal) (error : MetadataError) → IsRefusedAs error outcome → new ≡ old →
+      IsRefused maps refuses opened (done_with meaning footprint outcome) (of_metadata error) old new
+  refused_own meaning footprint (Ok value) meta.Memory is same = record { added = []; ran = ran_still same (λ m. none_begin ((footprint value).reading.added m)) }
+  refused_own meaning footprint (Ok value) (meta.Refused refusal) is same = absurd (cc)
+  refused_own meaning footprint (Err refusal) meta.Memory is same = (inl refl, same)
+  refused_own meaning footprint (Err refusal) (meta.Refused other) is same = (inr (let one : refusal ≡ other = cc in ap Refused (sym one)), same)
 
   -- UNREAD: its reads weren't answered
-  failure_of : (refused : KeyRange → ReadError → Type 0) (service : Service A) (error : StoreError) (before : List Mutation) (added : List KeyRange) (m : Map) → IsUnread refused opened service.reading error added m → IsFailure refused opened service error before added m
+  failure_of : (refused : KeyRange → ReadError → Type 0) (service : Service A) (error : StoreError) (before : List Mutation) (added : List KeyRange) (m : Map) → IsUnread refused opened service.footprint.reading error added m → IsFailure refused opened service error before added m
   failure_of refused service Memory before added m says = says
   failure_of refused service (Read error) before added m says = says
   failure_of refused service (Corrupt key) before added m says = says
@@ -141,14 +144,14 @@ module _ {A : Type 0} (maps : ℕ → Map) (refuses : KeyRange → ℕ → ReadE
   failure_of refused service WrongState before added m says = absurd says
   failure_of refused service NotBuilt before added m says = absurd says
 
-  pub refused_unread : {old new : CommitRequest} (call : Call A) (service : Service A) (error : StoreError) → call ≡ Ok service → HasNotFound maps refuses opened service.reading error old new →
+  pub refused_unread : {old new : CommitRequest} (call : Call A) (service : Service A) (error : StoreError) → call ≡ Ok service → HasNotFound maps refuses opened service.footprint.reading error old new →
       IsRefused maps refuses opened call error old new
   refused_unread {old = old} {new = new} call service error accepted unread =
       subst (λ c. IsRefused maps refuses opened c error old new) (sym accepted)
       (record { added = unread.added; ran = ran_because unread.ran (λ m says. failure_of (λ range. refuses range old.read_version) service error old.mutations unread.added m says) })
 
   -- MEMORY: it was wanting after the reads
-  pub refused_memory : {added : List KeyRange} {old new : CommitRequest} {F : Map → Type 0} (call : Call A) (service : Service A) → call ≡ Ok service → DidRead maps added old new (λ m. (added ≡ service.reading.added m) × F m) →
+  pub refused_memory : {added : List KeyRange} {old new : CommitRequest} {F : Map → Type 0} (call : Call A) (service : Service A) → call ≡ Ok service → DidRead maps added old new (λ m. (added ≡ service.footprint.reading.added m) × F m) →
       IsRefused maps refuses opened call Memory old new
   refused_memory {added = added} {old = old} {new = new} call service accepted ran =
       subst (λ c. IsRefused maps refuses opened c Memory old new) (sym accepted)
@@ -157,11 +160,11 @@ module _ {A : Type 0} (maps : ℕ → Map) (refuses : KeyRange → ℕ → ReadE
   -- MEMORY: it was wanting before anything was read
   pub memory_still : {old new : CommitRequest} (call : Call A) → new ≡ old → IsRefused maps refuses opened call no_memory old new
   memory_still (Err refusal) same = (inl refl, same)
-  memory_still (Ok service) same = record { added = []; ran = ran_still same (λ m. none_begin (service.reading.added m)) }
+  memory_still (Ok service) same = record { added = []; ran = ran_still same (λ m. none_begin (service.footprint.reading.added m)) }
 
   -- LIMIT: what the call writes was refused
   pub refused_limit : {added : List KeyRange} {old mid new : CommitRequest} {F : Store → Type 0} (call : Call A) (service : Service A) (list : List Mutation) (error : WriteError) → call ≡ Ok service →
-      DidRead maps added old mid (λ m. (added ≡ service.reading.added m) × (IsSound opened service.reading m × AtStore opened m F)) → ((m : Map) (store : Store) → Holds opened.prefix m (Some store) → IsOpenAs opened store → F store → (is_objected service.objection store ≡ false) × (list ≡ service.writes store)) → new ≡ mid →
+      DidRead maps added old mid (λ m. (added ≡ service.footprint.reading.added m) × (IsSound opened service.footprint.reading m × AtStore opened m F)) → ((m : Map) (store : Store) → Holds opened.prefix m (Some store) → IsOpenAs opened store → F store → IsAccepted service store × (list ≡ service.footprint.writes store)) → new ≡ mid →
       (error ≡ write.Memory) ⊎ (write_all_refusal mid.mutations list ≡ Some error) → IsRefused maps refuses opened call (of_write error) old new
   refused_limit {added = added} {old = old} {mid = mid} {new = new} {F = F} call service list error accepted ran wrote same says =
       subst (λ c. IsRefused maps refuses opened c (of_write error) old new) (sym accepted)
@@ -172,16 +175,16 @@ module _ {A : Type 0} (maps : ℕ → Map) (refuses : KeyRange → ℕ → ReadE
             (λ m found. of_limit (λ e. IsFailure (λ range. refuses range old.read_version) opened service e old.mutations added m) error says (subst (IsBeginning added) found.0 (all_begin added)) (λ e is. (found.0, found.1.0, limit e m found.1.1 is)));
       }))
     where
-      limit : (e : WriteError) (m : Map) → AtStore opened m F → write_all_refusal mid.mutations list ≡ Some e → AtStore opened m (λ store. (is_objected service.objection store ≡ false) × (write_all_refusal old.mutations (service.writes store) ≡ Some e))
+      limit : (e : WriteError) (m : Map) → AtStore opened m F → write_all_refusal mid.mutations list ≡ Some e → AtStore opened m (λ store. IsAccepted service store × (write_all_refusal old.mutations (service.footprint.writes store) ≡ Some e))
       limit e m found is store holds schema = (
         (wrote m store holds schema (found store holds schema)).0,
-        ap (λ ms. write_all_refusal ms (service.writes store)) (sym (ran.wrote ∙ append-nil old.mutations))
+        ap (λ ms. write_all_refusal ms (service.footprint.writes store)) (sym (ran.wrote ∙ append-nil old.mutations))
             ∙ ap (write_all_refusal mid.mutations) (sym ((wrote m store holds schema (found store holds schema)).1)) ∙ is,
       )
 
   -- ANSWERED: reads, and then writes that no limit refuses
-  pub answered : {added : List KeyRange} {old mid new : CommitRequest} {F : Store → Type 0} (call : Call A) (service : Service A) (answer : A) (list : List Mutation) → call ≡ Ok service → (length list == 0) ≡ not (service.changes answer) →
-      DidRead maps added old mid (λ m. (added ≡ service.reading.added m) × (IsSound opened service.reading m × AtStore opened m F)) →
+  pub answered : {added : List KeyRange} {old mid new : CommitRequest} {F : Store → Type 0} (call : Call A) (service : Service A) (answer : A) (list : List Mutation) → call ≡ Ok service → (length list == 0) ≡ not (service.meaning.changes answer) →
+      DidRead maps added old mid (λ m. (added ≡ service.footprint.reading.added m) × (IsSound opened service.footprint.reading m × AtStore opened m F)) →
       new ≡ with_mutations list mid → IsNone (write_all_refusal mid.mutations list) →
       ((m : Map) (store : Store) → Holds opened.prefix m (Some store) → IsOpenAs opened store → F store → IsServed opened service answer list m store) → IsAnswered maps opened call answer old new
   answered {added = added} {old = old} {mid = mid} call service answer list accepted changes ran is allowed serves = record {
@@ -198,7 +201,6 @@ module _ {A : Type 0} (maps : ℕ → Map) (refuses : KeyRange → ℕ → ReadE
           found.1.0,
           λ store holds schema.
               let served = serves m store holds schema (found.1.1 store holds schema) in record {
-                accepted = served.accepted;
                 answers = served.answers;
                 wrote = served.wrote;
                 allowed = ap (λ ms. write_all_refusal ms list) (sym (ran.wrote ∙ append-nil old.mutations)) ∙ is_none (write_all_refusal mid.mutations list) allowed;
@@ -208,8 +210,8 @@ module _ {A : Type 0} (maps : ℕ → Map) (refuses : KeyRange → ℕ → ReadE
   }
 
   -- ANSWERED: reads alone
-  pub answered_reading : {added : List KeyRange} {old new : CommitRequest} {F : Store → Type 0} (call : Call A) (service : Service A) (answer : A) → call ≡ Ok service → true ≡ not (service.changes answer) →
-      DidRead maps added old new (λ m. (added ≡ service.reading.added m) × (IsSound opened service.reading m × AtStore opened m F)) →
+  pub answered_reading : {added : List KeyRange} {old new : CommitRequest} {F : Store → Type 0} (call : Call A) (service : Service A) (answer : A) → call ≡ Ok service → true ≡ not (service.meaning.changes answer) →
+      DidRead maps added old new (λ m. (added ≡ service.footprint.reading.added m) × (IsSound opened service.footprint.reading m × AtStore opened m F)) →
       ((m : Map) (store : Store) → Holds opened.prefix m (Some store) → IsOpenAs opened store → F store → IsServed opened service answer [] m store) → IsAnswered maps opened call answer old new
   answered_reading {added = added} {old = old} call service answer accepted changes ran serves = record {
     service = service;
@@ -221,7 +223,7 @@ module _ {A : Type 0} (maps : ℕ → Map) (refuses : KeyRange → ℕ → ReadE
       found.0,
       found.1.0,
       λ store holds schema.
-          let served = serves m store holds schema (found.1.1 store holds schema) in record { accepted = served.accepted; answers = served.answers; wrote = served.wrote; allowed = refl; holds = served.holds },
+          let served = serves m store holds schema (found.1.1 store holds schema) in record { answers = served.answers; wrote = served.wrote; allowed = refl; holds = served.holds },
     ));
   }
 

@@ -19,8 +19,9 @@ use Rattle.metadata.specs.Written.{schema_bytes}
 use Rattle.record_store.specs.Store.{Store, dropped, still_listed, with_state, without_state}
 use Rattle.record_store.specs.Layout.{built_range, entries_range, schema_key, state_key}
 use Rattle.record_store.specs.Holds.{Holds, has_number}
-use Rattle.record_store.specs.Call.{IsOpenAs, Opened}
-use Rattle.record_store.specs.Calls.{drop_service, index_number, opened_without}
+use Rattle.record_store.specs.Call.{IsOpenAs, Opened, service_of}
+use Rattle.record_store.specs.Calls.{drop_footprint, opened_without}
+use Rattle.record_store.specs.Meaning.{drop_meaning, index_number}
 use Rattle.record_store.specs.IndexWrites.{drop_writes}
 use Rattle.record_store.proofs.Answered.{IsServed}
 use Rattle.record_store.proofs.IndexChanges.{dropped_holds}
@@ -113,13 +114,12 @@ left_is opened prefix schema states number other found prefixes schemas listed i
 -- DROP: the index is gone
 pub drop_served : (opened : Opened) (number : ℕ) (next : Schema) (list : List Mutation) → list ≡ Set (schema_key opened.prefix) (schema_bytes next) ∷ ClearRange (entries_range opened.prefix number) ∷ ClearRange (built_range opened.prefix number) ∷ ClearRange (point (state_key opened.prefix number)) ∷ [] →
     next ≡ without_index opened.schema number → has_number opened.schema.indexes number ≡ true → IsLawfulSchema next →
-    (m : Map) (store : Store) → Holds opened.prefix m (Some store) → IsOpenAs opened store → IsServed opened (drop_service opened number) next list m store
+    (m : Map) (store : Store) → Holds opened.prefix m (Some store) → IsOpenAs opened store → IsServed opened (service_of drop_meaning (drop_footprint opened) number) next list m store
 drop_served opened number next list wrote is there lawful m store holds same =
     let left : next ≡ without_index store.schema number = is ∙ ap (λ s. without_index s number) (sym same.schema) in
     let writes : list ≡ drop_writes opened.prefix store number =
     wrote ∙ ap (λ s. Set (schema_key opened.prefix) (schema_bytes s) ∷ ClearRange (entries_range opened.prefix number) ∷ ClearRange (built_range opened.prefix number) ∷ ClearRange (point (state_key opened.prefix number)) ∷ []) left in record {
-      accepted = refl;
-      answers = left;
+      answers = ap Ok (sym left);
       wrote = writes;
       holds =
           subst (λ ms. Holds opened.prefix (after_all ms m) (Some (dropped store number))) (sym writes)

@@ -1,5 +1,5 @@
 -- What marking an index with another state comes to.
-use Rattle.std.proofs.Common.{◌≡◌, ◌⊎◌, inl, inr, ℕ, Bool, true, false, not, ◌||◌, ◌==◌, List, [], ◌∷◌, length, refl, sym, ap, subst, ◌∙◌, Option, Some, None, Ok, Err, Result}
+use Rattle.std.proofs.Common.{◌≡◌, ◌⊎◌, inl, inr, ℕ, Bool, true, false, cond, ◌||◌, ◌==◌, List, [], ◌∷◌, length, refl, sym, ap, subst, ◌∙◌, Option, Some, None, Ok, Err, Result}
 use Rattle.std.specs.Prelude.{IsNone}
 use Rattle.std.specs.List.{AllByRecursion}
 use Rattle.std.proofs.lemmas.Bool.{eqb-true}
@@ -26,11 +26,12 @@ use Rattle.metadata.specs.declared.refusal.Refusal.{Refusal}
 use Rattle.metadata.specs.Schema.{Schema, find_index}
 use Rattle.record_store.specs.declared.error.StoreError.{StoreError}
 use Rattle.record_store.specs.declared.error.StoreError.TheVariants.{Memory, NotBuilt}
-use Rattle.record_store.specs.Store.{Store, built_of, marked, readable, state_in, state_of, with_state, without_state}
+use Rattle.record_store.specs.Store.{Store, built_of, created, marked, readable, state_in, state_of, with_state, without_state}
 use Rattle.record_store.specs.Layout.{built_place, built_range}
 use Rattle.record_store.specs.Holds.{HasPositions, Holds, has_number}
-use Rattle.record_store.specs.Call.{AtStore, Call, IsAnswered, IsObjectedTo, IsOpenAs, IsRefused, IsSound, IsUnread, Opened, Reading, Service, Where, all_built}
-use Rattle.record_store.specs.Calls.{done_or_refused, in_write_only, index_number, mark_service, opened_readable, readable_call, readable_service, write_only_found, write_only_named}
+use Rattle.record_store.specs.Call.{AtStore, Call, IsAnswered, IsOpenAs, IsRefused, IsSound, IsUnread, Opened, Reading, Service, all_built, call_on, service_of}
+use Rattle.record_store.specs.Calls.{mark_footprint, opened_readable, readable_call, readable_footprint}
+use Rattle.record_store.specs.Meaning.{in_write_only, index_number, mark_meaning, readable_meaning, write_only_found, write_only_named}
 use Rattle.record_store.specs.IndexWrites.{marked_writes, readable_writes}
 use Rattle.record_store.specs.Reading.{HasNotFound}
 use Rattle.record_store.specs.Steps.{DidRead, IsBeginning, IsNextRefused, of_set, of_write}
@@ -43,7 +44,7 @@ use Rattle.record_store.proofs.Stopping.{all_begin, none_begin}
 -- ---- names
 
 -- a write-only index that is found by its name is there, and is write-only
-pub found_write_only : (opened : Opened) (name : List ℕ) (index : IndexDefinition) → write_only_named opened name ≡ Ok index → (find_index opened.schema name ≡ Some index) × (state_in opened.states index.number ≡ WriteOnly)
+pub found_write_only : (opened : Opened) (name : List ℕ) (index : IndexDefinition) → write_only_named opened.schema opened.states name ≡ Ok index → (find_index opened.schema name ≡ Some index) × (state_in opened.states index.number ≡ WriteOnly)
 found_write_only opened name index is = by_name (find_index opened.schema name) is
   where
     by_state : (state : State) (one : IndexDefinition) → in_write_only state one ≡ Ok index → (one ≡ index) × (state ≡ WriteOnly)
@@ -51,21 +52,27 @@ found_write_only opened name index is = by_name (find_index opened.schema name) 
     by_state WriteOnly one found = let same : one ≡ index = cc in (same, refl)
     by_state Disabled one found = absurd (cc)
 
-    by_name : (o : Option IndexDefinition) → write_only_found opened o ≡ Ok index → (o ≡ Some index) × (state_in opened.states index.number ≡ WriteOnly)
+    by_name : (o : Option IndexDefinition) → write_only_found opened.states o ≡ Ok index → (o ≡ Some index) × (state_in opened.states index.number ≡ WriteOnly)
     by_name None found = absurd (cc)
     by_name (Some one) found = let both = by_state (state_in opened.states one.number) one found in (ap Some both.0, ap (λ (i : IndexDefinition). state_in opened.states i.number) (sym both.0) ∙ both.1)
 
-pub number_named : (opened : Opened) (name : List ℕ) (index : IndexDefinition) → write_only_named opened name ≡ Ok index → index_number (find_index opened.schema name) ≡ Ok index.number
+pub number_named : (opened : Opened) (name : List ℕ) (index : IndexDefinition) → write_only_named opened.schema opened.states name ≡ Ok index → index_number (find_index opened.schema name) ≡ Ok index.number
 number_named opened name index is = ap index_number (found_write_only opened name index is).0
 
 -- ---- marks
 
+-- what a write-only index is marked readable by: whether every position of it is built
+ready : (number : ℕ) (store : Store) → is_whole (built_of store number) ≡ true → (readable_meaning number).answer store ≡ Ok (without_state number store.states)
+ready number store whole = ap (λ b. cond b (Ok (without_state number store.states)) (Err NotBuilt)) whole
+
+unready : (number : ℕ) (store : Store) → is_whole (built_of store number) ≡ false → (readable_meaning number).answer store ≡ Err NotBuilt
+unready number store none = ap (λ b. cond b (Ok (without_state number store.states)) (Err NotBuilt)) none
+
 -- MARK: the index has its state, and nothing of it is kept
 pub mark_served : (opened : Opened) (number : ℕ) (state : State) (states : List (ℕ × State)) (list : List Mutation) → (state ≡ Readable → ⊥) → list ≡ marked_writes state opened.prefix number → states ≡ with_state number state opened.states →
-    has_number opened.schema.indexes number ≡ true → (m : Map) (store : Store) → Holds opened.prefix m (Some store) → IsOpenAs opened store → IsServed opened (mark_service state opened number) states list m store
+    has_number opened.schema.indexes number ≡ true → (m : Map) (store : Store) → Holds opened.prefix m (Some store) → IsOpenAs opened store → IsServed opened (service_of (mark_meaning state) (mark_footprint state opened) number) states list m store
 mark_served opened number state states list other wrote is there m store holds same = record {
-  accepted = refl;
-  answers = is ∙ ap (with_state number state) (sym same.states);
+  answers = ap Ok (sym (is ∙ ap (with_state number state) (sym same.states)));
   wrote = wrote;
   holds =
       subst (λ ms. Holds opened.prefix (after_all ms m) (Some (marked state store number))) (sym wrote)
@@ -123,23 +130,23 @@ module _ (opened : Opened) (number : ℕ) (there : has_number opened.schema.inde
 
   -- READABLE: where every position is built the index is readable
   pub readable_served : (states : List (ℕ × State)) (list : List Mutation) → list ≡ readable_writes opened.prefix number → states ≡ without_state number opened.states →
-      (m : Map) (store : Store) → Holds opened.prefix m (Some store) → IsOpenAs opened store → is_whole (built_of store number) ≡ true → IsServed opened (readable_service opened number) states list m store
+      (m : Map) (store : Store) → Holds opened.prefix m (Some store) → IsOpenAs opened store → is_whole (built_of store number) ≡ true → IsServed opened (service_of readable_meaning (readable_footprint opened) number) states list m store
   readable_served states list wrote is m store holds same whole = record {
-    accepted = ap not whole;
-    answers = is ∙ ap (without_state number) (sym same.states);
+    answers = ready number store whole ∙ ap Ok (sym (is ∙ ap (without_state number) (sym same.states)));
     wrote = wrote;
     holds =
         subst (λ ms. Holds opened.prefix (after_all ms m) (Some (readable store number))) (sym wrote)
         (readable_holds opened.prefix m store number (ap (λ (s : Schema). has_number s.indexes number) same.schema ∙ there) holds (store_building store same) whole);
   }
 
--- OBJECTED: the store that is there is objected to by what was read
-pub refused_unbuilt : {A : Type 0} (maps : ℕ → Map) (refuses : KeyRange → ℕ → ReadError → Type 0) {added : List KeyRange} {old new : CommitRequest} (opened : Opened) (call : Call A) (service : Service A) (test : Store → Bool) → call ≡ Ok service →
-    service.objection ≡ Where NotBuilt test → DidRead maps added old new (λ m. (added ≡ service.reading.added m) × (IsSound opened service.reading m × AtStore opened m (λ store. test store ≡ true))) →
+-- REFUSED: the store that is there is refused by what was read
+pub refused_unbuilt : {A : Type 0} (maps : ℕ → Map) (refuses : KeyRange → ℕ → ReadError → Type 0) {added : List KeyRange} {old new : CommitRequest} (opened : Opened) (call : Call A) (service : Service A) (some : Store) → call ≡ Ok service →
+    service.meaning.answer some ≡ Err NotBuilt →
+    DidRead maps added old new (λ m. (added ≡ service.footprint.reading.added m) × (IsSound opened service.footprint.reading m × AtStore opened m (λ store. service.meaning.answer store ≡ Err NotBuilt))) →
     IsRefused maps refuses opened call NotBuilt old new
-refused_unbuilt maps refuses {added = added} {old = old} {new = new} opened call service test accepted objects ran =
+refused_unbuilt maps refuses {added = added} {old = old} {new = new} opened call service some accepted unbuilt ran =
     subst (λ c. IsRefused maps refuses opened c NotBuilt old new) (sym accepted)
-    (record { added = added; ran = ran_because ran (λ m found. subst (λ o. IsObjectedTo opened service.reading o NotBuilt added m) (sym objects) (refl, found.0, found.1.0, found.1.1)) })
+    (record { added = added; ran = ran_because ran (λ m found. ((some, unbuilt), found.0, found.1.0, found.1.1)) })
 
 -- OPENED: the store is left with that index readable
 pub readable_is : (opened : Opened) (prefix : List ℕ) (schema : Schema) (states : List (ℕ × State)) (number other : ℕ) (found : Result ℕ Refusal) → prefix ≡ opened.prefix → schema ≡ opened.schema → states ≡ without_state number opened.states →
@@ -152,14 +159,14 @@ readable_is opened prefix schema states number other found prefixes schemas list
 -- ---- the call that marks an index readable
 
 -- OWN REFUSAL: there is no such index, or it isn't write-only
-pub readable_refused : (maps : ℕ → Map) (refuses : KeyRange → ℕ → ReadError → Type 0) {old new : CommitRequest} (opened : Opened) (name : List ℕ) (error : StoreError) → write_only_named opened name ≡ Err error → new ≡ old →
+pub readable_refused : (maps : ℕ → Map) (refuses : KeyRange → ℕ → ReadError → Type 0) {old new : CommitRequest} (opened : Opened) (name : List ℕ) (error : StoreError) → write_only_named opened.schema opened.states name ≡ Err error → new ≡ old →
     IsRefused maps refuses opened (readable_call opened name) error old new
 readable_refused maps refuses {old = old} {new = new} opened name error is same =
-    subst (λ o. IsRefused maps refuses opened (done_or_refused (λ (index : IndexDefinition). readable_service opened index.number) o) error old new) (sym is) (inr refl, same)
+    subst (λ o. IsRefused maps refuses opened (call_on (λ (index : IndexDefinition). readable_meaning index.number) (λ (index : IndexDefinition). readable_footprint opened index.number) o) error old new) (sym is) (inr refl, same)
 
-module _ (maps : ℕ → Map) (refuses : KeyRange → ℕ → ReadError → Type 0) (opened : Opened) (name : List ℕ) (index : IndexDefinition) (named : write_only_named opened name ≡ Ok index) where
-  accepted : readable_call opened name ≡ Ok (readable_service opened index.number)
-  accepted = ap (done_or_refused (λ (one : IndexDefinition). readable_service opened one.number)) named
+module _ (maps : ℕ → Map) (refuses : KeyRange → ℕ → ReadError → Type 0) (opened : Opened) (name : List ℕ) (index : IndexDefinition) (named : write_only_named opened.schema opened.states name ≡ Ok index) where
+  accepted : readable_call opened name ≡ Ok (service_of readable_meaning (readable_footprint opened) index.number)
+  accepted = ap (call_on (λ (one : IndexDefinition). readable_meaning one.number) (λ (one : IndexDefinition). readable_footprint opened one.number)) named
 
   known : has_number opened.schema.indexes index.number ≡ true
   known = named_there opened.schema name index.number (number_named opened name index named)
@@ -171,7 +178,7 @@ module _ (maps : ℕ → Map) (refuses : KeyRange → ℕ → ReadError → Type
   pub readable_unread : {old new : CommitRequest} (at : List ℕ) (error : RangeSetError) → at ≡ built_place opened.prefix index.number → reads.IsSetRefused maps refuses at (all_ranges at) error old new →
       IsRefused maps refuses opened (readable_call opened name) (of_set error) old new
   readable_unread {old = old} {new = new} at error is unread =
-      refused_unread maps refuses opened (readable_call opened name) (readable_service opened index.number) (of_set error) accepted
+      refused_unread maps refuses opened (readable_call opened name) (service_of readable_meaning (readable_footprint opened) index.number) (of_set error) accepted
       (set_unread opened index.number known marking error (subst (λ p. reads.IsSetRefused maps refuses p (all_ranges p) error old new) is unread))
 
   module _ {old mid : CommitRequest} (at : List ℕ) (whole : Bool) (is : at ≡ built_place opened.prefix index.number) (found : reads.IsSetAnswered maps at (all_ranges at) old mid (λ set. whole ≡ is_whole set)) where
@@ -185,23 +192,23 @@ module _ (maps : ℕ → Map) (refuses : KeyRange → ℕ → ReadError → Type
     -- NOT BUILT: not every position is built
     pub readable_unbuilt : whole ≡ false → IsRefused maps refuses opened (readable_call opened name) NotBuilt old mid
     readable_unbuilt none =
-        refused_unbuilt maps refuses opened (readable_call opened name) (readable_service opened index.number) (λ store. not (is_whole (built_of store index.number))) accepted refl
-        (ran_because was_read (λ m told. (told.0, (told.1.0, λ store holds same. ap not (sym (told.1.1 store holds same) ∙ none)))))
+        refused_unbuilt maps refuses opened (readable_call opened name) (service_of readable_meaning (readable_footprint opened) index.number) (created opened.schema) accepted refl
+        (ran_because was_read (λ m told. (told.0, (told.1.0, λ store holds same. unready index.number store (sym (told.1.1 store holds same) ∙ none)))))
 
     -- MEMORY: it was wanting after the read
     pub readable_memory : IsRefused maps refuses opened (readable_call opened name) Memory old mid
-    readable_memory = refused_memory maps refuses opened (readable_call opened name) (readable_service opened index.number) accepted was_read
+    readable_memory = refused_memory maps refuses opened (readable_call opened name) (service_of readable_meaning (readable_footprint opened) index.number) accepted was_read
 
     module _ (list : List Mutation) (wrote : list ≡ readable_writes opened.prefix index.number) (all : whole ≡ true) where
       -- LIMIT: what is to be written was refused
       pub readable_limited : {new : CommitRequest} (error : WriteError) → new ≡ mid → (error ≡ write.Memory) ⊎ (write_all_refusal mid.mutations list ≡ Some error) → IsRefused maps refuses opened (readable_call opened name) (of_write error) old new
       readable_limited error same says =
-          refused_limit maps refuses opened (readable_call opened name) (readable_service opened index.number) list error accepted was_read
-          (λ m store holds alike told. (ap not (sym told ∙ all), wrote)) same says
+          refused_limit maps refuses opened (readable_call opened name) (service_of readable_meaning (readable_footprint opened) index.number) list error accepted was_read
+          (λ m store holds alike told. (record { answer = _; is = ready index.number store (sym told ∙ all) }, wrote)) same says
 
       -- ANSWERED: the index is readable
       pub readable_answered : {new : CommitRequest} (states : List (ℕ × State)) → states ≡ without_state index.number opened.states → new ≡ with_mutations list mid → IsNone (write_all_refusal mid.mutations list) →
           IsAnswered maps opened (readable_call opened name) states old new
       readable_answered states left made allowed =
-          answered maps refuses opened (readable_call opened name) (readable_service opened index.number) states list accepted (ap (λ ms. length ms == 0) wrote) was_read made allowed
+          answered maps refuses opened (readable_call opened name) (service_of readable_meaning (readable_footprint opened) index.number) states list accepted (ap (λ ms. length ms == 0) wrote) was_read made allowed
           (λ m store holds alike told. readable_served opened index.number known marking states list wrote left m store holds alike (sym told ∙ all))

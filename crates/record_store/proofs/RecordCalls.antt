@@ -18,9 +18,10 @@ use Rattle.metadata.specs.Records.{IsStorable, of_type, record_at}
 use Rattle.metadata.specs.Schema.{Schema, find_type}
 use Rattle.record_store.specs.Store.{Store, extended, removed, saved}
 use Rattle.record_store.specs.Holds.{Holds, IsOfSchema}
-use Rattle.record_store.specs.Call.{AtStore, IsOpenAs, Opened, whole}
+use Rattle.record_store.specs.Call.{AtStore, IsOpenAs, Opened, call_on, service_of, whole}
 use Rattle.record_store.specs.declared.error.StoreError.TheVariants.{OtherSchema}
-use Rattle.record_store.specs.Calls.{load_service, records_service, remove_service, save_service, schema_service, schema_writes, is_own, save_call}
+use Rattle.record_store.specs.Calls.{load_footprint, records_footprint, remove_footprint, save_call, save_footprint, schema_writes, type_footprint}
+use Rattle.record_store.specs.Meaning.{is_own, load_meaning, records_meaning, remove_meaning, save_meaning, type_meaning}
 use Rattle.record_store.proofs.Answered.{IsServed}
 use Rattle.record_store.proofs.Changed.{extended_holds}
 use Rattle.record_store.proofs.IndexedRecords.{removed_holds_all, saved_holds_all}
@@ -41,8 +42,8 @@ use Rattle.record_store.specs.Layout.{record_key, record_value}
 
 -- LOAD: it answers the record that is there
 pub load_served : (opened : Opened) (key : List Item) (found : Option Record) (m : Map) (store : Store) → Holds opened.prefix m (Some store) → found ≡ record_at key store.records →
-    IsServed opened (load_service opened key) found [] m store
-load_served opened key found m store holds is = record { accepted = refl; answers = is; wrote = refl; holds = holds }
+    IsServed opened (service_of load_meaning (load_footprint opened) key) found [] m store
+load_served opened key found m store holds is = record { answers = ap Ok (sym is); wrote = refl; holds = holds }
 
 -- a list that begins with something isn't empty
 pub filled : {X : Type 0} (x : X) (xs : List X) → (length (x ∷ xs) == 0) ≡ false
@@ -61,10 +62,9 @@ save_list opened new old list store same is wrote =
 -- SAVE: the record stands in its place
 pub save_served : (opened : Opened) (new : Record) (old : Option Record) (list : List Mutation) → IsOfSchema opened.schema new → IsStorable new →
     (m : Map) (store : Store) → Holds opened.prefix m (Some store) → IsOpenAs opened store → old ≡ record_at (primary_key new) store.records → list ≡ save_writes opened.prefix store new →
-    IsServed opened (save_service opened new) old list m store
+    IsServed opened (service_of save_meaning (save_footprint opened) new) old list m store
 save_served opened new old list typed can m store holds same is writes = record {
-  accepted = refl;
-  answers = is;
+  answers = ap Ok (sym is);
   wrote = writes;
   holds = subst (λ ms. Holds opened.prefix (after_all ms m) (Some (saved store new))) (sym writes) (saved_holds_all opened.prefix m store new (subst (λ s. IsOfSchema s new) (sym same.schema) typed) can holds);
 }
@@ -81,19 +81,18 @@ remove_list opened key number old list store same is wrote =
 -- REMOVE: the record is gone
 pub remove_served : (opened : Opened) (key : List Item) (old : Option Record) (was_there : Bool) (list : List Mutation) → was_there ≡ is_some old → IsTuple key →
     (m : Map) (store : Store) → Holds opened.prefix m (Some store) → old ≡ record_at key store.records → list ≡ remove_writes opened.prefix store key old →
-    IsServed opened (remove_service opened key) was_there list m store
+    IsServed opened (service_of remove_meaning (remove_footprint opened) key) was_there list m store
 remove_served opened key old was_there list there tuple m store holds is wrote =
     let writes = wrote ∙ ap (remove_writes opened.prefix store key) is in
     record {
-      accepted = refl;
-      answers = there ∙ ap is_some is;
+      answers = ap Ok (sym (there ∙ ap is_some is));
       wrote = writes;
       holds = subst (λ ms. Holds opened.prefix (after_all ms m) (Some (removed store key))) (sym writes) (removed_holds_all opened.prefix m store key tuple holds);
     }
 
 -- a record of the schema's own type is accepted
-pub save_accepted : (opened : Opened) (r : Record) → is_own (find_type opened.schema r.definition.name) r ≡ true → save_call opened r ≡ Ok (save_service opened r)
-save_accepted opened r own = ap (λ b. cond b (Ok (save_service opened r)) (Err OtherSchema)) own
+pub save_accepted : (opened : Opened) (r : Record) → is_own (find_type opened.schema r.definition.name) r ≡ true → save_call opened r ≡ Ok (service_of save_meaning (save_footprint opened) r)
+save_accepted opened r own = ap (λ b. call_on save_meaning (save_footprint opened) (cond b (Ok r) (Err OtherSchema))) own
 
 -- ---- a type more
 
@@ -135,9 +134,8 @@ same_indexes schema next request added = made (type_refusal schema request) adde
     made (Some refusal) same = absurd (cc)
 
 pub type_served : (opened : Opened) (next : Schema) (request : TypeRequest) (list : List Mutation) → list ≡ schema_writes opened.prefix next → IsLawfulSchema next → add_type opened.schema request ≡ Ok next →
-    (m : Map) (store : Store) → Holds opened.prefix m (Some store) → IsOpenAs opened store → IsServed opened (schema_service opened next) next list m store
+    (m : Map) (store : Store) → Holds opened.prefix m (Some store) → IsOpenAs opened store → IsServed opened (service_of type_meaning (type_footprint opened) next) next list m store
 type_served opened next request list wrote lawful added m store holds same = record {
-  accepted = refl;
   answers = refl;
   wrote = wrote;
   holds =
@@ -152,5 +150,5 @@ nothing_read maps opened = ran_still refl (λ m. (refl, (tt, λ store holds same
 
 -- ---- saves and scans, by their parts
 
-pub records_served : (opened : Opened) (number : ℕ) (rows : List Record) (m : Map) (store : Store) → Holds opened.prefix m (Some store) → rows ≡ of_type number store.records → IsServed opened (records_service opened number) rows [] m store
-records_served opened number rows m store holds is = record { accepted = refl; answers = is; wrote = refl; holds = holds }
+pub records_served : (opened : Opened) (number : ℕ) (rows : List Record) (m : Map) (store : Store) → Holds opened.prefix m (Some store) → rows ≡ of_type number store.records → IsServed opened (service_of records_meaning (records_footprint opened) number) rows [] m store
+records_served opened number rows m store holds is = record { answers = ap Ok (sym is); wrote = refl; holds = holds }

@@ -28,8 +28,9 @@ use Rattle.metadata.specs.Stored.{IsStoredAs}
 use Rattle.index_maint.specs.Built.{position_of}
 use Rattle.record_store.specs.declared.error.StoreError.{StoreError}
 use Rattle.record_store.specs.BuiltReading.{added_of, built_reading, found_of, type_number_in}
-use Rattle.record_store.specs.Call.{IsAnswered, IsOpenAs, IsRefused, Opened, Reading, where_there}
-use Rattle.record_store.specs.Calls.{done_with, remove_call, remove_service}
+use Rattle.record_store.specs.Call.{IsAnswered, IsOpenAs, IsRefused, Opened, Reading, service_of, where_there}
+use Rattle.record_store.specs.Calls.{remove_call, remove_footprint}
+use Rattle.record_store.specs.Meaning.{remove_meaning}
 use Rattle.record_store.specs.Form.{IsWritten, read_in}
 use Rattle.record_store.specs.IndexWrites.{one_index_writes, remove_writes}
 use Rattle.record_store.specs.Layout.{record_key}
@@ -37,7 +38,7 @@ use Rattle.record_store.specs.Reading.{HasNotFound, HasNotRead, HasReadBuilt, Ha
 use Rattle.record_store.specs.Reading.{IsNotFound, ReadsHaveStopped, asked_built}
 use Rattle.record_store.specs.Steps.{DidRead, no_memory, of_write}
 use Rattle.record_store.specs.Store.{Store}
-use Rattle.record_store.proofs.Answered.{answered, answered_reading, key_given, refused_limit, refused_unread}
+use Rattle.record_store.proofs.Answered.{answered, answered_reading, done_with, key_given, refused_limit, refused_unread}
 use Rattle.record_store.proofs.OneRecord.{read_there}
 use Rattle.record_store.proofs.RecordCalls.{filled, remove_list, remove_served}
 use Rattle.record_store.proofs.Writing.{built_unread, follow_read, follow_unread, key_unread, memory_behind, record_unread}
@@ -79,8 +80,8 @@ module _ (opened : Opened) (name : List ℕ) (cells : List Cell) (type : TypeDef
   built_read : {maps : ℕ → Map} {found : List (List Pair)} {mid new : CommitRequest} → BuiltRead maps found mid new → HasReadBuilt maps opened type.number (position_of pk) opened.schema.indexes found mid new
   built_read {maps = maps} {found = found} {mid = mid} {new = new} ran = subst (λ p. HasReadBuilt maps opened type.number p opened.schema.indexes found mid new) is_at ran
 
-  accepted : remove_call opened name cells ≡ Ok (remove_service opened pk)
-  accepted = ap (done_with (remove_service opened)) asked
+  accepted : remove_call opened name cells ≡ Ok (service_of remove_meaning (remove_footprint opened) pk)
+  accepted = ap (done_with remove_meaning (remove_footprint opened)) asked
 
   -- where a pair stands there it is read
   there_asked : (m : Map) (value : List ℕ) → Some value ≡ get m key → other.asked m ≡ built.asked m
@@ -98,8 +99,8 @@ module _ (opened : Opened) (name : List ℕ) (cells : List Cell) (type : TypeDef
       ap (λ o. cond (is_some o) ((built_reading opened (type_number_in pk) (position_of pk) opened.schema.indexes).pairs m) []) (sym is)
       ∙ ap (λ n. (built_reading opened n (position_of pk) opened.schema.indexes).pairs m) number_is
 
-  unread : {maps : ℕ → Map} {refuses : KeyRange → ℕ → ReadError → Type 0} {old new : CommitRequest} (error : StoreError) → HasNotFound maps refuses opened (remove_service opened pk).reading error old new → IsRefused maps refuses opened (remove_call opened name cells) error old new
-  unread {maps = maps} {refuses = refuses} error is = refused_unread maps refuses opened (remove_call opened name cells) (remove_service opened pk) error accepted is
+  unread : {maps : ℕ → Map} {refuses : KeyRange → ℕ → ReadError → Type 0} {old new : CommitRequest} (error : StoreError) → HasNotFound maps refuses opened (remove_footprint opened pk).reading error old new → IsRefused maps refuses opened (remove_call opened name cells) error old new
+  unread {maps = maps} {refuses = refuses} error is = refused_unread maps refuses opened (remove_call opened name cells) (service_of remove_meaning (remove_footprint opened) pk) error accepted is
 
   -- KEY: its read isn't answered
   pub remove_key_refused : {maps : ℕ → Map} {refuses : KeyRange → ℕ → ReadError → Type 0} {old new : CommitRequest} (error : StoreError) → HasNotRead maps refuses (point (record_key opened.prefix pk) ∷ []) error old new →
@@ -109,7 +110,7 @@ module _ (opened : Opened) (name : List ℕ) (cells : List Cell) (type : TypeDef
   -- ABSENT: no record is there
   pub remove_absent : {maps : ℕ → Map} {old new : CommitRequest} → KeyRead maps None old new → IsAnswered maps opened (remove_call opened name cells) false old new
   remove_absent {maps = maps} ran =
-      answered_reading maps NeverRefuses opened (remove_call opened name cells) (remove_service opened pk) false accepted refl
+      answered_reading maps NeverRefuses opened (remove_call opened name cells) (service_of remove_meaning (remove_footprint opened) pk) false accepted refl
       (ran_because ran (λ m is.
       let read = read_there opened type pk lawful own_type its_key m None None (sym is) refl in (
         ap (λ o. point key ∷ cond (is_some o) ((built_reading opened (type_number_in pk) (position_of pk) opened.schema.indexes).added m) []) is,
@@ -164,8 +165,8 @@ module _ (opened : Opened) (name : List ℕ) (cells : List Cell) (type : TypeDef
               let all_read = follow_read opened key other found type.number (position_of pk) (Some value) (λ m is. (there_added m value is, there_pairs m value is)) first (built_read ranges) type pk lawful own_type its_key refl (Some r) stands
               (Some r) None (ClearRange (point (record_key opened.prefix pk)) ∷ []) list
               (subst (λ p. HaveFollowed opened type.number p (Some r) None found opened.schema.indexes (ClearRange (point (record_key opened.prefix pk)) ∷ []) list) is_at followed) in
-              refused_limit maps refuses opened (remove_call opened name cells) (remove_service opened pk) list error accepted all_read
-              (λ m store holds same so. (refl, writes_are store same so.0 so.1 ∙ ap (remove_writes opened.prefix store pk) so.0)) kept says
+              refused_limit maps refuses opened (remove_call opened name cells) (service_of remove_meaning (remove_footprint opened) pk) list error accepted all_read
+              (λ m store holds same so. (record { answer = _; is = refl }, writes_are store same so.0 so.1 ∙ ap (remove_writes opened.prefix store pk) so.0)) kept says
 
           -- REMOVED
           pub remove_answered : {new : CommitRequest} → new ≡ with_mutations list read → IsNone (write_all_refusal read.mutations list) → IsAnswered maps opened (remove_call opened name cells) true old new
@@ -173,6 +174,6 @@ module _ (opened : Opened) (name : List ℕ) (cells : List Cell) (type : TypeDef
               let all_read = follow_read opened key other found type.number (position_of pk) (Some value) (λ m is. (there_added m value is, there_pairs m value is)) first (built_read ranges) type pk lawful own_type its_key refl (Some r) stands
               (Some r) None (ClearRange (point (record_key opened.prefix pk)) ∷ []) list
               (subst (λ p. HaveFollowed opened type.number p (Some r) None found opened.schema.indexes (ClearRange (point (record_key opened.prefix pk)) ∷ []) list) is_at followed) in
-              answered maps refuses opened (remove_call opened name cells) (remove_service opened pk) true list accepted
+              answered maps refuses opened (remove_call opened name cells) (service_of remove_meaning (remove_footprint opened) pk) true list accepted
               (ap (λ ms. length ms == 0) followed.1 ∙ filled (ClearRange (point (record_key opened.prefix pk))) followed.0) all_read ok allowed
               (λ m store holds same so. remove_served opened pk (Some r) true list refl is_tuple m store holds so.0 (writes_are store same so.0 so.1))

@@ -22,8 +22,9 @@ use Rattle.metadata.specs.Schema.{find_type}
 use Rattle.index_maint.specs.Built.{position_of}
 use Rattle.record_store.specs.declared.error.StoreError.{StoreError}
 use Rattle.record_store.specs.BuiltReading.{built_reading}
-use Rattle.record_store.specs.Call.{IsAnswered, IsRefused, Opened, Reading}
-use Rattle.record_store.specs.Calls.{is_own, save_call, save_service}
+use Rattle.record_store.specs.Call.{IsAnswered, IsRefused, Opened, Reading, service_of}
+use Rattle.record_store.specs.Calls.{save_call, save_footprint}
+use Rattle.record_store.specs.Meaning.{is_own, save_meaning}
 use Rattle.record_store.specs.Layout.{record_key, record_value}
 use Rattle.record_store.specs.Reading.{HasNotFound, HasNotRead, HasReadBuilt, HaveFollowed, HaveNotFollowed, IsFound}
 use Rattle.record_store.specs.Reading.{IsKeyOf, IsNotFound, ReadsHaveStopped}
@@ -54,7 +55,7 @@ module _ (opened : Opened) (r : Record) (own : is_own (find_type opened.schema r
   place_is : at ≡ position_of (primary_key r)
   place_is = is_at ∙ ap position_of is_key
 
-  accepted : save_call opened r ≡ Ok (save_service opened r)
+  accepted : save_call opened r ≡ Ok (service_of save_meaning (save_footprint opened) r)
   accepted = save_accepted opened r own
 
   key_of : IsKeyOf r.definition (primary_key r)
@@ -68,8 +69,8 @@ module _ (opened : Opened) (r : Record) (own : is_own (find_type opened.schema r
   built_read {maps = maps} {found = found} {mid = mid} {new = new} ran =
       subst (λ p. HasReadBuilt maps opened r.definition.number p opened.schema.indexes found mid new) place_is (subst (λ (t : TypeDefinition). HasReadBuilt maps opened t.number at opened.schema.indexes found mid new) is_type ran)
 
-  unread : {maps : ℕ → Map} {refuses : KeyRange → ℕ → ReadError → Type 0} {old new : CommitRequest} (error : StoreError) → HasNotFound maps refuses opened (save_service opened r).reading error old new → IsRefused maps refuses opened (save_call opened r) error old new
-  unread {maps = maps} {refuses = refuses} error is = refused_unread maps refuses opened (save_call opened r) (save_service opened r) error accepted is
+  unread : {maps : ℕ → Map} {refuses : KeyRange → ℕ → ReadError → Type 0} {old new : CommitRequest} (error : StoreError) → HasNotFound maps refuses opened (save_footprint opened r).reading error old new → IsRefused maps refuses opened (save_call opened r) error old new
+  unread {maps = maps} {refuses = refuses} error is = refused_unread maps refuses opened (save_call opened r) (service_of save_meaning (save_footprint opened) r) error accepted is
 
   -- KEY: its read isn't answered
   pub save_key_refused : {maps : ℕ → Map} {refuses : KeyRange → ℕ → ReadError → Type 0} {old new : CommitRequest} (error : StoreError) → HasNotRead maps refuses (point (record_key opened.prefix pk) ∷ []) error old new →
@@ -118,8 +119,8 @@ module _ (opened : Opened) (r : Record) (own : is_own (find_type opened.schema r
             let all_read = follow_read opened key other found r.definition.number (position_of (primary_key r)) value (λ m is. (refl, refl)) (key_read first) (built_read built) r.definition (primary_key r) lawful
             (own_found opened.schema r own) key_of refl record_found stands_so record_found (Some r) (Set (record_key opened.prefix (primary_key r)) (record_value r.cells) ∷ []) list
             (subst (λ p. HaveFollowed opened r.definition.number p record_found (Some r) found opened.schema.indexes (Set (record_key opened.prefix (primary_key r)) (record_value r.cells) ∷ []) list) place_is followed) in
-            refused_limit maps refuses opened (save_call opened r) (save_service opened r) list error accepted all_read
-            (λ m store holds same found. (refl, save_list opened r record_found list store same found.0 found.1)) kept says
+            refused_limit maps refuses opened (save_call opened r) (service_of save_meaning (save_footprint opened) r) list error accepted all_read
+            (λ m store holds same found. (record { answer = _; is = refl }, save_list opened r record_found list store same found.0 found.1)) kept says
 
         -- SAVED
         pub save_answered : {new : CommitRequest} → record_in r.definition r.cells ≡ Ok r → All IsCell r.cells → new ≡ with_mutations list read → IsNone (write_all_refusal read.mutations list) → IsAnswered maps opened (save_call opened r) record_found old new
@@ -127,7 +128,7 @@ module _ (opened : Opened) (r : Record) (own : is_own (find_type opened.schema r
             let all_read = follow_read opened key other found r.definition.number (position_of (primary_key r)) value (λ m is. (refl, refl)) (key_read first) (built_read built) r.definition (primary_key r) lawful
             (own_found opened.schema r own) key_of refl record_found stands_so record_found (Some r) (Set (record_key opened.prefix (primary_key r)) (record_value r.cells) ∷ []) list
             (subst (λ p. HaveFollowed opened r.definition.number p record_found (Some r) found opened.schema.indexes (Set (record_key opened.prefix (primary_key r)) (record_value r.cells) ∷ []) list) place_is followed) in
-            answered maps refuses opened (save_call opened r) (save_service opened r) record_found list accepted
+            answered maps refuses opened (save_call opened r) (service_of save_meaning (save_footprint opened) r) record_found list accepted
             (ap (λ ms. length ms == 0) followed.1 ∙ filled (Set (record_key opened.prefix (primary_key r)) (record_value r.cells)) followed.0) all_read ok allowed
             (λ m store holds same found. save_served opened r record_found list (own_typed opened.schema r own made) (record { cells = cells; key = subst IsTuple is_key is_tuple }) m store holds same found.0
             (save_list opened r record_found list store same found.0 found.1))

@@ -1,5 +1,5 @@
 -- What a call on an open store establishes, whatever map the snapshot turns out to have.
-use Rattle.std.specs.Prelude.{◌≡◌, ◌⊎◌, ℕ, Bool, true, false, not, List, [], ◌∷◌, ◌++◌, Option, Some, None}
+use Rattle.std.specs.Prelude.{◌≡◌, ◌⊎◌, ℕ, false, not, List, [], ◌∷◌, ◌++◌, Option, Some, None}
 use Rattle.std.specs.Prelude.{Result, Ok, Err, length, ◌==◌, is_some, if◌then◌else◌}
 use Rattle.std.specs.FinMap.{get}
 use Rattle.std.specs.List.{AllByRecursion}
@@ -17,6 +17,7 @@ use Rattle.record_store.specs.declared.error.StoreError.{StoreError}
 use Rattle.record_store.specs.declared.error.StoreError.TheVariants.{Memory, Read, Write, Corrupt}
 use Rattle.record_store.specs.Store.{Store}
 use Rattle.record_store.specs.Holds.{Holds}
+use Rattle.record_store.specs.Meaning.{Meaning}
 use Rattle.range_set.specs.Stored.{AreWritten, IsFirstDamaged}
 use Rattle.record_store.specs.Form.{IsFirstBad, IsWritten, read_in}
 use Rattle.record_store.specs.Layout.{built_place, built_range}
@@ -106,44 +107,44 @@ AreDamaged opened (Some number) pairs key m =
 abbrev pub IsDamagedAt : Opened → Reading → List ℕ → Map → Type 0
 IsDamagedAt opened reading key m = AreDamaged opened reading.set (reading.pairs m) key m
 
--- what a call may be refused for once it has read: nothing, or by the store that is there so
-pub data Objection : Type 0 where
-  Never : Objection
-  Where : StoreError → (Store → Bool) → Objection
-
--- the store that is there is objected to
-abbrev pub is_objected : Objection → Store → Bool
-is_objected Never store = false
-is_objected (Where error test) store = test store
-
--- what a call does that isn't refused before it reads: what it reads, what it may be refused for then, and by the store
--- that is there what it answers, the store after it, and exactly what it writes; and whether an answer tells that
--- something was written
-pub record Service (A : Type 0) : Type 0 where
+-- what a call reads, and by the store that is there exactly what it writes, in order
+pub record Footprint : Type 0 where
   pub reading : Reading
-  pub objection : Objection
-  pub answer : Store → A
-  pub after : Store → Store
   pub writes : Store → List Mutation
-  pub changes : A → Bool
+
+-- a call that writes nothing
+abbrev pub reads_only : Reading → Footprint
+reads_only reading = record { reading = reading; writes = λ store. [] }
+
+-- what a call does that isn't refused before it reads
+pub record Service (A : Type 0) : Type 0 where
+  pub meaning : Meaning A
+  pub footprint : Footprint
 
 -- a call: what it does, or its own refusal, before it reads
 abbrev pub Call : Type 0 → Type 0
 Call A = Result (Service A) StoreError
 
+-- the call that does this with what is asked for, or has the refusal
+abbrev pub service_of : {K A : Type 0} → (K → Meaning A) → (K → Footprint) → K → Service A
+service_of meaning footprint value = record { meaning = meaning value; footprint = footprint value }
+
+abbrev pub call_on : {K A : Type 0} → (K → Meaning A) → (K → Footprint) → Result K StoreError → Call A
+call_on meaning footprint (Ok value) = Ok (service_of meaning footprint value)
+call_on meaning footprint (Err error) = Err error
+
 -- the fact stands of each store that the map holds and that was opened so
 abbrev pub AtStore : Opened → Map → (Store → Type 0) → Type 0
 AtStore opened m Fact = (store : Store) → Holds opened.prefix m (Some store) → IsOpenAs opened store → Fact store
 
--- what is so at the store that is there: it isn't objected to, the answer is the store's, these mutations are exactly
--- what the call writes, no limit refuses them, and they lead to a map that holds the store after it
+-- what is so at the store that is there: the answer is the store's, these mutations are exactly what the call writes, no
+-- limit refuses them, and they lead to a map that holds the store after it
 pub record IsDone {A : Type 0} (opened : Opened) (service : Service A) (answer : A) (before written : List Mutation)
     (m : Map) (store : Store) : Type 0 where
-  pub accepted : is_objected service.objection store ≡ false
-  pub answers : answer ≡ service.answer store
-  pub wrote : written ≡ service.writes store
+  pub answers : service.meaning.answer store ≡ Ok answer
+  pub wrote : written ≡ service.footprint.writes store
   pub allowed : write_all_refusal before written ≡ None
-  pub holds : Holds opened.prefix (after_all written m) (Some (service.after store))
+  pub holds : Holds opened.prefix (after_all written m) (Some (service.meaning.after store))
 
 -- a call was answered: it added to the ranges read those that it reads, in their order, the pairs read are of the
 -- written form, and the rest is so at each store that is there
@@ -153,9 +154,9 @@ pub record IsAnswered {A : Type 0} (maps : ℕ → Map) (opened : Opened) (call 
   pub accepted : call ≡ Ok service
   pub added : List KeyRange
   pub written : List Mutation
-  pub changes : (length written == 0) ≡ not (service.changes answer)
-  pub ran : Ran maps added old new written (λ m. (added ≡ service.reading.added m)
-      × IsSound opened service.reading m
+  pub changes : (length written == 0) ≡ not (service.meaning.changes answer)
+  pub ran : Ran maps added old new written (λ m. (added ≡ service.footprint.reading.added m)
+      × IsSound opened service.footprint.reading m
       × AtStore opened m (IsDone opened service answer old.mutations written m))
 
 -- why reads aren't answered: memory is wanting, or a read is refused, in either case behind the first ones; or all were
@@ -168,31 +169,35 @@ IsUnread refuses opened reading (Corrupt key) added m =
     (added ≡ reading.added m) × IsDamagedAt opened reading key m × AtStore opened m (λ store. ⊥)
 IsUnread refuses opened reading error added m = ⊥
 
--- why a call is refused for what it read: all was answered, all pairs are of the written form, and the store that is
--- there is objected to so
-abbrev pub IsObjectedTo : Opened → Reading → Objection → StoreError → List KeyRange → Map → Type 0
-IsObjectedTo opened reading Never error added m = ⊥
-IsObjectedTo opened reading (Where own test) error added m =
-    (error ≡ own) × (added ≡ reading.added m)
-    × IsSound opened reading m
-    × AtStore opened m (λ store. test store ≡ true)
+-- a store is answered
+pub record IsAccepted {A : Type 0} (service : Service A) (store : Store) : Type 0 where
+  pub answer : A
+  pub is : service.meaning.answer store ≡ Ok answer
+
+-- the store that is there is refused, as some store is: all reads were answered, and all pairs are of the written form
+abbrev pub IsRefusedThere : {A : Type 0} → Opened → Service A → StoreError → List KeyRange → Map → Type 0
+IsRefusedThere opened service error added m =
+    ((store : Store) × (service.meaning.answer store ≡ Err error))
+    × (added ≡ service.footprint.reading.added m)
+    × IsSound opened service.footprint.reading m
+    × AtStore opened m (λ store. service.meaning.answer store ≡ Err error)
 
 -- why a service isn't done: its reads aren't answered; or all were, all pairs are of the written form, and a limit
--- refuses what is to be written, or the store is objected to
+-- refuses what is to be written, or the store that is there is refused
 abbrev pub IsFailure :
     {A : Type 0} → (KeyRange → ReadError → Type 0) → Opened → Service A → StoreError → List Mutation → List KeyRange →
     Map → Type 0
-IsFailure refuses opened service Memory before added m = IsUnread refuses opened service.reading Memory added m
+IsFailure refuses opened service Memory before added m =
+    IsUnread refuses opened service.footprint.reading Memory added m
 IsFailure refuses opened service (Read error) before added m =
-    IsUnread refuses opened service.reading (Read error) added m
+    IsUnread refuses opened service.footprint.reading (Read error) added m
 IsFailure refuses opened service (Corrupt key) before added m =
-    IsUnread refuses opened service.reading (Corrupt key) added m
+    IsUnread refuses opened service.footprint.reading (Corrupt key) added m
 IsFailure refuses opened service (Write error) before added m =
-    (added ≡ service.reading.added m) × IsSound opened service.reading m
-    × AtStore opened m (λ store. (is_objected service.objection store ≡ false)
-    × (write_all_refusal before (service.writes store) ≡ Some error))
-IsFailure refuses opened service error before added m =
-    IsObjectedTo opened service.reading service.objection error added m
+    (added ≡ service.footprint.reading.added m) × IsSound opened service.footprint.reading m
+    × AtStore opened m (λ store. IsAccepted service store
+    × (write_all_refusal before (service.footprint.writes store) ≡ Some error))
+IsFailure refuses opened service error before added m = IsRefusedThere opened service error added m
 
 -- a service wasn't done: it added these ranges to those read, and wrote nothing
 pub record IsUndone {A : Type 0} (maps : ℕ → Map) (refuses : KeyRange → ℕ → ReadError → Type 0) (opened : Opened)

@@ -2,6 +2,7 @@ pub mod Store
 pub mod Layout
 pub mod Holds
 pub mod Form
+pub mod Meaning
 pub mod Call
 pub mod BuiltReading
 pub mod Calls

@@ -30,7 +30,7 @@ use Rattle.record_store.specs.Layout.{record_key, schema_key, state_pair, state_
 use Rattle.record_store.specs.Form.{IsFirstBad, IsStatePair, IsWritten, read_in}
 use Rattle.record_store.specs.Holds.{IsListed, has_number}
 use Rattle.record_store.specs.Call.{AtStore, IsUnread, Opened, Reading}
-use Rattle.record_store.specs.Calls.{total_of}
+use Rattle.record_store.specs.Meaning.{total_of}
 use Rattle.record_store.specs.Store.{Store, built_of, new_state, state_in}
 use Rattle.record_store.specs.BuiltReading.{added_of, asks, found_of}
 use Rattle.record_store.specs.IndexWrites.{one_index_writes}

@@ -15,8 +15,9 @@ ghost use Rattle.record_store.specs.Layout.{built_range, entries_range, schema_k
 ghost use Rattle.record_store.specs.Store.{still_listed, with_state};
 ghost use Rattle.txn.specs.Refusing.{NeverRefuses};
 ghost use Rattle.record_store.specs.Call.{IsAnswered, IsRefused};
-ghost use Rattle.record_store.specs.Calls.{drop_call, index_number};
+ghost use Rattle.record_store.specs.Calls.{drop_call};
 ghost use Rattle.record_store.specs.Calls.{index_states, opened_without, state_named};
+ghost use Rattle.record_store.specs.Meaning.{index_number};
 
 use crate::create::schema_mutations;
 use crate::error::StoreError;

@@ -5,10 +5,10 @@ ghost use Rattle.kv_core.specs.Map.{Map};
 ghost use Rattle.metadata.specs.Schema.{find_index};
 ghost use Rattle.txn.specs.Refusing.{NeverRefuses};
 ghost use Rattle.record_store.specs.Call.{IsAnswered, IsRefused};
-ghost use Rattle.record_store.specs.Calls.{disable_call, index_number, mark_call, readable_call, write_only_call};
+ghost use Rattle.record_store.specs.Calls.{disable_call, mark_call, readable_call, write_only_call};
 ghost use Rattle.record_store.specs.Calls.{opened_disabled, opened_marked, opened_readable, opened_write_only};
-ghost use Rattle.record_store.specs.Calls.{write_only_named};
 ghost use Rattle.record_store.specs.IndexWrites.{marked_writes, readable_writes};
+ghost use Rattle.record_store.specs.Meaning.{index_number, write_only_named};
 
 use crate::error::StoreError;
 use crate::indexes::with_state;
@@ -100,8 +100,8 @@ impl Store {
     /// The index of this name, where it is write-only. Refused with `UnknownIndex` where there is no
     /// such index, and with `WrongState` where it isn't write-only. It takes no memory.
     pub fn write_only_index(&self, name: &Text) -> Result<&IndexDefinition, StoreError>
-        ensures found { IfOk result (λ index. write_only_named self.now name.now ≡ Ok index.now) }
-        ensures refused { IfErr result (λ error. write_only_named self.now name.now ≡ Err error) }
+        ensures found { IfOk result (λ index. write_only_named self.now.schema self.now.states name.now ≡ Ok index.now) }
+        ensures refused { IfErr result (λ error. write_only_named self.now.schema self.now.states name.now ≡ Err error) }
     {
         let index = self.index(name)?;
         if self.state_of(index.number) != State::WriteOnly {

@@ -6,7 +6,8 @@ ghost use Rattle.metadata.specs.Record.{primary_key as primary_key_of};
 ghost use Rattle.metadata.specs.Schema.{find_type};
 ghost use Rattle.record_store.specs.Call.{IsAnswered, IsRefused};
 ghost use Rattle.kv_core.specs.declared.change.Mutation.TheVariants.{Set};
-ghost use Rattle.record_store.specs.Calls.{is_own, save_call};
+ghost use Rattle.record_store.specs.Calls.{save_call};
+ghost use Rattle.record_store.specs.Meaning.{is_own};
 ghost use Rattle.record_store.specs.Layout.{record_key, record_value};
 ghost use Rattle.record_store.specs.Reading.{HaveFollowed, HaveNotFollowed};
 

@@ -11,7 +11,7 @@ use Rattle.metadata.specs.declared.refusal.MetadataError.{MetadataError}
 use Rattle.metadata.specs.declared.refusal.MetadataError.TheVariants as meta
 use Rattle.metadata.specs.declared.refusal.Refusal.{Refusal as SchemaRefusal}
 use Rattle.schedule.specs.declared.refusal.Refusal.{Refusal}
-use Rattle.schedule.specs.Refusals.{of_schema}
+use Rattle.schedule.specs.Refusals.{of_schema, reply_of}
 use Rattle.schedule.specs.declared.refusal.Refusal.TheVariants.{AlreadyThere, KeyOutside, KeyTooLarge, ValueTooLarge, TransactionTooLarge}
 use Rattle.kv_core.specs.declared.change.WriteError.{WriteError}
 use Rattle.kv_core.specs.declared.change.WriteError.TheVariants as write
@@ -32,11 +32,11 @@ use Rattle.schedule.specs.declared.reply.Reply.{Reply}
 use Rattle.schedule.specs.declared.step.Command.TheVariants.{Create}
 use Rattle.schedule.specs.declared.reply.Reply.TheVariants as reply
 use Rattle.schedule.specs.Layout.{store_prefix}
-use Rattle.schedule.specs.Serve.{IsReply, served_create}
+use Rattle.schedule.specs.Serve.{IsReply, IsReplyOf, creating, left_by}
 use Rattle.schedule.specs.Holds.{Stands}
-use Rattle.schedule.specs.Reach.{opened_in, added_by, make_reach, open_reach, reach, schema_written, writes}
+use Rattle.schedule.specs.Reach.{opened_in, added_by, make_reach, open_reach, reach, schema_written, writes, writes_in, written_with}
 use Rattle.schedule.specs.Performed.{IsCommandSound, IsLimited, IsMade, IsMadeOf, IsPerformed, IsPerformedAt, TellsOfPairs}
-use Rattle.schedule.specs.Calls.{IsCommandRefused, reply_of}
+use Rattle.schedule.specs.Calls.{IsCommandRefused}
 use Rattle.schedule.proofs.Reached.{begin_open, next_within, opening_asked}
 use Rattle.schedule.proofs.Stops.{IsRight, IsStop, limit_right, own_right, read_right, refused_by, refused_memory, stop_memory, told_read, told_refused}
 
@@ -46,8 +46,10 @@ fresh_at schema = record { prefix = store_prefix; schema = schema; states = [] }
 
 -- REQUEST: no schema is made, and nothing was read
 refusal_replies : (request : SchemaRequest) (serial : Serial) (refusal : SchemaRefusal) → schema_asked request ≡ Err refusal → IsReply serial (Create request) (reply.Refused (of_schema refusal)) × (writes serial (Create request) ≡ [])
-refusal_replies request None refusal is = (sym (ap (λ o. (served_create None o).0) is), ap schema_written is)
-refusal_replies request (Some store) refusal is = (sym (ap (λ o. (served_create (Some store) o).0) is), refl)
+refusal_replies request serial refusal is = (
+  subst (λ o. IsReplyOf (creating serial o) (reply.Refused (of_schema refusal))) (sym is) refl,
+  ap (λ o. written_with (creating serial o) (writes_in serial (Create request))) is,
+)
 
 pub refused_request : {maps : ℕ → Map} {refuses : KeyRange → ℕ → ReadError → Type 0} {old : CommitRequest} (request : SchemaRequest) (error : MetadataError) → IsRefusedAs error (schema_asked request) → IsCommandRefused maps refuses (Create request) (of_metadata error) old old
 refused_request request meta.Memory is = refused_memory (Create request)
@@ -79,7 +81,7 @@ added_there request m (Some store) = refl
 
 -- what is written where there is no store
 writes_none : (request : SchemaRequest) (schema : Schema) → schema_asked request ≡ Ok schema → writes None (Create request) ≡ schema_writes store_prefix schema
-writes_none request schema is = ap schema_written is
+writes_none request schema is = ap (λ o. written_with (creating None o) (schema_written o)) is
 
 -- NOT MADE
 uncreated_at : {maps : ℕ → Map} {refuses : KeyRange → ℕ → ReadError → Type 0} {old new : CommitRequest} (request : SchemaRequest) (schema : Schema) (error : StoreError) → schema_asked request ≡ Ok schema →
@@ -120,7 +122,8 @@ uncreated_at {refuses = refuses} {old = old} request schema error made is = refu
     right fault.NotBuilt ranges m says serial stands = absurd says
     right fault.AlreadyThere ranges m says None stands = absurd (says.2 None stands refl)
     right fault.AlreadyThere ranges m says (Some store) stands =
-        own_right refused (Create request) old.mutations fault.AlreadyThere AlreadyThere m (Some store) refl (sym (ap (λ o. (served_create (Some store) o).0) made)) refl
+        own_right refused (Create request) old.mutations fault.AlreadyThere AlreadyThere m (Some store) refl (subst (λ o. IsReplyOf (creating (Some store) o) (reply.Refused AlreadyThere)) (sym made) refl)
+        (ap (λ o. written_with (creating (Some store) o) (writes_in (Some store) (Create request))) made)
     right (Write reason) ranges m says None stands =
         limit_right refused (Create request) old.mutations reason m None (ap (write_all_refusal old.mutations) (writes_none request schema made) ∙ says.2)
     right (Write reason) ranges m says (Some store) stands = let none : ◌≡◌ {A = Option Store} (Some store) None = says.3 (Some store) stands in absurd (cc)
@@ -179,9 +182,9 @@ created_at {refuses = refuses} {old = old} request schema made is = record {
         IsPerformedAt refuses (Create request) reply.Done old.mutations (schema_writes store_prefix schema) (opening_reach store_prefix) m serial
     right m (Some store) stands known = let none : ◌≡◌ {A = Option Store} (Some store) None = known.0 in absurd (cc)
     right m None stands known = record {
-      right = inl (subst (λ o. IsLimited o None (Create request) reply.Done) (sym is.allowed ∙ ap (write_all_refusal old.mutations) (sym (writes_none request schema made))) (sym (ap (λ o. (served_create None o).0) made)));
+      right = inl (subst (λ o. IsLimited o None (Create request) reply.Done) (sym is.allowed ∙ ap (write_all_refusal old.mutations) (sym (writes_none request schema made))) (subst (λ o. IsReplyOf (creating None o) reply.Done) (sym made) refl));
       wrote = sym (writes_none request schema made);
-      holds = subst (Stands (after_all (schema_writes store_prefix schema) m)) (sym (ap (λ o. (served_create None o).1) made)) known.1;
+      holds = subst (Stands (after_all (schema_writes store_prefix schema) m)) (sym (ap (λ o. left_by None (creating None o)) made)) known.1;
       reads = all ∙ added_there request m None;
     }
 

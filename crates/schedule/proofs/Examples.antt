@@ -1,5 +1,5 @@
 -- Worked examples: the serial store computed, a schedule of two clients, and the layout.
-use Rattle.std.proofs.Common.{◌≡◌, ℕ, ◌++◌, length, List, [], ◌∷◌, None, refl, pos, map, replicate}
+use Rattle.std.proofs.Common.{◌≡◌, ℕ, ◌++◌, length, List, [], ◌∷◌, None, refl, pos, map, replicate, unwrap_or}
 use Rattle.std.specs.List.{range_with_len}
 use Rattle.metadata.specs.declared.cells.Cell.{Cell}
 use Rattle.metadata.specs.declared.cells.Cell.TheVariants.{Null, Int, Text}
@@ -17,7 +17,7 @@ use Rattle.schedule.specs.declared.reply.Report.TheVariants as reports
 use Rattle.kv_core.specs.Map.{Map}
 use Rattle.record_store.specs.Store.{Serial}
 use Rattle.record_store.specs.Layout.{place, record_key, record_value, schema_key, states_range}
-use Rattle.schedule.specs.Serve.{served, effects}
+use Rattle.schedule.specs.Serve.{Line, Refuses, Replies, effect, effects, line}
 use Rattle.schedule.specs.Past.{Past, open_of, submitted_in}
 use Rattle.schedule.specs.Commits.{committed_store}
 use Rattle.schedule.specs.Standing.{cluster_after, commits_of}
@@ -59,10 +59,15 @@ save key other = Save t (i key ∷ i other ∷ Null ∷ [])
 abbrev row : ℕ → ℕ → List Cell
 row key other = i key ∷ i other ∷ Null ∷ []
 
--- the replies of the serial store to commands in turn
-abbrev replies : Serial → List Command → List Reply
+-- the replies of the serial store to commands in turn, each of which has one
+abbrev pub reply_in : Line → Reply
+reply_in (Refuses refusal) = unwrap_or refusal Nothing
+reply_in (Replies answer after) = answer
+reply_in other = Nothing
+
+abbrev pub replies : Serial → List Command → List Reply
 replies serial [] = []
-replies serial (command ∷ commands) = (served serial command).0 ∷ replies (served serial command).1 commands
+replies serial (command ∷ commands) = reply_in (line serial command) ∷ replies (effect serial command) commands
 
 -- records are found by their keys, replaced and taken out
 keeping : replies None (create ∷ save 2 5 ∷ save 1 6 ∷ Load t (i 2 ∷ []) ∷ save 2 7 ∷ Remove t (i 1 ∷ []) ∷ Load t (i 1 ∷ []) ∷ Remove t (i 1 ∷ []) ∷ [])

@@ -56,7 +56,7 @@ use Rattle.schedule.specs.Calls.{IsCommandRefused}
 use Rattle.schedule.proofs.Outcomes.{answered_as, at_serial, begin_serial, located}
 use Rattle.schedule.proofs.Looking.{Looks, looked}
 use Rattle.schedule.proofs.Reached.{all_added, next_within, own_asked, told_refusal}
-use Rattle.schedule.proofs.Stops.{IsRight, IsStop, at, opened_is, read_right, refused_by, served_idle, stop_memory, told_damage, told_read}
+use Rattle.schedule.proofs.Stops.{IsRight, IsStop, at, opened_is, opened_same, read_right, refused_by, served_idle, stop_memory, told_damage, told_read}
 
 -- what a command is that executes the steps of a plan over the store's type: it reads what they read, and at each store that was opened so rows that answer the plan's query are its reply
 pub record Executes (opened : Opened) (command : Command) (plan : AskedPlan) (t : TypeDefinition) : Type 0 where
@@ -206,10 +206,6 @@ module _ {maps : ℕ → Map} {old mid new : CommitRequest} (opened : Opened) (c
       unexecuted_at opened command plan error executes (subst (λ o. IsOpened maps o old mid) (located opened here) is_opened) (subst (λ o. IsNoExecution maps refuses o plan error mid new) (located opened here) is)
 
 -- ---- a plan that is given
-
--- what was opened is what each store is that was opened so
-pub opened_same : (opened : Opened) (store : Store) → IsOpenAs (at opened) store → at opened ≡ opened_as store
-opened_same opened store same = λ i. record { prefix = store_prefix; schema = sym same.schema i; states = sym same.states i }
 
 -- the steps of a plan that is accepted
 accepted_steps : (opened : Opened) (plan : Plan) (t : TypeDefinition) → Accepts opened plan t → plan_steps opened plan ≡ Some (t, plan.root)

@@ -22,7 +22,8 @@ use Rattle.schedule.specs.declared.reply.Reply.TheVariants as answers
 use Rattle.schedule.specs.declared.reply.Reply.TheVariants.{Done, SavedNew, SavedOver, Refused}
 use Rattle.schedule.specs.Layout.{store_prefix}
 use Rattle.schedule.specs.Reach.{opened_in, own_reading, writes}
-use Rattle.schedule.specs.Serve.{effects, served}
+use Rattle.schedule.specs.Serve.{effects}
+use Rattle.schedule.proofs.Examples.{replies}
 use Rattle.tuple_codec.specs.Spelling.{int_spelling, byte_count}
 
 abbrev t : List ℕ
@@ -59,11 +60,6 @@ row key other = i key ∷ i other ∷ Null ∷ []
 
 abbrev save : ℕ → ℕ → Command
 save key other = Save t (row key other)
-
--- the replies of the serial store to commands in turn
-abbrev replies : Serial → List Command → List Reply
-replies serial [] = []
-replies serial (command ∷ commands) = (served serial command).0 ∷ replies (served serial command).1 commands
 
 -- an index that comes with the store, or to a type without records, is readable; one that comes to a type with records is disabled
 kept_states : replies None (create ∷ State a ∷ Index (asked z t (b ∷ [])) ∷ save 1 5 ∷ Index (asked b t (b ∷ [])) ∷ State b ∷ State z ∷ Disable a ∷ State a ∷ Drop a ∷ State a ∷ Index (asked a t (a ∷ [])) ∷ [])

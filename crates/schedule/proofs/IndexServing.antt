@@ -1,226 +1,298 @@
--- What each command on an index is by its call on the open store.
-use Rattle.std.proofs.Common.{◌≡◌, ℕ, false, List, [], refl, sym, ap, ◌∙◌, Option, Some, None, Result, Ok, Err, subst}
+-- What each command on an index is by the call that it makes on the open store.
+use Rattle.std.proofs.Common.{◌≡◌, ℕ, zero, suc, Bool, true, false, not, List, [], inl, refl, sym, ap, ◌∙◌, Option, Some, None, Result, Ok, Err, subst}
 use Rattle.kv_core.specs.Range.{KeyRange}
 use Rattle.kv_core.specs.Map.{Map}
 use Rattle.kv_core.specs.declared.change.CommitRequest.{CommitRequest}
 use Rattle.cluster_core.specs.declared.answers.ReadError.{ReadError}
 use Rattle.txn.proofs.Running.{ran_still}
+use Rattle.metadata.specs.declared.cells.Cell.{Cell}
 use Rattle.metadata.specs.declared.index.IndexDefinition.{IndexDefinition}
+use Rattle.metadata.specs.declared.index.IndexKind.{IndexKind}
+use Rattle.metadata.specs.declared.index.IndexKind.TheVariants.{Value, Count, Sum}
 use Rattle.metadata.specs.declared.index.IndexRequest.{IndexRequest}
 use Rattle.metadata.specs.declared.index.State as states
 use Rattle.metadata.specs.declared.index.State.TheVariants as mark
 use Rattle.metadata.specs.declared.refusal.Refusal.{Refusal}
+use Rattle.metadata.specs.declared.refusal.Refusal.TheVariants as schema
+use Rattle.metadata.specs.Group.{fits_group}
 use Rattle.metadata.specs.IndexChange.{new_index}
-use Rattle.metadata.specs.Schema.{find_index}
-use Rattle.record_store.specs.Store.{Store, state_in}
+use Rattle.metadata.specs.Schema.{Schema, find_index}
+use Rattle.record_store.specs.Store.{Serial, Store, state_in}
+use Rattle.record_store.specs.declared.error.StoreError.{StoreError}
 use Rattle.record_store.specs.declared.error.StoreError.TheVariants.{Refused}
-use Rattle.record_store.specs.Call.{Call, IsAnswered, IsOpenAs, Never, Opened, Service, whole}
-use Rattle.record_store.specs.Opening.{IsOpened}
-use Rattle.record_store.specs.Calls.{disable_call, disable_service, done_with, drop_call, drop_service, index_call, index_number, index_service, state_named, write_only_call, write_only_service}
-use Rattle.schedule.specs.declared.step.Command.TheVariants.{Index, Drop, Disable, State}
+use Rattle.record_store.specs.declared.error.StoreError.TheVariants as fault
+use Rattle.record_store.specs.Call.{Call, Footprint, IsAnswered, IsOpenAs, Opened, call_on, reads_only, service_of, whole}
+use Rattle.record_store.specs.Opening.{IsOpened, opening_reach}
+use Rattle.record_store.specs.Calls.{aggregate_call, drop_call, drop_footprint, index_call, index_footprint, mark_call, mark_footprint, readable_call, readable_footprint, state_named, total_footprint}
+use Rattle.record_store.specs.Meaning.{by_schema, drop_meaning, in_write_only, index_meaning, index_number, mark_meaning, readable_meaning, state_meaning, total_meaning, total_refusal, totalled_index, unless, write_only_found, write_only_named}
+use Rattle.online_builder.specs.declared.progress.Progress.{Progress}
+use Rattle.online_builder.specs.declared.progress.Progress.TheVariants as progress
+use Rattle.online_builder.specs.Stepping.{has_built, step_call, step_footprint, step_meaning}
+use Rattle.schedule.specs.declared.refusal.Refusal.TheVariants.{BadLimit, NoStore, NotAggregate, NotReadable, UnknownIndex, WrongKind, WrongState}
+use Rattle.schedule.specs.declared.step.Command.{Command}
+use Rattle.schedule.specs.declared.step.Command.TheVariants.{Aggregate, Build, Index, Drop, Disable, State}
 use Rattle.schedule.specs.declared.step.Command.TheVariants as commands
 use Rattle.schedule.specs.declared.reply.Reply.{Reply}
 use Rattle.schedule.specs.declared.reply.Reply.TheVariants as reply
-use Rattle.schedule.specs.Serve.{served_by, served_disable, served_drop, served_index, served_state, served_write_only}
-use Rattle.schedule.specs.Reach.{call_reading, dropping, indexing, marking}
+use Rattle.schedule.specs.Serve.{IsReply, done, line, reply_to_build}
+use Rattle.schedule.specs.Past.{is_accepted, is_reading}
+use Rattle.schedule.specs.Reach.{added_by, footprint_on, open_reach, opened_in, writes}
 use Rattle.schedule.specs.Calls.{IsCommandRefused}
-use Rattle.schedule.specs.Refusals.{of_schema}
+use Rattle.schedule.specs.Refusals.{of_schema, reply_of}
 use Rattle.schedule.specs.Performed.{IsPerformed}
 use Rattle.schedule.specs.Layout.{store_prefix}
-use Rattle.schedule.proofs.Outcomes.{Meets, Refuses, Serves, located, performed, refused_own}
-use Rattle.schedule.proofs.Stops.{at}
-use Rattle.schedule.proofs.Serving.{done_meets}
+use Rattle.schedule.proofs.Outcomes.{Meets, Refuses, located, performed, refused_own}
+use Rattle.schedule.proofs.Serving.{IsRefusal, Makes, meets, schema_refuses}
+use Rattle.schedule.proofs.Stops.{at, served_idle}
+
+-- what an index of a name is asked for by
+abbrev numbered : List ℕ → Schema → List (ℕ × states.State) → Result ℕ StoreError
+numbered name schema states = by_schema (index_number (find_index schema name))
+
+abbrev building : List ℕ → Schema → List (ℕ × states.State) → Result IndexDefinition StoreError
+building name schema states = write_only_named schema states name
+
+-- what refuses an index that isn't there, or isn't write-only, is a refusal
+write_only_refuses : (listed : List (ℕ × states.State)) (o : Option IndexDefinition) (error : StoreError) → write_only_found listed o ≡ Err error → IsRefusal error
+write_only_refuses listed None error is = let same : Refused schema.UnknownIndex ≡ error = cc in (UnknownIndex, ap reply_of (sym same))
+write_only_refuses listed (Some index) error is = by_state (state_in listed index.number) is
+  where
+    by_state : (state : states.State) → in_write_only state index ≡ Err error → IsRefusal error
+    by_state mark.Readable is = let same : fault.WrongState ≡ error = cc in (WrongState, ap reply_of (sym same))
+    by_state mark.WriteOnly is = absurd (cc)
+    by_state mark.Disabled is = let same : fault.WrongState ≡ error = cc in (WrongState, ap reply_of (sym same))
 
 -- ---- index
 
-abbrev pub told_index : states.State → Reply
-told_index state = reply.State state
-
-pub index_meets : (opened : Opened) (request : IndexRequest) → Meets (at opened) (Index request) (index_call (at opened) request) told_index
-index_meets opened request = done_meets (at opened) (Index request) (index_service (at opened)) told_index (new_index opened.schema request) serves refuses
+pub index_meets : (opened : Opened) (request : IndexRequest) → Meets (at opened) (Index request) (index_call (at opened) request) reply.State
+index_meets opened request = meets opened (Index request) makes
   where
-    here : {o : Result IndexDefinition Refusal} (store : Store) → IsOpenAs (at opened) store → new_index opened.schema request ≡ o → new_index store.schema request ≡ o
-    here store same is = ap (λ s. new_index s request) same.schema ∙ is
-
-    serves : (index : IndexDefinition) → new_index opened.schema request ≡ Ok index → Serves (at opened) (Index request) (index_service (at opened) index) told_index
-    serves index is = record {
+    makes : Makes (at opened) (Index request) (λ schema states. by_schema (new_index schema request)) index_meaning index_footprint reply.State
+    makes = record {
       opens = refl;
       undamaged = λ m. refl;
-      reads = ap (λ o. call_reading (done_with (index_service (at opened)) o)) is;
-      objects = tt;
+      lines = λ store. refl;
+      prints = λ o. refl;
+      own = schema_refuses (new_index opened.schema request);
       accepted = λ state. refl;
-      reading = λ state. refl;
-      replies = λ store lawful same accepted. sym (ap (λ o. (served_by store (served_index store) o).0) (here store same is));
-      leaves = λ store same accepted. ap (λ o. (served_by store (served_index store) o).1) (here store same is);
-      wrote = λ store same accepted. ap (indexing store) (here store same is);
+      reading = λ index state. refl;
     }
 
-    refuses : (refusal : Refusal) → new_index opened.schema request ≡ Err refusal → Refuses (at opened) (Index request) (of_schema refusal)
-    refuses refusal is = record {
-      opens = refl;
-      undamaged = λ m. refl;
-      reads = ap (λ o. call_reading (done_with (index_service (at opened)) o)) is;
-      replies = λ store same. sym (ap (λ o. (served_by store (served_index store) o).0) (here store same is));
-      idle = λ store same. ap (indexing store) (here store same is);
-    }
+-- ---- drop, disable and write-only
 
--- ---- drop and disable
-
--- the index of this name is numbered alike at each store that was opened so
-numbered : {o : Result ℕ Refusal} (opened : Opened) (name : List ℕ) (store : Store) → IsOpenAs (at opened) store → index_number (find_index opened.schema name) ≡ o → index_number (find_index store.schema name) ≡ o
-numbered opened name store same is = ap (λ s. index_number (find_index s name)) same.schema ∙ is
-
-abbrev pub told_done : {A : Type 0} → A → Reply
-told_done answer = reply.Done
-
-pub drop_meets : (opened : Opened) (name : List ℕ) → Meets (at opened) (Drop name) (drop_call (at opened) name) told_done
-drop_meets opened name = done_meets (at opened) (Drop name) (drop_service (at opened)) told_done (index_number (find_index opened.schema name)) serves refuses
+pub drop_meets : (opened : Opened) (name : List ℕ) → Meets (at opened) (Drop name) (drop_call (at opened) name) done
+drop_meets opened name = meets opened (Drop name) makes
   where
-    serves : (number : ℕ) → index_number (find_index opened.schema name) ≡ Ok number → Serves (at opened) (Drop name) (drop_service (at opened) number) told_done
-    serves number is = record {
+    makes : Makes (at opened) (Drop name) (numbered name) drop_meaning drop_footprint done
+    makes = record {
       opens = refl;
       undamaged = λ m. refl;
-      reads = refl;
-      objects = tt;
+      lines = λ store. refl;
+      prints = λ o. refl;
+      own = schema_refuses (index_number (find_index opened.schema name));
       accepted = λ answer. refl;
-      reading = λ answer. refl;
-      replies = λ store lawful same accepted. sym (ap (λ o. (served_by store (served_drop store) o).0) (numbered opened name store same is));
-      leaves = λ store same accepted. ap (λ o. (served_by store (served_drop store) o).1) (numbered opened name store same is);
-      wrote = λ store same accepted. ap (dropping store) (numbered opened name store same is);
+      reading = λ number answer. refl;
     }
 
-    refuses : (refusal : Refusal) → index_number (find_index opened.schema name) ≡ Err refusal → Refuses (at opened) (Drop name) (of_schema refusal)
-    refuses refusal is = record {
-      opens = refl;
-      undamaged = λ m. refl;
-      reads = refl;
-      replies = λ store same. sym (ap (λ o. (served_by store (served_drop store) o).0) (numbered opened name store same is));
-      idle = λ store same. ap (dropping store) (numbered opened name store same is);
-    }
-
-pub disable_meets : (opened : Opened) (name : List ℕ) → Meets (at opened) (Disable name) (disable_call (at opened) name) told_done
-disable_meets opened name = done_meets (at opened) (Disable name) (disable_service (at opened)) told_done (index_number (find_index opened.schema name)) serves refuses
+pub disable_meets : (opened : Opened) (name : List ℕ) → Meets (at opened) (Disable name) (mark_call mark.Disabled (at opened) name) done
+disable_meets opened name = meets opened (Disable name) makes
   where
-    serves : (number : ℕ) → index_number (find_index opened.schema name) ≡ Ok number → Serves (at opened) (Disable name) (disable_service (at opened) number) told_done
-    serves number is = record {
+    makes : Makes (at opened) (Disable name) (numbered name) (mark_meaning mark.Disabled) (mark_footprint mark.Disabled) done
+    makes = record {
       opens = refl;
       undamaged = λ m. refl;
-      reads = refl;
-      objects = tt;
+      lines = λ store. refl;
+      prints = λ o. refl;
+      own = schema_refuses (index_number (find_index opened.schema name));
       accepted = λ answer. refl;
-      reading = λ answer. refl;
-      replies = λ store lawful same accepted. sym (ap (λ o. (served_by store (served_disable store) o).0) (numbered opened name store same is));
-      leaves = λ store same accepted. ap (λ o. (served_by store (served_disable store) o).1) (numbered opened name store same is);
-      wrote = λ store same accepted. ap (marking mark.Disabled) (numbered opened name store same is);
+      reading = λ number answer. refl;
     }
 
-    refuses : (refusal : Refusal) → index_number (find_index opened.schema name) ≡ Err refusal → Refuses (at opened) (Disable name) (of_schema refusal)
-    refuses refusal is = record {
-      opens = refl;
-      undamaged = λ m. refl;
-      reads = refl;
-      replies = λ store same. sym (ap (λ o. (served_by store (served_disable store) o).0) (numbered opened name store same is));
-      idle = λ store same. ap (marking mark.Disabled) (numbered opened name store same is);
-    }
-
-pub write_only_meets : (opened : Opened) (name : List ℕ) → Meets (at opened) (commands.WriteOnly name) (write_only_call (at opened) name) told_done
-write_only_meets opened name = done_meets (at opened) (commands.WriteOnly name) (write_only_service (at opened)) told_done (index_number (find_index opened.schema name)) serves refuses
+pub write_only_meets : (opened : Opened) (name : List ℕ) → Meets (at opened) (commands.WriteOnly name) (mark_call mark.WriteOnly (at opened) name) done
+write_only_meets opened name = meets opened (commands.WriteOnly name) makes
   where
-    serves : (number : ℕ) → index_number (find_index opened.schema name) ≡ Ok number → Serves (at opened) (commands.WriteOnly name) (write_only_service (at opened) number) told_done
-    serves number is = record {
+    makes : Makes (at opened) (commands.WriteOnly name) (numbered name) (mark_meaning mark.WriteOnly) (mark_footprint mark.WriteOnly) done
+    makes = record {
       opens = refl;
       undamaged = λ m. refl;
-      reads = refl;
-      objects = tt;
+      lines = λ store. refl;
+      prints = λ o. refl;
+      own = schema_refuses (index_number (find_index opened.schema name));
       accepted = λ answer. refl;
-      reading = λ answer. refl;
-      replies = λ store lawful same accepted. sym (ap (λ o. (served_by store (served_write_only store) o).0) (numbered opened name store same is));
-      leaves = λ store same accepted. ap (λ o. (served_by store (served_write_only store) o).1) (numbered opened name store same is);
-      wrote = λ store same accepted. ap (marking mark.WriteOnly) (numbered opened name store same is);
+      reading = λ number answer. refl;
     }
 
-    refuses : (refusal : Refusal) → index_number (find_index opened.schema name) ≡ Err refusal → Refuses (at opened) (commands.WriteOnly name) (of_schema refusal)
-    refuses refusal is = record {
+-- ---- readable
+
+pub readable_meets : (opened : Opened) (name : List ℕ) → Meets (at opened) (commands.Readable name) (readable_call (at opened) name) done
+readable_meets opened name = meets opened (commands.Readable name) makes
+  where
+    makes : Makes (at opened) (commands.Readable name) (building name) (λ index. readable_meaning index.number) (λ o index. readable_footprint o index.number) done
+    makes = record {
       opens = refl;
       undamaged = λ m. refl;
-      reads = refl;
-      replies = λ store same. sym (ap (λ o. (served_by store (served_write_only store) o).0) (numbered opened name store same is));
-      idle = λ store same. ap (marking mark.WriteOnly) (numbered opened name store same is);
+      lines = λ store. refl;
+      prints = λ o. refl;
+      own = write_only_refuses opened.states (find_index opened.schema name);
+      accepted = λ answer. refl;
+      reading = λ index answer. refl;
+    }
+
+-- ---- build
+
+-- LIMIT: a step of no record is refused, and reads nothing
+pub refused_limit : {maps : ℕ → Map} {refuses : KeyRange → ReadError → Type 0} {old new : CommitRequest} (name : List ℕ) (limit : ℕ) → limit ≡ 0 → new ≡ old → IsPerformed maps refuses (Build name limit) (reply.Refused BadLimit) old new
+refused_limit name (suc more) none same = absurd (cc)
+refused_limit {refuses = refuses} {old = old} name zero none same = record {
+  opened = None;
+  added = [];
+  written = [];
+  changes = refl;
+  ran = ran_still same (λ m. (
+    record { there = tt; reads = refl; told = tt },
+    λ serial stands. record { right = inl (served_idle old.mutations serial (Build name zero) (reply.Refused BadLimit) (idle serial) (replies serial)); wrote = refl; holds = stands; reads = nothing serial m },
+  ));
+}
+  where
+    idle : (serial : Serial) → writes serial (Build name zero) ≡ []
+    idle None = refl
+    idle (Some store) = refl
+
+    replies : (serial : Serial) → IsReply serial (Build name zero) (reply.Refused BadLimit)
+    replies None = refl
+    replies (Some store) = refl
+
+    nothing : (serial : Serial) (m : Map) → [] ≡ added_by (opened_in serial) (Build name zero) m
+    nothing None m = refl
+    nothing (Some store) m = refl
+
+-- ---- a step
+
+pub build_opens : (name : List ℕ) (limit : ℕ) → (limit ≡ 0 → ⊥) → open_reach (Build name limit) ≡ opening_reach store_prefix
+build_opens name zero some = absurd (some refl)
+build_opens name (suc more) some = refl
+
+-- where there is no store
+pub build_unopened : (name : List ℕ) (limit : ℕ) → (limit ≡ 0 → ⊥) → IsReply None (Build name limit) (reply.Refused NoStore) × (writes None (Build name limit) ≡ [])
+build_unopened name zero some = absurd (some refl)
+build_unopened name (suc more) some = (refl, refl)
+
+build_accepted : (answer : Progress) → is_accepted (reply_to_build answer) ≡ true
+build_accepted (progress.Built records range) = refl
+build_accepted progress.Finished = refl
+
+build_reads : (name : List ℕ) (limit : ℕ) (answer : Progress) → not (has_built answer) ≡ is_reading (Build name limit) (reply_to_build answer)
+build_reads name limit (progress.Built records range) = refl
+build_reads name limit progress.Finished = refl
+
+pub build_meets : (opened : Opened) (name : List ℕ) (limit : ℕ) → (limit ≡ 0 → ⊥) → Meets (at opened) (Build name limit) (step_call (at opened) (record { name = name; limit = limit })) reply_to_build
+build_meets opened name zero some = absurd (some refl)
+build_meets opened name (suc more) some = meets opened (Build name (suc more)) makes
+  where
+    makes : Makes (at opened) (Build name (suc more)) (building name) (step_meaning (suc more)) (λ o. step_footprint o (suc more)) reply_to_build
+    makes = record {
+      opens = refl;
+      undamaged = λ m. refl;
+      lines = λ store. refl;
+      prints = λ o. refl;
+      own = write_only_refuses opened.states (find_index opened.schema name);
+      accepted = build_accepted;
+      reading = λ index. build_reads name (suc more);
+    }
+
+-- ---- aggregate
+
+-- what refuses a total is a refusal
+total_refuses : (kind : IndexKind) (fits : Bool) (state : states.State) (index : IndexDefinition) (error : StoreError) → unless (total_refusal kind fits state) index ≡ Err error → IsRefusal error
+total_refuses Value fits state index error is = let same : fault.NotAggregate ≡ error = cc in (NotAggregate, ap reply_of (sym same))
+total_refuses Count false state index error is = let same : Refused schema.WrongKind ≡ error = cc in (WrongKind, ap reply_of (sym same))
+total_refuses Sum false state index error is = let same : Refused schema.WrongKind ≡ error = cc in (WrongKind, ap reply_of (sym same))
+total_refuses Count true mark.Readable index error is = absurd (cc)
+total_refuses Sum true mark.Readable index error is = absurd (cc)
+total_refuses Count true mark.WriteOnly index error is = let same : fault.NotReadable ≡ error = cc in (NotReadable, ap reply_of (sym same))
+total_refuses Sum true mark.WriteOnly index error is = let same : fault.NotReadable ≡ error = cc in (NotReadable, ap reply_of (sym same))
+total_refuses Count true mark.Disabled index error is = let same : fault.NotReadable ≡ error = cc in (NotReadable, ap reply_of (sym same))
+total_refuses Sum true mark.Disabled index error is = let same : fault.NotReadable ≡ error = cc in (NotReadable, ap reply_of (sym same))
+
+totalled_refuses : (of : Schema) (listed : List (ℕ × states.State)) (group : List Cell) (o : Option IndexDefinition) (error : StoreError) → totalled_index of listed group o ≡ Err error → IsRefusal error
+totalled_refuses of listed group None error is = let same : Refused schema.UnknownIndex ≡ error = cc in (UnknownIndex, ap reply_of (sym same))
+totalled_refuses of listed group (Some index) error is = total_refuses index.kind (fits_group of index group) (state_in listed index.number) index error is
+
+pub aggregate_meets : (opened : Opened) (name : List ℕ) (group : List Cell) → Meets (at opened) (Aggregate name group) (aggregate_call (at opened) name group) reply.Total
+aggregate_meets opened name group = meets opened (Aggregate name group) makes
+  where
+    makes : Makes (at opened) (Aggregate name group) (λ schema states. totalled_index schema states group (find_index schema name)) (total_meaning group) (λ o. total_footprint o group) reply.Total
+    makes = record {
+      opens = refl;
+      undamaged = λ m. refl;
+      lines = λ store. refl;
+      prints = λ o. refl;
+      own = totalled_refuses opened.schema opened.states group (find_index opened.schema name);
+      accepted = λ total. refl;
+      reading = λ index total. refl;
     }
 
 -- ---- state
 
--- the state of the index with this number, as a call that reads and writes nothing
-abbrev state_service : ℕ → Service states.State
-state_service number = record {
-  reading = whole [];
-  objection = Never;
-  answer = λ store. state_in store.states number;
-  after = λ store. store;
-  writes = λ store. [];
-  changes = λ state. false;
-}
+-- the state of an index, as a call that reads and writes nothing
+abbrev state_footprint : Opened → ℕ → Footprint
+state_footprint opened number = reads_only (whole [])
 
 abbrev state_call : Opened → List ℕ → Call states.State
-state_call opened name = done_with state_service (index_number (find_index opened.schema name))
+state_call opened name = call_on state_meaning (state_footprint opened) (by_schema (index_number (find_index opened.schema name)))
 
-state_refuses : (opened : Opened) (name : List ℕ) (refusal : Refusal) → index_number (find_index opened.schema name) ≡ Err refusal → Refuses (at opened) (State name) (of_schema refusal)
-state_refuses opened name refusal is = record {
-  opens = refl;
-  undamaged = λ m. refl;
-  reads = refl;
-  replies = λ store same. sym (ap (λ o. (served_by store (served_state store) o).0) (numbered opened name store same is));
-  idle = λ store same. refl;
-}
+-- a command that has no footprint of its own
+nothing_printed : (o : Opened) (outcome : Result ℕ StoreError) → reads_only (whole []) ≡ footprint_on (state_footprint o) outcome
+nothing_printed o (Ok number) = refl
+nothing_printed o (Err error) = refl
 
-state_meets : (opened : Opened) (name : List ℕ) → Meets (at opened) (State name) (state_call (at opened) name) told_index
-state_meets opened name = done_meets (at opened) (State name) state_service told_index (index_number (find_index opened.schema name)) serves (state_refuses opened name)
+state_meets : (opened : Opened) (name : List ℕ) → Meets (at opened) (State name) (state_call (at opened) name) reply.State
+state_meets opened name = meets opened (State name) makes
   where
-    serves : (number : ℕ) → index_number (find_index opened.schema name) ≡ Ok number → Serves (at opened) (State name) (state_service number) told_index
-    serves number is = record {
+    makes : Makes (at opened) (State name) (numbered name) state_meaning state_footprint reply.State
+    makes = record {
       opens = refl;
       undamaged = λ m. refl;
-      reads = refl;
-      objects = tt;
+      lines = λ store. refl;
+      prints = λ o. nothing_printed o (numbered name o.schema o.states);
+      own = schema_refuses (index_number (find_index opened.schema name));
       accepted = λ state. refl;
-      reading = λ state. refl;
-      replies = λ store lawful same accepted. sym (ap (λ o. (served_by store (served_state store) o).0) (numbered opened name store same is));
-      leaves = λ store same accepted. ap (λ o. (served_by store (served_state store) o).1) (numbered opened name store same is);
-      wrote = λ store same accepted. refl;
+      reading = λ number state. refl;
     }
 
 -- the index of a name whose state is known
 state_number : (states_of : List (ℕ × states.State)) (found : Option IndexDefinition) (state : states.State) →
-    ◌≡◌ {A = Result states.State Refusal} (elim found [ None ↦ Err Rattle.metadata.specs.declared.refusal.Refusal.TheVariants.UnknownIndex | Some index ↦ Ok (state_in states_of index.number) ]) (Ok state) →
+    ◌≡◌ {A = Result states.State Refusal} (elim found [ None ↦ Err schema.UnknownIndex | Some index ↦ Ok (state_in states_of index.number) ]) (Ok state) →
     (number : ℕ) × (index_number found ≡ Ok number) × (state ≡ state_in states_of number)
 state_number states_of None state is = absurd (cc)
 state_number states_of (Some index) state is = let same : state_in states_of index.number ≡ state = cc in (index.number, refl, sym same)
 
 state_unknown : (states_of : List (ℕ × states.State)) (found : Option IndexDefinition) (refusal : Refusal) →
-    ◌≡◌ {A = Result states.State Refusal} (elim found [ None ↦ Err Rattle.metadata.specs.declared.refusal.Refusal.TheVariants.UnknownIndex | Some index ↦ Ok (state_in states_of index.number) ]) (Err refusal) →
+    ◌≡◌ {A = Result states.State Refusal} (elim found [ None ↦ Err schema.UnknownIndex | Some index ↦ Ok (state_in states_of index.number) ]) (Err refusal) →
     index_number found ≡ Err refusal
-state_unknown states_of None refusal is = let same : Rattle.metadata.specs.declared.refusal.Refusal.TheVariants.UnknownIndex ≡ refusal = cc in ap Err same
+state_unknown states_of None refusal is = let same : schema.UnknownIndex ≡ refusal = cc in ap Err same
 state_unknown states_of (Some index) refusal is = absurd (cc)
 
 state_answered : {maps : ℕ → Map} {old : CommitRequest} (opened : Opened) (name : List ℕ) (state : states.State) → state_named opened name ≡ Ok state → IsAnswered maps opened (state_call opened name) state old old
 state_answered opened name state is =
     let (number, found, same) = state_number opened.states (find_index opened.schema name) state is in record {
-      service = state_service number;
-      accepted = ap (done_with state_service) found;
+      service = service_of state_meaning (state_footprint opened) number;
+      accepted = ap (λ o. call_on state_meaning (state_footprint opened) (by_schema o)) found;
       added = [];
       written = [];
       changes = refl;
-      ran = ran_still refl (λ m. (refl, tt, λ store holds as_opened. record { accepted = refl; answers = same ∙ ap (λ ss. state_in ss number) (sym as_opened.states); wrote = refl; allowed = refl; holds = holds }));
+      ran = ran_still refl (λ m. (refl, tt, λ store holds as_opened. record { answers = ap Ok (sym (same ∙ ap (λ ss. state_in ss number) (sym as_opened.states))); wrote = refl; allowed = refl; holds = holds }));
     }
 
 -- STATE: the state that the opened store has of the index is the reply
 pub state_performed : {maps : ℕ → Map} {refuses : KeyRange → ReadError → Type 0} {old new : CommitRequest} (opened : Opened) (name : List ℕ) (state : states.State) → opened.prefix ≡ store_prefix → IsOpened maps opened old new →
     state_named opened name ≡ Ok state → IsPerformed maps refuses (State name) (reply.State state) old new
 state_performed opened name state here is_opened is =
-    performed opened (State name) (λ o. state_call o name) told_index state here (state_meets opened name) is_opened (state_answered opened name state is)
+    performed opened (State name) (λ o. state_call o name) reply.State state here (state_meets opened name) is_opened (state_answered opened name state is)
 
 pub state_refused : {maps : ℕ → Map} {refuses : KeyRange → ℕ → ReadError → Type 0} {old new : CommitRequest} (opened : Opened) (name : List ℕ) (refusal : Refusal) → opened.prefix ≡ store_prefix → IsOpened maps opened old new →
     state_named opened name ≡ Err refusal → IsCommandRefused maps refuses (State name) (Refused refusal) old new
 state_refused {maps = maps} {old = old} {new = new} opened name refusal here is_opened is =
-    refused_own opened (State name) (of_schema refusal) (state_refuses opened name refusal (state_unknown opened.states (find_index opened.schema name) refusal is))
-    (subst (λ o. IsOpened maps o old new) (located opened here) is_opened) (Refused refusal) refl
+    refused_own opened (State name) (Refused refusal)
+    (subst (λ o. Meets (at opened) (State name) (call_on state_meaning (state_footprint (at opened)) (by_schema o)) reply.State) (state_unknown opened.states (find_index opened.schema name) refusal is) (state_meets opened name))
+    (subst (λ o. IsOpened maps o old new) (located opened here) is_opened)

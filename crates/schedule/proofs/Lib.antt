@@ -17,9 +17,6 @@ pub mod Outcomes
 pub mod Looking
 pub mod Serving
 pub mod IndexServing
-pub mod Marking
-pub mod BuildServing
-pub mod Aggregating
 pub mod Plans
 pub mod Creating
 pub mod Executions

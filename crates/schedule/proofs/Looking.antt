@@ -12,7 +12,6 @@ use Rattle.txn.proofs.Running.{ran_because, ran_then}
 use Rattle.metadata.specs.declared.refusal.MetadataError.{MetadataError}
 use Rattle.metadata.specs.declared.refusal.MetadataError.TheVariants as meta
 use Rattle.metadata.specs.declared.refusal.Refusal.{Refusal as SchemaRefusal}
-use Rattle.schedule.specs.Refusals.{of_schema, step_refusal}
 use Rattle.schedule.specs.declared.refusal.Refusal.{Refusal}
 use Rattle.schedule.specs.declared.refusal.Refusal.TheVariants.{NoStore}
 use Rattle.metadata.specs.Answers.{IsRefusedAs}
@@ -21,7 +20,7 @@ use Rattle.record_store.specs.declared.error.StoreError.TheVariants.{Memory, Rea
 use Rattle.record_store.specs.declared.error.StoreError.TheVariants as fault
 use Rattle.record_store.specs.Store.{Store, Serial}
 use Rattle.record_store.specs.Holds.{Holds, IsLawful}
-use Rattle.record_store.specs.Call.{AtStore, Call, IsAnswered, IsDamagedAt, IsDone, IsFailure, IsObjectedTo, IsOpenAs, Never, Objection, Opened, Reading, Service, Where, is_objected, whole}
+use Rattle.record_store.specs.Call.{AtStore, Call, IsOpenAs, Opened, whole}
 use Rattle.record_store.specs.Call as call
 use Rattle.record_store.specs.Opening.{AtSerials, HasSchema, IsOpenFailure, IsOpened, IsThereAs, IsUnopened, opening_reach}
 use Rattle.record_store.specs.Steps.{IsBeginning, IsNextRefused, of_metadata}
@@ -36,8 +35,8 @@ use Rattle.schedule.specs.Holds.{Stands}
 use Rattle.schedule.specs.Reach.{opened_in, added_by, open_reach, own_damage, own_reading, reach, writes}
 use Rattle.schedule.specs.Performed.{IsCommandSound, IsLimited, IsPerformed, IsPerformedAt, IsReadAs, IsReadRefusedAs}
 use Rattle.schedule.specs.Performed.{TellsOfPairs}
-use Rattle.schedule.specs.Calls.{IsCommandRefused, reply_of}
-use Rattle.schedule.proofs.Reached.{added_begin, all_added, alone, begin_open, next_within, opening_added, opening_asked, own_asked, sound_by, sound_none, told_accepted}
+use Rattle.schedule.specs.Calls.{IsCommandRefused}
+use Rattle.schedule.proofs.Reached.{all_added, opening_added, sound_by}
 use Rattle.schedule.proofs.Stops.{HasStopped, IsRight, IsStop, at, limit_right, memory_opened, own_right, read_right, refused_by, served_idle, opened_is, stop_memory, told_damage, told_limit, told_read, told_refused}
 use Rattle.schedule.proofs.Outcomes.{at_serial, located}
 

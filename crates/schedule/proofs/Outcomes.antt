@@ -12,16 +12,16 @@ use Rattle.txn.proofs.Running.{ran_because, ran_then}
 use Rattle.metadata.specs.declared.refusal.MetadataError.{MetadataError}
 use Rattle.metadata.specs.declared.refusal.MetadataError.TheVariants as meta
 use Rattle.metadata.specs.declared.refusal.Refusal.{Refusal as SchemaRefusal}
-use Rattle.schedule.specs.Refusals.{of_schema, step_refusal}
+use Rattle.schedule.specs.Refusals.{of_schema, reply_of}
 use Rattle.schedule.specs.declared.refusal.Refusal.{Refusal}
-use Rattle.schedule.specs.declared.refusal.Refusal.TheVariants.{NoStore}
+use Rattle.schedule.specs.declared.refusal.Refusal.TheVariants.{AlreadyThere, NoStore, NotAggregate, NotBuilt, NotReadable, OtherSchema, WrongState}
 use Rattle.metadata.specs.Answers.{IsRefusedAs}
 use Rattle.record_store.specs.declared.error.StoreError.{StoreError}
 use Rattle.record_store.specs.declared.error.StoreError.TheVariants.{Memory, Read, Write, Corrupt, Refused}
 use Rattle.record_store.specs.declared.error.StoreError.TheVariants as fault
 use Rattle.record_store.specs.Store.{Store, Serial}
-use Rattle.record_store.specs.Holds.{Holds, IsLawful}
-use Rattle.record_store.specs.Call.{AtStore, Call, IsAnswered, IsDamagedAt, IsDone, IsFailure, IsObjectedTo, IsOpenAs, Never, Objection, Opened, Reading, Service, Where, is_objected, whole}
+use Rattle.record_store.specs.Holds.{Holds}
+use Rattle.record_store.specs.Call.{AtStore, Call, IsAnswered, IsDamagedAt, IsDone, IsFailure, IsOpenAs, IsRefusedThere, Opened, Reading, Service, whole}
 use Rattle.record_store.specs.Call as call
 use Rattle.record_store.specs.Opening.{AtSerials, HasSchema, IsOpenFailure, IsOpened, IsThereAs, IsUnopened, opening_reach}
 use Rattle.record_store.specs.Steps.{IsBeginning, IsNextRefused, of_metadata}
@@ -30,15 +30,16 @@ use Rattle.schedule.specs.declared.step.Command.{Command}
 use Rattle.schedule.specs.declared.reply.Reply.{Reply}
 use Rattle.schedule.specs.declared.reply.Reply.TheVariants as reply
 use Rattle.schedule.specs.Layout.{store_prefix}
-use Rattle.schedule.specs.Serve.{IsReply, effect}
+use Rattle.schedule.specs.Serve.{IsReply, IsReplyOf, answering, effect, left_by, line}
+use Rattle.schedule.specs.Serve as serve
 use Rattle.schedule.specs.Past.{is_accepted, is_reading}
 use Rattle.schedule.specs.Holds.{Stands}
-use Rattle.schedule.specs.Reach.{opened_in, added_by, open_reach, own_damage, own_reading, reach, writes}
+use Rattle.schedule.specs.Reach.{opened_in, added_by, open_reach, own_damage, own_reading, reach, writes, writes_in, written_with}
 use Rattle.schedule.specs.Performed.{IsCommandSound, IsLimited, IsPerformed, IsPerformedAt, IsReadAs, IsReadRefusedAs}
 use Rattle.schedule.specs.Performed.{TellsOfPairs}
-use Rattle.schedule.specs.Calls.{IsCommandRefused, reply_of}
-use Rattle.schedule.proofs.Reached.{added_begin, all_added, alone, begin_open, next_within, opening_added, opening_asked, own_asked, sound_by, sound_none, told_accepted}
-use Rattle.schedule.proofs.Stops.{HasStopped, IsRight, IsStop, at, limit_right, memory_opened, own_right, read_right, refused_by, served_idle, opened_is, stop_memory, told_damage, told_limit, told_read, told_refused}
+use Rattle.schedule.specs.Calls.{IsCommandRefused}
+use Rattle.schedule.proofs.Reached.{added_begin, all_added, begin_open, next_within, opening_added, opening_asked, own_asked, sound_by, sound_none, told_accepted}
+use Rattle.schedule.proofs.Stops.{IsRight, IsStop, at, limit_right, memory_opened, own_right, read_right, refused_by, refused_right, served_idle, opened_is, stop_memory, stopped_all, told_damage, told_limit, told_read, told_refused}
 
 -- UNOPENED: no store was opened
 pub refused_unopened : {maps : ℕ → Map} {refuses : KeyRange → ℕ → ReadError → Type 0} {old new : CommitRequest} (command : Command) (error : StoreError) → open_reach command ≡ opening_reach store_prefix → IsReply None command (reply.Refused NoStore) →
@@ -66,17 +67,17 @@ refused_unopened {refuses = refuses} {old = old} command error opens is none uno
     stop (Write reason) ranges m says = absurd says
     stop (Corrupt key) ranges m says = record {
       there = tt;
-      reads = says.0 ∙ opening_added None command m opens (alone command);
+      reads = says.0 ∙ opening_added None command m opens refl;
       told = λ answer same. told_damage None command key answer m same (says.1, says.2);
       held = λ serial stands. absurd (says.3 serial stands);
     }
     stop fault.NoStore ranges m says = record {
       there = tt;
-      reads = says.0 ∙ opening_added None command m opens (alone command);
+      reads = says.0 ∙ opening_added None command m opens refl;
       told = λ answer same. told_refused None command NoStore answer m same (sound_none command m says.1);
       held = λ serial stands. (
         nothing m serial (says.2 serial stands),
-        says.0 ∙ opening_added None command m opens (alone command) ∙ ap (λ (s : Serial). added_by (opened_in s) command m) (sym (says.2 serial stands)),
+        says.0 ∙ opening_added None command m opens refl ∙ ap (λ (s : Serial). added_by (opened_in s) command m) (sym (says.2 serial stands)),
       );
     }
     stop (Refused refusal) ranges m says = absurd says
@@ -89,37 +90,43 @@ refused_unopened {refuses = refuses} {old = old} command error opens is none uno
 
 -- ---- calls on an open store
 
--- what an objection is to a command: at each store that was opened so and is objected to, the reply is its refusal, and nothing is written
-abbrev pub Objects : Opened → Command → Objection → Type 0
-Objects opened command Never = Unit {0}
-Objects opened command (Where error test) =
-    (refusal : Refusal) × (step_refusal error ≡ Some refusal)
-    × ((store : Store) → IsOpenAs opened store → test store ≡ true → IsReply (Some store) command (reply.Refused refusal) × (writes (Some store) command ≡ []))
-
--- what a command is by the service that it asks of the store: it reads the same behind the opening, and at each store that was opened so and isn't objected to it replies as the service answers, leaves what that leaves, and writes the same
+-- what a command is by the service that it asks of the store: it reads the same behind the opening, and its line at each store that was opened so is the service's, and what it may write
 pub record Serves {A : Type 0} (opened : Opened) (command : Command) (service : Service A) (told : A → Reply) : Type 0 where
   pub opens : open_reach command ≡ opening_reach store_prefix
-  pub reads : own_reading (Some opened) command ≡ service.reading
-  pub objects : Objects opened command service.objection
+  pub reads : own_reading (Some opened) command ≡ service.footprint.reading
   pub undamaged : (m : Map) → own_damage (Some opened) command m ≡ None
   pub accepted : (answer : A) → is_accepted (told answer) ≡ true
-  pub reading : (answer : A) → not (service.changes answer) ≡ is_reading command (told answer)
-  pub replies : (store : Store) → IsLawful store → IsOpenAs opened store → is_objected service.objection store ≡ false → IsReply (Some store) command (told (service.answer store))
-  pub leaves : (store : Store) → IsOpenAs opened store → is_objected service.objection store ≡ false → effect (Some store) command ≡ Some (service.after store)
-  pub wrote : (store : Store) → IsOpenAs opened store → is_objected service.objection store ≡ false → writes (Some store) command ≡ service.writes store
+  pub reading : (answer : A) → not (service.meaning.changes answer) ≡ is_reading command (told answer)
+  pub lines : (store : Store) → IsOpenAs opened store → line (Some store) command ≡ answering store told service.meaning (service.meaning.answer store)
+  pub prints : (store : Store) → IsOpenAs opened store → writes_in (Some store) command ≡ service.footprint.writes store
 
--- what a command is whose call has its own refusal: it reads nothing behind the opening, at each store that was opened so this is its reply, and it writes nothing
-pub record Refuses (opened : Opened) (command : Command) (refusal : Refusal) : Type 0 where
+-- what a command is whose call has this refusal of its own: it reads nothing behind the opening, and its line at each store that was opened so is that refusal
+pub record Refuses (opened : Opened) (command : Command) (error : StoreError) : Type 0 where
   pub opens : open_reach command ≡ opening_reach store_prefix
   pub reads : own_reading (Some opened) command ≡ whole []
   pub undamaged : (m : Map) → own_damage (Some opened) command m ≡ None
-  pub replies : (store : Store) → IsOpenAs opened store → IsReply (Some store) command (reply.Refused refusal)
-  pub idle : (store : Store) → IsOpenAs opened store → writes (Some store) command ≡ []
+  pub refusal : Refusal
+  pub told : reply_of error ≡ Some (reply.Refused refusal)
+  pub lines : (store : Store) → IsOpenAs opened store → line (Some store) command ≡ serve.Refuses (reply_of error)
 
 -- what a command is by its call
 abbrev pub Meets : {A : Type 0} → Opened → Command → Call A → (A → Reply) → Type 0
 Meets opened command (Ok service) told = Serves opened command service told
-Meets opened command (Err error) told = (refusal : Refusal) × (step_refusal error ≡ Some refusal) × Refuses opened command refusal
+Meets opened command (Err error) told = Refuses opened command error
+
+-- at a store that is answered so
+module _ {A : Type 0} (opened : Opened) (command : Command) (service : Service A) (told : A → Reply) (serves : Serves opened command service told) (store : Store) (same : IsOpenAs opened store) (answer : A) (is : service.meaning.answer store ≡ Ok answer) where
+  lines_so : line (Some store) command ≡ serve.Replies (told answer) (Some (service.meaning.after store))
+  lines_so = serves.lines store same ∙ ap (answering store told service.meaning) is
+
+  replies_so : IsReply (Some store) command (told answer)
+  replies_so = subst (λ l. IsReplyOf l (told answer)) (sym lines_so) refl
+
+  leaves_so : effect (Some store) command ≡ Some (service.meaning.after store)
+  leaves_so = ap (left_by (Some store)) lines_so
+
+  writes_so : writes (Some store) command ≡ service.footprint.writes store
+  writes_so = ap (λ l. written_with l (writes_in (Some store) command)) lines_so ∙ serves.prints store same
 
 -- nothing is written when a store is opened
 unwritten : {maps : ℕ → Map} {old new : CommitRequest} (opened : Opened) → IsOpened maps (at opened) old new → new.mutations ≡ old.mutations
@@ -133,47 +140,33 @@ pub begin_serial : (opened : Opened) (command : Command) (m : Map) (serial : Ser
     IsBeginning ranges (added_by (opened_in serial) command m)
 begin_serial opened command m serial ranges holds has begin = subst (IsBeginning ranges) (ap (λ s. added_by s command m) (sym (opened_is (at opened) serial refl has))) begin
 
--- OWN: a store was opened, and the command has its own refusal, which is told by an error behind all reads
-module _ {maps : ℕ → Map} {refuses : KeyRange → ℕ → ReadError → Type 0} {old mid : CommitRequest} (opened : Opened) (command : Command) (refusal : Refusal) (so : Refuses (at opened) command refusal) (is : IsOpened maps (at opened) old mid) where
-  own_stopped : (error : StoreError) → reply_of error ≡ Some (reply.Refused refusal) → ((all ranges : List KeyRange) → ranges ≡ all → HasStopped error all ranges) → IsCommandRefused maps refuses command error old mid
-  own_stopped error replied stopped =
-      refused_by command (Some (at opened)) error (opening_reach store_prefix) (ran_because is.ran (λ m has. record {
-        there = (refl, has.0);
-        reads = stopped _ _ (opening_added (Some (at opened)) command m so.opens so.reads);
-        told = λ answer same. told_refused (Some (at opened)) command refusal answer m (sym replied ∙ same) (sound_by (at opened) command (reply.Refused refusal) m (whole []) so.reads (so.undamaged m) tt);
-        held = λ serial stands. (
-          right m serial (has.1 serial stands),
-          stopped _ _ (at_serial opened command m serial (opening_reach store_prefix) stands (has.1 serial stands) (opening_added (Some (at opened)) command m so.opens so.reads)),
-        );
-      }))
-    where
-      right : (m : Map) (serial : Serial) → IsThereAs (at opened) serial → IsRight (λ range. refuses range old.read_version) command old.mutations error m serial
-      right m None has = absurd has
-      right m (Some store) has = own_right (λ range. refuses range old.read_version) command old.mutations error refusal m (Some store) replied (so.replies store has) (so.idle store has)
-
-  pub refused_own : (error : StoreError) → step_refusal error ≡ Some refusal → IsCommandRefused maps refuses command error old mid
-  refused_own (Refused why) own = own_stopped (Refused why) (ap (option_map reply.Refused) own) (λ all ranges same. same)
-  refused_own fault.NotAggregate own = own_stopped fault.NotAggregate (ap (option_map reply.Refused) own) (λ all ranges same. same)
-  refused_own fault.NotReadable own = own_stopped fault.NotReadable (ap (option_map reply.Refused) own) (λ all ranges same. same)
-  refused_own fault.WrongState own = own_stopped fault.WrongState (ap (option_map reply.Refused) own) (λ all ranges same. same)
-  refused_own fault.NotBuilt own = own_stopped fault.NotBuilt (ap (option_map reply.Refused) own) (λ all ranges same. same)
-  refused_own Memory own = absurd (cc)
-  refused_own (Read reason) own = absurd (cc)
-  refused_own (Write reason) own = absurd (cc)
-  refused_own (Corrupt key) own = absurd (cc)
-  refused_own fault.NoStore own = absurd (cc)
-  refused_own fault.AlreadyThere own = absurd (cc)
-  refused_own fault.OtherSchema own = absurd (cc)
+-- OWN: a store was opened, and the command has its own refusal
+pub refused_own : {maps : ℕ → Map} {refuses : KeyRange → ℕ → ReadError → Type 0} {old mid : CommitRequest} (opened : Opened) (command : Command) (error : StoreError) → Refuses (at opened) command error → IsOpened maps (at opened) old mid →
+    IsCommandRefused maps refuses command error old mid
+refused_own {refuses = refuses} {old = old} opened command error so is =
+    refused_by command (Some (at opened)) error (opening_reach store_prefix) (ran_because is.ran (λ m has. record {
+      there = (refl, has.0);
+      reads = stopped_all error (opening_added (Some (at opened)) command m so.opens so.reads);
+      told = λ answer same. told_refused (Some (at opened)) command so.refusal answer m (sym so.told ∙ same) (sound_by (at opened) command (reply.Refused so.refusal) m (whole []) so.reads (so.undamaged m) tt);
+      held = λ serial stands. (
+        right m serial (has.1 serial stands),
+        stopped_all error (at_serial opened command m serial (opening_reach store_prefix) stands (has.1 serial stands) (opening_added (Some (at opened)) command m so.opens so.reads)),
+      );
+    }))
+  where
+    right : (m : Map) (serial : Serial) → IsThereAs (at opened) serial → IsRight (λ range. refuses range old.read_version) command old.mutations error m serial
+    right m None has = absurd has
+    right m (Some store) has = refused_right (λ range. refuses range old.read_version) command old.mutations error m (Some store) (so.lines store has)
 
 module _ {A : Type 0} (opened : Opened) (command : Command) (service : Service A) (told : A → Reply) (serves : Serves (at opened) command service told) (ranges : List KeyRange) (m : Map) where
   -- the ranges of the opening, and behind them those of the call
-  pub all_ranges : ranges ≡ service.reading.added m → opening_reach store_prefix ++ ranges ≡ added_by (Some (at opened)) command m
+  pub all_ranges : ranges ≡ service.footprint.reading.added m → opening_reach store_prefix ++ ranges ≡ added_by (Some (at opened)) command m
   all_ranges is i = sym serves.opens i ++ (is ∙ ap (λ (r : Reading). r.added m) (sym serves.reads)) i
 
-  pub first_ranges : IsBeginning ranges (service.reading.added m) → IsBeginning (opening_reach store_prefix ++ ranges) (added_by (Some (at opened)) command m)
+  pub first_ranges : IsBeginning ranges (service.footprint.reading.added m) → IsBeginning (opening_reach store_prefix ++ ranges) (added_by (Some (at opened)) command m)
   first_ranges begin =
       subst (λ (r : Reading). IsBeginning (opening_reach store_prefix ++ ranges) (open_reach command ++ r.added m)) (sym serves.reads)
-      (subst (λ first. IsBeginning (opening_reach store_prefix ++ ranges) (first ++ service.reading.added m)) (sym serves.opens) (begin_behind (opening_reach store_prefix) begin))
+      (subst (λ first. IsBeginning (opening_reach store_prefix ++ ranges) (first ++ service.footprint.reading.added m)) (sym serves.opens) (begin_behind (opening_reach store_prefix) begin))
 
 -- ANSWERED: a store was opened, and a call on it was answered
 performed_at : {maps : ℕ → Map} {refuses : KeyRange → ReadError → Type 0} {old mid new : CommitRequest} {A : Type 0} (opened : Opened) (command : Command) (asked : Call A) (told : A → Reply) (answer : A) →
@@ -187,7 +180,7 @@ performed_at {refuses = refuses} {old = old} {mid = mid} {A = A} opened command 
     record {
       there = (refl, has.0);
       reads = all_added (told answer) (all_ranges opened command is.service told serves is.added m fact.0);
-      told = told_accepted (Some (at opened)) command (told answer) m (serves.accepted answer) (sound_by (at opened) command (told answer) m is.service.reading serves.reads (serves.undamaged m) fact.1);
+      told = told_accepted (Some (at opened)) command (told answer) m (serves.accepted answer) (sound_by (at opened) command (told answer) m is.service.footprint.reading serves.reads (serves.undamaged m) fact.1);
     },
     λ serial stands. here m fact.0 fact.2 serial stands (has.1 serial stands),
   ));
@@ -196,28 +189,28 @@ performed_at {refuses = refuses} {old = old} {mid = mid} {A = A} opened command 
     serves : Serves (at opened) command is.service told
     serves = subst (λ (c : Call A). Meets (at opened) command c told) is.accepted meets
 
-    here : (m : Map) → is.added ≡ is.service.reading.added m → AtStore (at opened) m (IsDone (at opened) is.service answer mid.mutations is.written m) → (serial : Serial) → Stands m serial → IsThereAs (at opened) serial →
+    here : (m : Map) → is.added ≡ is.service.footprint.reading.added m → AtStore (at opened) m (IsDone (at opened) is.service answer mid.mutations is.written m) → (serial : Serial) → Stands m serial → IsThereAs (at opened) serial →
         IsPerformedAt refuses command (told answer) old.mutations is.written (opening_reach store_prefix ++ is.added) m serial
     here m reads done None stands has = absurd has
     here m reads done (Some store) stands has =
         let now = done store stands has in
-        let wrote : is.written ≡ writes (Some store) command = now.wrote ∙ sym (serves.wrote store has now.accepted) in record {
+        let wrote : is.written ≡ writes (Some store) command = now.wrote ∙ sym (writes_so (at opened) command is.service told serves store has answer now.answers) in record {
           right = inl (subst (λ o. IsLimited o (Some store) command (told answer))
               (sym now.allowed ∙ ap (λ ms. write_all_refusal ms is.written) (unwritten opened is_opened) ∙ ap (write_all_refusal old.mutations) wrote)
-              (subst (λ a. IsReply (Some store) command (told a)) (sym now.answers) (serves.replies store stands.lawful has now.accepted)));
+              (replies_so (at opened) command is.service told serves store has answer now.answers));
           wrote = wrote ∙ ap (λ b. cond b (writes (Some store) command) []) (sym (serves.accepted answer));
           holds = subst (λ b. Stands (after_all is.written m) (cond b (effect (Some store) command) (Some store))) (sym (serves.accepted answer))
-              (subst (Stands (after_all is.written m)) (sym (serves.leaves store has now.accepted)) now.holds);
+              (subst (Stands (after_all is.written m)) (sym (leaves_so (at opened) command is.service told serves store has answer now.answers)) now.holds);
           reads = all_added (told answer) (at_serial opened command m (Some store) (opening_reach store_prefix ++ is.added) stands has (all_ranges opened command is.service told serves is.added m reads));
         }
 
 -- NOT ANSWERED: a store was opened, and a call on it was refused
 refused_at : {maps : ℕ → Map} {refuses : KeyRange → ℕ → ReadError → Type 0} {old mid new : CommitRequest} {A : Type 0} (opened : Opened) (command : Command) (asked : Call A) (told : A → Reply) (error : StoreError) →
     open_reach command ≡ opening_reach store_prefix → Meets (at opened) command asked told → IsOpened maps (at opened) old mid → call.IsRefused maps refuses (at opened) asked error mid new → IsCommandRefused maps refuses command error old new
-refused_at {maps = maps} {refuses = refuses} {old = old} {mid = mid} {new = new} opened command (Err refusal) told error opens (asked, same, meets) is_opened is =
+refused_at {maps = maps} {refuses = refuses} {old = old} {mid = mid} {new = new} opened command (Err refusal) told error opens meets is_opened is =
     subst (λ (t : CommitRequest). IsCommandRefused maps refuses command error old t) (sym is.1) (elim is.0 [
       | inl memory ↦ subst (λ e. IsCommandRefused maps refuses command e old mid) (sym memory) (memory_opened opened command opens is_opened)
-      | inr own ↦ subst (λ e. IsCommandRefused maps refuses command e old mid) (sym own) (refused_own opened command asked meets is_opened refusal same)
+      | inr own ↦ subst (λ e. IsCommandRefused maps refuses command e old mid) (sym own) (refused_own opened command refusal meets is_opened)
     ])
 refused_at {refuses = refuses} {old = old} {mid = mid} opened command (Ok service) told error opens serves is_opened is =
     refused_by command (Some (at opened)) error (opening_reach store_prefix ++ is.added) (ran_then is_opened.ran is.ran (λ m has says. stop error is.added m has says))
@@ -228,27 +221,22 @@ refused_at {refuses = refuses} {old = old} {mid = mid} opened command (Ok servic
     same_version : mid.read_version ≡ old.read_version
     same_version = is_opened.ran.version
 
-    -- the store that is there is objected to
-    objected : (error : StoreError) → ((refusal : Refusal) → step_refusal error ≡ Some refusal → reply_of error ≡ Some (reply.Refused refusal)) → ((all added : List KeyRange) → added ≡ all → HasStopped error all added) → (ranges : List KeyRange) (m : Map) →
-        HasSchema (at opened) m × AtSerials store_prefix m (IsThereAs (at opened)) → (objection : Objection) → Objects (at opened) command objection → IsObjectedTo (at opened) service.reading objection error ranges m →
-        IsStop refused (Some (at opened)) command old.mutations error (opening_reach store_prefix ++ ranges) m
-    objected error replied stopped ranges m has Never objects says = absurd says
-    objected error replied stopped ranges m has (Where own test) objects says =
-        let is_reply : reply_of error ≡ Some (reply.Refused objects.0) = replied objects.0 (ap step_refusal says.0 ∙ objects.1) in record {
-          there = (refl, has.0);
-          reads = stopped _ _ (all_ranges opened command service told serves ranges m says.1);
-          told = λ answer same. told_refused (Some (at opened)) command objects.0 answer m (sym is_reply ∙ same) (sound_by (at opened) command (reply.Refused objects.0) m service.reading serves.reads (serves.undamaged m) says.2);
-          held = λ serial stands. (
-            right serial stands (has.1 serial stands),
-            stopped _ _ (at_serial opened command m serial (opening_reach store_prefix ++ ranges) stands (has.1 serial stands) (all_ranges opened command service told serves ranges m says.1)),
-          );
-        }
+    -- the store that is there is refused
+    unanswered : (error : StoreError) (refusal : Refusal) → reply_of error ≡ Some (reply.Refused refusal) → (ranges : List KeyRange) (m : Map) → HasSchema (at opened) m × AtSerials store_prefix m (IsThereAs (at opened)) →
+        IsRefusedThere (at opened) service error ranges m → IsStop refused (Some (at opened)) command old.mutations error (opening_reach store_prefix ++ ranges) m
+    unanswered error refusal is_reply ranges m has says = record {
+      there = (refl, has.0);
+      reads = stopped_all error (all_ranges opened command service told serves ranges m says.1);
+      told = λ answer same. told_refused (Some (at opened)) command refusal answer m (sym is_reply ∙ same) (sound_by (at opened) command (reply.Refused refusal) m service.footprint.reading serves.reads (serves.undamaged m) says.2);
+      held = λ serial stands. (
+        right serial stands (has.1 serial stands),
+        stopped_all error (at_serial opened command m serial (opening_reach store_prefix ++ ranges) stands (has.1 serial stands) (all_ranges opened command service told serves ranges m says.1)),
+      );
+    }
       where
         right : (serial : Serial) → Holds store_prefix m serial → IsThereAs (at opened) serial → IsRight refused command old.mutations error m serial
         right None holds none = absurd none
-        right (Some store) holds same =
-            let so = objects.2 store same (says.3 store holds same) in
-            own_right refused command old.mutations error objects.0 m (Some store) (replied objects.0 (ap step_refusal says.0 ∙ objects.1)) so.0 so.1
+        right (Some store) holds same = refused_right refused command old.mutations error m (Some store) (serves.lines store same ∙ ap (answering store told service.meaning) (says.3 store holds same))
 
     stop : (error : StoreError) (ranges : List KeyRange) (m : Map) → HasSchema (at opened) m × AtSerials store_prefix m (IsThereAs (at opened)) → IsFailure (λ range. refuses range mid.read_version) (at opened) service error mid.mutations ranges m →
         IsStop refused (Some (at opened)) command old.mutations error (opening_reach store_prefix ++ ranges) m
@@ -262,8 +250,8 @@ refused_at {refuses = refuses} {old = old} {mid = mid} opened command (Ok servic
       held = λ serial stands. (
         λ answer same. inr (read_right refused (reach (opened_in serial) command m) reason answer same
             (subst (λ s. IsReadRefusedAs refused (reach s command m) reason) (sym (opened_is (at opened) serial refl (has.1 serial stands)))
-            (next_within refused (service.reading.asked m) ranges (reach (Some (at opened)) command m) reason (own_asked (Some (at opened)) command m service.reading serves.reads)
-            (subst (λ v. IsNextRefused (λ range. refuses range v) (service.reading.asked m) ranges reason) same_version says.1)))),
+            (next_within refused (service.footprint.reading.asked m) ranges (reach (Some (at opened)) command m) reason (own_asked (Some (at opened)) command m service.footprint.reading serves.reads)
+            (subst (λ v. IsNextRefused (λ range. refuses range v) (service.footprint.reading.asked m) ranges reason) same_version says.1)))),
         begin_serial opened command m serial (opening_reach store_prefix ++ ranges) stands (has.1 serial stands) (first_ranges opened command service told serves ranges m says.0),
       );
     }
@@ -280,7 +268,7 @@ refused_at {refuses = refuses} {old = old} {mid = mid} opened command (Ok servic
     stop (Write reason) ranges m has says = record {
       there = (refl, has.0);
       reads = all_ranges opened command service told serves ranges m says.0;
-      told = λ answer same. told_limit (Some (at opened)) command reason answer m same (λ refusal other. sound_by (at opened) command (reply.Refused refusal) m service.reading serves.reads (serves.undamaged m) says.1);
+      told = λ answer same. told_limit (Some (at opened)) command reason answer m same (λ refusal other. sound_by (at opened) command (reply.Refused refusal) m service.footprint.reading serves.reads (serves.undamaged m) says.1);
       held = λ serial stands. (
         limited serial stands (has.1 serial stands),
         at_serial opened command m serial (opening_reach store_prefix ++ ranges) stands (has.1 serial stands) (all_ranges opened command service told serves ranges m says.0),
@@ -291,15 +279,15 @@ refused_at {refuses = refuses} {old = old} {mid = mid} opened command (Ok servic
         limited None holds none = absurd none
         limited (Some store) holds same =
             limit_right refused command old.mutations reason m (Some store)
-            (ap (λ ms. write_all_refusal ms (writes (Some store) command)) (sym (unwritten opened is_opened)) ∙ ap (write_all_refusal mid.mutations) (serves.wrote store same (says.2 store holds same).0) ∙ (says.2 store holds same).1)
-    stop (Refused refusal) ranges m has says = objected (Refused refusal) (λ own is. ap (option_map reply.Refused) is) (λ all added same. same) ranges m has service.objection serves.objects says
-    stop fault.NoStore ranges m has says = objected fault.NoStore (λ own is. absurd (cc)) (λ all added same. same) ranges m has service.objection serves.objects says
-    stop fault.AlreadyThere ranges m has says = objected fault.AlreadyThere (λ own is. absurd (cc)) (λ all added same. same) ranges m has service.objection serves.objects says
-    stop fault.OtherSchema ranges m has says = objected fault.OtherSchema (λ own is. absurd (cc)) (λ all added same. same) ranges m has service.objection serves.objects says
-    stop fault.NotAggregate ranges m has says = objected fault.NotAggregate (λ own is. ap (option_map reply.Refused) is) (λ all added same. same) ranges m has service.objection serves.objects says
-    stop fault.NotReadable ranges m has says = objected fault.NotReadable (λ own is. ap (option_map reply.Refused) is) (λ all added same. same) ranges m has service.objection serves.objects says
-    stop fault.WrongState ranges m has says = objected fault.WrongState (λ own is. ap (option_map reply.Refused) is) (λ all added same. same) ranges m has service.objection serves.objects says
-    stop fault.NotBuilt ranges m has says = objected fault.NotBuilt (λ own is. ap (option_map reply.Refused) is) (λ all added same. same) ranges m has service.objection serves.objects says
+            (ap (λ ms. write_all_refusal ms (writes (Some store) command)) (sym (unwritten opened is_opened)) ∙ ap (write_all_refusal mid.mutations) (writes_so (at opened) command service told serves store same (says.2 store holds same).0.answer (says.2 store holds same).0.is) ∙ (says.2 store holds same).1)
+    stop (Refused refusal) ranges m has says = unanswered (Refused refusal) (of_schema refusal) refl ranges m has says
+    stop fault.NoStore ranges m has says = unanswered fault.NoStore NoStore refl ranges m has says
+    stop fault.AlreadyThere ranges m has says = unanswered fault.AlreadyThere AlreadyThere refl ranges m has says
+    stop fault.OtherSchema ranges m has says = unanswered fault.OtherSchema OtherSchema refl ranges m has says
+    stop fault.NotAggregate ranges m has says = unanswered fault.NotAggregate NotAggregate refl ranges m has says
+    stop fault.NotReadable ranges m has says = unanswered fault.NotReadable NotReadable refl ranges m has says
+    stop fault.WrongState ranges m has says = unanswered fault.WrongState WrongState refl ranges m has says
+    stop fault.NotBuilt ranges m has says = unanswered fault.NotBuilt NotBuilt refl ranges m has says
 
 -- ---- the same where the opened store stands at the store's prefix
 
@@ -324,10 +312,10 @@ refused {maps = maps} {refuses = refuses} {old = old} {mid = mid} {new = new} op
 -- OWN REFUSAL: what the command asks for is refused by the schema, before a call is made
 pub refused_asked : {maps : ℕ → Map} {refuses : KeyRange → ℕ → ReadError → Type 0} {old mid : CommitRequest} {A : Type 0} (opened : Opened) (command : Command) (outcome : Result A SchemaRefusal) (error : MetadataError) →
     open_reach command ≡ opening_reach store_prefix → opened.prefix ≡ store_prefix →
-    ((refusal : SchemaRefusal) → outcome ≡ Err refusal → Refuses (at opened) command (of_schema refusal)) → IsOpened maps opened old mid → IsRefusedAs error outcome → IsCommandRefused maps refuses command (of_metadata error) old mid
+    ((refusal : SchemaRefusal) → outcome ≡ Err refusal → Refuses (at opened) command (Refused refusal)) → IsOpened maps opened old mid → IsRefusedAs error outcome → IsCommandRefused maps refuses command (of_metadata error) old mid
 refused_asked {maps = maps} {old = old} {mid = mid} opened command outcome meta.Memory opens here so is_opened is = memory_opened opened command opens (subst (λ o. IsOpened maps o old mid) (located opened here) is_opened)
 refused_asked {maps = maps} {old = old} {mid = mid} opened command outcome (meta.Refused refusal) opens here so is_opened is =
-    refused_own opened command (of_schema refusal) (so refusal is) (subst (λ o. IsOpened maps o old mid) (located opened here) is_opened) (Refused refusal) refl
+    refused_own opened command (Refused refusal) (so refusal is) (subst (λ o. IsOpened maps o old mid) (located opened here) is_opened)
 
 -- MEMORY: it is wanting after a call that changed nothing
 pub refused_behind : {maps : ℕ → Map} {refuses : KeyRange → ℕ → ReadError → Type 0} {old mid new : CommitRequest} {A : Type 0} (opened : Opened) (command : Command) (asked : Opened → Call A) (told : A → Reply) (answer : A) → opened.prefix ≡ store_prefix →

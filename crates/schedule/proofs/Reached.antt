@@ -28,26 +28,6 @@ use Rattle.schedule.specs.Performed.{HasAdded, HasAddedSo, IsCommandSound, IsMad
 use Rattle.schedule.specs.Performed.{is_unread}
 use Rattle.schedule.specs.Reach.{added_by, open_reach, own_damage, own_reading, reach}
 
--- without an open store a command reads nothing of its own
-pub alone : (command : Command) → own_reading None command ≡ whole []
-alone (Create request) = refl
-alone («Type» request) = refl
-alone (Save name cells) = refl
-alone (Load name cells) = refl
-alone (Remove name cells) = refl
-alone (Query query) = refl
-alone (Plan query) = refl
-alone (Execute plan) = refl
-alone (Index request) = refl
-alone (Drop name) = refl
-alone (Disable name) = refl
-alone (WriteOnly name) = refl
-alone (Readable name) = refl
-alone (Build name Rattle.std.proofs.Common.zero) = refl
-alone (Build name (Rattle.std.proofs.Common.suc more)) = refl
-alone (State name) = refl
-alone (Aggregate name group) = refl
-
 -- ---- what is asked for
 
 -- the ranges of the opening are asked for first, then the command's own

@@ -1,159 +1,159 @@
--- What each command is by its call on the open store.
-use Rattle.std.proofs.Common.{◌≡◌, ℕ, Bool, true, false, not, cond, ◌==◌, List, [], ◌∷◌, refl, sym, ap, subst, ◌∙◌, Option, Some, None, Result, Ok, Err, All, map, IsTrue, arith}
-use Rattle.std.specs.Prelude.{find, is_some}
-use Rattle.std.specs.List.{AllPairs, AllByRecursion, list_any}
-use Rattle.std.specs.Ordering.{is_lt}
+-- What each command is by the call that it makes on the open store: the general law, and the commands on types and records.
+use Rattle.std.proofs.Common.{◌≡◌, ℕ, Bool, true, false, not, cond, List, refl, sym, ap, subst, ◌∙◌, Option, Some, None, Result, Ok, Err}
+use Rattle.std.specs.Prelude.{find}
+use Rattle.std.specs.List.{list_any}
 use Rattle.std.specs.Str.{bytes_eq}
-use Rattle.std.proofs.lemmas.Cmp.{nat_list_cmp_total, tied_itself}
-use Rattle.std.proofs.lemmas.List.Elements.{All-cons}
-use Rattle.std.proofs.lemmas.List.Kept.{AllPairs-cons}
 use Rattle.std.proofs.lemmas.Slice.Eq.{bytes_eq-Decides}
-use Rattle.tuple_codec.specs.Item.{Item}
-use Rattle.tuple_codec.specs.Order.{tuple_cmp}
+use Rattle.kv_core.specs.Map.{Map}
 use Rattle.metadata.specs.declared.cells.Cell.{Cell}
 use Rattle.metadata.specs.declared.definition.TypeDefinition.{TypeDefinition}
 use Rattle.metadata.specs.declared.definition.TypeRequest.{TypeRequest}
-use Rattle.metadata.specs.declared.refusal.Refusal.{Refusal}
+use Rattle.metadata.specs.declared.index.State.{State}
+use Rattle.metadata.specs.declared.refusal.Refusal.{Refusal as SchemaRefusal}
 use Rattle.metadata.specs.declared.refusal.Refusal.TheVariants.{NullKey, UnknownType, WrongKind}
 use Rattle.metadata.specs.Cell.{all_fit, cells_at, is_null}
 use Rattle.metadata.specs.Change.{add_type}
-use Rattle.metadata.specs.Record.{Record, primary_key, record_of, key_of}
-use Rattle.metadata.specs.Records.{AreOrdered, IsStorable, of_type, record_at}
+use Rattle.metadata.specs.Record.{Record, key_of, record_of}
 use Rattle.metadata.specs.Schema.{Schema, field_kinds, find_type}
 use Rattle.metadata.proofs.SameTypes.{same_type-Decides}
-use Rattle.index_maint.proofs.RecordLists.{id, id_order, all_filter, ordered-filter}
 use Rattle.record_store.specs.Store.{Store}
-use Rattle.record_store.specs.Holds.{IsLawful}
-use Rattle.record_store.specs.Call.{IsOpenAs, Opened, Service, whole}
-use Rattle.record_store.specs.declared.error.StoreError.TheVariants.{OtherSchema}
-use Rattle.record_store.specs.Calls.{done_with, load_call, load_service, is_own, remove_call, remove_service, save_call, save_service, schema_service, type_call}
+use Rattle.record_store.specs.Call.{Footprint, IsOpenAs, Opened, call_on, whole}
+use Rattle.record_store.specs.declared.error.StoreError.{StoreError}
+use Rattle.record_store.specs.declared.error.StoreError.TheVariants.{OtherSchema, Refused}
+use Rattle.record_store.specs.Calls.{load_call, load_footprint, remove_call, remove_footprint, save_call, save_footprint, type_call, type_footprint}
+use Rattle.record_store.specs.Meaning.{Meaning, by_schema, is_own, load_meaning, remove_meaning, save_meaning, type_meaning}
+use Rattle.record_store.specs.Opening.{opening_reach}
+use Rattle.schedule.specs.declared.refusal.Refusal.{Refusal}
 use Rattle.schedule.specs.declared.step.Command.{Command}
 use Rattle.schedule.specs.declared.step.Command.TheVariants.{«Type», Save, Load, Remove}
 use Rattle.schedule.specs.declared.reply.Reply.{Reply}
 use Rattle.schedule.specs.declared.reply.Reply.TheVariants as reply
-use Rattle.schedule.specs.Refusals.{of_schema}
-use Rattle.schedule.specs.Serve.{served_by, served_save, served_load, served_remove, served_type, cells_there}
-use Rattle.schedule.specs.Serve.{reply_to_save, reply_to_load, reply_to_remove}
+use Rattle.schedule.specs.Refusals.{of_schema, reply_of}
+use Rattle.schedule.specs.Serve.{calling, done, line, reply_to_load, reply_to_remove, reply_to_save}
 use Rattle.schedule.specs.Past.{is_accepted, is_reading}
 use Rattle.schedule.specs.Layout.{store_prefix}
-use Rattle.schedule.specs.Reach.{call_reading, schema_written, saving, removing}
-use Rattle.schedule.specs.Calls.{removal_reply}
+use Rattle.schedule.specs.Reach.{footprint_in, footprint_on, open_reach, own_damage}
 use Rattle.schedule.proofs.Outcomes.{Meets, Refuses, Serves}
-use Rattle.schedule.proofs.Stops.{at}
+use Rattle.schedule.proofs.Stops.{at, opened_same}
 
--- a call that is done with a value, or has its own refusal
-pub done_meets : {K A : Type 0} (opened : Opened) (command : Command) (service : K → Service A) (told : A → Reply) (outcome : Result K Refusal) →
-    ((value : K) → outcome ≡ Ok value → Serves opened command (service value) told) → ((refusal : Refusal) → outcome ≡ Err refusal → Refuses opened command (of_schema refusal)) →
-    Meets opened command (done_with service outcome) told
-done_meets opened command service told (Ok value) serves refuses = serves value refl
-done_meets opened command service told (Err refusal) serves refuses = (of_schema refusal, refl, refuses refusal refl)
+-- an error is a refusal
+abbrev pub IsRefusal : StoreError → Type 0
+IsRefusal error = (refusal : Refusal) × (reply_of error ≡ Some (reply.Refused refusal))
+
+-- what a command is by the call that it makes: its line and its footprint are those of what the call asks for, which it is refused for only with a refusal, and what it replies to an answer is accepted, and tells that something was changed where the answer does
+pub record Makes {K A : Type 0} (opened : Opened) (command : Command) (asked : Schema → List (ℕ × State) → Result K StoreError) (meaning : K → Meaning A) (footprint : Opened → K → Footprint) (told : A → Reply) : Type 0 where
+  pub opens : open_reach command ≡ opening_reach store_prefix
+  pub undamaged : (m : Map) → own_damage (Some opened) command m ≡ None
+  pub lines : (store : Store) → line (Some store) command ≡ calling store told meaning (asked store.schema store.states)
+  pub prints : (o : Opened) → footprint_in o command ≡ footprint_on (footprint o) (asked o.schema o.states)
+  pub own : (error : StoreError) → asked opened.schema opened.states ≡ Err error → IsRefusal error
+  pub accepted : (answer : A) → is_accepted (told answer) ≡ true
+  pub reading : (value : K) (answer : A) → not ((meaning value).changes answer) ≡ is_reading command (told answer)
+
+-- MAKES: such a command is what its call is
+pub meets : {K A : Type 0} {asked : Schema → List (ℕ × State) → Result K StoreError} {meaning : K → Meaning A} {footprint : Opened → K → Footprint} {told : A → Reply} (opened : Opened) (command : Command) →
+    Makes (at opened) command asked meaning footprint told → Meets (at opened) command (call_on meaning (footprint (at opened)) (asked opened.schema opened.states)) told
+meets {K = K} {asked = asked} {meaning = meaning} {footprint = footprint} {told = told} opened command makes = by_outcome (asked opened.schema opened.states) refl
+  where
+    lines_so : {o : Result K StoreError} (store : Store) → IsOpenAs (at opened) store → asked opened.schema opened.states ≡ o → line (Some store) command ≡ calling store told meaning o
+    lines_so store same is = makes.lines store ∙ (λ i. calling store told meaning (asked (same.schema i) (same.states i))) ∙ ap (calling store told meaning) is
+
+    print_so : {o : Result K StoreError} → asked opened.schema opened.states ≡ o → footprint_in (at opened) command ≡ footprint_on (footprint (at opened)) o
+    print_so is = makes.prints (at opened) ∙ ap (footprint_on (footprint (at opened))) is
+
+    by_outcome : (o : Result K StoreError) → asked opened.schema opened.states ≡ o → Meets (at opened) command (call_on meaning (footprint (at opened)) o) told
+    by_outcome (Ok value) is = record {
+      opens = makes.opens;
+      reads = ap (λ (f : Footprint). f.reading) (print_so is);
+      undamaged = makes.undamaged;
+      accepted = makes.accepted;
+      reading = makes.reading value;
+      lines = λ store same. lines_so store same is;
+      prints = λ store same. ap (λ (o : Opened). (footprint_in o command).writes store) (sym (opened_same opened store same)) ∙ ap (λ (f : Footprint). f.writes store) (print_so is);
+    }
+    by_outcome (Err error) is =
+        let own = makes.own error is in record {
+          opens = makes.opens;
+          reads = ap (λ (f : Footprint). f.reading) (print_so is);
+          undamaged = makes.undamaged;
+          refusal = own.0;
+          told = own.1;
+          lines = λ store same. lines_so store same is;
+        }
+
+-- what the schema refuses is a refusal
+pub schema_refuses : {K : Type 0} (o : Result K SchemaRefusal) (error : StoreError) → by_schema o ≡ Err error → IsRefusal error
+schema_refuses (Ok value) error is = absurd (cc)
+schema_refuses (Err refusal) error is = let same : Refused refusal ≡ error = cc in (of_schema refusal, ap reply_of (sym same))
 
 -- ---- load
 
-abbrev pub told_load : Option Record → Reply
-told_load found = reply_to_load (cells_there found)
-
-load_accepted : (found : Option (List Cell)) → is_accepted (reply_to_load found) ≡ true
+load_accepted : (found : Option Record) → is_accepted (reply_to_load found) ≡ true
 load_accepted None = refl
-load_accepted (Some cells) = refl
+load_accepted (Some r) = refl
 
-load_reads : (name : List ℕ) (cells : List Cell) (found : Option (List Cell)) → true ≡ is_reading (Load name cells) (reply_to_load found)
+load_reads : (name : List ℕ) (cells : List Cell) (found : Option Record) → true ≡ is_reading (Load name cells) (reply_to_load found)
 load_reads name cells None = refl
-load_reads name cells (Some old) = refl
+load_reads name cells (Some r) = refl
 
-pub load_meets : (opened : Opened) (name : List ℕ) (cells : List Cell) → Meets (at opened) (Load name cells) (load_call (at opened) name cells) told_load
-load_meets opened name cells = done_meets (at opened) (Load name cells) (load_service (at opened)) told_load (key_of opened.schema name cells) serves refuses
+pub load_meets : (opened : Opened) (name : List ℕ) (cells : List Cell) → Meets (at opened) (Load name cells) (load_call (at opened) name cells) reply_to_load
+load_meets opened name cells = meets opened (Load name cells) makes
   where
-    here : {o : Result (List Item) Refusal} (store : Store) → IsOpenAs (at opened) store → key_of opened.schema name cells ≡ o → key_of store.schema name cells ≡ o
-    here store same is = ap (λ s. key_of s name cells) same.schema ∙ is
-
-    serves : (key : List Item) → key_of opened.schema name cells ≡ Ok key → Serves (at opened) (Load name cells) (load_service (at opened) key) told_load
-    serves key is = record {
+    makes : Makes (at opened) (Load name cells) (λ schema states. by_schema (key_of schema name cells)) load_meaning load_footprint reply_to_load
+    makes = record {
       opens = refl;
       undamaged = λ m. refl;
-      reads = ap (λ o. call_reading (done_with (load_service (at opened)) o)) is;
-      objects = tt;
-      accepted = λ found. load_accepted (cells_there found);
-      reading = λ found. load_reads name cells (cells_there found);
-      replies = λ store lawful same accepted. sym (ap (λ o. (served_by store (served_load store) o).0) (here store same is));
-      leaves = λ store same accepted. ap (λ o. (served_by store (served_load store) o).1) (here store same is);
-      wrote = λ store same accepted. refl;
-    }
-
-    refuses : (refusal : Refusal) → key_of opened.schema name cells ≡ Err refusal → Refuses (at opened) (Load name cells) (of_schema refusal)
-    refuses refusal is = record {
-      opens = refl;
-      undamaged = λ m. refl;
-      reads = ap (λ o. call_reading (done_with (load_service (at opened)) o)) is;
-      replies = λ store same. sym (ap (λ o. (served_by store (served_load store) o).0) (here store same is));
-      idle = λ store same. refl;
+      lines = λ store. refl;
+      prints = λ o. refl;
+      own = schema_refuses (key_of opened.schema name cells);
+      accepted = load_accepted;
+      reading = λ key. load_reads name cells;
     }
 
 -- ---- remove
 
-remove_accepted : (was_there : Bool) → is_accepted (removal_reply was_there) ≡ true
+remove_accepted : (was_there : Bool) → is_accepted (reply_to_remove was_there) ≡ true
 remove_accepted true = refl
 remove_accepted false = refl
 
-remove_reads : (name : List ℕ) (cells : List Cell) (was_there : Bool) → not was_there ≡ is_reading (Remove name cells) (removal_reply was_there)
+remove_reads : (name : List ℕ) (cells : List Cell) (was_there : Bool) → not was_there ≡ is_reading (Remove name cells) (reply_to_remove was_there)
 remove_reads name cells true = refl
 remove_reads name cells false = refl
 
-removed_reply : (o : Option Record) → removal_reply (is_some o) ≡ reply_to_remove (cells_there o)
-removed_reply None = refl
-removed_reply (Some r) = refl
-
-pub remove_meets : (opened : Opened) (name : List ℕ) (cells : List Cell) → Meets (at opened) (Remove name cells) (remove_call (at opened) name cells) removal_reply
-remove_meets opened name cells = done_meets (at opened) (Remove name cells) (remove_service (at opened)) removal_reply (key_of opened.schema name cells) serves refuses
+pub remove_meets : (opened : Opened) (name : List ℕ) (cells : List Cell) → Meets (at opened) (Remove name cells) (remove_call (at opened) name cells) reply_to_remove
+remove_meets opened name cells = meets opened (Remove name cells) makes
   where
-    here : {o : Result (List Item) Refusal} (store : Store) → IsOpenAs (at opened) store → key_of opened.schema name cells ≡ o → key_of store.schema name cells ≡ o
-    here store same is = ap (λ s. key_of s name cells) same.schema ∙ is
-
-    serves : (key : List Item) → key_of opened.schema name cells ≡ Ok key → Serves (at opened) (Remove name cells) (remove_service (at opened) key) removal_reply
-    serves key is = record {
+    makes : Makes (at opened) (Remove name cells) (λ schema states. by_schema (key_of schema name cells)) remove_meaning remove_footprint reply_to_remove
+    makes = record {
       opens = refl;
       undamaged = λ m. refl;
-      reads = ap (λ o. call_reading (done_with (remove_service (at opened)) o)) is;
-      objects = tt;
+      lines = λ store. refl;
+      prints = λ o. refl;
+      own = schema_refuses (key_of opened.schema name cells);
       accepted = remove_accepted;
-      reading = remove_reads name cells;
-      replies = λ store lawful same accepted. removed_reply (record_at key store.records) ∙ sym (ap (λ o. (served_by store (served_remove store) o).0) (here store same is));
-      leaves = λ store same accepted. ap (λ o. (served_by store (served_remove store) o).1) (here store same is);
-      wrote = λ store same accepted. ap (removing store) (here store same is);
-    }
-
-    refuses : (refusal : Refusal) → key_of opened.schema name cells ≡ Err refusal → Refuses (at opened) (Remove name cells) (of_schema refusal)
-    refuses refusal is = record {
-      opens = refl;
-      undamaged = λ m. refl;
-      reads = ap (λ o. call_reading (done_with (remove_service (at opened)) o)) is;
-      replies = λ store same. sym (ap (λ o. (served_by store (served_remove store) o).0) (here store same is));
-      idle = λ store same. ap (removing store) (here store same is);
+      reading = λ key. remove_reads name cells;
     }
 
 -- ---- save
 
-abbrev pub told_save : Option Record → Reply
-told_save old = reply_to_save (cells_there old)
-
-save_accepted : (found : Option (List Cell)) → is_accepted (reply_to_save found) ≡ true
+save_accepted : (found : Option Record) → is_accepted (reply_to_save found) ≡ true
 save_accepted None = refl
-save_accepted (Some cells) = refl
+save_accepted (Some r) = refl
 
-save_changes : (name : List ℕ) (cells : List Cell) (found : Option (List Cell)) → false ≡ is_reading (Save name cells) (reply_to_save found)
+save_changes : (name : List ℕ) (cells : List Cell) (found : Option Record) → false ≡ is_reading (Save name cells) (reply_to_save found)
 save_changes name cells None = refl
-save_changes name cells (Some old) = refl
+save_changes name cells (Some r) = refl
 
 -- a record that a schema makes has the definition of the type that was asked for
-abbrev keyed : List Cell → TypeDefinition → Bool → Result Record Refusal
+abbrev keyed : List Cell → TypeDefinition → Bool → Result Record SchemaRefusal
 keyed cells type true = Err NullKey
 keyed cells type false = Ok (record { definition = type; cells = cells })
 
-abbrev sized : List Cell → TypeDefinition → Bool → Result Record Refusal
+abbrev sized : List Cell → TypeDefinition → Bool → Result Record SchemaRefusal
 sized cells type false = Err WrongKind
 sized cells type true = keyed cells type (list_any is_null (cells_at cells type.key))
 
-abbrev typed : List Cell → Option TypeDefinition → Result Record Refusal
+abbrev typed : List Cell → Option TypeDefinition → Result Record SchemaRefusal
 typed cells None = Err UnknownType
 typed cells (Some type) = sized cells type (all_fit (field_kinds type) cells)
 
@@ -186,63 +186,42 @@ own schema name cells r is =
     let named : r.definition.name ≡ name = (bytes_eq-Decides r.definition.name name).0 (found_passes (λ (type : TypeDefinition). bytes_eq type.name name) schema.types r.definition found) in
     ap (λ n. is_own (find_type schema n) r) named ∙ ap (λ o. is_own o r) found ∙ (same_type-Decides r.definition r.definition).1 refl
 
-pub save_refuses : (opened : Opened) (name : List ℕ) (cells : List Cell) (refusal : Refusal) → record_of opened.schema name cells ≡ Err refusal → Refuses (at opened) (Save name cells) (of_schema refusal)
-save_refuses opened name cells refusal is = record {
-  opens = refl;
-  undamaged = λ m. refl;
-  reads = ap (λ o. call_reading (done_with (save_service (at opened)) o)) is;
-  replies = λ store same. sym (ap (λ o. (served_by store (served_save store) o).0) (ap (λ s. record_of s name cells) same.schema ∙ is));
-  idle = λ store same. ap (saving store) (ap (λ s. record_of s name cells) same.schema ∙ is);
-}
-
-pub save_meets : (opened : Opened) (name : List ℕ) (cells : List Cell) (r : Record) → record_of opened.schema name cells ≡ Ok r → Meets (at opened) (Save name cells) (save_call (at opened) r) told_save
-save_meets opened name cells r is = subst (λ b. Meets (at opened) (Save name cells) (cond b (Ok (save_service (at opened) r)) (Err OtherSchema)) told_save) (sym (own opened.schema name cells r is)) serves
+-- a save is the call on the record that the schema makes of its cells
+save_asked : (opened : Opened) (name : List ℕ) (cells : List Cell) → Meets (at opened) (Save name cells) (call_on save_meaning (save_footprint (at opened)) (by_schema (record_of opened.schema name cells))) reply_to_save
+save_asked opened name cells = meets opened (Save name cells) makes
   where
-    here : (store : Store) → IsOpenAs (at opened) store → record_of store.schema name cells ≡ Ok r
-    here store same = ap (λ s. record_of s name cells) same.schema ∙ is
-
-    serves : Serves (at opened) (Save name cells) (save_service (at opened) r) told_save
-    serves = record {
+    makes : Makes (at opened) (Save name cells) (λ schema states. by_schema (record_of schema name cells)) save_meaning save_footprint reply_to_save
+    makes = record {
       opens = refl;
       undamaged = λ m. refl;
-      reads = ap (λ o. call_reading (done_with (save_service (at opened)) o)) is;
-      objects = tt;
-      accepted = λ old. save_accepted (cells_there old);
-      reading = λ old. save_changes name cells (cells_there old);
-      replies = λ store lawful same accepted. sym (ap (λ o. (served_by store (served_save store) o).0) (here store same));
-      leaves = λ store same accepted. ap (λ o. (served_by store (served_save store) o).1) (here store same);
-      wrote = λ store same accepted. ap (saving store) (here store same);
+      lines = λ store. refl;
+      prints = λ o. refl;
+      own = schema_refuses (record_of opened.schema name cells);
+      accepted = save_accepted;
+      reading = λ r. save_changes name cells;
     }
+
+pub save_refuses : (opened : Opened) (name : List ℕ) (cells : List Cell) (refusal : SchemaRefusal) → record_of opened.schema name cells ≡ Err refusal → Refuses (at opened) (Save name cells) (Refused refusal)
+save_refuses opened name cells refusal is =
+    subst (λ o. Meets (at opened) (Save name cells) (call_on save_meaning (save_footprint (at opened)) (by_schema o)) reply_to_save) is (save_asked opened name cells)
+
+pub save_meets : (opened : Opened) (name : List ℕ) (cells : List Cell) (r : Record) → record_of opened.schema name cells ≡ Ok r → Meets (at opened) (Save name cells) (save_call (at opened) r) reply_to_save
+save_meets opened name cells r is =
+    subst (λ b. Meets (at opened) (Save name cells) (call_on save_meaning (save_footprint (at opened)) (cond b (Ok r) (Err OtherSchema))) reply_to_save) (sym (own opened.schema name cells r is))
+    (subst (λ o. Meets (at opened) (Save name cells) (call_on save_meaning (save_footprint (at opened)) (by_schema o)) reply_to_save) is (save_asked opened name cells))
 
 -- ---- type
 
-abbrev pub told_type : Schema → Reply
-told_type schema = reply.Done
-
-pub type_meets : (opened : Opened) (request : TypeRequest) → Meets (at opened) («Type» request) (type_call (at opened) request) told_type
-type_meets opened request = done_meets (at opened) («Type» request) (schema_service (at opened)) told_type (add_type opened.schema request) serves refuses
+pub type_meets : (opened : Opened) (request : TypeRequest) → Meets (at opened) («Type» request) (type_call (at opened) request) done
+type_meets opened request = meets opened («Type» request) makes
   where
-    here : {o : Result Schema Refusal} (store : Store) → IsOpenAs (at opened) store → add_type opened.schema request ≡ o → add_type store.schema request ≡ o
-    here store same is = ap (λ s. add_type s request) same.schema ∙ is
-
-    serves : (next : Schema) → add_type opened.schema request ≡ Ok next → Serves (at opened) («Type» request) (schema_service (at opened) next) told_type
-    serves next is = record {
+    makes : Makes (at opened) («Type» request) (λ schema states. by_schema (add_type schema request)) type_meaning type_footprint done
+    makes = record {
       opens = refl;
       undamaged = λ m. refl;
-      reads = refl;
-      objects = tt;
-      accepted = λ answer. refl;
-      reading = λ answer. refl;
-      replies = λ store lawful same accepted. sym (ap (λ o. (served_by store (served_type store) o).0) (here store same is));
-      leaves = λ store same accepted. ap (λ o. (served_by store (served_type store) o).1) (here store same is);
-      wrote = λ store same accepted. ap schema_written (here store same is);
-    }
-
-    refuses : (refusal : Refusal) → add_type opened.schema request ≡ Err refusal → Refuses (at opened) («Type» request) (of_schema refusal)
-    refuses refusal is = record {
-      opens = refl;
-      undamaged = λ m. refl;
-      reads = refl;
-      replies = λ store same. sym (ap (λ o. (served_by store (served_type store) o).0) (here store same is));
-      idle = λ store same. ap schema_written (here store same is);
+      lines = λ store. refl;
+      prints = λ o. refl;
+      own = schema_refuses (add_type opened.schema request);
+      accepted = λ schema. refl;
+      reading = λ schema answer. refl;
     }

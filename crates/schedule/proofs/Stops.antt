@@ -16,8 +16,8 @@ use Rattle.schedule.specs.declared.refusal.Refusal.TheVariants.{AlreadyThere, No
 use Rattle.record_store.specs.declared.error.StoreError.{StoreError}
 use Rattle.record_store.specs.declared.error.StoreError.TheVariants.{Memory, Read, Write, Corrupt, Refused}
 use Rattle.record_store.specs.declared.error.StoreError.TheVariants as fault
-use Rattle.record_store.specs.Store.{Serial}
-use Rattle.record_store.specs.Call.{Opened}
+use Rattle.record_store.specs.Store.{Serial, Store}
+use Rattle.record_store.specs.Call.{IsOpenAs, Opened}
 use Rattle.record_store.specs.Opening.{IsOpened, IsThereAs, opening_reach}
 use Rattle.record_store.specs.Steps.{IsBeginning}
 use Rattle.record_store.proofs.Stopping.{all_begin, none_begin}
@@ -26,14 +26,16 @@ use Rattle.schedule.specs.declared.step.Command.TheVariants.{Create, «Type», S
 use Rattle.schedule.specs.declared.reply.Reply.{Reply}
 use Rattle.schedule.specs.declared.reply.Reply.TheVariants as reply
 use Rattle.schedule.specs.Layout.{store_prefix}
-use Rattle.schedule.specs.Serve.{IsReply, effect}
+use Rattle.schedule.specs.Serve.{IsReply, IsReplyOf, effect, line}
+use Rattle.schedule.specs.Serve as serve
 use Rattle.schedule.specs.Past.{is_accepted, is_reading}
 use Rattle.schedule.specs.Holds.{Stands}
-use Rattle.schedule.specs.Reach.{opened_in, added_by, open_reach, own_reading, reach, writes}
+use Rattle.schedule.specs.Reach.{opened_in, added_by, open_reach, own_reading, reach, writes, writes_in, written_with}
 use Rattle.schedule.specs.Performed.{HasAdded, HasOpened, IsCommandSound, IsDamaged, IsLimit, IsLimited, IsReadRefusal}
 use Rattle.schedule.specs.Performed.{IsReadRefusedAs, IsServed, TellsOfPairs}
-use Rattle.schedule.specs.Refusals.{of_schema}
-use Rattle.schedule.specs.Calls.{IsCommandRefused, reply_of}
+use Rattle.schedule.specs.Query.{opened_as}
+use Rattle.schedule.specs.Refusals.{of_schema, reply_of}
+use Rattle.schedule.specs.Calls.{IsCommandRefused}
 use Rattle.schedule.proofs.Reached.{all_added, begin_open, told_refusal}
 
 -- what was opened, at the store's prefix
@@ -111,11 +113,29 @@ pub opened_is : (opened : Opened) (serial : Serial) → opened.prefix ≡ store_
 opened_is opened None here has = absurd has
 opened_is opened (Some store) here has = λ i. Some (record { prefix = sym here i; schema = has.schema i; states = has.states i })
 
+-- what was opened is what each store is that was opened so
+pub opened_same : (opened : Opened) (store : Store) → IsOpenAs (at opened) store → at opened ≡ opened_as store
+opened_same opened store same = λ i. record { prefix = store_prefix; schema = sym same.schema i; states = sym same.states i }
+
 -- where a command stopped with an error these ranges were added: the first ones where memory was wanting or a read was refused, and else all
 abbrev pub HasStopped : StoreError → List KeyRange → List KeyRange → Type 0
 HasStopped Memory all ranges = IsBeginning ranges all
 HasStopped (Read reason) all ranges = IsBeginning ranges all
 HasStopped error all ranges = ranges ≡ all
+
+pub stopped_all : (error : StoreError) {all ranges : List KeyRange} → ranges ≡ all → HasStopped error all ranges
+stopped_all Memory {ranges = ranges} is = subst (IsBeginning ranges) is (all_begin ranges)
+stopped_all (Read reason) {ranges = ranges} is = subst (IsBeginning ranges) is (all_begin ranges)
+stopped_all (Write reason) is = is
+stopped_all (Corrupt key) is = is
+stopped_all (Refused refusal) is = is
+stopped_all fault.NoStore is = is
+stopped_all fault.AlreadyThere is = is
+stopped_all fault.OtherSchema is = is
+stopped_all fault.NotAggregate is = is
+stopped_all fault.NotReadable is = is
+stopped_all fault.WrongState is = is
+stopped_all fault.NotBuilt is = is
 
 stopped_begin : (error : StoreError) {all ranges : List KeyRange} → HasStopped error all ranges → IsBeginning ranges all
 stopped_begin Memory has = has
@@ -242,6 +262,11 @@ pub own_right : (refuses : KeyRange → ReadError → Type 0) (command : Command
     writes serial command ≡ [] → IsRight refuses command before error m serial
 own_right refuses command before error refusal m serial replied is none =
     λ answer same. let that : reply.Refused refusal ≡ answer = cc in inl (subst (IsServed before serial command) that (served_idle before serial command (reply.Refused refusal) none is))
+
+-- a refusal of the command by this error
+pub refused_right : (refuses : KeyRange → ReadError → Type 0) (command : Command) (before : List Mutation) (error : StoreError) (m : Map) (serial : Serial) → line serial command ≡ serve.Refuses (reply_of error) → IsRight refuses command before error m serial
+refused_right refuses command before error m serial is =
+    λ answer same. inl (served_idle before serial command answer (ap (λ l. written_with l (writes_in serial command)) is) (subst (λ l. IsReplyOf l answer) (sym is) same))
 
 -- a limit is the reply that it is
 limit_is : (error : WriteError) (answer : Reply) → reply_of (Write error) ≡ Some answer → IsLimit error answer

@@ -6,6 +6,12 @@ use Rattle.record_store.specs.declared.error.StoreError.{StoreError}
 use Rattle.record_store.specs.declared.error.StoreError.TheVariants as store
 use Rattle.query.specs.declared.error.QueryError.{QueryError}
 use Rattle.query.specs.declared.error.QueryError.TheVariants as query
+use Rattle.kv_core.specs.declared.change.WriteError.{WriteError}
+use Rattle.kv_core.specs.declared.change.WriteError.TheVariants as write
+use Rattle.cluster_core.specs.declared.answers.ReadError.{ReadError}
+use Rattle.cluster_core.specs.declared.answers.ReadError.TheVariants as read
+use Rattle.schedule.specs.declared.reply.Reply.{Reply}
+use Rattle.schedule.specs.declared.reply.Reply.TheVariants as reply
 use Rattle.schedule.specs.declared.refusal.Refusal.{Refusal}
 use Rattle.schedule.specs.declared.refusal.Refusal.TheVariants.{NoSuchClient, NoSuchRole, Busy, NoTransaction, NoPlan}
 use Rattle.schedule.specs.declared.refusal.Refusal.TheVariants.{BadLimit, BadName, IndexNotReadable, NotAggregate}
@@ -30,14 +36,34 @@ of_schema schema.NullKey = NullKey
 of_schema schema.BadSchema = BadSchema
 of_schema schema.TooMany = TooMany
 
--- the refusal of a step whose call on an open store is refused so before it reads, or for what it read, if it is
-abbrev pub step_refusal : StoreError → Option Refusal
-step_refusal (store.Refused refusal) = Some (of_schema refusal)
-step_refusal store.NotAggregate = Some NotAggregate
-step_refusal store.NotReadable = Some NotReadable
-step_refusal store.WrongState = Some WrongState
-step_refusal store.NotBuilt = Some NotBuilt
-step_refusal error = None
+-- the reply that a refused read is; want of memory is none
+abbrev pub read_reply : ReadError → Option Reply
+read_reply read.FutureVersion = Some (reply.Refused FutureVersion)
+read_reply read.TooOld = Some (reply.Refused TooOld)
+read_reply read.Memory = None
+
+-- the reply that a refused write is; want of memory is none
+abbrev pub write_reply : WriteError → Option Reply
+write_reply write.KeyOutside = Some (reply.Refused KeyOutside)
+write_reply write.KeyTooLarge = Some (reply.Refused KeyTooLarge)
+write_reply write.ValueTooLarge = Some (reply.Refused ValueTooLarge)
+write_reply write.TransactionTooLarge = Some (reply.Refused TransactionTooLarge)
+write_reply write.Memory = None
+
+-- the reply that an error is; want of memory is none
+abbrev pub reply_of : StoreError → Option Reply
+reply_of store.Memory = None
+reply_of (store.Read error) = read_reply error
+reply_of (store.Write error) = write_reply error
+reply_of (store.Corrupt key) = Some (reply.Corrupt key)
+reply_of (store.Refused refusal) = Some (reply.Refused (of_schema refusal))
+reply_of store.NoStore = Some (reply.Refused NoStore)
+reply_of store.AlreadyThere = Some (reply.Refused AlreadyThere)
+reply_of store.OtherSchema = Some (reply.Refused OtherSchema)
+reply_of store.NotAggregate = Some (reply.Refused NotAggregate)
+reply_of store.NotReadable = Some (reply.Refused NotReadable)
+reply_of store.WrongState = Some (reply.Refused WrongState)
+reply_of store.NotBuilt = Some (reply.Refused NotBuilt)
 
 -- the refusal of a step whose query is refused so
 abbrev pub of_query : QueryError → Refusal

@@ -1,193 +1,140 @@
 -- What the serial store replies to a command, and the store after it. No key of a database and no packed byte occurs.
 use Rattle.std.specs.Prelude.{◌≡◌, ℕ, zero, Bool, true, false, List, [], ◌∷◌, Option, Some, None, Result, Ok, Err}
-use Rattle.std.specs.Option.{option_map, option_and_then}
-use Rattle.tuple_codec.specs.Item.{Item}
-use Rattle.metadata.specs.declared.cells.Cell.{Cell}
-use Rattle.metadata.specs.declared.index.IndexDefinition.{IndexDefinition}
-use Rattle.metadata.specs.declared.index.State.{State as IndexState}
-use Rattle.metadata.specs.declared.index.State.TheVariants as states
+use Rattle.metadata.specs.declared.index.State.TheVariants.{Disabled, WriteOnly}
 use Rattle.metadata.specs.declared.refusal.Refusal.{Refusal as SchemaRefusal}
 use Rattle.schedule.specs.declared.refusal.Refusal.{Refusal}
-use Rattle.schedule.specs.Refusals.{of_schema, step_refusal}
-use Rattle.schedule.specs.declared.refusal.Refusal.TheVariants.{AlreadyThere, BadLimit, NoStore, NotBuilt}
-use Rattle.schedule.specs.declared.refusal.Refusal.TheVariants.{UnknownIndex, WrongState}
+use Rattle.schedule.specs.declared.refusal.Refusal.TheVariants.{AlreadyThere, BadLimit, NoStore}
+use Rattle.schedule.specs.Refusals.{of_schema, reply_of}
 use Rattle.metadata.specs.Schema.{Schema, find_index}
 use Rattle.metadata.specs.Asked.{schema_asked}
 use Rattle.metadata.specs.Change.{add_type}
-use Rattle.metadata.specs.Group.{fits_group}
 use Rattle.metadata.specs.IndexChange.{new_index}
-use Rattle.metadata.specs.Record.{Record, primary_key, record_of, key_of}
+use Rattle.metadata.specs.Record.{Record, record_of, key_of}
 use Rattle.schedule.specs.declared.step.Command.{Command}
 use Rattle.schedule.specs.declared.step.Command.TheVariants.{Create, «Type», Save, Load, Remove}
-use Rattle.schedule.specs.declared.step.Command.TheVariants.{Query, Plan, Execute, Index, Drop, Disable, State}
-use Rattle.schedule.specs.declared.step.Command.TheVariants.{Aggregate, Build, Readable, WriteOnly}
+use Rattle.schedule.specs.declared.step.Command.TheVariants.{Plan, Execute, Index, Drop, Disable, State}
+use Rattle.schedule.specs.declared.step.Command.TheVariants.{Aggregate, Build, Readable}
+use Rattle.schedule.specs.declared.step.Command.TheVariants as commands
 use Rattle.schedule.specs.declared.reply.Reply.{Reply}
 use Rattle.schedule.specs.declared.reply.Reply.TheVariants as reply
-use Rattle.schedule.specs.declared.reply.Reply.TheVariants.{Refused}
-use Rattle.metadata.specs.Records.{of_type, record_at}
-use Rattle.range_set.specs.Gaps.{is_whole}
-use Rattle.record_store.specs.Store.{Store, Serial, built_of, created, disabled, dropped, extended}
-use Rattle.record_store.specs.Store.{indexed, new_state, readable, removed, saved, state_of, write_only}
-use Rattle.record_store.specs.Calls.{index_number, total_of, total_refusal}
-use Rattle.record_store.specs.Building.{gap_of}
+use Rattle.record_store.specs.declared.error.StoreError.{StoreError}
+use Rattle.record_store.specs.Store.{Store, Serial, created}
+use Rattle.record_store.specs.Meaning.{Meaning, by_schema, drop_meaning, index_meaning, index_number, load_meaning}
+use Rattle.record_store.specs.Meaning.{mark_meaning, readable_meaning, remove_meaning, save_meaning, state_meaning}
+use Rattle.record_store.specs.Meaning.{total_meaning, totalled_index, type_meaning, write_only_named}
 use Rattle.online_builder.specs.declared.progress.Progress.{Progress}
 use Rattle.online_builder.specs.declared.progress.Progress.TheVariants as progress
-use Rattle.online_builder.specs.Stepping.{progress_in, stepped}
+use Rattle.online_builder.specs.Stepping.{step_meaning}
+use Rattle.planner.specs.Asked.{AskedPlan}
+use Rattle.query.specs.Query.{Query}
 use Rattle.schedule.specs.Query.{IsExecuteReply, IsQueryReply, states_of}
 use Rattle.schedule.specs.Planning.{IsPlanReply}
 
--- a reply, and what is there after it
-abbrev pub Served : Type 0
-Served = Reply × Serial
+-- what the serial store makes of a command: it is refused, with this reply; it has this reply, and this is there after
+-- it; or it replies to a query, to its plan or to an execution, all of which leave what is there
+pub data Line : Type 0 where
+  Refuses : Option Reply → Line
+  Replies : Reply → Serial → Line
+  Queries : Store → Query → Line
+  Plans : Store → Query → Line
+  Executes : Store → AskedPlan → Line
 
--- a refusal, without effect
-abbrev pub refused : Serial → Refusal → Served
-refused serial refusal = (Refused refusal, serial)
+abbrev pub refuses : Refusal → Line
+refuses refusal = Refuses (Some (reply.Refused refusal))
 
--- what is made of an outcome, or its refusal without effect
-abbrev pub served_by : {A : Type 0} → Store → (A → Served) → Result A SchemaRefusal → Served
-served_by store accepted (Ok value) = accepted value
-served_by store accepted (Err refusal) = refused (Some store) (of_schema refusal)
+-- the line of a call at a store: by what it means, with what it answers or is refused for, and the reply to an answer
+abbrev pub answering : {A : Type 0} → Store → (A → Reply) → Meaning A → Result A StoreError → Line
+answering store told meaning (Ok answer) = Replies (told answer) (Some (meaning.after store))
+answering store told meaning (Err error) = Refuses (reply_of error)
 
--- the cells of a record that may be there
-abbrev pub cells_there : Option Record → Option (List Cell)
-cells_there found = option_map (λ r. r.cells) found
+-- the same by what it asks for, or is refused for before
+abbrev pub calling : {K A : Type 0} → Store → (A → Reply) → (K → Meaning A) → Result K StoreError → Line
+calling store told meaning (Ok value) = answering store told (meaning value) ((meaning value).answer store)
+calling store told meaning (Err error) = Refuses (reply_of error)
 
--- what a save, a load and a removal reply, by the cells of the record that was there
-abbrev pub reply_to_save : Option (List Cell) → Reply
+-- what calls reply by their answers: whatever it is; by the record that was there; by whether one was
+abbrev pub done : {A : Type 0} → A → Reply
+done answer = reply.Done
+
+abbrev pub reply_to_save : Option Record → Reply
 reply_to_save None = reply.SavedNew
-reply_to_save (Some old) = reply.SavedOver old
+reply_to_save (Some old) = reply.SavedOver old.cells
 
-abbrev pub reply_to_load : Option (List Cell) → Reply
+abbrev pub reply_to_load : Option Record → Reply
 reply_to_load None = reply.Absent
-reply_to_load (Some found) = reply.Found found
+reply_to_load (Some found) = reply.Found found.cells
 
-abbrev pub reply_to_remove : Option (List Cell) → Reply
-reply_to_remove None = reply.Absent
-reply_to_remove (Some old) = reply.Removed
+abbrev pub reply_to_remove : Bool → Reply
+reply_to_remove true = reply.Removed
+reply_to_remove false = reply.Absent
 
--- a record is saved; the record of a key is loaded, and removed
-abbrev pub served_save : Store → Record → Served
-served_save store new =
-    (reply_to_save (cells_there (record_at (primary_key new) store.records)), Some (saved store new))
-
-abbrev pub served_load : Store → List Item → Served
-served_load store key = (reply_to_load (cells_there (record_at key store.records)), Some store)
-
-abbrev pub served_remove : Store → List Item → Served
-served_remove store key = (reply_to_remove (cells_there (record_at key store.records)), Some (removed store key))
-
--- a type is added
-abbrev pub served_type : Store → Schema → Served
-served_type store schema = (reply.Done, Some (extended store schema))
-
--- an index is added, and its state replied; an index is dropped, disabled, and marked write-only; its state is asked
--- for
-abbrev pub served_index : Store → IndexDefinition → Served
-served_index store index =
-    (reply.State (new_state (of_type index.type_number store.records)), Some (indexed store index))
-
-abbrev pub served_drop : Store → ℕ → Served
-served_drop store number = (reply.Done, Some (dropped store number))
-
-abbrev pub served_disable : Store → ℕ → Served
-served_disable store number = (reply.Done, Some (disabled store number))
-
-abbrev pub served_write_only : Store → ℕ → Served
-served_write_only store number = (reply.Done, Some (write_only store number))
-
--- an index in this state is marked readable: one that is write-only, where every position of it is built
-abbrev pub served_readable : Store → ℕ → IndexState → Bool → Served
-served_readable store number states.WriteOnly true = (reply.Done, Some (readable store number))
-served_readable store number states.WriteOnly false = refused (Some store) NotBuilt
-served_readable store number state whole = refused (Some store) WrongState
-
-abbrev pub served_readable_by : Store → Option IndexDefinition → Served
-served_readable_by store None = refused (Some store) UnknownIndex
-served_readable_by store (Some index) =
-    served_readable store index.number (state_of store index.number) (is_whole (built_of store index.number))
-
--- what a step of a builder replies
 abbrev pub reply_to_build : Progress → Reply
 reply_to_build (progress.Built records range) = reply.Built records range
 reply_to_build progress.Finished = reply.Finished
 
--- a part of an index in this state is built, where it is write-only
-abbrev pub served_build : Store → ℕ → IndexDefinition → IndexState → Served
-served_build store limit index states.WriteOnly = (
-  reply_to_build (progress_in limit index store (gap_of store index.number)),
-  Some (stepped limit index store (gap_of store index.number)),
-)
-served_build store limit index state = refused (Some store) WrongState
-
-abbrev pub served_build_by : Store → ℕ → Option IndexDefinition → Served
-served_build_by store limit None = refused (Some store) UnknownIndex
-served_build_by store limit (Some index) = served_build store limit index (state_of store index.number)
-
-abbrev pub served_state : Store → ℕ → Served
-served_state store number = (reply.State (state_of store number), Some store)
-
--- the total of a group of cells is asked for
-abbrev pub served_total : Store → IndexDefinition → List Cell → Option Refusal → Served
-served_total store index group None = (reply.Total (total_of index.kind index group store.records), Some store)
-served_total store index group (Some refusal) = refused (Some store) refusal
-
-abbrev pub served_aggregate : Store → List Cell → Option IndexDefinition → Served
-served_aggregate store group None = refused (Some store) UnknownIndex
-served_aggregate store group (Some index) =
-    served_total store index group
-    (option_and_then step_refusal
-    (total_refusal index.kind (fits_group store.schema index group) (state_of store index.number)))
-
--- a command on a store. A query, its plan and its execution aren't served here, since more than one value may be the
--- reply
-abbrev pub served_in : Store → Command → Served
-served_in store (Create request) = refused (Some store) AlreadyThere
-served_in store («Type» request) = served_by store (served_type store) (add_type store.schema request)
-served_in store (Save type cells) = served_by store (served_save store) (record_of store.schema type cells)
-served_in store (Load type cells) = served_by store (served_load store) (key_of store.schema type cells)
-served_in store (Remove type cells) = served_by store (served_remove store) (key_of store.schema type cells)
-served_in store (Index request) = served_by store (served_index store) (new_index store.schema request)
-served_in store (Drop name) = served_by store (served_drop store) (index_number (find_index store.schema name))
-served_in store (Disable name) = served_by store (served_disable store) (index_number (find_index store.schema name))
-served_in store (WriteOnly name) =
-    served_by store (served_write_only store) (index_number (find_index store.schema name))
-served_in store (Readable name) = served_readable_by store (find_index store.schema name)
-served_in store (Build name limit) = served_build_by store limit (find_index store.schema name)
-served_in store (State name) = served_by store (served_state store) (index_number (find_index store.schema name))
-served_in store (Aggregate name group) = served_aggregate store group (find_index store.schema name)
-served_in store (Query query) = (reply.Nothing, Some store)
-served_in store (Plan query) = (reply.Nothing, Some store)
-served_in store (Execute plan) = (reply.Nothing, Some store)
+-- a command on a store, by the call that it makes, with the reply to its answer
+abbrev pub line_in : Store → Command → Line
+line_in store (Create request) = refuses AlreadyThere
+line_in store («Type» request) = calling store done type_meaning (by_schema (add_type store.schema request))
+line_in store (Save type cells) =
+    calling store reply_to_save save_meaning (by_schema (record_of store.schema type cells))
+line_in store (Load type cells) = calling store reply_to_load load_meaning (by_schema (key_of store.schema type cells))
+line_in store (Remove type cells) =
+    calling store reply_to_remove remove_meaning (by_schema (key_of store.schema type cells))
+line_in store (commands.Query query) = Queries store query
+line_in store (Plan query) = Plans store query
+line_in store (Execute plan) = Executes store plan
+line_in store (Index request) = calling store reply.State index_meaning (by_schema (new_index store.schema request))
+line_in store (Drop name) =
+    calling store done drop_meaning (by_schema (index_number (find_index store.schema name)))
+line_in store (Disable name) =
+    calling store done (mark_meaning Disabled) (by_schema (index_number (find_index store.schema name)))
+line_in store (commands.WriteOnly name) =
+    calling store done (mark_meaning WriteOnly) (by_schema (index_number (find_index store.schema name)))
+line_in store (Readable name) =
+    calling store done (λ index. readable_meaning index.number) (write_only_named store.schema store.states name)
+line_in store (Build name limit) =
+    calling store reply_to_build (step_meaning limit) (write_only_named store.schema store.states name)
+line_in store (State name) =
+    calling store reply.State state_meaning (by_schema (index_number (find_index store.schema name)))
+line_in store (Aggregate name group) =
+    calling store reply.Total (total_meaning group)
+    (totalled_index store.schema store.states group (find_index store.schema name))
 
 -- a store is made where there is none, once its schema is accepted
-abbrev pub served_create : Serial → Result Schema SchemaRefusal → Served
-served_create serial (Err refusal) = refused serial (of_schema refusal)
-served_create None (Ok schema) = (reply.Done, Some (created schema))
-served_create (Some store) (Ok schema) = refused (Some store) AlreadyThere
+abbrev pub creating : Serial → Result Schema SchemaRefusal → Line
+creating serial (Err refusal) = refuses (of_schema refusal)
+creating None (Ok schema) = Replies reply.Done (Some (created schema))
+creating (Some store) (Ok schema) = refuses AlreadyThere
 
--- any other command wants a store
-abbrev pub served_there : Serial → Command → Served
-served_there None command = refused None NoStore
-served_there (Some store) command = served_in store command
+-- a command on what is there: a builder of no record is refused in any case, and else any other one wants a store
+abbrev pub line : Serial → Command → Line
+line serial (Create request) = creating serial (schema_asked request)
+line serial (Build name zero) = refuses BadLimit
+line None command = refuses NoStore
+line (Some store) command = line_in store command
 
--- what the serial store replies to a command, and the store after it
-abbrev pub served : Serial → Command → Served
-served serial (Create request) = served_create serial (schema_asked request)
-served serial (Build name zero) = refused serial BadLimit
-served serial command = served_there serial command
+-- the reply is the line's, or one of them
+abbrev pub IsReplyOf : Line → Reply → Type 0
+IsReplyOf (Refuses refusal) answer = refusal ≡ Some answer
+IsReplyOf (Replies told after) answer = answer ≡ told
+IsReplyOf (Queries store query) answer = IsQueryReply store query answer
+IsReplyOf (Plans store query) answer = IsPlanReply store.schema (states_of store) query answer
+IsReplyOf (Executes store plan) answer = IsExecuteReply store plan answer
+
+-- what the line leaves there
+abbrev pub left_by : Serial → Line → Serial
+left_by serial (Replies told after) = after
+left_by serial other = serial
+
+-- the reply is one that the serial store gives to the command
+abbrev pub IsReply : Serial → Command → Reply → Type 0
+IsReply serial command answer = IsReplyOf (line serial command) answer
 
 -- what is there after a command, and after commands in turn
 abbrev pub effect : Serial → Command → Serial
-effect serial command = (served serial command).1
+effect serial command = left_by serial (line serial command)
 
 abbrev pub effects : Serial → List Command → Serial
 effects serial [] = serial
 effects serial (command ∷ commands) = effects (effect serial command) commands
-
--- the reply is one that the serial store gives to the command
-abbrev pub IsReply : Serial → Command → Reply → Type 0
-IsReply (Some store) (Query query) answer = IsQueryReply store query answer
-IsReply (Some store) (Plan query) answer = IsPlanReply store.schema (states_of store) query answer
-IsReply (Some store) (Execute plan) answer = IsExecuteReply store plan answer
-IsReply serial command answer = answer ≡ (served serial command).0

@@ -6,9 +6,9 @@ ghost use Rattle.metadata.specs.Record.{record_of};
 ghost use Rattle.record_store.specs.Opening.{IsOpened, IsUnopened};
 ghost use Rattle.schedule.specs.declared.step.Command.{Command};
 ghost use Rattle.schedule.specs.Layout.{store_prefix};
-ghost use Rattle.schedule.specs.Serve.{cells_there, reply_to_load, reply_to_save};
+ghost use Rattle.schedule.specs.Serve.{reply_to_load, reply_to_remove, reply_to_save};
 ghost use Rattle.schedule.specs.Performed.{IsPerformed};
-ghost use Rattle.schedule.specs.Calls.{IsCommandRefused, removal_reply};
+ghost use Rattle.schedule.specs.Calls.{IsCommandRefused};
 
 use crate::reply::Reply;
 use metadata::{Cells, MetadataError, Record, Schema, SchemaRequest, TypeRequest};
@@ -88,7 +88,7 @@ fn record_asked(
 
 /// The reply to a save, by the record that was there.
 fn saved_reply(old: Option<Record>) -> Reply
-    ensures { result ≡ reply_to_save (cells_there old) }
+    ensures { result ≡ reply_to_save old }
 {
     match old {
         Some(old) => Reply::SavedOver(old.into_cells()),
@@ -120,7 +120,7 @@ pub(crate) fn save<S: Snapshot>(
 
 /// The reply to a load, by the record that was found.
 fn loaded_reply(found: Option<Record>) -> Reply
-    ensures { result ≡ reply_to_load (cells_there found) }
+    ensures { result ≡ reply_to_load found }
 {
     match found {
         Some(found) => Reply::Found(found.into_cells()),
@@ -151,7 +151,7 @@ pub(crate) fn load<S: Snapshot>(
 
 /// The reply to a removal, by whether there was a record.
 fn removed_reply(was_there: bool) -> Reply
-    ensures { result ≡ removal_reply was_there }
+    ensures { result ≡ reply_to_remove was_there }
 {
     if was_there {
         Reply::Removed

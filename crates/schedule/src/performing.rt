@@ -1,7 +1,8 @@
 // The dispatch of commands. Called by `clients` and, for transactions on threads, by `runtime`.
 ghost use Rattle.std.specs.Prelude.{◌≡◌, None, Some, IfOk, IfErr, OnErr};
 ghost use Rattle.schedule.specs.Performed.{IsCommandStopped, IsPerformed};
-ghost use Rattle.schedule.specs.Calls.{IsCommandRefused, read_reply, reply_of, write_reply};
+ghost use Rattle.schedule.specs.Calls.{IsCommandRefused};
+ghost use Rattle.schedule.specs.Refusals.{read_reply, reply_of, write_reply};
 
 use crate::building::build;
 use crate::commands::{add_type, create, load, remove, save};

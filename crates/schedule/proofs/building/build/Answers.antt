@@ -5,7 +5,7 @@ use Rattle.record_store.specs.Steps.{no_memory}
 use Rattle.txn.proofs.Exits.{exit_with}
 use Rattle.schedule.specs.declared.step.Command.TheVariants.{Build}
 use Rattle.schedule.specs.Serve.{reply_to_build}
-use Rattle.schedule.proofs.BuildServing.{build_meets, build_opens, build_unopened, refused_limit}
+use Rattle.schedule.proofs.IndexServing.{build_meets, build_opens, build_unopened, refused_limit}
 use Rattle.schedule.proofs.Outcomes.{answered_as, performed, refused, refused_unopened}
 use Rattle.schedule.proofs.Looking.{looked_memory}
 use Rattle.schedule.proofs.building.build.Goals as goal

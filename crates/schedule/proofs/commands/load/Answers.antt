@@ -3,7 +3,8 @@ use Rattle.record_store.specs.Calls.{load_call}
 use Rattle.txn.proofs.Exits.{exit_with}
 use Rattle.schedule.specs.declared.step.Command.TheVariants.{Load}
 use Rattle.schedule.proofs.Outcomes.{answered_as, performed, refused, refused_unopened}
-use Rattle.schedule.proofs.Serving.{load_meets, told_load}
+use Rattle.schedule.specs.Serve.{reply_to_load}
+use Rattle.schedule.proofs.Serving.{load_meets}
 use Rattle.schedule.proofs.commands.load.Goals as goal
 
 pub returns-in_err-store-clause-refused : goal.returns-in_err-store-clause-refused
@@ -14,11 +15,11 @@ returns-in_err-store-clause-refused g c =
 pub returns-in_err-found-clause-refused : goal.returns-in_err-found-clause-refused
 returns-in_err-found-clause-refused g c =
     exit_with c.from_residual-in_err-found.result c.in_err-found.field-0.0 _ c.from_residual-in_err-found.ensures
-    (refused c.in_ok-store.store (Load c.args.type_name.now c.args.cells.now) (λ opened. load_call opened c.args.type_name.now c.args.cells.now) told_load c.in_err-found.field-0.0 refl c.in_ok-store.ensures.prefix
+    (refused c.in_ok-store.store (Load c.args.type_name.now c.args.cells.now) (λ opened. load_call opened c.args.type_name.now c.args.cells.now) reply_to_load c.in_err-found.field-0.0 refl c.in_ok-store.ensures.prefix
     (load_meets c.in_ok-store.store c.args.type_name.now c.args.cells.now) c.in_ok-store.ensures.opened c.in_err-found.ensures.refused)
 
 pub returns-clause-performed : goal.returns-clause-performed
 returns-clause-performed g c =
     answered_as c.loaded_reply.ensures
-    (performed c.in_ok-store.store (Load c.args.type_name.now c.args.cells.now) (λ opened. load_call opened c.args.type_name.now c.args.cells.now) told_load c.in_ok-found.found c.in_ok-store.ensures.prefix
+    (performed c.in_ok-store.store (Load c.args.type_name.now c.args.cells.now) (λ opened. load_call opened c.args.type_name.now c.args.cells.now) reply_to_load c.in_ok-found.found c.in_ok-store.ensures.prefix
     (load_meets c.in_ok-store.store c.args.type_name.now c.args.cells.now) c.in_ok-store.ensures.opened c.in_ok-found.ensures.found)

@@ -1,7 +1,7 @@
 use Rattle.std.proofs.Common.{refl}
 use Rattle.record_store.specs.Calls.{remove_call}
 use Rattle.txn.proofs.Exits.{exit_with}
-use Rattle.schedule.specs.Calls.{removal_reply}
+use Rattle.schedule.specs.Serve.{reply_to_remove}
 use Rattle.schedule.specs.declared.step.Command.TheVariants.{Remove}
 use Rattle.schedule.proofs.Outcomes.{answered_as, performed, refused, refused_unopened}
 use Rattle.schedule.proofs.Serving.{remove_meets}
@@ -15,11 +15,11 @@ returns-in_err-store-clause-refused g c =
 pub returns-in_err-was_there-clause-refused : goal.returns-in_err-was_there-clause-refused
 returns-in_err-was_there-clause-refused g c =
     exit_with c.from_residual-in_err-was_there.result c.in_err-was_there.field-0.0 _ c.from_residual-in_err-was_there.ensures
-    (refused c.in_ok-store.store (Remove c.args.type_name.now c.args.cells.now) (λ opened. remove_call opened c.args.type_name.now c.args.cells.now) removal_reply c.in_err-was_there.field-0.0 refl c.in_ok-store.ensures.prefix
+    (refused c.in_ok-store.store (Remove c.args.type_name.now c.args.cells.now) (λ opened. remove_call opened c.args.type_name.now c.args.cells.now) reply_to_remove c.in_err-was_there.field-0.0 refl c.in_ok-store.ensures.prefix
     (remove_meets c.in_ok-store.store c.args.type_name.now c.args.cells.now) c.in_ok-store.ensures.opened c.in_err-was_there.ensures.refused)
 
 pub returns-clause-performed : goal.returns-clause-performed
 returns-clause-performed g c =
     answered_as c.removed_reply.ensures
-    (performed c.in_ok-store.store (Remove c.args.type_name.now c.args.cells.now) (λ opened. remove_call opened c.args.type_name.now c.args.cells.now) removal_reply c.in_ok-was_there.was_there c.in_ok-store.ensures.prefix
+    (performed c.in_ok-store.store (Remove c.args.type_name.now c.args.cells.now) (λ opened. remove_call opened c.args.type_name.now c.args.cells.now) reply_to_remove c.in_ok-was_there.was_there c.in_ok-store.ensures.prefix
     (remove_meets c.in_ok-store.store c.args.type_name.now c.args.cells.now) c.in_ok-store.ensures.opened c.in_ok-was_there.ensures.removed)

@@ -5,7 +5,8 @@ use Rattle.record_store.specs.Calls.{save_call}
 use Rattle.txn.proofs.Exits.{exit_with}
 use Rattle.schedule.specs.declared.step.Command.TheVariants.{Save}
 use Rattle.schedule.proofs.Outcomes.{answered_as, performed, refused, refused_asked, refused_unopened}
-use Rattle.schedule.proofs.Serving.{save_meets, save_refuses, told_save}
+use Rattle.schedule.specs.Serve.{reply_to_save}
+use Rattle.schedule.proofs.Serving.{save_meets, save_refuses}
 use Rattle.schedule.proofs.commands.save.Goals as goal
 
 pub returns-in_err-store-clause-refused : goal.returns-in_err-store-clause-refused
@@ -23,13 +24,13 @@ returns-in_err-new-clause-refused g c =
 pub returns-in_err-old-clause-refused : goal.returns-in_err-old-clause-refused
 returns-in_err-old-clause-refused g c =
     exit_with c.from_residual-in_err-old.result c.in_err-old.field-0.0 _ c.from_residual-in_err-old.ensures
-    (refused c.in_ok-store.store (Save c.args.type_name.now c.args.cells.now) (λ opened. save_call opened c.in_ok-new.new) told_save c.in_err-old.field-0.0 refl c.in_ok-store.ensures.prefix
+    (refused c.in_ok-store.store (Save c.args.type_name.now c.args.cells.now) (λ opened. save_call opened c.in_ok-new.new) reply_to_save c.in_err-old.field-0.0 refl c.in_ok-store.ensures.prefix
     (save_meets c.in_ok-store.store c.args.type_name.now c.args.cells.now c.in_ok-new.new (ap (λ s. record_of s c.args.type_name.now c.args.cells.now) (sym c.schema.ensures) ∙ c.in_ok-new.ensures.made))
     c.in_ok-store.ensures.opened c.in_err-old.ensures.refused)
 
 pub returns-clause-performed : goal.returns-clause-performed
 returns-clause-performed g c =
     answered_as c.saved_reply.ensures
-    (performed c.in_ok-store.store (Save c.args.type_name.now c.args.cells.now) (λ opened. save_call opened c.in_ok-new.new) told_save c.in_ok-old.old c.in_ok-store.ensures.prefix
+    (performed c.in_ok-store.store (Save c.args.type_name.now c.args.cells.now) (λ opened. save_call opened c.in_ok-new.new) reply_to_save c.in_ok-old.old c.in_ok-store.ensures.prefix
     (save_meets c.in_ok-store.store c.args.type_name.now c.args.cells.now c.in_ok-new.new (ap (λ s. record_of s c.args.type_name.now c.args.cells.now) (sym c.schema.ensures) ∙ c.in_ok-new.ensures.made))
     c.in_ok-store.ensures.opened c.in_ok-old.ensures.saved)

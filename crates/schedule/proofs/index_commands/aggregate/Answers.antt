@@ -7,7 +7,7 @@ use Rattle.txn.proofs.Exits.{exit_with}
 use Rattle.schedule.specs.declared.reply.Reply.TheVariants.{Total}
 use Rattle.schedule.specs.declared.step.Command.TheVariants.{Aggregate}
 use Rattle.schedule.proofs.Outcomes.{answered_as, performed, refused, refused_unopened}
-use Rattle.schedule.proofs.Aggregating.{aggregate_meets, told_total}
+use Rattle.schedule.proofs.IndexServing.{aggregate_meets}
 use Rattle.schedule.proofs.index_commands.aggregate.Goals as goal
 
 pub returns-in_err-store-clause-refused : goal.returns-in_err-store-clause-refused
@@ -18,13 +18,13 @@ returns-in_err-store-clause-refused g c =
 pub returns-in_err-total-clause-refused : goal.returns-in_err-total-clause-refused
 returns-in_err-total-clause-refused g c =
     exit_with c.from_residual-in_err-total.result c.in_err-total.field-0.0 _ c.from_residual-in_err-total.ensures
-    (refused c.in_ok-store.store (Aggregate c.args.name.now c.args.group.now) (λ opened. aggregate_call opened c.args.name.now c.args.group.now) told_total c.in_err-total.field-0.0 refl c.in_ok-store.ensures.prefix
+    (refused c.in_ok-store.store (Aggregate c.args.name.now c.args.group.now) (λ opened. aggregate_call opened c.args.name.now c.args.group.now) Total c.in_err-total.field-0.0 refl c.in_ok-store.ensures.prefix
     (aggregate_meets c.in_ok-store.store c.args.name.now c.args.group.now) c.in_ok-store.ensures.opened c.in_err-total.ensures.refused)
 
 pub returns-clause-performed : goal.returns-clause-performed
 returns-clause-performed g c =
     answered_as (ap (λ total. Total total) (to_z-of_z w64 c.in_ok-total.total fits))
-    (performed c.in_ok-store.store (Aggregate c.args.name.now c.args.group.now) (λ opened. aggregate_call opened c.args.name.now c.args.group.now) told_total c.in_ok-total.total c.in_ok-store.ensures.prefix
+    (performed c.in_ok-store.store (Aggregate c.args.name.now c.args.group.now) (λ opened. aggregate_call opened c.args.name.now c.args.group.now) Total c.in_ok-total.total c.in_ok-store.ensures.prefix
     (aggregate_meets c.in_ok-store.store c.args.name.now c.args.group.now) c.in_ok-store.ensures.opened c.in_ok-total.ensures.found)
   where
     fits : SFits w64 c.in_ok-total.total

@@ -4,7 +4,8 @@ use Rattle.record_store.specs.Calls.{disable_call}
 use Rattle.txn.proofs.Exits.{exit_with}
 use Rattle.schedule.specs.declared.step.Command.TheVariants.{Disable}
 use Rattle.schedule.proofs.Outcomes.{performed, refused, refused_unopened}
-use Rattle.schedule.proofs.IndexServing.{disable_meets, told_done}
+use Rattle.schedule.specs.Serve.{done}
+use Rattle.schedule.proofs.IndexServing.{disable_meets}
 use Rattle.schedule.proofs.index_commands.disable_index.Goals as goal
 
 pub returns-in_err-store-clause-refused : goal.returns-in_err-store-clause-refused
@@ -15,10 +16,10 @@ returns-in_err-store-clause-refused g c =
 pub returns-in_err-mark_disabled-clause-refused : goal.returns-in_err-mark_disabled-clause-refused
 returns-in_err-mark_disabled-clause-refused g c =
     exit_with c.from_residual-in_err-mark_disabled.result c.in_err-mark_disabled.field-0.0 _ c.from_residual-in_err-mark_disabled.ensures
-    (refused c.in_ok-store.store (Disable c.args.name.now) (λ opened. disable_call opened c.args.name.now) told_done c.in_err-mark_disabled.field-0.0 refl c.in_ok-store.ensures.prefix
+    (refused c.in_ok-store.store (Disable c.args.name.now) (λ opened. disable_call opened c.args.name.now) done c.in_err-mark_disabled.field-0.0 refl c.in_ok-store.ensures.prefix
     (disable_meets c.in_ok-store.store c.args.name.now) c.in_ok-store.ensures.opened (refused_anyway _ _ _ _ _ _ _ (c.in_err-mark_disabled.ensures.refused _)))
 
 pub returns-clause-performed : goal.returns-clause-performed
 returns-clause-performed g c =
-    performed c.in_ok-store.store (Disable c.args.name.now) (λ opened. disable_call opened c.args.name.now) told_done c.mark_disabled.new.self.states c.in_ok-store.ensures.prefix
+    performed c.in_ok-store.store (Disable c.args.name.now) (λ opened. disable_call opened c.args.name.now) done c.mark_disabled.new.self.states c.in_ok-store.ensures.prefix
     (disable_meets c.in_ok-store.store c.args.name.now) c.in_ok-store.ensures.opened (c.in_ok-mark_disabled.ensures.disabled _)

@@ -4,7 +4,8 @@ use Rattle.record_store.specs.Calls.{drop_call}
 use Rattle.txn.proofs.Exits.{exit_with}
 use Rattle.schedule.specs.declared.step.Command.TheVariants.{Drop}
 use Rattle.schedule.proofs.Outcomes.{performed, refused, refused_unopened}
-use Rattle.schedule.proofs.IndexServing.{drop_meets, told_done}
+use Rattle.schedule.specs.Serve.{done}
+use Rattle.schedule.proofs.IndexServing.{drop_meets}
 use Rattle.schedule.proofs.index_commands.drop_index.Goals as goal
 
 pub returns-in_err-store-clause-refused : goal.returns-in_err-store-clause-refused
@@ -15,10 +16,10 @@ returns-in_err-store-clause-refused g c =
 pub returns-in_err-drop_index-clause-refused : goal.returns-in_err-drop_index-clause-refused
 returns-in_err-drop_index-clause-refused g c =
     exit_with c.from_residual-in_err-drop_index.result c.in_err-drop_index.field-0.0 _ c.from_residual-in_err-drop_index.ensures
-    (refused c.in_ok-store.store (Drop c.args.name.now) (λ opened. drop_call opened c.args.name.now) told_done c.in_err-drop_index.field-0.0 refl c.in_ok-store.ensures.prefix
+    (refused c.in_ok-store.store (Drop c.args.name.now) (λ opened. drop_call opened c.args.name.now) done c.in_err-drop_index.field-0.0 refl c.in_ok-store.ensures.prefix
     (drop_meets c.in_ok-store.store c.args.name.now) c.in_ok-store.ensures.opened (refused_anyway _ _ _ _ _ _ _ (c.in_err-drop_index.ensures.refused _)))
 
 pub returns-clause-performed : goal.returns-clause-performed
 returns-clause-performed g c =
-    performed c.in_ok-store.store (Drop c.args.name.now) (λ opened. drop_call opened c.args.name.now) told_done c.drop_index.new.self.schema c.in_ok-store.ensures.prefix
+    performed c.in_ok-store.store (Drop c.args.name.now) (λ opened. drop_call opened c.args.name.now) done c.drop_index.new.self.schema c.in_ok-store.ensures.prefix
     (drop_meets c.in_ok-store.store c.args.name.now) c.in_ok-store.ensures.opened (c.in_ok-drop_index.ensures.dropped _)

@@ -3,8 +3,8 @@ use Rattle.record_store.specs.Calls.{readable_call}
 use Rattle.txn.proofs.Exits.{exit_with}
 use Rattle.schedule.specs.declared.step.Command.TheVariants.{Readable}
 use Rattle.schedule.proofs.Outcomes.{performed, refused, refused_unopened}
-use Rattle.schedule.proofs.IndexServing.{told_done}
-use Rattle.schedule.proofs.Marking.{readable_meets}
+use Rattle.schedule.specs.Serve.{done}
+use Rattle.schedule.proofs.IndexServing.{readable_meets}
 use Rattle.schedule.proofs.index_commands.mark_readable.Goals as goal
 
 pub returns-in_err-store-clause-refused : goal.returns-in_err-store-clause-refused
@@ -15,10 +15,10 @@ returns-in_err-store-clause-refused g c =
 pub returns-in_err-mark_readable-clause-refused : goal.returns-in_err-mark_readable-clause-refused
 returns-in_err-mark_readable-clause-refused g c =
     exit_with c.from_residual-in_err-mark_readable.result c.in_err-mark_readable.field-0.0 _ c.from_residual-in_err-mark_readable.ensures
-    (refused c.in_ok-store.store (Readable c.args.name.now) (λ opened. readable_call opened c.args.name.now) told_done c.in_err-mark_readable.field-0.0 refl c.in_ok-store.ensures.prefix
+    (refused c.in_ok-store.store (Readable c.args.name.now) (λ opened. readable_call opened c.args.name.now) done c.in_err-mark_readable.field-0.0 refl c.in_ok-store.ensures.prefix
     (readable_meets c.in_ok-store.store c.args.name.now) c.in_ok-store.ensures.opened c.in_err-mark_readable.ensures.refused)
 
 pub returns-clause-performed : goal.returns-clause-performed
 returns-clause-performed g c =
-    performed c.in_ok-store.store (Readable c.args.name.now) (λ opened. readable_call opened c.args.name.now) told_done c.mark_readable.new.self.states c.in_ok-store.ensures.prefix
+    performed c.in_ok-store.store (Readable c.args.name.now) (λ opened. readable_call opened c.args.name.now) done c.mark_readable.new.self.states c.in_ok-store.ensures.prefix
     (readable_meets c.in_ok-store.store c.args.name.now) c.in_ok-store.ensures.opened c.in_ok-mark_readable.ensures.marked

@@ -5,7 +5,8 @@ use Rattle.metadata.specs.IndexChange.{new_index}
 use Rattle.txn.proofs.Exits.{exit_with}
 use Rattle.record_store.specs.Call.{Opened}
 use Rattle.record_store.specs.Store.{listed_as}
-use Rattle.record_store.specs.Calls.{index_service}
+use Rattle.record_store.specs.Calls.{index_footprint}
+use Rattle.record_store.specs.Meaning.{index_meaning}
 use Rattle.record_store.specs.Steps.{no_memory, of_metadata, of_write}
 use Rattle.record_store.proofs.Answered.{refused_own}
 use Rattle.record_store.proofs.AddedCalls.{index_answered, index_limited, index_memory, index_unread, indexed_as, type_there}
@@ -63,5 +64,5 @@ returns-in_err-shared-clause-refused g c =
 pub returns-in_err-index-clause-refused : goal.returns-in_err-index-clause-refused
 returns-in_err-index-clause-refused g c =
     exit_with c.from_residual.result (of_metadata c.in_err-index.field-0.0) _ c.from_residual.ensures
-    (refused_own (g.S.Snapshot.map_at c.args.db.now) (g.S.Snapshot.may_refuse c.args.db.now) c.args.self.now (index_service c.args.self.now) (new_index c.args.self.now.schema c.args.request.now) c.in_err-index.field-0.0
+    (refused_own (g.S.Snapshot.map_at c.args.db.now) (g.S.Snapshot.may_refuse c.args.db.now) c.args.self.now index_meaning (index_footprint c.args.self.now) (new_index c.args.self.now.schema c.args.request.now) c.in_err-index.field-0.0
     (subst (λ schema. IsRefusedAs c.in_err-index.field-0.0 (new_index schema c.args.request.now)) c.schema.ensures c.in_err-index.ensures.refused) refl)

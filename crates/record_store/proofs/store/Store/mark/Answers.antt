@@ -1,12 +1,13 @@
 use Rattle.std.proofs.Common.{◌∙◌, ◌==◌, ap, length, refl}
 use Rattle.txn.specs.Refusing.{NeverRefuses}
 use Rattle.txn.proofs.Exits.{exit_with}
-use Rattle.record_store.specs.Calls.{done_with, index_number, mark_call, mark_service}
-use Rattle.record_store.specs.Call.{Opened}
+use Rattle.record_store.specs.Calls.{mark_call, mark_footprint}
+use Rattle.record_store.specs.Meaning.{index_number, mark_meaning}
+use Rattle.record_store.specs.Call.{Opened, service_of}
 use Rattle.record_store.specs.Store.{with_state}
 use Rattle.metadata.specs.Schema.{find_index}
 use Rattle.record_store.specs.Steps.{no_memory, of_metadata, of_write}
-use Rattle.record_store.proofs.Answered.{answered, memory_still, refused_limit, refused_own}
+use Rattle.record_store.proofs.Answered.{answered, done_with, memory_still, refused_limit, refused_own}
 use Rattle.record_store.proofs.RecordCalls.{nothing_read}
 use Rattle.record_store.proofs.IndexCalls.{named_there}
 use Rattle.record_store.proofs.MarkCalls.{mark_served}
@@ -15,15 +16,15 @@ use Rattle.record_store.proofs.store.Store.mark.Goals as goal
 pub returns-in_err-write_all-clause-refused : goal.returns-in_err-write_all-clause-refused
 returns-in_err-write_all-clause-refused c =
     exit_with c.from_residual-in_err-write_all.result (of_write c.in_err-write_all.field-0.0) _ c.from_residual-in_err-write_all.ensures (λ maps.
-    refused_limit maps NeverRefuses c.args.self.now (mark_call c.args.state c.args.self.now c.args.name.now) (mark_service c.args.state c.args.self.now c.in_ok-number.number) c.in_ok-mutations.mutations.items c.in_err-write_all.field-0.0
-    (ap (done_with (mark_service c.args.state c.args.self.now)) c.in_ok-number.ensures.found) (nothing_read maps c.args.self.now)
-    (λ m store holds same empty. (refl, c.in_ok-mutations.ensures))
+    refused_limit maps NeverRefuses c.args.self.now (mark_call c.args.state c.args.self.now c.args.name.now) (service_of (mark_meaning c.args.state) (mark_footprint c.args.state c.args.self.now) c.in_ok-number.number) c.in_ok-mutations.mutations.items c.in_err-write_all.field-0.0
+    (ap (done_with (mark_meaning c.args.state) (mark_footprint c.args.state c.args.self.now)) c.in_ok-number.ensures.found) (nothing_read maps c.args.self.now)
+    (λ m store holds same empty. (record { answer = _; is = refl }, c.in_ok-mutations.ensures))
     c.in_err-write_all.ensures.kept c.in_err-write_all.ensures.refused)
 
 pub returns-clause-marked : goal.returns-clause-marked
 returns-clause-marked c = λ maps.
-    answered maps NeverRefuses c.args.self.now (mark_call c.args.state c.args.self.now c.args.name.now) (mark_service c.args.state c.args.self.now c.in_ok-number.number) c.in_ok-next.next.items c.in_ok-mutations.mutations.items
-    (ap (done_with (mark_service c.args.state c.args.self.now)) c.in_ok-number.ensures.found) (ap (λ ms. length ms == 0) c.in_ok-mutations.ensures) (nothing_read maps c.args.self.now)
+    answered maps NeverRefuses c.args.self.now (mark_call c.args.state c.args.self.now c.args.name.now) (service_of (mark_meaning c.args.state) (mark_footprint c.args.state c.args.self.now) c.in_ok-number.number) c.in_ok-next.next.items c.in_ok-mutations.mutations.items
+    (ap (done_with (mark_meaning c.args.state) (mark_footprint c.args.state c.args.self.now)) c.in_ok-number.ensures.found) (ap (λ ms. length ms == 0) c.in_ok-mutations.ensures) (nothing_read maps c.args.self.now)
     c.in_ok-write_all.ensures.ok c.in_ok-write_all.ensures.allowed
     (λ m store holds same empty. mark_served c.args.self.now c.in_ok-number.number c.args.state c.in_ok-next.next.items c.in_ok-mutations.mutations.items c.requires c.in_ok-mutations.ensures
     (c.in_ok-next.ensures ∙ ap (with_state c.in_ok-number.number c.args.state) (c.as_slice.ensures.value ∙ ap (λ (o : Opened). o.states) c.self.view_is))
@@ -42,4 +43,4 @@ returns-in_err-mutations-clause-refused c =
 pub returns-in_err-number-clause-refused : goal.returns-in_err-number-clause-refused
 returns-in_err-number-clause-refused c =
     exit_with c.from_residual.result (of_metadata c.in_err-number.field-0.0) _ c.from_residual.ensures (λ maps.
-    refused_own maps NeverRefuses c.args.self.now (mark_service c.args.state c.args.self.now) (index_number (find_index c.args.self.now.schema c.args.name.now)) c.in_err-number.field-0.0 c.in_err-number.ensures.refused refl)
+    refused_own maps NeverRefuses c.args.self.now (mark_meaning c.args.state) (mark_footprint c.args.state c.args.self.now) (index_number (find_index c.args.self.now.schema c.args.name.now)) c.in_err-number.field-0.0 c.in_err-number.ensures.refused refl)

@@ -4,7 +4,8 @@ use Rattle.metadata.specs.Schema.{find_index}
 use Rattle.index_maint.specs.Layout.{built_place}
 use Rattle.txn.proofs.Exits.{exit_with}
 use Rattle.record_store.specs.Call.{Opened}
-use Rattle.record_store.specs.Calls.{index_number, readable_call}
+use Rattle.record_store.specs.Calls.{readable_call}
+use Rattle.record_store.specs.Meaning.{index_number}
 use Rattle.record_store.specs.Store.{without_state}
 use Rattle.record_store.specs.Steps.{no_memory, of_set, of_write}
 use Rattle.record_store.proofs.Answered.{memory_still}

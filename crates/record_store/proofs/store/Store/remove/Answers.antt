@@ -6,7 +6,8 @@ use Rattle.kv_core.specs.declared.change.Mutation.TheVariants.{ClearRange}
 use Rattle.metadata.specs.Answers.{IsRefusedAs}
 use Rattle.metadata.specs.Record.{key_of}
 use Rattle.txn.proofs.Exits.{exit_with}
-use Rattle.record_store.specs.Calls.{remove_service}
+use Rattle.record_store.specs.Calls.{remove_footprint}
+use Rattle.record_store.specs.Meaning.{remove_meaning}
 use Rattle.record_store.specs.Layout.{record_key}
 use Rattle.record_store.specs.Reading.{HaveFollowed, HaveNotFollowed}
 use Rattle.record_store.specs.Steps.{DidRead, of_metadata, of_write}
@@ -17,7 +18,7 @@ use Rattle.record_store.proofs.store.Store.remove.Goals as goal
 pub returns-in_err-primary_key-clause-refused : goal.returns-in_err-primary_key-clause-refused
 returns-in_err-primary_key-clause-refused g c =
     exit_with c.from_residual-in_err-primary_key.result (of_metadata c.in_err-primary_key.field-0.0) _ c.from_residual-in_err-primary_key.ensures
-    (refused_own (g.S.Snapshot.map_at c.args.db.now) (g.S.Snapshot.may_refuse c.args.db.now) c.args.self.now (remove_service c.args.self.now) (key_of c.args.self.now.schema c.args.type_name.now c.args.key.now) c.in_err-primary_key.field-0.0
+    (refused_own (g.S.Snapshot.map_at c.args.db.now) (g.S.Snapshot.may_refuse c.args.db.now) c.args.self.now remove_meaning (remove_footprint c.args.self.now) (key_of c.args.self.now.schema c.args.type_name.now c.args.key.now) c.in_err-primary_key.field-0.0
     (subst (λ s. IsRefusedAs c.in_err-primary_key.field-0.0 (key_of s c.args.type_name.now c.args.key.now)) c.schema.ensures c.in_err-primary_key.ensures.refused) refl)
 
 pub returns-in_err-value-clause-refused : goal.returns-in_err-value-clause-refused
