@@ -214,9 +214,9 @@ total_refuses Sum true mark.WriteOnly index error is = let same : fault.NotReada
 total_refuses Count true mark.Disabled index error is = let same : fault.NotReadable ≡ error = cc in (NotReadable, ap reply_of (sym same))
 total_refuses Sum true mark.Disabled index error is = let same : fault.NotReadable ≡ error = cc in (NotReadable, ap reply_of (sym same))
 
-totalled_refuses : (of : Schema) (listed : List (ℕ × states.State)) (group : List Cell) (o : Option IndexDefinition) (error : StoreError) → totalled_index of listed group o ≡ Err error → IsRefusal error
-totalled_refuses of listed group None error is = let same : Refused schema.UnknownIndex ≡ error = cc in (UnknownIndex, ap reply_of (sym same))
-totalled_refuses of listed group (Some index) error is = total_refuses index.kind (fits_group of index group) (state_in listed index.number) index error is
+totalled_refuses : (own : Schema) (listed : List (ℕ × states.State)) (group : List Cell) (o : Option IndexDefinition) (error : StoreError) → totalled_index own listed group o ≡ Err error → IsRefusal error
+totalled_refuses own listed group None error is = let same : Refused schema.UnknownIndex ≡ error = cc in (UnknownIndex, ap reply_of (sym same))
+totalled_refuses own listed group (Some index) error is = total_refuses index.kind (fits_group own index group) (state_in listed index.number) index error is
 
 pub aggregate_meets : (opened : Opened) (name : List ℕ) (group : List Cell) → Meets (at opened) (Aggregate name group) (aggregate_call (at opened) name group) reply.Total
 aggregate_meets opened name group = meets opened (Aggregate name group) makes
