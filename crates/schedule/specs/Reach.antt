@@ -27,7 +27,7 @@ use Rattle.online_builder.specs.Stepping.{step_footprint}
 use Rattle.schedule.specs.Layout.{store_prefix}
 use Rattle.schedule.specs.Executed.{plan_steps, query_steps, steps_damage, steps_reading}
 use Rattle.schedule.specs.Query.{opened_as}
-use Rattle.schedule.specs.Serve.{Line, Replies, line}
+use Rattle.schedule.specs.Serve.{Line, Replies, line_of}
 
 -- what opening the store finds of what is there
 abbrev pub opened_in : Serial → Option Opened
@@ -104,10 +104,10 @@ schema_written (Ok schema) = schema_writes store_prefix schema
 schema_written (Err refusal) = []
 
 -- what a command writes by its footprint where it isn't refused
-abbrev pub writes_in : Serial → Command → List Mutation
-writes_in None (Create request) = schema_written (schema_asked request)
-writes_in None command = []
-writes_in (Some store) command = (footprint_in (opened_as store) command).writes store
+abbrev pub footprint_writes : Serial → Command → List Mutation
+footprint_writes None (Create request) = schema_written (schema_asked request)
+footprint_writes None command = []
+footprint_writes (Some store) command = (footprint_in (opened_as store) command).writes store
 
 -- what is written with a line: nothing where it refuses, or looks at what is there
 abbrev pub written_with : Line → List Mutation → List Mutation
@@ -116,4 +116,4 @@ written_with other mutations = []
 
 -- what a command writes, in order
 abbrev pub writes : Serial → Command → List Mutation
-writes serial command = written_with (line serial command) (writes_in serial command)
+writes serial command = written_with (line_of serial command) (footprint_writes serial command)
