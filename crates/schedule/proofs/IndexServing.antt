@@ -34,7 +34,7 @@ use Rattle.schedule.specs.declared.step.Command.TheVariants.{Aggregate, Build, I
 use Rattle.schedule.specs.declared.step.Command.TheVariants as commands
 use Rattle.schedule.specs.declared.reply.Reply.{Reply}
 use Rattle.schedule.specs.declared.reply.Reply.TheVariants as reply
-use Rattle.schedule.specs.Serve.{IsReply, done, line_of, reply_to_build}
+use Rattle.schedule.specs.Serve.{IsReply, done, serial_line, reply_to_build}
 use Rattle.schedule.specs.Past.{is_accepted, is_reading}
 use Rattle.schedule.specs.Reach.{added_by, footprint_on, open_reach, opened_in, writes}
 use Rattle.schedule.specs.Calls.{IsCommandRefused}

@@ -29,7 +29,7 @@ use Rattle.schedule.specs.declared.step.Command.TheVariants.{«Type», Save, Loa
 use Rattle.schedule.specs.declared.reply.Reply.{Reply}
 use Rattle.schedule.specs.declared.reply.Reply.TheVariants as reply
 use Rattle.schedule.specs.Refusals.{of_schema, reply_of}
-use Rattle.schedule.specs.Serve.{calling, done, line_of, reply_to_load, reply_to_remove, reply_to_save}
+use Rattle.schedule.specs.Serve.{calling, done, serial_line, reply_to_load, reply_to_remove, reply_to_save}
 use Rattle.schedule.specs.Past.{is_accepted, is_reading}
 use Rattle.schedule.specs.Layout.{store_prefix}
 use Rattle.schedule.specs.Reach.{footprint_in, footprint_on, open_reach, own_damage}
@@ -43,13 +43,13 @@ IsRefusal error = (refusal : Refusal) × (reply_of error ≡ Some (reply.Refused
 -- MEETS: a command is what its call is where its line and its footprint are those of what the call asks for, which it is refused for only with a refusal, and where what it replies to an answer is accepted, and tells that something was changed where the answer does
 module _ {K A : Type 0} (asked : Schema → List (ℕ × State) → Result K StoreError) (meaning : K → Meaning A) (footprint : Opened → K → Footprint) (told : A → Reply) (opened : Opened) (command : Command) where
   pub meets : open_reach command ≡ opening_reach store_prefix → ((m : Map) → own_damage (Some (at opened)) command m ≡ None) →
-      ((store : Store) → line_of (Some store) command ≡ calling store told meaning (asked store.schema store.states)) → ((o : Opened) → footprint_in o command ≡ footprint_on (footprint o) (asked o.schema o.states)) →
+      ((store : Store) → serial_line (Some store) command ≡ calling store told meaning (asked store.schema store.states)) → ((o : Opened) → footprint_in o command ≡ footprint_on (footprint o) (asked o.schema o.states)) →
       ((error : StoreError) → asked opened.schema opened.states ≡ Err error → IsRefusal error) → ((answer : A) → is_accepted (told answer) ≡ true) →
       ((value : K) (answer : A) → not ((meaning value).changes answer) ≡ is_reading command (told answer)) →
       Meets (at opened) command (call_on meaning (footprint (at opened)) (asked opened.schema opened.states)) told
   meets opens undamaged lines prints own accepted reading = by_outcome (asked opened.schema opened.states) refl
     where
-      lines_so : {o : Result K StoreError} (store : Store) → IsOpenAs (at opened) store → asked opened.schema opened.states ≡ o → line_of (Some store) command ≡ calling store told meaning o
+      lines_so : {o : Result K StoreError} (store : Store) → IsOpenAs (at opened) store → asked opened.schema opened.states ≡ o → serial_line (Some store) command ≡ calling store told meaning o
       lines_so store same is = lines store ∙ (λ i. calling store told meaning (asked (same.schema i) (same.states i))) ∙ ap (calling store told meaning) is
 
       print_so : {o : Result K StoreError} → asked opened.schema opened.states ≡ o → footprint_in (at opened) command ≡ footprint_on (footprint (at opened)) o

@@ -26,7 +26,7 @@ use Rattle.schedule.specs.declared.step.Command.TheVariants.{Create, «Type», S
 use Rattle.schedule.specs.declared.reply.Reply.{Reply}
 use Rattle.schedule.specs.declared.reply.Reply.TheVariants as reply
 use Rattle.schedule.specs.Layout.{store_prefix}
-use Rattle.schedule.specs.Serve.{IsReply, IsReplyOf, effect, line_of}
+use Rattle.schedule.specs.Serve.{IsReply, IsReplyOf, effect, serial_line}
 use Rattle.schedule.specs.Serve as serve
 use Rattle.schedule.specs.Past.{is_accepted, is_reading}
 use Rattle.schedule.specs.Holds.{Stands}
@@ -264,7 +264,7 @@ own_right refuses command before error refusal m serial replied is none =
     λ answer same. let that : reply.Refused refusal ≡ answer = cc in inl (subst (IsServed before serial command) that (served_idle before serial command (reply.Refused refusal) none is))
 
 -- a refusal of the command by this error
-pub refused_right : (refuses : KeyRange → ReadError → Type 0) (command : Command) (before : List Mutation) (error : StoreError) (m : Map) (serial : Serial) → line_of serial command ≡ serve.Refuses (reply_of error) → IsRight refuses command before error m serial
+pub refused_right : (refuses : KeyRange → ReadError → Type 0) (command : Command) (before : List Mutation) (error : StoreError) (m : Map) (serial : Serial) → serial_line serial command ≡ serve.Refuses (reply_of error) → IsRight refuses command before error m serial
 refused_right refuses command before error m serial is =
     λ answer same. inl (served_idle before serial command answer (ap (λ l. written_with l (footprint_writes serial command)) is) (subst (λ l. IsReplyOf l answer) (sym is) same))
 

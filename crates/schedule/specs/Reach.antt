@@ -27,7 +27,7 @@ use Rattle.online_builder.specs.Stepping.{step_footprint}
 use Rattle.schedule.specs.Layout.{store_prefix}
 use Rattle.schedule.specs.Executed.{plan_steps, query_steps, steps_damage, steps_reading}
 use Rattle.schedule.specs.Query.{opened_as}
-use Rattle.schedule.specs.Serve.{Line, Replies, line_of}
+use Rattle.schedule.specs.Serve.{Line, Replies, serial_line}
 
 -- what opening the store finds of what is there
 abbrev pub opened_in : Serial → Option Opened
@@ -116,4 +116,4 @@ written_with other mutations = []
 
 -- what a command writes, in order
 abbrev pub writes : Serial → Command → List Mutation
-writes serial command = written_with (line_of serial command) (footprint_writes serial command)
+writes serial command = written_with (serial_line serial command) (footprint_writes serial command)
