@@ -1,6 +1,7 @@
 pub mod Lists
 pub mod Order
 pub mod Spelling
+pub mod Padded
 pub mod Changes
 pub mod Pairs
 pub mod Parts

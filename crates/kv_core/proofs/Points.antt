@@ -1,33 +1,26 @@
 -- When a range is the point of its begin, where its end is the begin followed by a zero byte; keys that lie in a range.
-use Rattle.std.proofs.Common.{◌≡◌, ℕ, Bool, true, false, List, [], ◌∷◌, ◌++◌, length, inl, inr, sym, ap, ◌∙◌, arith, length-append}
+use Rattle.std.proofs.Common.{◌≡◌, ℕ, Bool, true, false, List, [], ◌∷◌, ◌++◌, inl, inr, sym, ap, ◌∙◌}
 use Rattle.std.proofs.lemmas.Bool.{or_cases, or_left, or_right, true≢false}
 use Rattle.std.proofs.lemmas.Cmp.{nat_list_cmp_total, tied_itself}
 use Rattle.std.proofs.lemmas.List.{same_from_push}
 use Rattle.std.specs.Bool.{MatchBool}
 use Rattle.std.specs.Ordering.{is_eq}
-use Rattle.kv_core.specs.Bytes.{has_key, key_cmp}
+use Rattle.kv_core.specs.Bytes.{has_key, key_cmp, next_key}
 use Rattle.kv_core.specs.Range.{KeyRange, contains, point}
 use Rattle.kv_core.proofs.Order.{tied_keys}
 use Rattle.kv_core.proofs.Pairs.{contains-point-is}
 
-pub point_split : (range : KeyRange) (front : List ℕ) (last : ℕ) → range.end ≡ front ++ last ∷ [] → last ≡ 0 → front ≡ range.begin → range ≡ point range.begin
-point_split range front last e zero same = λ i. record { begin = range.begin; end = (e ∙ (λ j. same j ++ zero j ∷ [])) i }
+-- a run of bytes that ends in a zero byte is another one followed by a zero byte exactly where the other one stands before that
+pub next_or_not : (bytes others front : List ℕ) (last : ℕ) (same : Bool) → bytes ≡ front ++ last ∷ [] → last ≡ 0 → MatchBool same (front ≡ others) (front ≡ others → ⊥)
+    → MatchBool same (bytes ≡ next_key others) (bytes ≡ next_key others → ⊥)
+next_or_not bytes others front last true e zero is = e ∙ (λ i. is i ++ zero i ∷ [])
+next_or_not bytes others front last false e zero other = λ next. other ((same_from_push front others last 0 (sym e ∙ next)).0)
 
--- the end of a point
-ends : (range : KeyRange) → range ≡ point range.begin → range.end ≡ range.begin ++ 0 ∷ []
-ends range is = ap (λ (r : KeyRange). r.end) is
-
-pub parts_of_point : (range : KeyRange) (front : List ℕ) (last : ℕ) → range.end ≡ front ++ last ∷ [] → range ≡ point range.begin → (front ≡ range.begin) × (last ≡ 0)
-parts_of_point range front last e is = same_from_push front range.begin last 0 (sym e ∙ ends range is)
-
-pub no_empty_end : (range : KeyRange) → length range.end ≡ 0 → range ≡ point range.begin → ⊥
-no_empty_end range none is = omega (arith, none, ap length (ends range is), length-append range.begin (0 ∷ []))
-
--- a range whose end ends in a zero byte is a point exactly where its begin stands before that
-pub point_or_not : (range : KeyRange) (front begin : List ℕ) (last : ℕ) (same : Bool) → range.end ≡ front ++ last ∷ [] → last ≡ 0 → begin ≡ range.begin → MatchBool same (front ≡ begin) (front ≡ begin → ⊥)
+-- a range is a point exactly where its end is that of one
+pub point_or_not : (range : KeyRange) (same : Bool) → MatchBool same (range.end ≡ next_key range.begin) (range.end ≡ next_key range.begin → ⊥)
     → MatchBool same (range ≡ point range.begin) (range ≡ point range.begin → ⊥)
-point_or_not range front begin last true e zero is same = point_split range front last e zero (same ∙ is)
-point_or_not range front begin last false e zero is other = λ point_is. other ((parts_of_point range front last e point_is).0 ∙ sym is)
+point_or_not range true is = λ i. record { begin = range.begin; end = is i }
+point_or_not range false other = λ is. other (ap (λ (r : KeyRange). r.end) is)
 
 -- ---- keys that are gone over to find one that lies in a range
 

@@ -1,94 +1,148 @@
 -- Runs of bytes compared as the numbers that they spell, the first byte the most significant.
 use Rattle.std.proofs.Common.{◌≡◌, ℕ, zero, suc, ◌+◌, ◌*◌, ◌<◌, ◌≤◌, true, false, List, [], ◌∷◌, length, take, drop, refl, sym, ap, ◌∙◌, arith}
 use Rattle.std.proofs.lemmas.Bool.{true≢false}
-use Rattle.std.proofs.lemmas.List.{get_or-drop, drop-drop, length-drop}
+use Rattle.std.proofs.lemmas.Cmp.{nat_list_cmp_total, tied_itself}
+use Rattle.std.proofs.lemmas.List.{get_or-drop, drop-drop, length-drop, length-take-le, take_all}
 use Rattle.std.specs.Cmp.{nat_cmp_is, ranks}
 use Rattle.std.specs.List.{slice_index}
-use Rattle.std.specs.Ordering.{is_ne, nat_cmp, ordering_then, MatchOrdering}
+use Rattle.std.specs.Ordering.{is_eq, is_ne, nat_cmp, ordering_then, MatchOrdering}
 use Rattle.std.specs.declared.cmp.Ordering.{Ordering}
 use Rattle.std.specs.declared.cmp.Ordering.TheVariants.{Less, Equal, Greater}
 use Rattle.std.specs.Slice.Scan.{big_endian}
 use Rattle.kv_core.specs.Bytes.{key_cmp}
+use Rattle.kv_core.proofs.Lists.{take-take}
+use Rattle.kv_core.proofs.Order.{tied_keys}
 
-abbrev AreBytes : List ℕ → Type 0
+abbrev pub AreBytes : List ℕ → Type 0
 AreBytes xs = (k : ℕ) → slice_index xs k < 256
 
-less : (x y : ℕ) → x < y → nat_cmp x y ≡ Less
+pub less : (x y : ℕ) → x < y → nat_cmp x y ≡ Less
 less x y l = sym (nat_cmp_is x y Less l)
 
-level : (x : ℕ) → nat_cmp x x ≡ Equal
+pub level : (x : ℕ) → nat_cmp x x ≡ Equal
 level x = sym (nat_cmp_is x x Equal refl)
 
-greater : (x y : ℕ) → y < x → nat_cmp x y ≡ Greater
+pub greater : (x y : ℕ) → y < x → nat_cmp x y ≡ Greater
 greater x y l = sym (nat_cmp_is x y Greater l)
 
--- what spells more at first spells more with bytes behind it
-rises : (n a b : ℕ) (us vs : List ℕ) → n ≤ length us → n ≤ length vs → AreBytes us → a < b → big_endian a (take n us) < big_endian b (take n vs)
-rises zero a b us vs p q h l = l
-rises (suc n) a b [] vs p q h l = absurd (omega arith)
-rises (suc n) a b (u ∷ us) [] p q h l = absurd (omega arith)
-rises (suc n) a b (u ∷ us) (v ∷ vs) p q h l =
+-- what spells more at first spells more with as many bytes behind it
+rises : (a b : ℕ) (us vs : List ℕ) → length us ≡ length vs → AreBytes us → a < b → big_endian a us < big_endian b vs
+rises a b [] [] e h l = l
+rises a b [] (v ∷ vs) e h l = absurd (omega (arith, e))
+rises a b (u ∷ us) [] e h l = absurd (omega (arith, e))
+rises a b (u ∷ us) (v ∷ vs) e h l =
     let small : u < 256 = h 0 in
-    rises n (a * 256 + u) (b * 256 + v) us vs (omega arith) (omega arith) (λ k. h (suc k)) (omega arith)
+    rises (a * 256 + u) (b * 256 + v) us vs (omega (arith, e)) (λ k. h (suc k)) (omega arith)
 
--- the numbers that the first n bytes spell decide, and else the other bytes do
-by_number : (n a : ℕ) (us vs : List ℕ) → n ≤ length us → n ≤ length vs → AreBytes us → AreBytes vs
-    → key_cmp us vs ≡ ordering_then (nat_cmp (big_endian a (take n us)) (big_endian a (take n vs))) (key_cmp (drop n us) (drop n vs))
-by_number zero a us vs p q g h = sym (ap (λ r. ordering_then r (key_cmp us vs)) (level a))
-by_number (suc n) a [] vs p q g h = absurd (omega arith)
-by_number (suc n) a (u ∷ us) [] p q g h = absurd (omega arith)
-by_number (suc n) a (u ∷ us) (v ∷ vs) p q g h =
-    by (by_number n (a * 256 + u) us vs (omega arith) (omega arith) (λ k. g (suc k)) (λ k. h (suc k))) (nat_cmp u v) refl (ranks u v)
+-- as many bytes compare as the numbers that they spell
+by_number : (a : ℕ) (us vs : List ℕ) → length us ≡ length vs → AreBytes us → AreBytes vs → key_cmp us vs ≡ nat_cmp (big_endian a us) (big_endian a vs)
+by_number a [] [] e g h = sym (level a)
+by_number a [] (v ∷ vs) e g h = absurd (omega (arith, e))
+by_number a (u ∷ us) [] e g h = absurd (omega (arith, e))
+by_number a (u ∷ us) (v ∷ vs) e g h =
+    by (by_number (a * 256 + u) us vs same (λ k. g (suc k)) (λ k. h (suc k))) (nat_cmp u v) refl (ranks u v)
   where
-    others : Ordering
-    others = key_cmp (drop n us) (drop n vs)
+    same : length us ≡ length vs
+    same = omega (arith, e)
 
-    by : key_cmp us vs ≡ ordering_then (nat_cmp (big_endian (a * 256 + u) (take n us)) (big_endian (a * 256 + u) (take n vs))) others
+    by : key_cmp us vs ≡ nat_cmp (big_endian (a * 256 + u) us) (big_endian (a * 256 + u) vs)
         → (r : Ordering) → nat_cmp u v ≡ r → MatchOrdering r (u < v) (u ≡ v) (v < u)
-        → key_cmp (u ∷ us) (v ∷ vs) ≡ ordering_then (nat_cmp (big_endian (a * 256 + u) (take n us)) (big_endian (a * 256 + v) (take n vs))) others
-    by rest Less e l =
+        → key_cmp (u ∷ us) (v ∷ vs) ≡ nat_cmp (big_endian (a * 256 + u) us) (big_endian (a * 256 + v) vs)
+    by rest Less is l =
         let under : u < v = l in
-        ap (λ r. ordering_then r (key_cmp us vs)) e
-        ∙ sym (ap (λ r. ordering_then r others) (less _ _ (rises n (a * 256 + u) (a * 256 + v) us vs (omega arith) (omega arith) (λ k. g (suc k)) (omega arith))))
-    by rest Greater e l =
+        ap (λ r. ordering_then r (key_cmp us vs)) is ∙ sym (less _ _ (rises (a * 256 + u) (a * 256 + v) us vs same (λ k. g (suc k)) (omega arith)))
+    by rest Greater is l =
         let over : v < u = l in
-        ap (λ r. ordering_then r (key_cmp us vs)) e
-        ∙ sym (ap (λ r. ordering_then r others) (greater _ _ (rises n (a * 256 + v) (a * 256 + u) vs us (omega arith) (omega arith) (λ k. h (suc k)) (omega arith))))
-    by rest Equal e l =
-        let same : u ≡ v = l in
-        ap (λ r. ordering_then r (key_cmp us vs)) e ∙ rest
-        ∙ ap (λ z. ordering_then (nat_cmp (big_endian (a * 256 + u) (take n us)) (big_endian (a * 256 + z) (take n vs))) others) same
+        ap (λ r. ordering_then r (key_cmp us vs)) is ∙ sym (greater _ _ (rises (a * 256 + v) (a * 256 + u) vs us (sym same) (λ k. h (suc k)) (omega arith)))
+    by rest Equal is l =
+        let tie : u ≡ v = l in
+        ap (λ r. ordering_then r (key_cmp us vs)) is ∙ rest ∙ ap (λ z. nat_cmp (big_endian (a * 256 + u) us) (big_endian (a * 256 + z) vs)) tie
 
--- the words at a place decide, and else what comes behind them does
-word_turn : (own other : List ℕ) (at : ℕ) → at + 8 ≤ length own → at + 8 ≤ length other → AreBytes own → AreBytes other
-    → key_cmp (drop at own) (drop at other)
-    ≡ ordering_then (nat_cmp (big_endian 0 (take 8 (drop at own))) (big_endian 0 (take 8 (drop at other)))) (key_cmp (drop (at + 8) own) (drop (at + 8) other))
-word_turn own other at p q g h =
-    by_number 8 0 (drop at own) (drop at other) (omega (arith, length-drop at own)) (omega (arith, length-drop at other)) (fewer own g) (fewer other h)
-    ∙ (λ i. ordering_then (nat_cmp (big_endian 0 (take 8 (drop at own))) (big_endian 0 (take 8 (drop at other)))) (key_cmp (drop-drop 8 at own i) (drop-drop 8 at other i)))
+first_bytes : (n : ℕ) (xs : List ℕ) → AreBytes xs → AreBytes (take n xs)
+first_bytes zero xs h k = omega arith
+first_bytes (suc n) [] h k = omega arith
+first_bytes (suc n) (x ∷ xs) h zero = h 0
+first_bytes (suc n) (x ∷ xs) h (suc k) = first_bytes n xs (λ j. h (suc j)) k
+
+-- the number that the eight bytes from a place on spell
+abbrev pub word : List ℕ → ℕ → ℕ
+word xs at = big_endian 0 (take 8 (drop at xs))
+
+eight_by_number : (own other : List ℕ) (at : ℕ) → at + 8 ≤ length own → at + 8 ≤ length other → AreBytes own → AreBytes other
+    → key_cmp (take 8 (drop at own)) (take 8 (drop at other)) ≡ nat_cmp (word own at) (word other at)
+eight_by_number own other at p q g h =
+    by_number 0 (take 8 (drop at own)) (take 8 (drop at other)) (eight own p ∙ sym (eight other q)) (first_bytes 8 (drop at own) (later own g)) (first_bytes 8 (drop at other) (later other h))
   where
-    fewer : (xs : List ℕ) → AreBytes xs → AreBytes (drop at xs)
-    fewer xs small k = omega (arith, get_or-drop at xs k 0, small (at + k))
+    eight : (xs : List ℕ) → at + 8 ≤ length xs → length (take 8 (drop at xs)) ≡ 8
+    eight xs l = length-take-le 8 (drop at xs) (omega (arith, l, length-drop at xs))
+
+    later : (xs : List ℕ) → AreBytes xs → AreBytes (drop at xs)
+    later xs small k = omega (arith, get_or-drop at xs k 0, small (at + k))
+
+-- ---- parts of two runs, one behind another
 
 pub then_first : (r o : Ordering) → is_ne r ≡ true → ordering_then r o ≡ r
 then_first Less o e = refl
 then_first Equal o e = absurd (true≢false (sym e))
 then_first Greater o e = refl
 
-pub then_second : (r o : Ordering) → is_ne r ≡ false → ordering_then r o ≡ o
-then_second Less o e = absurd (true≢false e)
-then_second Equal o e = refl
-then_second Greater o e = absurd (true≢false e)
+pub then_assoc : (r o s : Ordering) → ordering_then r (ordering_then o s) ≡ ordering_then (ordering_then r o) s
+then_assoc Less o s = refl
+then_assoc Equal o s = refl
+then_assoc Greater o s = refl
+
+-- the first ones decide, and else those behind them do
+parts : (n : ℕ) (us vs : List ℕ) → n ≤ length us → n ≤ length vs → key_cmp us vs ≡ ordering_then (key_cmp (take n us) (take n vs)) (key_cmp (drop n us) (drop n vs))
+parts zero us vs p q = refl
+parts (suc n) [] vs p q = absurd (omega (arith, p))
+parts (suc n) (u ∷ us) [] p q = absurd (omega (arith, q))
+parts (suc n) (u ∷ us) (v ∷ vs) p q =
+    ap (ordering_then (nat_cmp u v)) (parts n us vs (omega (arith, p)) (omega (arith, q)))
+    ∙ then_assoc (nat_cmp u v) (key_cmp (take n us) (take n vs)) (key_cmp (drop n us) (drop n vs))
+
+tie : (r : Ordering) → is_ne r ≡ false → is_eq r ≡ true
+tie Less e = absurd (true≢false e)
+tie Equal e = refl
+tie Greater e = absurd (true≢false e)
+
+-- where the first ones are equal, so are the first ones of these
+fewer_tie : (n k : ℕ) (us vs : List ℕ) → n ≤ k → is_ne (key_cmp (take k us) (take k vs)) ≡ false → key_cmp (take n us) (take n vs) ≡ Equal
+fewer_tie n k us vs few e =
+    let same : take k us ≡ take k vs = tied_keys (take k us) (take k vs) (tie (key_cmp (take k us) (take k vs)) e) in
+    ap (key_cmp (take n us)) (sym (take-take n k vs few) ∙ ap (take n) (sym same) ∙ take-take n k us few) ∙ tied_itself nat_list_cmp_total (take n us)
 
 module _ (own other : List ℕ) (at : ℕ) (order : Ordering) (p : at + 8 ≤ length own) (q : at + 8 ≤ length other) (g : AreBytes own) (h : AreBytes other)
-    (is : order ≡ nat_cmp (big_endian 0 (take 8 (drop at own))) (big_endian 0 (take 8 (drop at other)))) (before : key_cmp own other ≡ key_cmp (drop at own) (drop at other)) where
-  turn : key_cmp own other ≡ ordering_then order (key_cmp (drop (at + 8) own) (drop (at + 8) other))
-  turn = before ∙ word_turn own other at p q g h ∙ ap (λ r. ordering_then r (key_cmp (drop (at + 8) own) (drop (at + 8) other))) (sym is)
+    (is : order ≡ nat_cmp (word own at) (word other at)) (before : key_cmp own other ≡ key_cmp (drop at own) (drop at other)) where
+  eight : order ≡ key_cmp (take 8 (drop at own)) (take 8 (drop at other))
+  eight = is ∙ sym (eight_by_number own other at p q g h)
+
+  split : (n : ℕ) → n ≤ 8 → key_cmp own other ≡ ordering_then (key_cmp (take n (drop at own)) (take n (drop at other))) (key_cmp (drop (at + n) own) (drop (at + n) other))
+  split n few =
+      before ∙ parts n (drop at own) (drop at other) (omega (arith, p, few, length-drop at own)) (omega (arith, q, few, length-drop at other))
+      ∙ (λ i. ordering_then (key_cmp (take n (drop at own)) (take n (drop at other))) (key_cmp (drop-drop n at own i) (drop-drop n at other i)))
 
   -- words that differ decide
   pub word_decides : is_ne order ≡ true → order ≡ key_cmp own other
-  word_decides e = sym (turn ∙ then_first order _ e)
+  word_decides e = sym (split 8 (omega arith) ∙ ap (λ r. ordering_then r (key_cmp (drop (at + 8) own) (drop (at + 8) other))) (sym eight) ∙ then_first order _ e)
 
-  -- and equal ones leave it to what comes behind them
-  pub word_passes : is_ne order ≡ false → key_cmp own other ≡ key_cmp (drop (at + 8) own) (drop (at + 8) other)
-  word_passes e = turn ∙ then_second order _ e
+  -- and equal ones leave it to what comes behind them, or behind the first bytes of them
+  pub word_passes : (n : ℕ) → n ≤ 8 → is_ne order ≡ false → key_cmp own other ≡ key_cmp (drop (at + n) own) (drop (at + n) other)
+  word_passes n few e =
+      split n few
+      ∙ ap (λ r. ordering_then r (key_cmp (drop (at + n) own) (drop (at + n) other))) (fewer_tie n 8 (drop at own) (drop at other) few (sym (ap is_ne eight) ∙ e))
+
+  -- the last ones decide in any case
+  pub word_is_last : length own ≡ at + 8 → length other ≡ at + 8 → order ≡ key_cmp own other
+  word_is_last l k = eight ∙ (λ i. key_cmp (take_all 8 (drop at own) (omega (arith, l, length-drop at own)) i) (take_all 8 (drop at other) (omega (arith, k, length-drop at other)) i)) ∙ sym before
+
+-- numbers that differ, or not
+pub ne_is_ne : (x y : ℕ) → (x ≡ y → ⊥) → is_ne (nat_cmp x y) ≡ true
+ne_is_ne x y differ = by (nat_cmp x y) (ranks x y)
+  where
+    by : (r : Ordering) → MatchOrdering r (x < y) (x ≡ y) (y < x) → is_ne r ≡ true
+    by Less l = refl
+    by Equal e = absurd (differ e)
+    by Greater l = refl
+
+pub eq_isnt_ne : (x y : ℕ) → x ≡ y → is_ne (nat_cmp x y) ≡ false
+eq_isnt_ne x y e = ap is_ne (ap (nat_cmp x) (sym e) ∙ level x)

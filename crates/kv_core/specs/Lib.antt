@@ -1,4 +1,6 @@
 pub mod Bytes
+pub mod ShortBytes
+pub mod Kept
 pub mod Hashing
 pub mod Range
 pub mod Coverage

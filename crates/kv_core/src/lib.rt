@@ -15,6 +15,7 @@ mod range;
 mod range_index;
 mod range_list;
 mod removal;
+mod short_bytes;
 mod size;
 mod words;
 

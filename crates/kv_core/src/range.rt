@@ -101,13 +101,6 @@ fn earlier<'a>(first: &'a Bytes, second: &'a Bytes) -> &'a Bytes
     }
 }
 
-/// Whether two byte strings are equal.
-fn is_equal(bytes: &[u8], others: &[u8]) -> bool
-    ensures { MatchBool result (bytes.now ≡ others.now) (bytes.now ≡ others.now → ⊥) }
-{
-    bytes == others
-}
-
 impl KeyRange {
     /// The range with this begin and this end. It is None exactly where the begin comes after the
     /// end or the end after the byte FF, and takes no memory.
@@ -181,10 +174,7 @@ impl KeyRange {
         ensures { MatchBool result (self.now ≡ point self.now.begin)
             (self.now ≡ point self.now.begin → ⊥) }
     {
-        match self.end.as_slice().split_last() {
-            Some((last, front)) => *last == 0 && is_equal(front, self.begin.as_slice()),
-            None => false,
-        }
+        self.end.is_next_of(&self.begin)
     }
 
     /// Whether no key lies in the range.

@@ -1,4 +1,4 @@
-// The order of runs of bytes, eight at a time. Called by `bytes`.
+// The order of runs of bytes, eight at a time. Called by `bytes` and `short_bytes`.
 ghost use Rattle.std.specs.Prelude.{◌≡◌, ◌+◌, ◌≤◌, length, take, drop};
 ghost use Rattle.std.specs.Slice.Scan.{big_endian};
 ghost use Rattle.kv_core.specs.Bytes.{key_cmp};
@@ -6,7 +6,8 @@ ghost use Rattle.kv_core.specs.Bytes.{key_cmp};
 use std::cmp::Ordering;
 
 /// The number that the eight bytes from a place on spell, the first one the most significant.
-fn word_at(bytes: &[u8], place: usize) -> u64
+#[inline(always)]
+pub(crate) fn word_at(bytes: &[u8], place: usize) -> u64
     requires { place + 8 ≤ length bytes.now }
     ensures { result ≡ big_endian 0 (take 8 (drop place bytes.now)) }
 {
@@ -25,6 +26,7 @@ fn word_at(bytes: &[u8], place: usize) -> u64
 /// How two runs of bytes compare: by their first byte that differs, and a prefix comes first.
 ///
 /// They are compared eight bytes at a time, as numbers, and the last few one by one.
+#[inline(never)]
 pub(crate) fn order_of(bytes: &[u8], others: &[u8]) -> Ordering
     ensures { result ≡ key_cmp bytes.now others.now }
 {

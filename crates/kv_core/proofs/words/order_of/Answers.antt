@@ -16,5 +16,5 @@ loop-place-preserved c = (
   word_passes c.args.bytes.now c.args.others.now c.loop-place.place c.cmp-order.result
       (omega (arith, c.min-both.ensures, c.loop-place.invariant.0, c.loop-place-test.true)) (omega (arith, c.min-both.ensures, c.loop-place.invariant.0, c.loop-place-test.true))
       (λ k. omega (arith, c.type_inv.bytes k)) (λ k. omega (arith, c.type_inv.others k))
-      (c.cmp-order.ensures ∙ (λ i. nat_cmp (c.word_at.ensures i) (c.word_at-in-loop-place.ensures i))) c.loop-place.invariant.1 (sym c.is_ne.ensures ∙ c.if-is_ne.false),
+      (c.cmp-order.ensures ∙ (λ i. nat_cmp (c.word_at.ensures i) (c.word_at-in-loop-place.ensures i))) c.loop-place.invariant.1 8 (omega arith) (sym c.is_ne.ensures ∙ c.if-is_ne.false),
 )

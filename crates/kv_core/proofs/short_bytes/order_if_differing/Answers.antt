@@ -1,0 +1,60 @@
+use Rattle.std.proofs.Common.{◌≡◌, ℕ, ◌+◌, ◌≤◌, List, length, drop, refl, sym, ap, ◌∙◌, arith}
+use Rattle.std.specs.Ordering.{is_eq, nat_cmp}
+use Rattle.kv_core.specs.Bytes.{key_cmp}
+use Rattle.kv_core.proofs.Order.{tied_keys}
+use Rattle.kv_core.proofs.Spelling.{AreBytes, word, level, eq_isnt_ne, ne_is_ne, word_decides, word_is_last, word_passes}
+use Rattle.kv_core.proofs.short_bytes.order_if_differing.Goals as goal
+
+module _ (own other : List ℕ) (p : length own ≡ 30) (q : length other ≡ 30) (g : AreBytes own) (h : AreBytes other) where
+  -- what stands from a place on decides
+  abbrev Decides : ℕ → Type 0
+  Decides at = key_cmp own other ≡ key_cmp (drop at own) (drop at other)
+
+  pass : (at n a b : ℕ) → at + 8 ≤ 30 → n ≤ 8 → a ≡ word own at → b ≡ word other at → a ≡ b → Decides at → Decides (at + n)
+  pass at n a b l few is js e before = word_passes own other at (nat_cmp a b) (omega (arith, p, l)) (omega (arith, q, l)) g h (λ i. nat_cmp (is i) (js i)) before n few (eq_isnt_ne a b e)
+
+  decide : (at a b : ℕ) → at + 8 ≤ 30 → a ≡ word own at → b ≡ word other at → (a ≡ b → ⊥) → Decides at → nat_cmp a b ≡ key_cmp own other
+  decide at a b l is js e before = word_decides own other at (nat_cmp a b) (omega (arith, p, l)) (omega (arith, q, l)) g h (λ i. nat_cmp (is i) (js i)) before (ne_is_ne a b e)
+
+  last : (a b : ℕ) → a ≡ word own 22 → b ≡ word other 22 → Decides 22 → nat_cmp a b ≡ key_cmp own other
+  last a b is js before = word_is_last own other 22 (nat_cmp a b) (omega (arith, p)) (omega (arith, q)) g h (λ i. nat_cmp (is i) (js i)) before p q
+
+  same : (a b : ℕ) → a ≡ b → nat_cmp a b ≡ key_cmp own other → own ≡ other
+  same a b e order = tied_keys own other (ap is_eq (sym order ∙ ap (nat_cmp a) (sym e) ∙ level a))
+
+pub returns-then-word-other-clause-order : goal.returns-then-word-other-clause-order
+returns-then-word-other-clause-order c = c.cmp.ensures ∙ decide c.args.bytes.now c.args.others.now c.told-bytes c.told-others c.fits-bytes c.fits-others 0 _ _ (omega arith) c.word_at-word.ensures c.word_at-other.ensures c.if-word-other.true refl
+
+pub returns-then-word-other-2-clause-order : goal.returns-then-word-other-2-clause-order
+returns-then-word-other-2-clause-order c =
+    let own = c.args.bytes.now in
+    let other = c.args.others.now in
+    c.cmp-then-word-other-2.ensures ∙ decide own other c.told-bytes c.told-others c.fits-bytes c.fits-others 8 _ _ (omega arith) c.word_at-word-2.ensures c.word_at-other-2.ensures c.if-word-other-2.true
+    (pass own other c.told-bytes c.told-others c.fits-bytes c.fits-others 0 8 _ _ (omega arith) (omega arith) c.word_at-word.ensures c.word_at-other.ensures c.if-word-other.false refl)
+
+pub returns-then-word-other-3-clause-order : goal.returns-then-word-other-3-clause-order
+returns-then-word-other-3-clause-order c =
+    let own = c.args.bytes.now in
+    let other = c.args.others.now in
+    c.cmp-then-word-other-3.ensures ∙ decide own other c.told-bytes c.told-others c.fits-bytes c.fits-others 16 _ _ (omega arith) c.word_at-word-3.ensures c.word_at-other-3.ensures c.if-word-other-3.true
+    (pass own other c.told-bytes c.told-others c.fits-bytes c.fits-others 8 8 _ _ (omega arith) (omega arith) c.word_at-word-2.ensures c.word_at-other-2.ensures c.if-word-other-2.false
+    (pass own other c.told-bytes c.told-others c.fits-bytes c.fits-others 0 8 _ _ (omega arith) (omega arith) c.word_at-word.ensures c.word_at-other.ensures c.if-word-other.false refl))
+
+pub returns-then-word-other-4-clause-order : goal.returns-then-word-other-4-clause-order
+returns-then-word-other-4-clause-order c =
+    let own = c.args.bytes.now in
+    let other = c.args.others.now in
+    c.cmp-then-word-other-4.ensures ∙ last own other c.told-bytes c.told-others c.fits-bytes c.fits-others _ _ c.word_at-word-4.ensures c.word_at-other-4.ensures
+    (pass own other c.told-bytes c.told-others c.fits-bytes c.fits-others 16 6 _ _ (omega arith) (omega arith) c.word_at-word-3.ensures c.word_at-other-3.ensures c.if-word-other-3.false
+    (pass own other c.told-bytes c.told-others c.fits-bytes c.fits-others 8 8 _ _ (omega arith) (omega arith) c.word_at-word-2.ensures c.word_at-other-2.ensures c.if-word-other-2.false
+    (pass own other c.told-bytes c.told-others c.fits-bytes c.fits-others 0 8 _ _ (omega arith) (omega arith) c.word_at-word.ensures c.word_at-other.ensures c.if-word-other.false refl)))
+
+pub returns-clause-same : goal.returns-clause-same
+returns-clause-same c =
+    let own = c.args.bytes.now in
+    let other = c.args.others.now in
+    same own other c.told-bytes c.told-others c.fits-bytes c.fits-others _ _ c.if-word-other-4.false
+    (last own other c.told-bytes c.told-others c.fits-bytes c.fits-others _ _ c.word_at-word-4.ensures c.word_at-other-4.ensures
+    (pass own other c.told-bytes c.told-others c.fits-bytes c.fits-others 16 6 _ _ (omega arith) (omega arith) c.word_at-word-3.ensures c.word_at-other-3.ensures c.if-word-other-3.false
+    (pass own other c.told-bytes c.told-others c.fits-bytes c.fits-others 8 8 _ _ (omega arith) (omega arith) c.word_at-word-2.ensures c.word_at-other-2.ensures c.if-word-other-2.false
+    (pass own other c.told-bytes c.told-others c.fits-bytes c.fits-others 0 8 _ _ (omega arith) (omega arith) c.word_at-word.ensures c.word_at-other.ensures c.if-word-other.false refl))))

@@ -1,0 +1,135 @@
+// Byte strings that lie in their value. Used by `bytes`.
+ghost use Rattle.std.specs.Prelude.{◌≡◌, ◌≢◌, ◌≤◌, length, IfNone, IfSome, MatchBool};
+ghost use Rattle.kv_core.specs.Bytes.{key_cmp, next_key};
+ghost use Rattle.kv_core.specs.declared.short_bytes.TheConstants.{SHORT_BYTES};
+
+use crate::words::word_at;
+use std::alloc::Global;
+use std::cmp::Ordering;
+use std::marker::Model;
+
+/// How long a byte string may be that lies in its value.
+pub(crate) const SHORT_BYTES: usize = 30;
+
+/// A short byte string: the first bytes of an array, behind which all others are zero.
+///
+/// So two are compared by the words of their whole arrays, and by their lengths where these are
+/// equal.
+#[derive(Debug, Drop)]
+pub(crate) struct ShortBytes {
+    count: u8,
+    bytes: [u8; SHORT_BYTES],
+    alloc: Global,
+}
+
+impl Model for ShortBytes {
+    ghost use Rattle.std.specs.Prelude.{ℕ, ◌≤◌, List, take};
+    ghost use Rattle.kv_core.specs.ShortBytes.{AreZeroFrom};
+    ghost use Rattle.kv_core.specs.declared.short_bytes.TheConstants.{SHORT_BYTES};
+
+    ghost Value = { List ℕ };
+
+    ghost view = { λ a. take a.count a.bytes };
+
+    ghost invariant = { λ a. (a.count ≤ SHORT_BYTES) × AreZeroFrom a.count a.bytes };
+}
+
+/// How two arrays compare that differ, or None. Their words are taken at four places, of which the
+/// last overlaps the one before it.
+#[inline(always)]
+fn order_if_differing(bytes: &[u8; SHORT_BYTES], others: &[u8; SHORT_BYTES]) -> Option<Ordering>
+    ensures same { IfNone result (bytes.now ≡ others.now) }
+    ensures differ { IfSome result (λ order. bytes.now ≢ others.now) }
+    ensures order { IfSome result (λ order. order ≡ key_cmp bytes.now others.now) }
+{
+    let (word, other) = (word_at(bytes, 0), word_at(others, 0));
+    if word != other {
+        return Some(word.cmp(&other));
+    }
+    let (word, other) = (word_at(bytes, 8), word_at(others, 8));
+    if word != other {
+        return Some(word.cmp(&other));
+    }
+    let (word, other) = (word_at(bytes, 16), word_at(others, 16));
+    if word != other {
+        return Some(word.cmp(&other));
+    }
+    let (word, other) = (word_at(bytes, 22), word_at(others, 22));
+    if word != other {
+        return Some(word.cmp(&other));
+    }
+    None
+}
+
+impl ShortBytes {
+    /// A copy of these bytes.
+    pub fn new(alloc: Global, own: &[u8]) -> ShortBytes
+        requires { length own.now ≤ SHORT_BYTES }
+        ensures { result ≡ own.now }
+    {
+        let mut bytes = [0; SHORT_BYTES];
+        bytes[..own.len()].copy_from_slice(own);
+        ShortBytes {
+            count: own.len() as u8,
+            bytes,
+            alloc,
+        }
+    }
+
+    /// The bytes, in order.
+    pub fn as_slice(&self) -> &[u8]
+        ensures { result.now ≡ self.now }
+    {
+        &self.bytes[..self.count as usize]
+    }
+
+    /// How this byte string compares with another one.
+    #[inline(always)]
+    pub fn compare(&self, other: &ShortBytes) -> Ordering
+        ensures { result ≡ key_cmp self.now other.now }
+    {
+        match order_if_differing(&self.bytes, &other.bytes) {
+            Some(order) => order,
+            None => self.count.cmp(&other.count),
+        }
+    }
+
+    /// An equal byte string.
+    pub fn copy(&self) -> ShortBytes
+        ensures { result ≡ self.now }
+    {
+        ShortBytes {
+            count: self.count,
+            bytes: self.bytes,
+            alloc: self.alloc,
+        }
+    }
+
+    /// The byte string followed by a zero byte, unless it is as long as a short one may be.
+    pub fn next(&self) -> Option<ShortBytes>
+        ensures some { IfSome result (λ next. next ≡ next_key self.now) }
+        ensures none { IfNone result (SHORT_BYTES ≤ length self.now) }
+    {
+        if self.count as usize >= SHORT_BYTES {
+            return None;
+        }
+        Some(ShortBytes {
+            count: self.count + 1,
+            bytes: self.bytes,
+            alloc: self.alloc,
+        })
+    }
+
+    /// Whether this byte string is another one followed by a zero byte.
+    pub fn is_next_of(&self, other: &ShortBytes) -> bool
+        ensures { MatchBool result (self.now ≡ next_key other.now)
+            (self.now ≡ next_key other.now → ⊥) }
+    {
+        self.count == other.count + 1 && order_if_differing(&self.bytes, &other.bytes).is_none()
+    }
+
+    /// The allocator that the byte string keeps.
+    pub fn allocator(&self) -> Global {
+        self.alloc
+    }
+}
