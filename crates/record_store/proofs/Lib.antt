@@ -24,6 +24,7 @@ pub mod NewIndexes
 pub mod StatePairs
 pub mod IndexSteps
 pub mod StateSteps
+pub mod KnownStates
 pub mod IndexCalls
 pub mod AddedCalls
 pub mod Marked

@@ -1,5 +1,5 @@
 -- What reading a record and opening a store establish.
-use Rattle.std.proofs.Common.{◌≡◌, inl, inr, ℕ, Bool, true, false, cond, List, [], ◌∷◌, ◌++◌, refl, sym, ap, subst, subst₂, ◌∙◌, Option, Some, None, append-nil, map, pos}
+use Rattle.std.proofs.Common.{◌≡◌, inl, inr, ℕ, Bool, true, false, cond, List, [], ◌∷◌, ◌++◌, refl, sym, ap, subst, ◌∙◌, Option, Some, None, append-nil, map, pos}
 use Rattle.std.specs.List.{AllByRecursion, filter}
 use Rattle.std.specs.FinMap.{entries, get}
 use Rattle.tuple_codec.specs.Item.{int}
@@ -264,10 +264,3 @@ module _ (prefix : List ℕ) where
       added = opening_reach prefix;
       ran = ran_because (both_read one two) (λ m found. all_failure (λ range. refuses range old.read_version) m written pairs schema error is found.0 found.1 says);
     }
-
-  -- what is told of slices is so of what they show
-  pub states_by : (indexes mine : List IndexDefinition) (pairs read : List Pair) (states : List (ℕ × State)) → indexes ≡ mine → pairs ≡ read → AreStates prefix indexes pairs states → AreStates prefix mine read states
-  states_by indexes mine pairs read states is shown are = subst₂ (λ (is : List IndexDefinition) (ps : List Pair). AreStates prefix is ps states) is shown are
-
-  pub unstated_by : (indexes mine : List IndexDefinition) (pairs read : List Pair) (error : StoreError) → indexes ≡ mine → pairs ≡ read → HaveNoStates prefix indexes pairs error → HaveNoStates prefix mine read error
-  unstated_by indexes mine pairs read error is shown none = subst₂ (λ (is : List IndexDefinition) (ps : List Pair). HaveNoStates prefix is ps error) is shown none

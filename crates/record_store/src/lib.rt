@@ -10,6 +10,7 @@ mod built;
 mod create;
 mod error;
 mod following;
+mod found_states;
 mod indexes;
 mod known;
 mod layout;

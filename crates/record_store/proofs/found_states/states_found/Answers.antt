@@ -4,7 +4,7 @@ use Rattle.metadata.specs.declared.index.State.{State}
 use Rattle.txn.proofs.Exits.{exit_with}
 use Rattle.record_store.specs.Reading.{AreStates, HaveNoStates}
 use Rattle.record_store.proofs.StateSteps.{bad_state_among, states_more}
-use Rattle.record_store.proofs.opening.states_found.Goals as goal
+use Rattle.record_store.proofs.found_states.states_found.Goals as goal
 
 pub loop-pair-preserved : goal.loop-pair-preserved
 loop-pair-preserved c =
