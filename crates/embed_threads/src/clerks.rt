@@ -22,6 +22,15 @@ pub(crate) const COPIES: i64 = 100;
 
 pub(crate) const SOLD: i64 = 10;
 
+/// A command's reply, where it is accepted.
+fn accepted(reply: Result<Reply, EnterError>) -> Result<Reply, BodyError> {
+    match reply {
+        Ok(Reply::Refused(why)) => Err(BodyError::Refused(why)),
+        Ok(reply) => Ok(reply),
+        Err(error) => Err(BodyError::Entry(error)),
+    }
+}
+
 /// Performs a command, where memory suffices to make it.
 fn perform<E: End>(
     tx: &mut Txn<'_, E>,
@@ -30,13 +39,9 @@ fn perform<E: End>(
     ensures same_reference { tx.new.client.ghost_name ≡ tx.old.client.ghost_name }
     ensures continues { Continues tx.old.client.now tx.new.client.now }
 {
-    let Ok(command) = command else {
-        return Err(BodyError::Entry(EnterError::Memory));
-    };
-    match tx.perform(&command) {
-        Ok(Reply::Refused(why)) => Err(BodyError::Refused(why)),
-        Ok(reply) => Ok(reply),
-        Err(error) => Err(BodyError::Entry(error)),
+    match command {
+        Ok(command) => accepted(tx.perform(&command)),
+        Err(_) => Err(BodyError::Entry(EnterError::Memory)),
     }
 }
 
