@@ -2,8 +2,8 @@
 // for `bench_threads loads` and `bench_threads commits`, and by `database`, which opens one.
 use crate::commands::{create, load, save};
 use cluster_core::{Config, Splits};
-use runtime::{Client, CommitError, Done, End, EnterError, Waits, begin, open};
-use schedule::Reply;
+use runtime::{Client, CommitError, Done, End, EnterError, Txn, Waits, begin, open};
+use schedule::{Command, Reply};
 use std::alloc::Global;
 use std::io::ErrorKind;
 use std::rt::Clock;
@@ -49,18 +49,58 @@ fn scattered(number: u32) -> i64 {
     i64::from(number.wrapping_mul(2_654_435_761) % RECORDS)
 }
 
-// Loads records in a transaction, and answers how many were found.
-fn loads<E: End>(alloc: Global, client: &mut Client<E>, turn: u32) -> Option<u32> {
-    let mut tx = begin(client).ok()?;
+// Performs a command, and answers whether it found a record.
+fn finds<E: End>(tx: &mut Txn<'_, E>, command: &Command) -> bool {
+    matches!(tx.perform(command), Ok(Reply::Found(_)))
+}
+
+// Loads records in an open transaction, and answers how many were found.
+fn load_each<E: End>(alloc: Global, tx: &mut Txn<'_, E>, turn: u32) -> Option<u32> {
     let mut found: u32 = 0;
     for place in 0..COMMANDS {
         let number = turn.wrapping_mul(COMMANDS).wrapping_add(place);
         let command = load(alloc, scattered(number)).ok()?;
-        if let Ok(Reply::Found(_)) = tx.perform(&command) {
+        if finds(tx, &command) {
             found = found.wrapping_add(1);
         }
     }
     Some(found)
+}
+
+// The same in a transaction of its own.
+fn loads<E: End>(alloc: Global, client: &mut Client<E>, turn: u32) -> Option<u32> {
+    let mut tx = begin(client).ok()?;
+    load_each(alloc, &mut tx, turn)
+}
+
+// Performs a command, and answers whether the transaction isn't too old for it.
+fn changes<E: End>(tx: &mut Txn<'_, E>, command: &Command) -> Option<bool> {
+    match tx.perform(command) {
+        Ok(_) => Some(true),
+        Err(EnterError::TooOld) => Some(false),
+        Err(_) => None,
+    }
+}
+
+// Saves records in an open transaction, and answers whether that isn't too old.
+fn save_each<E: End>(alloc: Global, tx: &mut Txn<'_, E>, first: u32, count: u32) -> Option<bool> {
+    for place in 0..count {
+        let number = i64::from(first.wrapping_add(place));
+        let command = save(alloc, number, number).ok()?;
+        if !changes(tx, &command)? {
+            return Some(false);
+        }
+    }
+    Some(true)
+}
+
+// Commits so many records, and answers how many of them are.
+fn commit<E: End, R: Wait>(rt: &R, tx: Txn<'_, E>, count: u32) -> Option<u32> {
+    match tx.commit(rt) {
+        Ok(Done::Committed { .. }) => Some(count),
+        Err(CommitError::TooOld) => Some(0),
+        _ => None,
+    }
 }
 
 // Saves records in a transaction, and answers how many are committed: none where it has grown too
@@ -73,20 +113,10 @@ fn saves<E: End, R: Wait>(
     count: u32,
 ) -> Option<u32> {
     let mut tx = begin(client).ok()?;
-    for place in 0..count {
-        let number = i64::from(first.wrapping_add(place));
-        let command = save(alloc, number, number).ok()?;
-        match tx.perform(&command) {
-            Ok(_) => {}
-            Err(EnterError::TooOld) => return Some(0),
-            Err(_) => return None,
-        }
+    if !save_each(alloc, &mut tx, first, count)? {
+        return Some(0);
     }
-    match tx.commit(rt) {
-        Ok(Done::Committed { .. }) => Some(count),
-        Err(CommitError::TooOld) => Some(0),
-        _ => None,
-    }
+    commit(rt, tx, count)
 }
 
 // One transaction of the work.
@@ -101,18 +131,41 @@ fn turn<E: End, R: Wait>(rt: &R, alloc: Global, job: &mut Job<E>, number: u32) -
 }
 
 // Works until the time is over, and answers how many loads or saves were done: none where one failed.
-fn worked<E: End, R: Wait + Clock>(rt: &R, alloc: Global, job: Job<E>) -> Option<u64> {
-    let mut job = job;
+fn works<E: End, R: Wait + Clock>(rt: &R, alloc: Global, job: &mut Job<E>) -> Option<u64> {
     let begun = Instant::now(rt).ok()?;
     let mut done: u64 = 0;
     for number in 0..u32::MAX {
-        let count = turn(rt, alloc, &mut job, number)?;
+        let count = turn(rt, alloc, job, number)?;
         done = done.wrapping_add(u64::from(count));
         if begun.elapsed(rt).ok()?.as_millis() >= SPAN {
             break;
         }
     }
     Some(done)
+}
+
+// The same with a job of its own.
+fn worked<E: End, R: Wait + Clock>(rt: &R, alloc: Global, job: Job<E>) -> Option<u64> {
+    let mut job = job;
+    works(rt, alloc, &mut job)
+}
+
+// Makes the store in an open transaction.
+fn make<E: End>(alloc: Global, tx: &mut Txn<'_, E>) -> Option<()> {
+    let command = create(alloc).ok()?;
+    if changes(tx, &command)? {
+        Some(())
+    } else {
+        None
+    }
+}
+
+// The same in a transaction of its own.
+fn made<E: End, R: Wait>(rt: &R, alloc: Global, client: &mut Client<E>) -> Option<()> {
+    let mut tx = begin(client).ok()?;
+    make(alloc, &mut tx)?;
+    tx.commit(rt).ok()?;
+    Some(())
 }
 
 // Makes the store and so many records.
@@ -122,9 +175,7 @@ fn filled<E: End, R: Wait>(
     client: &mut Client<E>,
     records: u32,
 ) -> Option<()> {
-    let mut tx = begin(client).ok()?;
-    tx.perform(&create(alloc).ok()?).ok()?;
-    tx.commit(rt).ok()?;
+    made(rt, alloc, client)?;
     for number in 0..records / COMMANDS {
         if saves(rt, alloc, client, number.wrapping_mul(COMMANDS), COMMANDS)? < COMMANDS {
             return None;
@@ -152,9 +203,7 @@ pub fn opened<E: End, R: Wait>(
         places: u64::from(places),
     };
     let mut clients = open(rt, alloc, end, &config).ok()?;
-    let mut client = clients.pop()?;
-    filled(rt, alloc, &mut client, records)?;
-    clients.push(client).ok()?;
+    filled(rt, alloc, clients.last_mut()?, records)?;
     Some(clients)
 }
 
