@@ -61,15 +61,27 @@ fn push_total<E: End>(
     push_line(alloc, tx, text, &command)
 }
 
+// Writes all lines.
+fn push_lines<E: End>(
+    alloc: Global,
+    tx: &mut Txn<'_, E>,
+    text: &mut String,
+    race: &Race,
+) -> Result<(), Fault> {
+    let rows = rows_command(alloc, race)?;
+    push_line(alloc, tx, text, &rows)?;
+    push_index(alloc, tx, text, race)?;
+    if counts_all(&race.index) {
+        push_total(alloc, tx, text, race)?;
+    }
+    Ok(())
+}
+
 /// What a client finds at the end of a race: the rows of its type in the order of their keys, the
 /// state of its index, and the total where the index counts all records; a line each.
 pub fn lines<E: End>(alloc: Global, client: &mut Client<E>, race: &Race) -> Result<String, Fault> {
     let mut tx = begin(client)?;
     let mut text = String::new(alloc);
-    push_line(alloc, &mut tx, &mut text, &rows_command(alloc, race)?)?;
-    push_index(alloc, &mut tx, &mut text, race)?;
-    if counts_all(&race.index) {
-        push_total(alloc, &mut tx, &mut text, race)?;
-    }
+    push_lines(alloc, &mut tx, &mut text, race)?;
     Ok(text)
 }
