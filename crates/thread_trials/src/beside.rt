@@ -1,5 +1,5 @@
 // A transaction on one thread beside a commit on another. Run as tests.
-use crate::transactions::{alone, over, two_clients};
+use crate::transactions::{alone, opened, over};
 use runtime::{Built, Client, End, Gate, Place, begin, build_worker};
 use std::alloc::Global;
 use std::sync::Wait;
@@ -104,16 +104,34 @@ fn late_beside_early<E: End + Send, R: Threads + Wait + Sync>(
     )
 }
 
-fn transactions<R: Threads + Wait + Sync>(rt: &R, alloc: Global) -> Option<Scene<String>> {
-    let (mut one, mut other) = two_clients(rt, alloc)?;
-    let made = alone(rt, alloc, &mut one, MADE).lines;
-    let (late, early) = late_beside_early(rt, alloc, &mut one, &mut other);
-    Some(Scene {
+/// The first two clients.
+fn two_of<E: End>(clients: &mut [Client<E>]) -> Option<(&mut Client<E>, &mut Client<E>)> {
+    let (one, others) = clients.split_first_mut()?;
+    let (other, _) = others.split_first_mut()?;
+    Some((one, other))
+}
+
+/// The same with what the first client makes before.
+fn transactions_of<E: End + Send, R: Threads + Wait + Sync>(
+    rt: &R,
+    alloc: Global,
+    one: &mut Client<E>,
+    other: &mut Client<E>,
+) -> Scene<String> {
+    let made = alone(rt, alloc, one, MADE).lines;
+    let (late, early) = late_beside_early(rt, alloc, one, other);
+    Scene {
         made,
         one: late,
         other: early,
         after: None,
-    })
+    }
+}
+
+fn transactions<R: Threads + Wait + Sync>(rt: &R, alloc: Global) -> Option<Scene<String>> {
+    let mut clients = opened(rt, alloc)?;
+    let (one, other) = two_of(clients.as_mut_slice())?;
+    Some(transactions_of(rt, alloc, one, other))
 }
 
 #[test]
@@ -178,17 +196,28 @@ fn built_beside_early<E: End + Send, R: Threads + Wait + Sync>(
     )
 }
 
-fn builder<R: Threads + Wait + Sync>(rt: &R, alloc: Global) -> Option<Scene<Built>> {
-    let (mut one, mut other) = two_clients(rt, alloc)?;
-    let made = alone(rt, alloc, &mut one, UNBUILT).lines;
-    let (built, saved) = built_beside_early(rt, alloc, &mut one, &mut other);
-    let total = alone(rt, alloc, &mut other, TOTAL).lines;
-    Some(Scene {
+/// The same with what the first client makes before, and what the other one asks for after it.
+fn builder_of<E: End + Send, R: Threads + Wait + Sync>(
+    rt: &R,
+    alloc: Global,
+    one: &mut Client<E>,
+    other: &mut Client<E>,
+) -> Scene<Built> {
+    let made = alone(rt, alloc, one, UNBUILT).lines;
+    let (built, saved) = built_beside_early(rt, alloc, one, other);
+    let total = alone(rt, alloc, other, TOTAL).lines;
+    Scene {
         made,
         one: built,
         other: saved,
         after: total,
-    })
+    }
+}
+
+fn builder<R: Threads + Wait + Sync>(rt: &R, alloc: Global) -> Option<Scene<Built>> {
+    let mut clients = opened(rt, alloc)?;
+    let (one, other) = two_of(clients.as_mut_slice())?;
+    Some(builder_of(rt, alloc, one, other))
 }
 
 #[test]

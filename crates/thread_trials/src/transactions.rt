@@ -17,16 +17,9 @@ pub(crate) struct Told {
     pub(crate) seen: Option<Seen>,
 }
 
-/// Two clients of a new store.
-pub(crate) fn two_clients<R: Wait>(
-    rt: &R,
-    alloc: Global,
-) -> Option<(Client<Waits<&R>>, Client<Waits<&R>>)> {
-    let config = Config::single(alloc);
-    let mut clients = open(rt, alloc, Waits { rt }, &config).ok()?;
-    let one = clients.pop()?;
-    let other = clients.pop()?;
-    Some((one, other))
+/// The clients of a new database.
+pub(crate) fn opened<R: Wait>(rt: &R, alloc: Global) -> Option<Vec<Client<Waits<&R>>>> {
+    open(rt, alloc, Waits { rt }, &Config::single(alloc)).ok()
 }
 
 /// The command of a step; `execute` takes this plan.
