@@ -31,7 +31,6 @@ use std::marker::Model;
 use std::sync::{Arc, Wait};
 
 /// A client, for one thread. It has one open transaction at most.
-#[derive(Drop)]
 pub struct Client<E: End> {
     alloc: Global,
     vault: Arc<Vault<Owned<E>>>,
@@ -41,6 +40,27 @@ pub struct Client<E: End> {
     number: u64,
     last: u64,
     begun: Option<Work>,
+}
+
+// Written out, so that no proof has to go through all that a client holds where one is dropped.
+impl<E: End> Drop for Client<E> {
+    fn drop(self) {
+        let Self {
+            alloc: _,
+            vault,
+            key,
+            reader,
+            me,
+            number: _,
+            last: _,
+            begun,
+        } = self;
+        drop(vault);
+        drop(key);
+        drop(reader);
+        drop(me);
+        drop(begun);
+    }
 }
 
 impl<E: End> Model for Client<E> {
