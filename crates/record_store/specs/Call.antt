@@ -107,14 +107,14 @@ AreDamaged opened (Some number) pairs key m =
 abbrev pub IsDamagedAt : Opened → Reading → List ℕ → Map → Type 0
 IsDamagedAt opened reading key m = AreDamaged opened reading.set (reading.pairs m) key m
 
--- what a call reads, and by the store that is there exactly what it writes, in order
+-- what a call reads, and by the map and the store that is there exactly what it writes, in order
 pub record Footprint : Type 0 where
   pub reading : Reading
-  pub writes : Store → List Mutation
+  pub writes : Map → Store → List Mutation
 
 -- a call that writes nothing
 abbrev pub reads_only : Reading → Footprint
-reads_only reading = record { reading = reading; writes = λ store. [] }
+reads_only reading = record { reading = reading; writes = λ m store. [] }
 
 -- what a call does that isn't refused before it reads
 pub record Service (A : Type 0) : Type 0 where
@@ -142,7 +142,7 @@ AtStore opened m Fact = (store : Store) → Holds opened.prefix m (Some store) �
 pub record IsDone {A : Type 0} (opened : Opened) (service : Service A) (answer : A) (before written : List Mutation)
     (m : Map) (store : Store) : Type 0 where
   pub answers : service.meaning.answer store ≡ Ok answer
-  pub wrote : written ≡ service.footprint.writes store
+  pub wrote : written ≡ service.footprint.writes m store
   pub allowed : write_all_refusal before written ≡ None
   pub holds : Holds opened.prefix (after_all written m) (Some (service.meaning.after store))
 
@@ -196,7 +196,7 @@ IsFailure refuses opened service (Corrupt key) before added m =
 IsFailure refuses opened service (Write error) before added m =
     (added ≡ service.footprint.reading.added m) × IsSound opened service.footprint.reading m
     × AtStore opened m (λ store. IsAccepted service store
-    × (write_all_refusal before (service.footprint.writes store) ≡ Some error))
+    × (write_all_refusal before (service.footprint.writes m store) ≡ Some error))
 IsFailure refuses opened service error before added m = IsRefusedThere opened service error added m
 
 -- a service wasn't done: it added these ranges to those read, and wrote nothing

@@ -44,7 +44,7 @@ save_footprint opened r = record {
   reading =
       then_reads (whole (point (record_key opened.prefix (primary_key r)) ∷ []))
       (built_reading opened r.definition.number (position_of (primary_key r)) opened.schema.indexes);
-  writes = λ store. save_writes opened.prefix store r;
+  writes = λ m store. save_writes opened.prefix store r;
 }
 
 abbrev pub save_call : Opened → Record → Call (Option Record)
@@ -57,7 +57,7 @@ remove_footprint opened key = record {
       then_reads (whole (point (record_key opened.prefix key) ∷ []))
       (where_there (record_key opened.prefix key)
       (built_reading opened (type_number_in key) (position_of key) opened.schema.indexes));
-  writes = λ store. remove_writes opened.prefix store key (record_at key store.records);
+  writes = λ m store. remove_writes opened.prefix store key (record_at key store.records);
 }
 
 abbrev pub remove_call : Opened → List ℕ → List Cell → Call Bool
@@ -86,7 +86,7 @@ abbrev pub schema_writes : List ℕ → Schema → List Mutation
 schema_writes prefix schema = Set (schema_key prefix) (schema_bytes schema) ∷ []
 
 abbrev pub type_footprint : Opened → Schema → Footprint
-type_footprint opened schema = record { reading = whole []; writes = λ store. schema_writes opened.prefix schema }
+type_footprint opened schema = record { reading = whole []; writes = λ m store. schema_writes opened.prefix schema }
 
 abbrev pub type_call : Opened → TypeRequest → Call Schema
 type_call opened request =
@@ -96,7 +96,7 @@ type_call opened request =
 abbrev pub index_footprint : Opened → IndexDefinition → Footprint
 index_footprint opened index = record {
   reading = first_of (type_range opened.prefix index.type_number);
-  writes = λ store. index_added_writes opened.prefix store index;
+  writes = λ m store. index_added_writes opened.prefix store index;
 }
 
 abbrev pub index_call : Opened → IndexRequest → Call State
@@ -112,7 +112,7 @@ pub record IsIndexedAs (old new : Opened) (request : IndexRequest) (state : Stat
 -- DROP: the schema is written without the index, and what is kept of it goes
 abbrev pub drop_footprint : Opened → ℕ → Footprint
 drop_footprint opened number =
-    record { reading = whole []; writes = λ store. drop_writes opened.prefix store number }
+    record { reading = whole []; writes = λ m store. drop_writes opened.prefix store number }
 
 abbrev pub drop_call : Opened → List ℕ → Call Schema
 drop_call opened name =
@@ -121,7 +121,7 @@ drop_call opened name =
 -- MARK: the state is written, and what is kept of the index goes
 abbrev pub mark_footprint : State → Opened → ℕ → Footprint
 mark_footprint state opened number =
-    record { reading = whole []; writes = λ store. marked_writes state opened.prefix number }
+    record { reading = whole []; writes = λ m store. marked_writes state opened.prefix number }
 
 abbrev pub mark_call : State → Opened → List ℕ → Call (List (ℕ × State))
 mark_call state opened name =
@@ -138,7 +138,7 @@ write_only_call opened name = mark_call WriteOnly opened name
 -- READABLE: the built ranges of the index are read; its state and these ranges go
 abbrev pub readable_footprint : Opened → ℕ → Footprint
 readable_footprint opened number =
-    record { reading = all_built opened.prefix number; writes = λ store. readable_writes opened.prefix number }
+    record { reading = all_built opened.prefix number; writes = λ m store. readable_writes opened.prefix number }
 
 abbrev pub readable_call : Opened → List ℕ → Call (List (ℕ × State))
 readable_call opened name =

@@ -1,6 +1,7 @@
 -- What a transaction over a list is answered.
 use Rattle.std.specs.Prelude.{◌≡◌, ◌-◌, ◌<◌, List, [], ◌∷◌, ◌++◌, Result, Ok, Err}
 use mathlib.Core.List.{IsPrefix}
+use Rattle.kv_core.specs.Map.{after_all}
 use Rattle.kv_core.specs.declared.change.CommitRequest.{CommitRequest}
 use Rattle.cluster_core.specs.declared.answers.Config.{Config}
 use Rattle.schedule.specs.declared.refusal.Refusal.TheVariants as refusals
@@ -18,13 +19,17 @@ use Rattle.runtime.specs.declared.trace.Trace.{Trace}
 use Rattle.runtime.specs.declared.entering.EnterError.{EnterError}
 use Rattle.runtime.specs.declared.entering.EnterError.TheVariants.{NotEntered, TooOld, Memory}
 use Rattle.runtime.specs.History.{Reach}
-use Rattle.runtime.specs.Lists.{attempts_of, committed_at, opened, pipeline_of, submissions_of, version_of}
+use Rattle.runtime.specs.Lists.{attempts_of, committed_at, list_map, opened, pipeline_of, submissions_of}
+use Rattle.runtime.specs.Lists.{version_of}
 
 -- the reply is the serial store's for what is committed in the list at the transaction's read version, as its own
 -- accepted commands change it; or a write limit
 abbrev pub IsAnswer : Config → List Entry → CommitRequest → List Performed → Command → Reply → Type 0
 IsAnswer config log request done command reply =
-    IsServed (commands_written (committed_at config log request.read_version) (accepted (attempts_of done)))
+    let base = list_map config log request.read_version in
+    let before =
+    commands_written base (committed_at config log request.read_version) (accepted (attempts_of done)) in
+    IsServed (after_all before base) before
     (view (commits_of (pipeline_of config log) (submissions_of config log)) (opened request done)) command reply
 
 -- a command that stopped for want of memory stands among those performed as one whose read was refused: it has read

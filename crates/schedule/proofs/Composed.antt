@@ -249,7 +249,7 @@ module _ (p : PipelineState) (subs : List Submission) where
         (replied_at Stands Replied attempted commands_of None holds_nothing (history p) rising legal replays)))
 
     -- OPEN: what an open transaction wrote and read, and what it sees
-    open_writes : (open_now : Open) (request : CommitRequest) → IsOpenTransaction maps p.reported open_now request → request.mutations ≡ commands_written (committed_store (commits_of p subs) open_now.read_version) (accepted open_now.attempts)
+    open_writes : (open_now : Open) (request : CommitRequest) → IsOpenTransaction maps p.reported open_now request → request.mutations ≡ commands_written (maps open_now.read_version) (committed_store (commits_of p subs) open_now.read_version) (accepted open_now.attempts)
     open_writes open_now request is =
         done_writes maps open_now.attempts (fresh_request open_now.read_version) request is.done (maps open_now.read_version) (committed_store (commits_of p subs) open_now.read_version)
         (λ key h. ap (λ v. Rattle.std.specs.FinMap.get (maps v) key) is.at) (holds_committed open_now.read_version is.seen)
@@ -267,7 +267,7 @@ module _ (p : PipelineState) (subs : List Submission) where
         (λ key h. ap (λ v. Rattle.std.specs.FinMap.get (maps v) key) is.at) (holds_committed open_now.read_version is.seen)).1
 
     -- REQUESTS: each is that of its submission
-    requests_each : (last : ℕ) (ss : List Submission) (requests : List CommitRequest) → AreSubmitted maps p.reported last ss requests → AreRequestsOf (commits_of p subs) ss requests
+    requests_each : (last : ℕ) (ss : List Submission) (requests : List CommitRequest) → AreSubmitted maps p.reported last ss requests → AreRequestsOf maps (commits_of p subs) ss requests
     requests_each last [] [] each = tt
     requests_each last [] (request ∷ requests) each = absurd each
     requests_each last (one ∷ ss) [] each = absurd each
@@ -280,20 +280,21 @@ module _ (p : PipelineState) (subs : List Submission) where
       requests_each (last + 1) ss requests each.1,
     )
 
-    pub requests_all : AreRequestsOf (commits_of p subs) subs p.requests
+    pub requests_all : AreRequestsOf maps (commits_of p subs) subs p.requests
     requests_all = requests_each p.start subs p.requests are
 
     -- a reply that was right over every map is right by what the transaction sees
     pub performed_right : (open_now : Open) (request new : CommitRequest) (refuses : ℕ → KeyRange → Rattle.cluster_core.specs.declared.answers.ReadError.ReadError → Type 0) (command : Command) (answer : Reply) →
         IsOpenTransaction maps p.reported open_now request → IsPerformed maps (refuses request.read_version) command answer request new →
-        IsServed (commands_written (committed_store (commits_of p subs) open_now.read_version) (accepted open_now.attempts)) (view (commits_of p subs) open_now) command answer
+        IsServed (after_all (commands_written (maps open_now.read_version) (committed_store (commits_of p subs) open_now.read_version) (accepted open_now.attempts)) (maps open_now.read_version))
+        (commands_written (maps open_now.read_version) (committed_store (commits_of p subs) open_now.read_version) (accepted open_now.attempts)) (view (commits_of p subs) open_now) command answer
         ⊎ IsReadRefused (refuses open_now.read_version) (view (commits_of p subs) open_now) command answer
     performed_right open_now request new refuses command answer is performed =
         let base : maps request.read_version ≡ maps open_now.read_version = ap maps is.at in
         let over = performed.ran.over (maps open_now.read_version) (λ key h. ap (λ m. Rattle.std.specs.FinMap.get m key) base) in
         let at = over.1 (view (commits_of p subs) open_now) (open_sees open_now request is) in
         elim at.right [
-          | inl served ↦ inl (subst (λ before. IsServed before (view (commits_of p subs) open_now) command answer) (open_writes open_now request is) served)
+          | inl served ↦ inl (subst (λ before. IsServed (after_all before (maps open_now.read_version)) before (view (commits_of p subs) open_now) command answer) (open_writes open_now request is) served)
           | inr refused ↦ inr (
             seen request (maps open_now.read_version),
             open_sees open_now request is,
@@ -319,5 +320,5 @@ pub is_serial : (c : ClusterState) (subs : List Submission) → IsLegal (history
 is_serial c subs legal are = serial_all c.pipeline subs legal are
 
 pub are_requests : (c : ClusterState) (subs : List Submission) → IsLegal (history c.pipeline) → AreSubmitted (database_at c) c.pipeline.reported c.pipeline.start subs c.pipeline.requests →
-    AreRequestsOf (commits_of c.pipeline subs) subs c.pipeline.requests
+    AreRequestsOf (database_at c) (commits_of c.pipeline subs) subs c.pipeline.requests
 are_requests c subs legal are = requests_all c.pipeline subs legal are

@@ -64,7 +64,7 @@ pub record Executes (opened : Opened) (command : Command) (plan : AskedPlan) (t 
   pub reads : own_reading (Some opened) command ≡ steps_reading opened (Some (t, (plan_of plan).root))
   pub damage : (m : Map) → own_damage (Some opened) command m ≡ damage_of opened.prefix (entries m) t (plan_of plan).root
   pub reading : (rows : List (List Cell)) → is_reading command (reply.Rows rows) ≡ true
-  pub idle : (store : Store) → writes (Some store) command ≡ []
+  pub idle : (m : Map) (store : Store) → writes m (Some store) command ≡ []
   pub leaves : (store : Store) → effect (Some store) command ≡ Some store
   pub replies : (store : Store) → IsOpenAs opened store → (rows : List Record) → Allows (query_of plan.query) (of_type t.number store.records) rows → IsReply (Some store) command (reply.Rows (map (λ r. r.cells) rows))
 
@@ -113,8 +113,8 @@ executed_at {refuses = refuses} {old = old} opened command plan rows executes is
         IsPerformedAt refuses command answer old.mutations [] (opening_reach store_prefix ++ is.added) m serial
     here m fact None stands has = absurd has
     here m fact (Some store) stands has = record {
-      right = inl (served_idle old.mutations (Some store) command answer (so.idle store) (so.replies store has rows (fact.answers store stands has)));
-      wrote = sym (so.idle store);
+      right = inl (served_idle m old.mutations (Some store) command answer (so.idle m store) (so.replies store has rows (fact.answers store stands has)));
+      wrote = sym (so.idle m store);
       holds = subst (Stands m) (sym (so.leaves store)) stands;
       reads = all_added answer (at_serial opened command m (Some store) (opening_reach store_prefix ++ is.added) stands has (all_ranges opened command plan is.type so is.added m fact.reads));
     }
@@ -237,7 +237,7 @@ module _ (opened : Opened) (plan : AskedPlan) where
     reads = ap (steps_reading (at opened)) steps;
     damage = λ m. ap (λ s. steps_damage (at opened) s m) steps;
     reading = λ rows. refl;
-    idle = λ store. refl;
+    idle = λ m store. refl;
     leaves = λ store. refl;
     replies = λ store same rows allowed. (
       (t, subst (λ o. Accepts o (plan_of plan) t) (opened_same opened store same) accepted),
@@ -264,7 +264,7 @@ module _ (opened : Opened) (plan : AskedPlan) where
       reading = refl;
       told = λ m sound. told_refusal (Some (at opened)) (Execute plan) refusal m sound;
       replies = replies;
-      idle = λ store same. refl;
+      idle = λ m store same. refl;
       leaves = λ store same. refl;
     }
       where

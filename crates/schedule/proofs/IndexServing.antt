@@ -150,13 +150,13 @@ refused_limit {refuses = refuses} {old = old} name zero none same = record {
   changes = refl;
   ran = ran_still same (λ m. (
     record { there = tt; reads = refl; told = tt },
-    λ serial stands. record { right = inl (served_idle old.mutations serial (Build name zero) (reply.Refused BadLimit) (idle serial) (replies serial)); wrote = refl; holds = stands; reads = nothing serial m },
+    λ serial stands. record { right = inl (served_idle m old.mutations serial (Build name zero) (reply.Refused BadLimit) (idle m serial) (replies serial)); wrote = refl; holds = stands; reads = nothing serial m },
   ));
 }
   where
-    idle : (serial : Serial) → writes serial (Build name zero) ≡ []
-    idle None = refl
-    idle (Some store) = refl
+    idle : (m : Map) (serial : Serial) → writes m serial (Build name zero) ≡ []
+    idle m None = refl
+    idle m (Some store) = refl
 
     replies : (serial : Serial) → IsReply serial (Build name zero) (reply.Refused BadLimit)
     replies None = refl
@@ -173,9 +173,9 @@ build_opens name zero some = absurd (some refl)
 build_opens name (suc more) some = refl
 
 -- where there is no store
-pub build_unopened : (name : List ℕ) (limit : ℕ) → (limit ≡ 0 → ⊥) → IsReply None (Build name limit) (reply.Refused NoStore) × (writes None (Build name limit) ≡ [])
+pub build_unopened : (name : List ℕ) (limit : ℕ) → (limit ≡ 0 → ⊥) → IsReply None (Build name limit) (reply.Refused NoStore) × ((m : Map) → writes m None (Build name limit) ≡ [])
 build_unopened name zero some = absurd (some refl)
-build_unopened name (suc more) some = (refl, refl)
+build_unopened name (suc more) some = (refl, λ m. refl)
 
 build_accepted : (answer : Progress) → is_accepted (reply_to_build answer) ≡ true
 build_accepted (progress.Built records range) = refl

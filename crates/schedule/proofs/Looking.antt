@@ -48,7 +48,7 @@ pub record Looks (opened : Opened) (command : Command) (answer : Reply) : Type 0
   pub reading : is_reading command answer ≡ true
   pub told : (m : Map) → IsCommandSound (Some opened) command answer m → TellsOfPairs (Some opened) command answer m
   pub replies : (store : Store) → IsOpenAs opened store → IsReply (Some store) command answer
-  pub idle : (store : Store) → IsOpenAs opened store → writes (Some store) command ≡ []
+  pub idle : (m : Map) (store : Store) → IsOpenAs opened store → writes m (Some store) command ≡ []
   pub leaves : (store : Store) → IsOpenAs opened store → effect (Some store) command ≡ Some store
 
 looked_at : {maps : ℕ → Map} {refuses : KeyRange → ReadError → Type 0} {old new : CommitRequest} (opened : Opened) (command : Command) (answer : Reply) →
@@ -75,8 +75,8 @@ looked_at {refuses = refuses} {old = old} opened command answer looks is = recor
     here : (m : Map) (serial : Serial) → Stands m serial → IsThereAs (at opened) serial → IsPerformedAt refuses command answer old.mutations [] (opening_reach store_prefix) m serial
     here m None stands has = absurd has
     here m (Some store) stands has = record {
-      right = inl (served_idle old.mutations (Some store) command answer (looks.idle store has) (looks.replies store has));
-      wrote = same (is_accepted answer) (writes (Some store) command) [] (looks.idle store has);
+      right = inl (served_idle m old.mutations (Some store) command answer (looks.idle m store has) (looks.replies store has));
+      wrote = same (is_accepted answer) (writes m (Some store) command) [] (looks.idle m store has);
       holds = subst (Stands m) (same (is_accepted answer) (effect (Some store) command) (Some store) (looks.leaves store has)) stands;
       reads = all_added answer (at_serial opened command m (Some store) (opening_reach store_prefix) stands has (opening_added (Some (at opened)) command m looks.opens looks.reads));
     }

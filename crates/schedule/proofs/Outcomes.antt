@@ -43,14 +43,14 @@ use Rattle.schedule.proofs.Stops.{IsRight, IsStop, at, limit_right, memory_opene
 
 -- UNOPENED: no store was opened
 pub refused_unopened : {maps : ℕ → Map} {refuses : KeyRange → ℕ → ReadError → Type 0} {old new : CommitRequest} (command : Command) (error : StoreError) → open_reach command ≡ opening_reach store_prefix → IsReply None command (reply.Refused NoStore) →
-    writes None command ≡ [] → IsUnopened maps refuses store_prefix error old new → IsCommandRefused maps refuses command error old new
+    ((m : Map) → writes m None command ≡ []) → IsUnopened maps refuses store_prefix error old new → IsCommandRefused maps refuses command error old new
 refused_unopened {refuses = refuses} {old = old} command error opens is none unopened = refused_by command None error unopened.added (ran_because unopened.ran (λ m says. stop error unopened.added m says))
   where
     refused : KeyRange → ReadError → Type 0
     refused range = refuses range old.read_version
 
     nothing : (m : Map) (serial : Serial) → serial ≡ None → IsRight refused command old.mutations fault.NoStore m serial
-    nothing m serial there = subst (IsRight refused command old.mutations fault.NoStore m) (sym there) (own_right refused command old.mutations fault.NoStore NoStore m None refl is none)
+    nothing m serial there = subst (IsRight refused command old.mutations fault.NoStore m) (sym there) (own_right refused command old.mutations fault.NoStore NoStore m None refl is (none m))
 
     stop : (error : StoreError) (ranges : List KeyRange) (m : Map) → IsOpenFailure refused store_prefix error ranges m → IsStop refused None command old.mutations error ranges m
     stop Memory ranges m says =
@@ -98,7 +98,7 @@ pub record Serves {A : Type 0} (opened : Opened) (command : Command) (service : 
   pub accepted : (answer : A) → is_accepted (told answer) ≡ true
   pub reading : (answer : A) → not (service.meaning.changes answer) ≡ is_reading command (told answer)
   pub lines : (store : Store) → IsOpenAs opened store → line (Some store) command ≡ answering store told service.meaning (service.meaning.answer store)
-  pub prints : (store : Store) → IsOpenAs opened store → writes_in (Some store) command ≡ service.footprint.writes store
+  pub prints : (m : Map) (store : Store) → IsOpenAs opened store → writes_in m (Some store) command ≡ service.footprint.writes m store
 
 -- what a command is whose call has this refusal of its own: it reads nothing behind the opening, and its line at each store that was opened so is that refusal
 pub record Refuses (opened : Opened) (command : Command) (error : StoreError) : Type 0 where
@@ -125,8 +125,8 @@ module _ {A : Type 0} (opened : Opened) (command : Command) (service : Service A
   leaves_so : effect (Some store) command ≡ Some (service.meaning.after store)
   leaves_so = ap (left_by (Some store)) lines_so
 
-  writes_so : writes (Some store) command ≡ service.footprint.writes store
-  writes_so = ap (λ l. written_with l (writes_in (Some store) command)) lines_so ∙ serves.prints store same
+  writes_so : (m : Map) → writes m (Some store) command ≡ service.footprint.writes m store
+  writes_so m = ap (λ l. written_with l (writes_in m (Some store) command)) lines_so ∙ serves.prints m store same
 
 -- nothing is written when a store is opened
 unwritten : {maps : ℕ → Map} {old new : CommitRequest} (opened : Opened) → IsOpened maps (at opened) old new → new.mutations ≡ old.mutations
@@ -194,11 +194,11 @@ performed_at {refuses = refuses} {old = old} {mid = mid} {A = A} opened command 
     here m reads done None stands has = absurd has
     here m reads done (Some store) stands has =
         let now = done store stands has in
-        let wrote : is.written ≡ writes (Some store) command = now.wrote ∙ sym (writes_so (at opened) command is.service told serves store has answer now.answers) in record {
+        let wrote : is.written ≡ writes m (Some store) command = now.wrote ∙ sym (writes_so (at opened) command is.service told serves store has answer now.answers m) in record {
           right = inl (subst (λ o. IsLimited o (Some store) command (told answer))
               (sym now.allowed ∙ ap (λ ms. write_all_refusal ms is.written) (unwritten opened is_opened) ∙ ap (write_all_refusal old.mutations) wrote)
               (replies_so (at opened) command is.service told serves store has answer now.answers));
-          wrote = wrote ∙ ap (λ b. cond b (writes (Some store) command) []) (sym (serves.accepted answer));
+          wrote = wrote ∙ ap (λ b. cond b (writes m (Some store) command) []) (sym (serves.accepted answer));
           holds = subst (λ b. Stands (after_all is.written m) (cond b (effect (Some store) command) (Some store))) (sym (serves.accepted answer))
               (subst (Stands (after_all is.written m)) (sym (leaves_so (at opened) command is.service told serves store has answer now.answers)) now.holds);
           reads = all_added (told answer) (at_serial opened command m (Some store) (opening_reach store_prefix ++ is.added) stands has (all_ranges opened command is.service told serves is.added m reads));
@@ -279,7 +279,7 @@ refused_at {refuses = refuses} {old = old} {mid = mid} opened command (Ok servic
         limited None holds none = absurd none
         limited (Some store) holds same =
             limit_right refused command old.mutations reason m (Some store)
-            (ap (λ ms. write_all_refusal ms (writes (Some store) command)) (sym (unwritten opened is_opened)) ∙ ap (write_all_refusal mid.mutations) (writes_so (at opened) command service told serves store same (says.2 store holds same).0.answer (says.2 store holds same).0.is) ∙ (says.2 store holds same).1)
+            (ap (λ ms. write_all_refusal ms (writes m (Some store) command)) (sym (unwritten opened is_opened)) ∙ ap (write_all_refusal mid.mutations) (writes_so (at opened) command service told serves store same (says.2 store holds same).0.answer (says.2 store holds same).0.is m) ∙ (says.2 store holds same).1)
     stop (Refused refusal) ranges m has says = unanswered (Refused refusal) (of_schema refusal) refl ranges m has says
     stop fault.NoStore ranges m has says = unanswered fault.NoStore NoStore refl ranges m has says
     stop fault.AlreadyThere ranges m has says = unanswered fault.AlreadyThere AlreadyThere refl ranges m has says

@@ -83,6 +83,6 @@ plan_performed opened query answer here is_opened is = looked opened (Plan query
       reading = tells.reading;
       told = tells.told;
       replies = λ store same. replies (at opened) query answer store same is;
-      idle = λ store same. refl;
+      idle = λ m store same. refl;
       leaves = λ store same. refl;
     }

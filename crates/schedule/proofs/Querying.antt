@@ -71,7 +71,7 @@ module _ (opened : Opened) (q : Asked) where
     reading = refl;
     told = λ m sound. told_refusal (Some (at opened)) (Query q) why m sound;
     replies = replies;
-    idle = λ store same. refl;
+    idle = λ m store same. refl;
     leaves = λ store same. refl;
   }
 
@@ -123,7 +123,7 @@ module _ (opened : Opened) (query : declared.Query) (plan : AskedPlan) (is_plan 
     reads = ap (steps_reading (at opened)) steps;
     damage = λ m. ap (λ s. steps_damage (at opened) s m) steps;
     reading = λ rows. refl;
-    idle = λ store. refl;
+    idle = λ m store. refl;
     leaves = λ store. refl;
     replies = λ store same rows allowed.
         subst (λ why. Unrefused why (is_served store.schema (states_of store) (query_of query)) (IsRowsReply store (query_of query)) (reply.Rows (map (λ r. r.cells) rows))) (sym (refusal_there opened (query_of query) store same is_plan.unrefused))

@@ -114,7 +114,7 @@ run_ends config steps answers database run legal =
       legal = legal;
       holds = subst (HoldsCommitted c) (sym s.commits) (holds_all c subs legal s.submitted);
       serial = subst (λ commits. IsSerial c commits subs) (sym s.commits) (is_serial c subs legal s.submitted);
-      requests = subst (λ commits. AreRequestsOf commits subs c.pipeline.requests) (sym s.commits) (are_requests c subs legal s.submitted);
+      requests = subst (λ commits. AreRequestsOf (database_at c) commits subs c.pipeline.requests) (sym s.commits) (are_requests c subs legal s.submitted);
       refusals = refusals_leave config c.pipeline.requests steps answers right;
     }
 

@@ -69,7 +69,7 @@ meets {K = K} {asked = asked} {meaning = meaning} {footprint = footprint} {told 
       accepted = makes.accepted;
       reading = makes.reading value;
       lines = λ store same. lines_so store same is;
-      prints = λ store same. ap (λ (o : Opened). (footprint_in o command).writes store) (sym (opened_same opened store same)) ∙ ap (λ (f : Footprint). f.writes store) (print_so is);
+      prints = λ m store same. ap (λ (o : Opened). (footprint_in o command).writes m store) (sym (opened_same opened store same)) ∙ ap (λ (f : Footprint). f.writes m store) (print_so is);
     }
     by_outcome (Err error) is =
         let own = makes.own error is in record {

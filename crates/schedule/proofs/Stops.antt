@@ -169,7 +169,7 @@ stopped_added fault.NotBuilt answer all ranges is has = all_added answer has
 
 -- why the reply of an error is right at what is there
 abbrev pub IsRight : (KeyRange → ReadError → Type 0) → Command → List Mutation → StoreError → Map → Serial → Type 0
-IsRight refuses command before error m serial = (answer : Reply) → reply_of error ≡ Some answer → IsServed before serial command answer ⊎ IsReadRefusal refuses (reach (opened_in serial) command m) answer
+IsRight refuses command before error m serial = (answer : Reply) → reply_of error ≡ Some answer → IsServed m before serial command answer ⊎ IsReadRefusal refuses (reach (opened_in serial) command m) answer
 
 -- what is so of a map, and of all that it holds, where a command stopped with an error
 pub record IsStop (refuses : KeyRange → ReadError → Type 0) (opened : Option Opened) (command : Command) (before : List Mutation) (error : StoreError) (ranges : List KeyRange) (m : Map) : Type 0 where
@@ -198,7 +198,7 @@ refused_by {refuses = refuses} {old = old} {new = new} command opened error rang
               record { there = stop.there; reads = stopped_added error answer (added_by opened command m) ranges is stop.reads; told = stop.told answer is },
               λ serial stands. record {
                 right = (stop.held serial stands).0 answer is;
-                wrote = ap (λ b. cond b (writes serial command) []) (sym no_effect.0);
+                wrote = ap (λ b. cond b (writes m serial command) []) (sym no_effect.0);
                 holds = subst (λ b. Stands m (cond b (effect serial command) serial)) (sym no_effect.0) stands;
                 reads = stopped_added error answer (added_by (opened_in serial) command m) ranges is (stop.held serial stands).1;
               },
@@ -254,19 +254,19 @@ told_limit opened command write.TransactionTooLarge answer m is sound = let same
 told_limit opened command write.Memory answer m is sound = absurd (cc)
 
 -- a reply by which the command writes nothing
-pub served_idle : (before : List Mutation) (serial : Serial) (command : Command) (answer : Reply) → writes serial command ≡ [] → IsReply serial command answer → IsServed before serial command answer
-served_idle before serial command answer none is = subst (λ ms. IsLimited (write_all_refusal before ms) serial command answer) (sym none) is
+pub served_idle : (m : Map) (before : List Mutation) (serial : Serial) (command : Command) (answer : Reply) → writes m serial command ≡ [] → IsReply serial command answer → IsServed m before serial command answer
+served_idle m before serial command answer none is = subst (λ ms. IsLimited (write_all_refusal before ms) serial command answer) (sym none) is
 
 -- a refusal of the command's own, where it writes nothing
 pub own_right : (refuses : KeyRange → ReadError → Type 0) (command : Command) (before : List Mutation) (error : StoreError) (refusal : Refusal) (m : Map) (serial : Serial) → reply_of error ≡ Some (reply.Refused refusal) → IsReply serial command (reply.Refused refusal) →
-    writes serial command ≡ [] → IsRight refuses command before error m serial
+    writes m serial command ≡ [] → IsRight refuses command before error m serial
 own_right refuses command before error refusal m serial replied is none =
-    λ answer same. let that : reply.Refused refusal ≡ answer = cc in inl (subst (IsServed before serial command) that (served_idle before serial command (reply.Refused refusal) none is))
+    λ answer same. let that : reply.Refused refusal ≡ answer = cc in inl (subst (IsServed m before serial command) that (served_idle m before serial command (reply.Refused refusal) none is))
 
 -- a refusal of the command by this error
 pub refused_right : (refuses : KeyRange → ReadError → Type 0) (command : Command) (before : List Mutation) (error : StoreError) (m : Map) (serial : Serial) → line serial command ≡ serve.Refuses (reply_of error) → IsRight refuses command before error m serial
 refused_right refuses command before error m serial is =
-    λ answer same. inl (served_idle before serial command answer (ap (λ l. written_with l (writes_in serial command)) is) (subst (λ l. IsReplyOf l answer) (sym is) same))
+    λ answer same. inl (served_idle m before serial command answer (ap (λ l. written_with l (writes_in m serial command)) is) (subst (λ l. IsReplyOf l answer) (sym is) same))
 
 -- a limit is the reply that it is
 limit_is : (error : WriteError) (answer : Reply) → reply_of (Write error) ≡ Some answer → IsLimit error answer
@@ -277,6 +277,6 @@ limit_is write.TransactionTooLarge answer is = let same : reply.Refused _ ≡ an
 limit_is write.Memory answer is = absurd (cc)
 
 -- a limit that what the command writes meets
-pub limit_right : (refuses : KeyRange → ReadError → Type 0) (command : Command) (before : List Mutation) (error : WriteError) (m : Map) (serial : Serial) → write_all_refusal before (writes serial command) ≡ Some error →
+pub limit_right : (refuses : KeyRange → ReadError → Type 0) (command : Command) (before : List Mutation) (error : WriteError) (m : Map) (serial : Serial) → write_all_refusal before (writes m serial command) ≡ Some error →
     IsRight refuses command before (Write error) m serial
 limit_right refuses command before error m serial meets = λ answer is. inl (subst (λ o. IsLimited o serial command answer) (sym meets) (limit_is error answer is))

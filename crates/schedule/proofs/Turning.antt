@@ -66,7 +66,7 @@ did_at : {refuses : KeyRange → ReadError → Type 0} {before : List Mutation} 
     IsPerformedAt refuses command answer before wrote ranges m serial → DidAt (record { command = command; reply = answer }) wrote ranges m serial
 did_at {refuses = refuses} {before = before} command answer wrote ranges m serial performed = record {
   replied = λ yes_accepted. elim performed.right [
-    | inl served ↦ replied_of (write_all_refusal before (writes serial command)) serial command answer served yes_accepted
+    | inl served ↦ replied_of (write_all_refusal before (writes m serial command)) serial command answer served yes_accepted
     | inr refused ↦ absurd (true≢false (sym yes_accepted ∙ read_refuses refuses (reach (opened_in serial) command m) answer refused))
   ];
   wrote = performed.wrote;
@@ -184,19 +184,20 @@ attempts_effects serial (attempt ∷ attempts) = by_test (is_accepted attempt.re
 
 -- what was written is what the accepted commands write, over each map that agrees with what was read
 pub done_writes : (maps : ℕ → Map) (attempts : List Attempt) (old new : CommitRequest) → AreDone maps attempts old new →
-    (m : Map) (serial : Serial) → Agree new.reads (maps new.read_version) m → Stands (seen old m) serial → new.mutations ≡ old.mutations ++ commands_written serial (accepted attempts)
+    (m : Map) (serial : Serial) → Agree new.reads (maps new.read_version) m → Stands (seen old m) serial → new.mutations ≡ old.mutations ++ commands_written (seen old m) serial (accepted attempts)
 done_writes maps [] old new same m serial agree holds = ap (λ (t : CommitRequest). t.mutations) (sym same) ∙ sym (append-nil old.mutations)
 done_writes maps (attempt ∷ attempts) old new (mid, did, rest) m serial agree holds =
     let later = keeps_all maps attempts mid new rest m agree in
     let at = did.ran.over m (subst (λ v. Agree mid.reads (maps v) m) did.ran.version later) serial holds in
     let is_seen : after_all did.written (seen old m) ≡ seen mid m = sym (ap (λ ms. after_all ms m) did.ran.wrote ∙ after_all-append old.mutations did.written m) in
     done_writes maps attempts mid new rest m (attempted serial attempt) agree (subst (λ (n : Map). Stands n (attempted serial attempt)) is_seen at.holds)
-    ∙ ap (λ ms. ms ++ commands_written (attempted serial attempt) (accepted attempts)) (did.ran.wrote ∙ ap (λ ms. old.mutations ++ ms) at.wrote)
-    ∙ append_assoc old.mutations (cond (is_accepted attempt.reply) (writes serial attempt.command) []) (commands_written (attempted serial attempt) (accepted attempts))
+    ∙ ap (λ n. mid.mutations ++ commands_written n (attempted serial attempt) (accepted attempts)) (sym is_seen ∙ ap (λ ms. after_all ms (seen old m)) at.wrote)
+    ∙ ap (λ ms. ms ++ commands_written (after_all (cond (is_accepted attempt.reply) (writes (seen old m) serial attempt.command) []) (seen old m)) (attempted serial attempt) (accepted attempts)) (did.ran.wrote ∙ ap (λ ms. old.mutations ++ ms) at.wrote)
+    ∙ append_assoc old.mutations (cond (is_accepted attempt.reply) (writes (seen old m) serial attempt.command) []) (commands_written (after_all (cond (is_accepted attempt.reply) (writes (seen old m) serial attempt.command) []) (seen old m)) (attempted serial attempt) (accepted attempts))
     ∙ ap (λ ms. old.mutations ++ ms) (by_test (is_accepted attempt.reply))
   where
-    by_test : (b : Bool) → cond b (writes serial attempt.command) [] ++ commands_written (cond b (effect serial attempt.command) serial) (accepted attempts)
-        ≡ commands_written serial (map (λ (a : Attempt). a.command) (cond b (attempt ∷ filter (λ (a : Attempt). is_accepted a.reply) attempts) (filter (λ (a : Attempt). is_accepted a.reply) attempts)))
+    by_test : (b : Bool) → cond b (writes (seen old m) serial attempt.command) [] ++ commands_written (after_all (cond b (writes (seen old m) serial attempt.command) []) (seen old m)) (cond b (effect serial attempt.command) serial) (accepted attempts)
+        ≡ commands_written (seen old m) serial (map (λ (a : Attempt). a.command) (cond b (attempt ∷ filter (λ (a : Attempt). is_accepted a.reply) attempts) (filter (λ (a : Attempt). is_accepted a.reply) attempts)))
     by_test true = refl
     by_test false = refl
 

@@ -3,7 +3,7 @@ use Rattle.std.specs.Prelude.{◌≡◌, ◌≤◌, ◌⊎◌, ℕ, ◌+◌, ◌
 use Rattle.std.specs.Prelude.{Option, Some, None, if◌then◌else◌, ◌==◌, length, nat_lt, All}
 use Rattle.std.specs.List.{find, range_with_len}
 use Rattle.std.specs.Option.{option_map, option_map_or}
-use Rattle.kv_core.specs.Map.{Map}
+use Rattle.kv_core.specs.Map.{Map, after_all}
 use Rattle.kv_core.specs.Range.{KeyRange}
 use Rattle.kv_core.specs.declared.change.CommitRequest.{CommitRequest}
 use Rattle.kv_core.specs.declared.change.Mutation.{Mutation}
@@ -78,11 +78,12 @@ abbrev pub begin_reply : ClusterState → Option Open → Reply
 begin_reply c (Some open_now) = Refused Busy
 begin_reply c None = Begun c.pipeline.reported
 
--- what commands write one after another
-abbrev pub commands_written : Serial → List Command → List Mutation
-commands_written serial [] = []
-commands_written serial (command ∷ commands) =
-    writes serial command ++ commands_written (effect serial command) commands
+-- what commands write one after another, in a transaction that sees this map at first
+abbrev pub commands_written : Map → Serial → List Command → List Mutation
+commands_written m serial [] = []
+commands_written m serial (command ∷ commands) =
+    writes m serial command
+    ++ commands_written (after_all (writes m serial command) m) (effect serial command) commands
 
 -- the reply tells that a read is refused, one of those that the command asks for of a map that holds what it sees
 abbrev pub IsReadRefused : (KeyRange → ReadError → Type 0) → Serial → Command → Reply → Type 0
@@ -94,8 +95,10 @@ IsReadRefused refuses seen command reply =
 abbrev pub IsCommandReply : ClusterState → List CommitEntry → Open → Command → Reply → Type 0
 IsCommandReply c commits open_now command reply =
     let seen = view commits open_now in
-    IsServed (commands_written (committed_store commits open_now.read_version) (accepted open_now.attempts)) seen
-    command reply
+    let base = database_at c open_now.read_version in
+    let before =
+    commands_written base (committed_store commits open_now.read_version) (accepted open_now.attempts) in
+    IsServed (after_all before base) before seen command reply
     ⊎ IsReadRefused (λ range. MayRefuse (tier_of c) range open_now.read_version) seen command reply
 
 -- the reply to `commit`: there was nothing to submit, or no version was left, or the transaction read too long ago, or
@@ -241,18 +244,20 @@ pub record AreReads (serial : Serial) (attempts : List Attempt) (reads : List Ke
 
 -- REQUESTS: there is one for each submission, with its read version; its reads are what the commands read, in order,
 -- and it writes just what the accepted commands write
-pub record IsRequestOf (commits : List CommitEntry) (one : Submission) (request : CommitRequest) : Type 0 where
+pub record IsRequestOf (maps : ℕ → Map) (commits : List CommitEntry) (one : Submission) (request : CommitRequest) :
+    Type 0 where
   pub read_version : request.read_version ≡ one.transaction.read_version
   pub reads : AreReads (committed_store commits one.transaction.read_version) one.transaction.attempts request.reads
   pub mutations :
       request.mutations
-      ≡ commands_written (committed_store commits one.transaction.read_version) (accepted one.transaction.attempts)
+      ≡ commands_written (maps one.transaction.read_version)
+      (committed_store commits one.transaction.read_version) (accepted one.transaction.attempts)
 
-abbrev pub AreRequestsOf : List CommitEntry → List Submission → List CommitRequest → Type 0
-AreRequestsOf commits [] [] = Unit {0}
-AreRequestsOf commits (one ∷ submissions) (request ∷ requests) =
-    IsRequestOf commits one request × AreRequestsOf commits submissions requests
-AreRequestsOf commits submissions requests = ⊥
+abbrev pub AreRequestsOf : (ℕ → Map) → List CommitEntry → List Submission → List CommitRequest → Type 0
+AreRequestsOf maps commits [] [] = Unit {0}
+AreRequestsOf maps commits (one ∷ submissions) (request ∷ requests) =
+    IsRequestOf maps commits one request × AreRequestsOf maps commits submissions requests
+AreRequestsOf maps commits submissions requests = ⊥
 
 -- ---- the whole
 
@@ -271,6 +276,8 @@ pub record IsRightRun (config : Config) (steps : List Step) (run : Transcript) :
   -- version order is a serial order: each listed transaction has the same replies just before its version
   pub serial : IsSerial run.cluster run.commits (submitted_in (past_of [] steps run.replies))
   -- each request's reads are what its commands read, in order, and its writes just those of the accepted ones
-  pub requests : AreRequestsOf run.commits (submitted_in (past_of [] steps run.replies)) run.cluster.pipeline.requests
+  pub requests :
+      AreRequestsOf (database_at run.cluster) run.commits (submitted_in (past_of [] steps run.replies))
+      run.cluster.pipeline.requests
   -- a refused step leaves all as it was, which follows from the first two
   pub refusals : EachReply (LeavesAll config run.cluster.pipeline.requests) [] steps run.replies

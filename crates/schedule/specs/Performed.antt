@@ -47,10 +47,11 @@ abbrev pub IsLimited : Option WriteError → Serial → Command → Reply → Ty
 IsLimited None serial command answer = IsReply serial command answer
 IsLimited (Some error) serial command answer = IsLimit error answer
 
--- the reply is the one that the serial store gives to the command in a transaction that wrote these mutations before
-abbrev pub IsServed : List Mutation → Serial → Command → Reply → Type 0
-IsServed before serial command answer =
-    IsLimited (write_all_refusal before (writes serial command)) serial command answer
+-- the reply is the one that the serial store gives to the command in a transaction that sees this map, and wrote these
+-- mutations before
+abbrev pub IsServed : Map → List Mutation → Serial → Command → Reply → Type 0
+IsServed m before serial command answer =
+    IsLimited (write_all_refusal before (writes m serial command)) serial command answer
 
 -- a read of a range within these is refused so
 pub record IsReadRefusedAs (refuses : KeyRange → ReadError → Type 0) (within : List KeyRange) (error : ReadError) :
@@ -84,8 +85,10 @@ HasAdded answer all added = HasAddedSo (is_unread answer) all added
 -- writes there, and leads to a map that holds what is there after it; and these are the ranges that it reads there
 pub record IsPerformedAt (refuses : KeyRange → ReadError → Type 0) (command : Command) (answer : Reply)
     (before written : List Mutation) (added : List KeyRange) (m : Map) (serial : Serial) : Type 0 where
-  pub right : IsServed before serial command answer ⊎ IsReadRefusal refuses (reach (opened_in serial) command m) answer
-  pub wrote : written ≡ (if is_accepted answer then writes serial command else [])
+  pub right :
+      IsServed m before serial command answer
+      ⊎ IsReadRefusal refuses (reach (opened_in serial) command m) answer
+  pub wrote : written ≡ (if is_accepted answer then writes m serial command else [])
   pub holds : Stands (after_all written m) (if is_accepted answer then effect serial command else serial)
   pub reads : HasAdded answer (added_by (opened_in serial) command m) added
 

@@ -104,16 +104,16 @@ schema_written (Ok schema) = schema_writes store_prefix schema
 schema_written (Err refusal) = []
 
 -- what a command writes by its footprint where it isn't refused
-abbrev pub writes_in : Serial → Command → List Mutation
-writes_in None (Create request) = schema_written (schema_asked request)
-writes_in None command = []
-writes_in (Some store) command = (footprint_in (opened_as store) command).writes store
+abbrev pub writes_in : Map → Serial → Command → List Mutation
+writes_in m None (Create request) = schema_written (schema_asked request)
+writes_in m None command = []
+writes_in m (Some store) command = (footprint_in (opened_as store) command).writes m store
 
 -- what is written with a line: nothing where it refuses, or looks at what is there
 abbrev pub written_with : Line → List Mutation → List Mutation
 written_with (Replies told after) mutations = mutations
 written_with other mutations = []
 
--- what a command writes, in order
-abbrev pub writes : Serial → Command → List Mutation
-writes serial command = written_with (line serial command) (writes_in serial command)
+-- what a command writes, in order, by the map and what is there
+abbrev pub writes : Map → Serial → Command → List Mutation
+writes m serial command = written_with (line serial command) (writes_in m serial command)

@@ -22,7 +22,7 @@ fresh_request read_version = record { read_version = read_version; reads = []; m
 pub record DidAt (attempt : Attempt) (written : List Mutation) (added : List KeyRange) (m : Map) (serial : Serial) :
     Type 0 where
   pub replied : is_accepted attempt.reply ≡ true → IsReply serial attempt.command attempt.reply
-  pub wrote : written ≡ (if is_accepted attempt.reply then writes serial attempt.command else [])
+  pub wrote : written ≡ (if is_accepted attempt.reply then writes m serial attempt.command else [])
   pub holds : Stands (after_all written m) (attempted serial attempt)
   pub reads : HasAdded attempt.reply (added_by (opened_in serial) attempt.command m) added
 
