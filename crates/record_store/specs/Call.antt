@@ -137,8 +137,8 @@ call_on meaning footprint (Err error) = Err error
 abbrev pub AtStore : Opened → Map → (Store → Type 0) → Type 0
 AtStore opened m Fact = (store : Store) → Holds opened.prefix m (Some store) → IsOpenAs opened store → Fact store
 
--- what is so at the store that is there: the answer is the store's, these mutations are exactly what the call writes, no
--- limit refuses them, and they lead to a map that holds the store after it
+-- what is so at the store that is there: the answer is the store's, these mutations are exactly what the call writes,
+-- no limit refuses them, and they lead to a map that holds the store after it
 pub record IsDone {A : Type 0} (opened : Opened) (service : Service A) (answer : A) (before written : List Mutation)
     (m : Map) (store : Store) : Type 0 where
   pub answers : service.meaning.answer store ≡ Ok answer

@@ -1,6 +1,6 @@
 -- What the calls on an open store mean: what each asks for by the schema and the states of indexes, or its refusal by
 -- them; then, by the store that is there, its answer or its refusal, and the store after it. No key and no byte occurs.
-use Rattle.std.specs.Prelude.{ℕ, ℤ, Bool, true, false, List, [], ◌∷◌, Option, Some, None, Result, Ok, Err}
+use Rattle.std.specs.Prelude.{ℕ, ℤ, Bool, true, false, List, Option, Some, None, Result, Ok, Err}
 use Rattle.std.specs.Prelude.{is_some, if◌then◌else◌}
 use Rattle.tuple_codec.specs.Item.{Item}
 use Rattle.metadata.specs.declared.cells.Cell.{Cell}

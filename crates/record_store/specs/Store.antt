@@ -8,7 +8,7 @@ use Rattle.tuple_codec.specs.Item.{Item}
 use Rattle.kv_core.specs.Range.{KeyRange}
 use Rattle.metadata.specs.declared.index.IndexDefinition.{IndexDefinition}
 use Rattle.metadata.specs.declared.index.State.{State}
-use Rattle.metadata.specs.declared.index.State.TheVariants.{Readable, WriteOnly, Disabled}
+use Rattle.metadata.specs.declared.index.State.TheVariants.{Readable, Disabled}
 use Rattle.metadata.specs.Index.{listed_state}
 use Rattle.metadata.specs.IndexChange.{with_index, without_index}
 use Rattle.metadata.specs.Schema.{Schema}
@@ -108,13 +108,6 @@ marked state store number = record store {
   states = with_state number state store.states;
   built = without_built number store.built;
 }
-
--- so with that index disabled, and with it write-only
-abbrev pub disabled : Store → ℕ → Store
-disabled store number = marked Disabled store number
-
-abbrev pub write_only : Store → ℕ → Store
-write_only store number = marked WriteOnly store number
 
 -- the store with that index readable
 abbrev pub readable : Store → ℕ → Store

@@ -100,8 +100,10 @@ impl Store {
     /// The index of this name, where it is write-only. Refused with `UnknownIndex` where there is no
     /// such index, and with `WrongState` where it isn't write-only. It takes no memory.
     pub fn write_only_index(&self, name: &Text) -> Result<&IndexDefinition, StoreError>
-        ensures found { IfOk result (λ index. write_only_named self.now.schema self.now.states name.now ≡ Ok index.now) }
-        ensures refused { IfErr result (λ error. write_only_named self.now.schema self.now.states name.now ≡ Err error) }
+        ensures found { IfOk result (λ index.
+            write_only_named self.now.schema self.now.states name.now ≡ Ok index.now) }
+        ensures refused { IfErr result (λ error.
+            write_only_named self.now.schema self.now.states name.now ≡ Err error) }
     {
         let index = self.index(name)?;
         if self.state_of(index.number) != State::WriteOnly {

@@ -34,7 +34,7 @@ use Rattle.schedule.specs.declared.reply.Reply.TheVariants as reply
 use Rattle.schedule.specs.Layout.{store_prefix}
 use Rattle.schedule.specs.Serve.{IsReply, IsReplyOf, creating, left_by}
 use Rattle.schedule.specs.Holds.{Stands}
-use Rattle.schedule.specs.Reach.{opened_in, added_by, make_reach, open_reach, reach, schema_written, writes, writes_in, written_with}
+use Rattle.schedule.specs.Reach.{opened_in, added_by, make_reach, open_reach, reach, schema_written, writes, footprint_writes, written_with}
 use Rattle.schedule.specs.Performed.{IsCommandSound, IsLimited, IsMade, IsMadeOf, IsPerformed, IsPerformedAt, TellsOfPairs}
 use Rattle.schedule.specs.Calls.{IsCommandRefused}
 use Rattle.schedule.proofs.Reached.{begin_open, next_within, opening_asked}
@@ -48,7 +48,7 @@ fresh_at schema = record { prefix = store_prefix; schema = schema; states = [] }
 refusal_replies : (request : SchemaRequest) (m : Map) (serial : Serial) (refusal : SchemaRefusal) → schema_asked request ≡ Err refusal → IsReply serial (Create request) (reply.Refused (of_schema refusal)) × (writes m serial (Create request) ≡ [])
 refusal_replies request m serial refusal is = (
   subst (λ o. IsReplyOf (creating serial o) (reply.Refused (of_schema refusal))) (sym is) refl,
-  ap (λ o. written_with (creating serial o) (writes_in m serial (Create request))) is,
+  ap (λ o. written_with (creating serial o) (footprint_writes m serial (Create request))) is,
 )
 
 pub refused_request : {maps : ℕ → Map} {refuses : KeyRange → ℕ → ReadError → Type 0} {old : CommitRequest} (request : SchemaRequest) (error : MetadataError) → IsRefusedAs error (schema_asked request) → IsCommandRefused maps refuses (Create request) (of_metadata error) old old
@@ -123,7 +123,7 @@ uncreated_at {refuses = refuses} {old = old} request schema error made is = refu
     right fault.AlreadyThere ranges m says None stands = absurd (says.2 None stands refl)
     right fault.AlreadyThere ranges m says (Some store) stands =
         own_right refused (Create request) old.mutations fault.AlreadyThere AlreadyThere m (Some store) refl (subst (λ o. IsReplyOf (creating (Some store) o) (reply.Refused AlreadyThere)) (sym made) refl)
-        (ap (λ o. written_with (creating (Some store) o) (writes_in m (Some store) (Create request))) made)
+        (ap (λ o. written_with (creating (Some store) o) (footprint_writes m (Some store) (Create request))) made)
     right (Write reason) ranges m says None stands =
         limit_right refused (Create request) old.mutations reason m None (ap (write_all_refusal old.mutations) (writes_none request schema m made) ∙ says.2)
     right (Write reason) ranges m says (Some store) stands = let none : ◌≡◌ {A = Option Store} (Some store) None = says.3 (Some store) stands in absurd (cc)

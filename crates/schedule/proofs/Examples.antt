@@ -17,7 +17,7 @@ use Rattle.schedule.specs.declared.reply.Report.TheVariants as reports
 use Rattle.kv_core.specs.Map.{Map}
 use Rattle.record_store.specs.Store.{Serial}
 use Rattle.record_store.specs.Layout.{place, record_key, record_value, schema_key, states_range}
-use Rattle.schedule.specs.Serve.{Line, Refuses, Replies, effect, effects, line}
+use Rattle.schedule.specs.Serve.{Line, Refuses, Replies, effect, effects, serial_line}
 use Rattle.schedule.specs.Past.{Past, open_of, submitted_in}
 use Rattle.schedule.specs.Commits.{committed_store}
 use Rattle.schedule.specs.Standing.{cluster_after, commits_of}
@@ -67,7 +67,7 @@ reply_in other = Nothing
 
 abbrev pub replies : Serial → List Command → List Reply
 replies serial [] = []
-replies serial (command ∷ commands) = reply_in (line serial command) ∷ replies (effect serial command) commands
+replies serial (command ∷ commands) = reply_in (serial_line serial command) ∷ replies (effect serial command) commands
 
 -- records are found by their keys, replaced and taken out
 keeping : replies None (create ∷ save 2 5 ∷ save 1 6 ∷ Load t (i 2 ∷ []) ∷ save 2 7 ∷ Remove t (i 1 ∷ []) ∷ Load t (i 1 ∷ []) ∷ Remove t (i 1 ∷ []) ∷ [])

@@ -34,7 +34,7 @@ use Rattle.schedule.specs.declared.step.Command.TheVariants.{Aggregate, Build, I
 use Rattle.schedule.specs.declared.step.Command.TheVariants as commands
 use Rattle.schedule.specs.declared.reply.Reply.{Reply}
 use Rattle.schedule.specs.declared.reply.Reply.TheVariants as reply
-use Rattle.schedule.specs.Serve.{IsReply, done, line, reply_to_build}
+use Rattle.schedule.specs.Serve.{IsReply, done, serial_line, reply_to_build}
 use Rattle.schedule.specs.Past.{is_accepted, is_reading}
 use Rattle.schedule.specs.Reach.{added_by, footprint_on, open_reach, opened_in, writes}
 use Rattle.schedule.specs.Calls.{IsCommandRefused}
@@ -42,7 +42,7 @@ use Rattle.schedule.specs.Refusals.{of_schema, reply_of}
 use Rattle.schedule.specs.Performed.{IsPerformed}
 use Rattle.schedule.specs.Layout.{store_prefix}
 use Rattle.schedule.proofs.Outcomes.{Meets, Refuses, located, performed, refused_own}
-use Rattle.schedule.proofs.Serving.{IsRefusal, Makes, meets, schema_refuses}
+use Rattle.schedule.proofs.Serving.{IsRefusal, meets, schema_refuses}
 use Rattle.schedule.proofs.Stops.{at, served_idle}
 
 -- what an index of a name is asked for by
@@ -65,78 +65,33 @@ write_only_refuses listed (Some index) error is = by_state (state_in listed inde
 -- ---- index
 
 pub index_meets : (opened : Opened) (request : IndexRequest) → Meets (at opened) (Index request) (index_call (at opened) request) reply.State
-index_meets opened request = meets opened (Index request) makes
-  where
-    makes : Makes (at opened) (Index request) (λ schema states. by_schema (new_index schema request)) index_meaning index_footprint reply.State
-    makes = record {
-      opens = refl;
-      undamaged = λ m. refl;
-      lines = λ store. refl;
-      prints = λ o. refl;
-      own = schema_refuses (new_index opened.schema request);
-      accepted = λ state. refl;
-      reading = λ index state. refl;
-    }
+index_meets opened request =
+    meets (λ schema states. by_schema (new_index schema request)) index_meaning index_footprint reply.State opened (Index request) refl (λ m. refl) (λ store. refl) (λ o. refl)
+    (schema_refuses (new_index opened.schema request)) (λ state. refl) (λ index state. refl)
 
 -- ---- drop, disable and write-only
 
 pub drop_meets : (opened : Opened) (name : List ℕ) → Meets (at opened) (Drop name) (drop_call (at opened) name) done
-drop_meets opened name = meets opened (Drop name) makes
-  where
-    makes : Makes (at opened) (Drop name) (numbered name) drop_meaning drop_footprint done
-    makes = record {
-      opens = refl;
-      undamaged = λ m. refl;
-      lines = λ store. refl;
-      prints = λ o. refl;
-      own = schema_refuses (index_number (find_index opened.schema name));
-      accepted = λ answer. refl;
-      reading = λ number answer. refl;
-    }
+drop_meets opened name =
+    meets (numbered name) drop_meaning drop_footprint done opened (Drop name) refl (λ m. refl) (λ store. refl) (λ o. refl)
+    (schema_refuses (index_number (find_index opened.schema name))) (λ answer. refl) (λ number answer. refl)
 
 pub disable_meets : (opened : Opened) (name : List ℕ) → Meets (at opened) (Disable name) (mark_call mark.Disabled (at opened) name) done
-disable_meets opened name = meets opened (Disable name) makes
-  where
-    makes : Makes (at opened) (Disable name) (numbered name) (mark_meaning mark.Disabled) (mark_footprint mark.Disabled) done
-    makes = record {
-      opens = refl;
-      undamaged = λ m. refl;
-      lines = λ store. refl;
-      prints = λ o. refl;
-      own = schema_refuses (index_number (find_index opened.schema name));
-      accepted = λ answer. refl;
-      reading = λ number answer. refl;
-    }
+disable_meets opened name =
+    meets (numbered name) (mark_meaning mark.Disabled) (mark_footprint mark.Disabled) done opened (Disable name) refl (λ m. refl) (λ store. refl) (λ o. refl)
+    (schema_refuses (index_number (find_index opened.schema name))) (λ answer. refl) (λ number answer. refl)
 
 pub write_only_meets : (opened : Opened) (name : List ℕ) → Meets (at opened) (commands.WriteOnly name) (mark_call mark.WriteOnly (at opened) name) done
-write_only_meets opened name = meets opened (commands.WriteOnly name) makes
-  where
-    makes : Makes (at opened) (commands.WriteOnly name) (numbered name) (mark_meaning mark.WriteOnly) (mark_footprint mark.WriteOnly) done
-    makes = record {
-      opens = refl;
-      undamaged = λ m. refl;
-      lines = λ store. refl;
-      prints = λ o. refl;
-      own = schema_refuses (index_number (find_index opened.schema name));
-      accepted = λ answer. refl;
-      reading = λ number answer. refl;
-    }
+write_only_meets opened name =
+    meets (numbered name) (mark_meaning mark.WriteOnly) (mark_footprint mark.WriteOnly) done opened (commands.WriteOnly name) refl (λ m. refl) (λ store. refl) (λ o. refl)
+    (schema_refuses (index_number (find_index opened.schema name))) (λ answer. refl) (λ number answer. refl)
 
 -- ---- readable
 
 pub readable_meets : (opened : Opened) (name : List ℕ) → Meets (at opened) (commands.Readable name) (readable_call (at opened) name) done
-readable_meets opened name = meets opened (commands.Readable name) makes
-  where
-    makes : Makes (at opened) (commands.Readable name) (building name) (λ index. readable_meaning index.number) (λ o index. readable_footprint o index.number) done
-    makes = record {
-      opens = refl;
-      undamaged = λ m. refl;
-      lines = λ store. refl;
-      prints = λ o. refl;
-      own = write_only_refuses opened.states (find_index opened.schema name);
-      accepted = λ answer. refl;
-      reading = λ index answer. refl;
-    }
+readable_meets opened name =
+    meets (building name) (λ index. readable_meaning index.number) (λ o index. readable_footprint o index.number) done opened (commands.Readable name) refl (λ m. refl) (λ store. refl) (λ o. refl)
+    (write_only_refuses opened.states (find_index opened.schema name)) (λ answer. refl) (λ index answer. refl)
 
 -- ---- build
 
@@ -187,18 +142,9 @@ build_reads name limit progress.Finished = refl
 
 pub build_meets : (opened : Opened) (name : List ℕ) (limit : ℕ) → (limit ≡ 0 → ⊥) → Meets (at opened) (Build name limit) (step_call (at opened) (record { name = name; limit = limit })) reply_to_build
 build_meets opened name zero some = absurd (some refl)
-build_meets opened name (suc more) some = meets opened (Build name (suc more)) makes
-  where
-    makes : Makes (at opened) (Build name (suc more)) (building name) (step_meaning (suc more)) (λ o. step_footprint o (suc more)) reply_to_build
-    makes = record {
-      opens = refl;
-      undamaged = λ m. refl;
-      lines = λ store. refl;
-      prints = λ o. refl;
-      own = write_only_refuses opened.states (find_index opened.schema name);
-      accepted = build_accepted;
-      reading = λ index. build_reads name (suc more);
-    }
+build_meets opened name (suc more) some =
+    meets (building name) (step_meaning (suc more)) (λ o. step_footprint o (suc more)) reply_to_build opened (Build name (suc more)) refl (λ m. refl) (λ store. refl) (λ o. refl)
+    (write_only_refuses opened.states (find_index opened.schema name)) build_accepted (λ index. build_reads name (suc more))
 
 -- ---- aggregate
 
@@ -214,23 +160,14 @@ total_refuses Sum true mark.WriteOnly index error is = let same : fault.NotReada
 total_refuses Count true mark.Disabled index error is = let same : fault.NotReadable ≡ error = cc in (NotReadable, ap reply_of (sym same))
 total_refuses Sum true mark.Disabled index error is = let same : fault.NotReadable ≡ error = cc in (NotReadable, ap reply_of (sym same))
 
-totalled_refuses : (of : Schema) (listed : List (ℕ × states.State)) (group : List Cell) (o : Option IndexDefinition) (error : StoreError) → totalled_index of listed group o ≡ Err error → IsRefusal error
-totalled_refuses of listed group None error is = let same : Refused schema.UnknownIndex ≡ error = cc in (UnknownIndex, ap reply_of (sym same))
-totalled_refuses of listed group (Some index) error is = total_refuses index.kind (fits_group of index group) (state_in listed index.number) index error is
+totalled_refuses : (own : Schema) (listed : List (ℕ × states.State)) (group : List Cell) (o : Option IndexDefinition) (error : StoreError) → totalled_index own listed group o ≡ Err error → IsRefusal error
+totalled_refuses own listed group None error is = let same : Refused schema.UnknownIndex ≡ error = cc in (UnknownIndex, ap reply_of (sym same))
+totalled_refuses own listed group (Some index) error is = total_refuses index.kind (fits_group own index group) (state_in listed index.number) index error is
 
 pub aggregate_meets : (opened : Opened) (name : List ℕ) (group : List Cell) → Meets (at opened) (Aggregate name group) (aggregate_call (at opened) name group) reply.Total
-aggregate_meets opened name group = meets opened (Aggregate name group) makes
-  where
-    makes : Makes (at opened) (Aggregate name group) (λ schema states. totalled_index schema states group (find_index schema name)) (total_meaning group) (λ o. total_footprint o group) reply.Total
-    makes = record {
-      opens = refl;
-      undamaged = λ m. refl;
-      lines = λ store. refl;
-      prints = λ o. refl;
-      own = totalled_refuses opened.schema opened.states group (find_index opened.schema name);
-      accepted = λ total. refl;
-      reading = λ index total. refl;
-    }
+aggregate_meets opened name group =
+    meets (λ schema states. totalled_index schema states group (find_index schema name)) (total_meaning group) (λ o. total_footprint o group) reply.Total opened (Aggregate name group) refl (λ m. refl) (λ store. refl) (λ o. refl)
+    (totalled_refuses opened.schema opened.states group (find_index opened.schema name)) (λ total. refl) (λ index total. refl)
 
 -- ---- state
 
@@ -247,18 +184,9 @@ nothing_printed o (Ok number) = refl
 nothing_printed o (Err error) = refl
 
 state_meets : (opened : Opened) (name : List ℕ) → Meets (at opened) (State name) (state_call (at opened) name) reply.State
-state_meets opened name = meets opened (State name) makes
-  where
-    makes : Makes (at opened) (State name) (numbered name) state_meaning state_footprint reply.State
-    makes = record {
-      opens = refl;
-      undamaged = λ m. refl;
-      lines = λ store. refl;
-      prints = λ o. nothing_printed o (numbered name o.schema o.states);
-      own = schema_refuses (index_number (find_index opened.schema name));
-      accepted = λ state. refl;
-      reading = λ number state. refl;
-    }
+state_meets opened name =
+    meets (numbered name) state_meaning state_footprint reply.State opened (State name) refl (λ m. refl) (λ store. refl) (λ o. nothing_printed o (numbered name o.schema o.states))
+    (schema_refuses (index_number (find_index opened.schema name))) (λ state. refl) (λ number state. refl)
 
 -- the index of a name whose state is known
 state_number : (states_of : List (ℕ × states.State)) (found : Option IndexDefinition) (state : states.State) →

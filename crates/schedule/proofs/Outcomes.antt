@@ -30,11 +30,11 @@ use Rattle.schedule.specs.declared.step.Command.{Command}
 use Rattle.schedule.specs.declared.reply.Reply.{Reply}
 use Rattle.schedule.specs.declared.reply.Reply.TheVariants as reply
 use Rattle.schedule.specs.Layout.{store_prefix}
-use Rattle.schedule.specs.Serve.{IsReply, IsReplyOf, answering, effect, left_by, line}
+use Rattle.schedule.specs.Serve.{IsReply, IsReplyOf, answering, effect, left_by, serial_line}
 use Rattle.schedule.specs.Serve as serve
 use Rattle.schedule.specs.Past.{is_accepted, is_reading}
 use Rattle.schedule.specs.Holds.{Stands}
-use Rattle.schedule.specs.Reach.{opened_in, added_by, open_reach, own_damage, own_reading, reach, writes, writes_in, written_with}
+use Rattle.schedule.specs.Reach.{opened_in, added_by, open_reach, own_damage, own_reading, reach, writes, footprint_writes, written_with}
 use Rattle.schedule.specs.Performed.{IsCommandSound, IsLimited, IsPerformed, IsPerformedAt, IsReadAs, IsReadRefusedAs}
 use Rattle.schedule.specs.Performed.{TellsOfPairs}
 use Rattle.schedule.specs.Calls.{IsCommandRefused}
@@ -97,8 +97,8 @@ pub record Serves {A : Type 0} (opened : Opened) (command : Command) (service : 
   pub undamaged : (m : Map) → own_damage (Some opened) command m ≡ None
   pub accepted : (answer : A) → is_accepted (told answer) ≡ true
   pub reading : (answer : A) → not (service.meaning.changes answer) ≡ is_reading command (told answer)
-  pub lines : (store : Store) → IsOpenAs opened store → line (Some store) command ≡ answering store told service.meaning (service.meaning.answer store)
-  pub prints : (m : Map) (store : Store) → IsOpenAs opened store → writes_in m (Some store) command ≡ service.footprint.writes m store
+  pub lines : (store : Store) → IsOpenAs opened store → serial_line (Some store) command ≡ answering store told service.meaning (service.meaning.answer store)
+  pub prints : (m : Map) (store : Store) → IsOpenAs opened store → footprint_writes m (Some store) command ≡ service.footprint.writes m store
 
 -- what a command is whose call has this refusal of its own: it reads nothing behind the opening, and its line at each store that was opened so is that refusal
 pub record Refuses (opened : Opened) (command : Command) (error : StoreError) : Type 0 where
@@ -107,7 +107,7 @@ pub record Refuses (opened : Opened) (command : Command) (error : StoreError) : 
   pub undamaged : (m : Map) → own_damage (Some opened) command m ≡ None
   pub refusal : Refusal
   pub told : reply_of error ≡ Some (reply.Refused refusal)
-  pub lines : (store : Store) → IsOpenAs opened store → line (Some store) command ≡ serve.Refuses (reply_of error)
+  pub lines : (store : Store) → IsOpenAs opened store → serial_line (Some store) command ≡ serve.Refuses (reply_of error)
 
 -- what a command is by its call
 abbrev pub Meets : {A : Type 0} → Opened → Command → Call A → (A → Reply) → Type 0
@@ -116,7 +116,7 @@ Meets opened command (Err error) told = Refuses opened command error
 
 -- at a store that is answered so
 module _ {A : Type 0} (opened : Opened) (command : Command) (service : Service A) (told : A → Reply) (serves : Serves opened command service told) (store : Store) (same : IsOpenAs opened store) (answer : A) (is : service.meaning.answer store ≡ Ok answer) where
-  lines_so : line (Some store) command ≡ serve.Replies (told answer) (Some (service.meaning.after store))
+  lines_so : serial_line (Some store) command ≡ serve.Replies (told answer) (Some (service.meaning.after store))
   lines_so = serves.lines store same ∙ ap (answering store told service.meaning) is
 
   replies_so : IsReply (Some store) command (told answer)
@@ -126,7 +126,7 @@ module _ {A : Type 0} (opened : Opened) (command : Command) (service : Service A
   leaves_so = ap (left_by (Some store)) lines_so
 
   writes_so : (m : Map) → writes m (Some store) command ≡ service.footprint.writes m store
-  writes_so m = ap (λ l. written_with l (writes_in m (Some store) command)) lines_so ∙ serves.prints m store same
+  writes_so m = ap (λ l. written_with l (footprint_writes m (Some store) command)) lines_so ∙ serves.prints m store same
 
 -- nothing is written when a store is opened
 unwritten : {maps : ℕ → Map} {old new : CommitRequest} (opened : Opened) → IsOpened maps (at opened) old new → new.mutations ≡ old.mutations

@@ -1,5 +1,5 @@
 -- What each command is by the call that it makes on the open store: the general law, and the commands on types and records.
-use Rattle.std.proofs.Common.{◌≡◌, ℕ, Bool, true, false, not, cond, List, refl, sym, ap, subst, ◌∙◌, Option, Some, None, Result, Ok, Err}
+use Rattle.std.proofs.Common.{◌≡◌, ℕ, Bool, true, false, not, cond, List, [], ◌∷◌, refl, sym, ap, subst, ◌∙◌, Option, Some, None, Result, Ok, Err}
 use Rattle.std.specs.Prelude.{find}
 use Rattle.std.specs.List.{list_any}
 use Rattle.std.specs.Str.{bytes_eq}
@@ -29,7 +29,7 @@ use Rattle.schedule.specs.declared.step.Command.TheVariants.{«Type», Save, Loa
 use Rattle.schedule.specs.declared.reply.Reply.{Reply}
 use Rattle.schedule.specs.declared.reply.Reply.TheVariants as reply
 use Rattle.schedule.specs.Refusals.{of_schema, reply_of}
-use Rattle.schedule.specs.Serve.{calling, done, line, reply_to_load, reply_to_remove, reply_to_save}
+use Rattle.schedule.specs.Serve.{calling, done, serial_line, reply_to_load, reply_to_remove, reply_to_save}
 use Rattle.schedule.specs.Past.{is_accepted, is_reading}
 use Rattle.schedule.specs.Layout.{store_prefix}
 use Rattle.schedule.specs.Reach.{footprint_in, footprint_on, open_reach, own_damage}
@@ -40,46 +40,40 @@ use Rattle.schedule.proofs.Stops.{at, opened_same}
 abbrev pub IsRefusal : StoreError → Type 0
 IsRefusal error = (refusal : Refusal) × (reply_of error ≡ Some (reply.Refused refusal))
 
--- what a command is by the call that it makes: its line and its footprint are those of what the call asks for, which it is refused for only with a refusal, and what it replies to an answer is accepted, and tells that something was changed where the answer does
-pub record Makes {K A : Type 0} (opened : Opened) (command : Command) (asked : Schema → List (ℕ × State) → Result K StoreError) (meaning : K → Meaning A) (footprint : Opened → K → Footprint) (told : A → Reply) : Type 0 where
-  pub opens : open_reach command ≡ opening_reach store_prefix
-  pub undamaged : (m : Map) → own_damage (Some opened) command m ≡ None
-  pub lines : (store : Store) → line (Some store) command ≡ calling store told meaning (asked store.schema store.states)
-  pub prints : (o : Opened) → footprint_in o command ≡ footprint_on (footprint o) (asked o.schema o.states)
-  pub own : (error : StoreError) → asked opened.schema opened.states ≡ Err error → IsRefusal error
-  pub accepted : (answer : A) → is_accepted (told answer) ≡ true
-  pub reading : (value : K) (answer : A) → not ((meaning value).changes answer) ≡ is_reading command (told answer)
+-- MEETS: a command is what its call is where its line and its footprint are those of what the call asks for, which it is refused for only with a refusal, and where what it replies to an answer is accepted, and tells that something was changed where the answer does
+module _ {K A : Type 0} (asked : Schema → List (ℕ × State) → Result K StoreError) (meaning : K → Meaning A) (footprint : Opened → K → Footprint) (told : A → Reply) (opened : Opened) (command : Command) where
+  pub meets : open_reach command ≡ opening_reach store_prefix → ((m : Map) → own_damage (Some (at opened)) command m ≡ None) →
+      ((store : Store) → serial_line (Some store) command ≡ calling store told meaning (asked store.schema store.states)) → ((o : Opened) → footprint_in o command ≡ footprint_on (footprint o) (asked o.schema o.states)) →
+      ((error : StoreError) → asked opened.schema opened.states ≡ Err error → IsRefusal error) → ((answer : A) → is_accepted (told answer) ≡ true) →
+      ((value : K) (answer : A) → not ((meaning value).changes answer) ≡ is_reading command (told answer)) →
+      Meets (at opened) command (call_on meaning (footprint (at opened)) (asked opened.schema opened.states)) told
+  meets opens undamaged lines prints own accepted reading = by_outcome (asked opened.schema opened.states) refl
+    where
+      lines_so : {o : Result K StoreError} (store : Store) → IsOpenAs (at opened) store → asked opened.schema opened.states ≡ o → serial_line (Some store) command ≡ calling store told meaning o
+      lines_so store same is = lines store ∙ (λ i. calling store told meaning (asked (same.schema i) (same.states i))) ∙ ap (calling store told meaning) is
 
--- MAKES: such a command is what its call is
-pub meets : {K A : Type 0} {asked : Schema → List (ℕ × State) → Result K StoreError} {meaning : K → Meaning A} {footprint : Opened → K → Footprint} {told : A → Reply} (opened : Opened) (command : Command) →
-    Makes (at opened) command asked meaning footprint told → Meets (at opened) command (call_on meaning (footprint (at opened)) (asked opened.schema opened.states)) told
-meets {K = K} {asked = asked} {meaning = meaning} {footprint = footprint} {told = told} opened command makes = by_outcome (asked opened.schema opened.states) refl
-  where
-    lines_so : {o : Result K StoreError} (store : Store) → IsOpenAs (at opened) store → asked opened.schema opened.states ≡ o → line (Some store) command ≡ calling store told meaning o
-    lines_so store same is = makes.lines store ∙ (λ i. calling store told meaning (asked (same.schema i) (same.states i))) ∙ ap (calling store told meaning) is
+      print_so : {o : Result K StoreError} → asked opened.schema opened.states ≡ o → footprint_in (at opened) command ≡ footprint_on (footprint (at opened)) o
+      print_so is = prints (at opened) ∙ ap (footprint_on (footprint (at opened))) is
 
-    print_so : {o : Result K StoreError} → asked opened.schema opened.states ≡ o → footprint_in (at opened) command ≡ footprint_on (footprint (at opened)) o
-    print_so is = makes.prints (at opened) ∙ ap (footprint_on (footprint (at opened))) is
-
-    by_outcome : (o : Result K StoreError) → asked opened.schema opened.states ≡ o → Meets (at opened) command (call_on meaning (footprint (at opened)) o) told
-    by_outcome (Ok value) is = record {
-      opens = makes.opens;
-      reads = ap (λ (f : Footprint). f.reading) (print_so is);
-      undamaged = makes.undamaged;
-      accepted = makes.accepted;
-      reading = makes.reading value;
-      lines = λ store same. lines_so store same is;
-      prints = λ m store same. ap (λ (o : Opened). (footprint_in o command).writes m store) (sym (opened_same opened store same)) ∙ ap (λ (f : Footprint). f.writes m store) (print_so is);
-    }
-    by_outcome (Err error) is =
-        let own = makes.own error is in record {
-          opens = makes.opens;
-          reads = ap (λ (f : Footprint). f.reading) (print_so is);
-          undamaged = makes.undamaged;
-          refusal = own.0;
-          told = own.1;
-          lines = λ store same. lines_so store same is;
-        }
+      by_outcome : (o : Result K StoreError) → asked opened.schema opened.states ≡ o → Meets (at opened) command (call_on meaning (footprint (at opened)) o) told
+      by_outcome (Ok value) is = record {
+        opens = opens;
+        reads = ap (λ (f : Footprint). f.reading) (print_so is);
+        undamaged = undamaged;
+        accepted = accepted;
+        reading = reading value;
+        lines = λ store same. lines_so store same is;
+        prints = λ m store same. ap (λ (o : Opened). (footprint_in o command).writes m store) (sym (opened_same opened store same)) ∙ ap (λ (f : Footprint). f.writes m store) (print_so is);
+      }
+      by_outcome (Err error) is =
+          let refused = own error is in record {
+            opens = opens;
+            reads = ap (λ (f : Footprint). f.reading) (print_so is);
+            undamaged = undamaged;
+            refusal = refused.0;
+            told = refused.1;
+            lines = λ store same. lines_so store same is;
+          }
 
 -- what the schema refuses is a refusal
 pub schema_refuses : {K : Type 0} (o : Result K SchemaRefusal) (error : StoreError) → by_schema o ≡ Err error → IsRefusal error
@@ -97,18 +91,9 @@ load_reads name cells None = refl
 load_reads name cells (Some r) = refl
 
 pub load_meets : (opened : Opened) (name : List ℕ) (cells : List Cell) → Meets (at opened) (Load name cells) (load_call (at opened) name cells) reply_to_load
-load_meets opened name cells = meets opened (Load name cells) makes
-  where
-    makes : Makes (at opened) (Load name cells) (λ schema states. by_schema (key_of schema name cells)) load_meaning load_footprint reply_to_load
-    makes = record {
-      opens = refl;
-      undamaged = λ m. refl;
-      lines = λ store. refl;
-      prints = λ o. refl;
-      own = schema_refuses (key_of opened.schema name cells);
-      accepted = load_accepted;
-      reading = λ key. load_reads name cells;
-    }
+load_meets opened name cells =
+    meets (λ schema states. by_schema (key_of schema name cells)) load_meaning load_footprint reply_to_load opened (Load name cells) refl (λ m. refl) (λ store. refl) (λ o. refl)
+    (schema_refuses (key_of opened.schema name cells)) load_accepted (λ key. load_reads name cells)
 
 -- ---- remove
 
@@ -121,18 +106,9 @@ remove_reads name cells true = refl
 remove_reads name cells false = refl
 
 pub remove_meets : (opened : Opened) (name : List ℕ) (cells : List Cell) → Meets (at opened) (Remove name cells) (remove_call (at opened) name cells) reply_to_remove
-remove_meets opened name cells = meets opened (Remove name cells) makes
-  where
-    makes : Makes (at opened) (Remove name cells) (λ schema states. by_schema (key_of schema name cells)) remove_meaning remove_footprint reply_to_remove
-    makes = record {
-      opens = refl;
-      undamaged = λ m. refl;
-      lines = λ store. refl;
-      prints = λ o. refl;
-      own = schema_refuses (key_of opened.schema name cells);
-      accepted = remove_accepted;
-      reading = λ key. remove_reads name cells;
-    }
+remove_meets opened name cells =
+    meets (λ schema states. by_schema (key_of schema name cells)) remove_meaning remove_footprint reply_to_remove opened (Remove name cells) refl (λ m. refl) (λ store. refl) (λ o. refl)
+    (schema_refuses (key_of opened.schema name cells)) remove_accepted (λ key. remove_reads name cells)
 
 -- ---- save
 
@@ -188,18 +164,9 @@ own schema name cells r is =
 
 -- a save is the call on the record that the schema makes of its cells
 save_asked : (opened : Opened) (name : List ℕ) (cells : List Cell) → Meets (at opened) (Save name cells) (call_on save_meaning (save_footprint (at opened)) (by_schema (record_of opened.schema name cells))) reply_to_save
-save_asked opened name cells = meets opened (Save name cells) makes
-  where
-    makes : Makes (at opened) (Save name cells) (λ schema states. by_schema (record_of schema name cells)) save_meaning save_footprint reply_to_save
-    makes = record {
-      opens = refl;
-      undamaged = λ m. refl;
-      lines = λ store. refl;
-      prints = λ o. refl;
-      own = schema_refuses (record_of opened.schema name cells);
-      accepted = save_accepted;
-      reading = λ r. save_changes name cells;
-    }
+save_asked opened name cells =
+    meets (λ schema states. by_schema (record_of schema name cells)) save_meaning save_footprint reply_to_save opened (Save name cells) refl (λ m. refl) (λ store. refl) (λ o. refl)
+    (schema_refuses (record_of opened.schema name cells)) save_accepted (λ r. save_changes name cells)
 
 pub save_refuses : (opened : Opened) (name : List ℕ) (cells : List Cell) (refusal : SchemaRefusal) → record_of opened.schema name cells ≡ Err refusal → Refuses (at opened) (Save name cells) (Refused refusal)
 save_refuses opened name cells refusal is =
@@ -213,15 +180,6 @@ save_meets opened name cells r is =
 -- ---- type
 
 pub type_meets : (opened : Opened) (request : TypeRequest) → Meets (at opened) («Type» request) (type_call (at opened) request) done
-type_meets opened request = meets opened («Type» request) makes
-  where
-    makes : Makes (at opened) («Type» request) (λ schema states. by_schema (add_type schema request)) type_meaning type_footprint done
-    makes = record {
-      opens = refl;
-      undamaged = λ m. refl;
-      lines = λ store. refl;
-      prints = λ o. refl;
-      own = schema_refuses (add_type opened.schema request);
-      accepted = λ schema. refl;
-      reading = λ schema answer. refl;
-    }
+type_meets opened request =
+    meets (λ schema states. by_schema (add_type schema request)) type_meaning type_footprint done opened («Type» request) refl (λ m. refl) (λ store. refl) (λ o. refl)
+    (schema_refuses (add_type opened.schema request)) (λ schema. refl) (λ schema answer. refl)

@@ -26,11 +26,11 @@ use Rattle.schedule.specs.declared.step.Command.TheVariants.{Create, «Type», S
 use Rattle.schedule.specs.declared.reply.Reply.{Reply}
 use Rattle.schedule.specs.declared.reply.Reply.TheVariants as reply
 use Rattle.schedule.specs.Layout.{store_prefix}
-use Rattle.schedule.specs.Serve.{IsReply, IsReplyOf, effect, line}
+use Rattle.schedule.specs.Serve.{IsReply, IsReplyOf, effect, serial_line}
 use Rattle.schedule.specs.Serve as serve
 use Rattle.schedule.specs.Past.{is_accepted, is_reading}
 use Rattle.schedule.specs.Holds.{Stands}
-use Rattle.schedule.specs.Reach.{opened_in, added_by, open_reach, own_reading, reach, writes, writes_in, written_with}
+use Rattle.schedule.specs.Reach.{opened_in, added_by, open_reach, own_reading, reach, writes, footprint_writes, written_with}
 use Rattle.schedule.specs.Performed.{HasAdded, HasOpened, IsCommandSound, IsDamaged, IsLimit, IsLimited, IsReadRefusal}
 use Rattle.schedule.specs.Performed.{IsReadRefusedAs, IsServed, TellsOfPairs}
 use Rattle.schedule.specs.Query.{opened_as}
@@ -264,9 +264,9 @@ own_right refuses command before error refusal m serial replied is none =
     λ answer same. let that : reply.Refused refusal ≡ answer = cc in inl (subst (IsServed m before serial command) that (served_idle m before serial command (reply.Refused refusal) none is))
 
 -- a refusal of the command by this error
-pub refused_right : (refuses : KeyRange → ReadError → Type 0) (command : Command) (before : List Mutation) (error : StoreError) (m : Map) (serial : Serial) → line serial command ≡ serve.Refuses (reply_of error) → IsRight refuses command before error m serial
+pub refused_right : (refuses : KeyRange → ReadError → Type 0) (command : Command) (before : List Mutation) (error : StoreError) (m : Map) (serial : Serial) → serial_line serial command ≡ serve.Refuses (reply_of error) → IsRight refuses command before error m serial
 refused_right refuses command before error m serial is =
-    λ answer same. inl (served_idle m before serial command answer (ap (λ l. written_with l (writes_in m serial command)) is) (subst (λ l. IsReplyOf l answer) (sym is) same))
+    λ answer same. inl (served_idle m before serial command answer (ap (λ l. written_with l (footprint_writes m serial command)) is) (subst (λ l. IsReplyOf l answer) (sym is) same))
 
 -- a limit is the reply that it is
 limit_is : (error : WriteError) (answer : Reply) → reply_of (Write error) ≡ Some answer → IsLimit error answer

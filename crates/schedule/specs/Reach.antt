@@ -27,7 +27,7 @@ use Rattle.online_builder.specs.Stepping.{step_footprint}
 use Rattle.schedule.specs.Layout.{store_prefix}
 use Rattle.schedule.specs.Executed.{plan_steps, query_steps, steps_damage, steps_reading}
 use Rattle.schedule.specs.Query.{opened_as}
-use Rattle.schedule.specs.Serve.{Line, Replies, line}
+use Rattle.schedule.specs.Serve.{Line, Replies, serial_line}
 
 -- what opening the store finds of what is there
 abbrev pub opened_in : Serial → Option Opened
@@ -104,10 +104,10 @@ schema_written (Ok schema) = schema_writes store_prefix schema
 schema_written (Err refusal) = []
 
 -- what a command writes by its footprint where it isn't refused
-abbrev pub writes_in : Map → Serial → Command → List Mutation
-writes_in m None (Create request) = schema_written (schema_asked request)
-writes_in m None command = []
-writes_in m (Some store) command = (footprint_in (opened_as store) command).writes m store
+abbrev pub footprint_writes : Map → Serial → Command → List Mutation
+footprint_writes m None (Create request) = schema_written (schema_asked request)
+footprint_writes m None command = []
+footprint_writes m (Some store) command = (footprint_in (opened_as store) command).writes m store
 
 -- what is written with a line: nothing where it refuses, or looks at what is there
 abbrev pub written_with : Line → List Mutation → List Mutation
@@ -116,4 +116,4 @@ written_with other mutations = []
 
 -- what a command writes, in order, by the map and what is there
 abbrev pub writes : Map → Serial → Command → List Mutation
-writes m serial command = written_with (line serial command) (writes_in m serial command)
+writes m serial command = written_with (serial_line serial command) (footprint_writes m serial command)

@@ -108,11 +108,11 @@ creating None (Ok schema) = Replies reply.Done (Some (created schema))
 creating (Some store) (Ok schema) = refuses AlreadyThere
 
 -- a command on what is there: a builder of no record is refused in any case, and else any other one wants a store
-abbrev pub line : Serial → Command → Line
-line serial (Create request) = creating serial (schema_asked request)
-line serial (Build name zero) = refuses BadLimit
-line None command = refuses NoStore
-line (Some store) command = line_in store command
+abbrev pub serial_line : Serial → Command → Line
+serial_line serial (Create request) = creating serial (schema_asked request)
+serial_line serial (Build name zero) = refuses BadLimit
+serial_line None command = refuses NoStore
+serial_line (Some store) command = line_in store command
 
 -- the reply is the line's, or one of them
 abbrev pub IsReplyOf : Line → Reply → Type 0
@@ -129,11 +129,11 @@ left_by serial other = serial
 
 -- the reply is one that the serial store gives to the command
 abbrev pub IsReply : Serial → Command → Reply → Type 0
-IsReply serial command answer = IsReplyOf (line serial command) answer
+IsReply serial command answer = IsReplyOf (serial_line serial command) answer
 
 -- what is there after a command, and after commands in turn
 abbrev pub effect : Serial → Command → Serial
-effect serial command = left_by serial (line serial command)
+effect serial command = left_by serial (serial_line serial command)
 
 abbrev pub effects : Serial → List Command → Serial
 effects serial [] = serial
