@@ -51,10 +51,10 @@ among_others place range low q [] is stored lefts other = sym (alike (is_eq (key
 among_others place range low q (one ∷ ranges) is stored lefts other =
     by_tests (is_eq (key_cmp one.end range.begin)) (is_eq (key_cmp one.begin range.end)) refl refl (others range ranges) (among_others place range low q ranges is stored.2 lefts.1 other)
   where
-    abbrev has_own : Bool
+    has_own : Bool
     has_own = is_eq (key_cmp q (range_key place one.begin))
 
-    abbrev has_end : Bool
+    has_end : Bool
     has_end = is_eq (key_cmp q (range_key place range.end))
 
     twice : (b : Bool) (value rest : Option (List ℕ)) → cond b None rest ≡ cond b None (cond b value rest)
@@ -99,13 +99,13 @@ module _ (place : List ℕ) (range : KeyRange) (ranges : List KeyRange) (is : Is
       ≡ cond (is_eq (key_cmp q (range_key place low))) (Some high) (cond (is_eq (key_cmp q (range_key place range.end))) None (among place q ranges))
   value_then m q has = by_begins (begins_at ranges range.end) refl ∙ ap (λ o. cond has_low (Some high) (cond has_end None o)) has
     where
-      abbrev has_low : Bool
+      has_low : Bool
       has_low = is_eq (key_cmp q (range_key place low))
 
-      abbrev has_end : Bool
+      has_end : Bool
       has_end = is_eq (key_cmp q (range_key place range.end))
 
-      abbrev set : Map
+      set : Map
       set = insert m (range_key place low) high
 
       turned : (x y : Bool) → has_low ≡ x → has_end ≡ y → cond (not y) (cond x (Some high) (get m q)) None ≡ cond x (Some high) (cond y None (get m q))
@@ -143,7 +143,7 @@ module _ (place : List ℕ) (range : KeyRange) (ranges : List KeyRange) (is : Is
     pub told_then : (m : Map) → pairs_in m (whole_range place) ≡ map (range_pair place) ranges → stored_in place (after_all (insertion place ranges range) m) ≡ Some (joined_ranges range ranges)
     told_then m read = ranges_tell place (pairs_in n (whole_range place)) (joined_ranges range ranges) (record { stored = may; are = are })
       where
-        abbrev n : Map
+        n : Map
         n = after_all (insertion place ranges range) m
 
         may : AreStored (joined_ranges range ranges)

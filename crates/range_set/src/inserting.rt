@@ -39,7 +39,9 @@ fn end_of_right<'a>(ranges: &'a [KeyRange], position: &'a Bytes) -> &'a Bytes
 fn begins_at(ranges: &[KeyRange], position: &Bytes) -> bool
     ensures { result ≡ begins_at ranges.now position.now }
 {
-    ranges.iter().any(|range| range.begin().compare(position).is_eq())
+    ranges
+        .iter()
+        .any(|range| range.begin().compare(position).is_eq())
 }
 
 // The mutation that puts the range from a begin to an end.

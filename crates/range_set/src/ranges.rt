@@ -135,7 +135,7 @@ impl Ranges {
         ensures refused { IfErr result (λ error.
             (error ≡ WriteError.Memory)
             ⊎ (write_all_refusal tx.old.mutations (insertion place.now self.now range.now)
-                ≡ Some error)) }
+            ≡ Some error)) }
     {
         let mutations = self.insertion(alloc, place, range)?;
         tx.write_all(mutations)?;
