@@ -19,7 +19,6 @@ use Rattle.kv_core.proofs.Order.{clash, le_refl, tied_keys, tied_swap}
 use Rattle.kv_core.proofs.Pairs.{contains-point-is, pairs_by_key}
 use Rattle.kv_core.proofs.Stored as entries
 use Rattle.txn.specs.Reads.{seen, with_mutations}
-use Rattle.range_set.specs.Gaps.{has_position}
 use Rattle.range_set.specs.Stored.{AreStored, HasSet, IsInGap, IsStoredRange, Joins, begin_of_left, begins_at, end_of_right, insertion, range_key, range_pair, whole_range, with_neighbours}
 use Rattle.range_set.specs.Told.{ApartAt, insertion_in, stored_in}
 use Rattle.range_set.proofs.Inserts.{looked_up}

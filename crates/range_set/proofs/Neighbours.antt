@@ -1,12 +1,12 @@
 -- The ranges that touch one which lies in a gap, the others, and the range that it makes with those that touch it.
-use Rattle.std.proofs.Common.{◌≡◌, ◌⊎◌, inl, inr, ℕ, Bool, true, false, not, cond, ◌&&◌, ◌||◌, List, [], ◌∷◌, refl, sym, ap, subst, ◌∙◌, IsTrue}
+use Rattle.std.proofs.Common.{◌≡◌, inl, inr, ℕ, Bool, true, false, not, cond, ◌&&◌, ◌||◌, List, [], ◌∷◌, refl, sym, ap, subst, ◌∙◌, IsTrue}
 use Rattle.std.specs.List.{AllByRecursion, filter, list_any}
 use Rattle.std.specs.Ordering.{is_eq}
 use Rattle.std.proofs.lemmas.Bool.{and_parts, false_from_ne_true, or_cases, or_from, or_left, or_parts, or_right, true≢false}
 use Rattle.tuple_codec.specs.Item.{AreBytes}
 use Rattle.kv_core.specs.Bytes.{end_of_keys, key_cmp, key_le, key_lt}
 use Rattle.kv_core.specs.Range.{KeyRange, contains}
-use Rattle.kv_core.proofs.Order.{clash, le_from_lt, le_lt_trans, le_refl, le_trans, lt_le_trans, tied_keys}
+use Rattle.kv_core.proofs.Order.{clash, le_from_lt, le_lt_trans, le_refl, lt_le_trans, tied_keys}
 use Rattle.range_set.specs.Gaps.{has_position}
 use Rattle.range_set.specs.Stored.{AreStored, IsInGap, IsStoredRange, begin_of_left, begins_at, end_of_right, ends_at, with_neighbours}
 use Rattle.range_set.proofs.Inserts.{still_stored, with_inserted, with_inserted_any}

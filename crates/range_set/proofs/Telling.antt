@@ -1,5 +1,5 @@
 -- What each call's read tells, and why a call is refused behind it.
-use Rattle.std.proofs.Common.{◌≡◌, ℕ, Bool, true, false, not, List, [], Option, Some, None, refl, ap, subst, sym, ◌∙◌}
+use Rattle.std.proofs.Common.{◌≡◌, ℕ, Bool, true, false, not, List, Option, Some, None, refl, ap, subst, sym, ◌∙◌}
 use Rattle.std.specs.Option.{is_none, is_some, option_and_then}
 use Rattle.tuple_codec.specs.Item.{AreBytes}
 use Rattle.kv_core.specs.Map.{Agree, Map, pairs_in}

@@ -1,4 +1,4 @@
-use Rattle.std.proofs.Common.{◌≡◌, ◌∙◌, [], ap, refl}
+use Rattle.std.proofs.Common.{◌∙◌, [], ap, refl}
 use Rattle.range_set.specs.Gaps.{first_gap}
 use Rattle.range_set.specs.Steps.{gap_from}
 use Rattle.range_set.proofs.Walks.{gap_found}

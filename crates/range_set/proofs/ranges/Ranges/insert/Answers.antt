@@ -1,5 +1,4 @@
-use Rattle.std.proofs.Common.{◌≡◌, ◌∙◌, ap, subst, sym}
-use Rattle.kv_core.specs.Map.{Map, after_all}
+use Rattle.std.proofs.Common.{◌∙◌, ap, subst, sym}
 use Rattle.range_set.specs.Stored.{Joins, insertion}
 use Rattle.range_set.specs.Told.{ApartAt}
 use Rattle.txn.specs.Reads.{seen, with_mutations}
