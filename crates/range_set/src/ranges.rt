@@ -52,12 +52,12 @@ pub fn read_ranges<S: Snapshot>(
     db: &S,
 ) -> Result<Ranges, RangeSetError>
     requires { IsTrue (key_lt place.now end_of_keys) }
+    ensures allowed { OnOk result
+        (S.must_refuse db.now (whole_range place.now) tx.old.read_version → ⊥) }
     ensures set { IfOk result (λ ranges.
         IsSetAnswered (S.map_at db.now) place.now (all_ranges place.now) tx.old tx.new
         (SamePositions ranges)) }
     ensures told { IfOk result (AreRangesIn (S.map_at db.now) place.now tx.old tx.new) }
-    ensures allowed { OnOk result
-        (S.must_refuse db.now (whole_range place.now) tx.old.read_version → ⊥) }
     ensures refused { IfErr result (λ error.
         IsSetRefused (S.map_at db.now) (S.may_refuse db.now) place.now (all_ranges place.now)
         error tx.old tx.new) }

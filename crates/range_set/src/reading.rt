@@ -78,9 +78,7 @@ pub fn contains<S: Snapshot>(
 /// The first range of positions that aren't in the set, or None where each is. Also where no set is
 /// there, it is the gap that the pairs of the map tell.
 ///
-/// All keys of ranges are read. Refused with the snapshot's refusal of that read, and with
-/// `Corrupt` and the key of the first pair that stands for no range that may be stored, or for one
-/// that overlaps the range of the pair before it. A refused read adds nothing to the ranges read.
+/// Reads as `read_ranges` does, and is refused as that is.
 pub fn first_gap<S: Snapshot>(
     alloc: Global,
     place: &[u8],
