@@ -1,5 +1,5 @@
-// The ranges that pairs stand for. Called by `reading`; `bytes_known` also by `inserting`, for its
-// proof.
+// The ranges that pairs stand for. Called by `reading` and `ranges`; `bytes_known` also by
+// `inserting`, for its proof.
 ghost use Rattle.std.specs.Prelude.{◌≡◌, IfErr, IfOk};
 ghost use Rattle.tuple_codec.specs.Item.{AreBytes};
 ghost use Rattle.range_set.specs.Steps.{HaveNoRanges, IsNext, IsNoStoredRange, IsNotNext};

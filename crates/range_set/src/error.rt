@@ -1,4 +1,4 @@
-// The errors of reads. Used by `reading` and `decoding`; `record_store` passes them on.
+// The errors of reads. Used by `reading`, `ranges` and `decoding`; `record_store` passes them on.
 ghost use Rattle.std.specs.Prelude.{◌≡◌};
 ghost use Rattle.range_set.specs.Steps.{set_memory, set_read};
 
