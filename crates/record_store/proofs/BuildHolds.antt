@@ -1,5 +1,5 @@
 -- What a map holds of a store after a builder's step: a range in a gap of a write-only index is built.
-use Rattle.std.proofs.Common.{◌≡◌, ℕ, zero, suc, arith, ◌==◌, cond, ◌<◌, ◌^◌, List, [], ◌∷◌, ◌++◌, length, refl, sym, ap, subst, subst₂, ◌∙◌, Some, pos, unwrap_or}
+use Rattle.std.proofs.Common.{◌≡◌, ℕ, Bool, true, false, zero, suc, arith, ◌==◌, cond, ◌<◌, ◌^◌, List, [], ◌∷◌, ◌++◌, length, refl, sym, ap, subst, subst₂, ◌∙◌, Some, pos, unwrap_or}
 use Rattle.std.specs.Prelude.{get_or}
 use Rattle.std.specs.FinMap.{get}
 use Rattle.std.specs.List.{AllByRecursion, Contains}
@@ -9,10 +9,13 @@ use Rattle.tuple_codec.specs.Item.{bytes, int}
 use Rattle.tuple_codec.specs.Spelling.{spelling}
 use Rattle.tuple_codec.specs.Subspace.{BeginsWith}
 use Rattle.kv_core.specs.Map.{Map, after, after_all}
-use Rattle.kv_core.specs.Range.{KeyRange}
+use Rattle.kv_core.specs.Range.{KeyRange, point}
 use Rattle.kv_core.specs.declared.change.Mutation.{Mutation}
+use Rattle.kv_core.specs.declared.change.Mutation.TheVariants.{ClearRange, Set}
 use Rattle.kv_core.proofs.Changes.{after_all-append}
-use Rattle.range_set.specs.Stored.{IsInGap, Joins, insertion, range_key}
+use Rattle.range_set.specs.Stored.{HasSet, IsInGap, Joins, begins_at, insertion, range_key, with_neighbours}
+use Rattle.range_set.specs.Told.{insertion_in, stored_in}
+use Rattle.range_set.proofs.RangesTold.{set_told}
 use Rattle.metadata.specs.declared.index.IndexDefinition.{IndexDefinition}
 use Rattle.metadata.specs.declared.index.State.TheVariants.{WriteOnly}
 use Rattle.metadata.specs.Record.{Record}
@@ -27,7 +30,7 @@ use Rattle.record_store.specs.Layout.{built_place, place, schema_key}
 use Rattle.record_store.specs.Store.{Store, built, built_of, state_of, without_built}
 use Rattle.record_store.proofs.Aggregates.{of_contained}
 use Rattle.record_store.proofs.BuiltRanges.{built_without}
-use Rattle.record_store.proofs.Kept.{HasIndex, itself, kept_index, kept_range, not_entry, not_range, set_leaves}
+use Rattle.record_store.proofs.Kept.{HasIndex, clear_leaves, itself, kept_index, kept_range, not_entry, not_range, set_leaves}
 use Rattle.record_store.proofs.States.{schema_apart}
 
 -- ---- lists of indexes
@@ -71,15 +74,32 @@ built_other store number at range differ =
     (false_from_ne_true (number == at) (λ same. differ (sym (eqb-true number at same))))
     ∙ built_without number at store.built differ
 
+-- ---- an insertion
+
+-- it is put, and one is taken out, at keys of the place alone
+insertion_leaves : (at : List ℕ) (ranges : List KeyRange) (range : KeyRange) (n : Map) (key : List ℕ) → (BeginsWith at key → ⊥) → get (after_all (insertion at ranges range) n) key ≡ get n key
+insertion_leaves at ranges range n key apart_from =
+    by_begins (begins_at ranges range.end) ∙ set_leaves n (range_key at (with_neighbours ranges range).begin) (with_neighbours ranges range).end key (other (with_neighbours ranges range).begin)
+  where
+    other : (begin : List ℕ) → key ≡ range_key at begin → ⊥
+    other begin same = apart_from (subst (BeginsWith at) (sym same) (spelling (bytes begin ∷ []), refl))
+
+    put : Map
+    put = after (Set (range_key at (with_neighbours ranges range).begin) (with_neighbours ranges range).end) n
+
+    by_begins : (b : Bool) → get (after_all (cond b (ClearRange (point (range_key at range.end)) ∷ []) []) put) key ≡ get put key
+    by_begins true = clear_leaves put (range_key at range.end) key (other range.end)
+    by_begins false = refl
+
 -- ---- a step
 
 module _ (prefix : List ℕ) (m : Map) (store : Store) (index : IndexDefinition) (there : Contains store.schema.indexes index) (holds : Holds prefix m (Some store)) where
-  -- BUILD: with what the records of a range in a gap define put, and the range inserted, the map holds the store where the range is built too
+  -- BUILD: with what the records of a range in a gap define put, and the range inserted beside those that the map has, the map holds the store where the range is built too
   pub built_holds : (range : KeyRange) → state_of store index.number ≡ WriteOnly → IsInGap range (built_of store index.number) →
-      ((n : Map) → Joins (built_place prefix index.number) range n (after (insertion (built_place prefix index.number) range) n)) →
-      Holds prefix (after_all (built_writes prefix index range store.records) m) (Some (built store index.number range))
+      ((n : Map) → stored_in (built_place prefix index.number) n ≡ stored_in (built_place prefix index.number) m → Joins (built_place prefix index.number) range n (after_all (insertion_in (built_place prefix index.number) m range) n)) →
+      Holds prefix (after_all (built_writes prefix index range m store.records) m) (Some (built store index.number range))
   built_holds range building gap joins =
-      subst (λ n. Holds prefix n (Some (built store index.number range))) (sym (after_all-append written (insertion (built_place prefix index.number) range ∷ []) m)) (record {
+      subst (λ n. Holds prefix n (Some (built store index.number range))) (sym (after_all-append written (insertion_in (built_place prefix index.number) m range) m)) (record {
         lawful = record {
           schema = holds.lawful.schema;
           typed = holds.lawful.typed;
@@ -125,13 +145,10 @@ module _ (prefix : List ℕ) (m : Map) (store : Store) (index : IndexDefinition)
       first = after_all written m
 
       last : Map
-      last = after (insertion (built_place prefix index.number) range) first
+      last = after_all (insertion_in (built_place prefix index.number) m range) first
 
-      -- the range is put at a key of the place
       put_leaves : (at : List ℕ) → (BeginsWith (built_place prefix index.number) at → ⊥) → get last at ≡ get first at
-      put_leaves at apart_from =
-          set_leaves first (range_key (built_place prefix index.number) range.begin) range.end at
-          (λ same. apart_from (subst (BeginsWith (built_place prefix index.number)) (sym same) (spelling (bytes range.begin ∷ []), refl)))
+      put_leaves at apart_from = insertion_leaves (built_place prefix index.number) (unwrap_or (stored_in (built_place prefix index.number) m) []) range first at apart_from
 
       leaves : (at : List ℕ) → (BeginsWith (entries_prefix prefix index.number) at → ⊥) → (BeginsWith (built_place prefix index.number) at → ⊥) → get last at ≡ get m at
       leaves at entry apart_from = put_leaves at apart_from ∙ build_within prefix index some m at entry
@@ -164,11 +181,22 @@ module _ (prefix : List ℕ) (m : Map) (store : Store) (index : IndexDefinition)
           leaves at (not_entry prefix index.number 6 (int (pos i.number) ∷ []) at refl (more, refl))
           (λ begins. differ (parts_apart prefix at (int (pos 6)) i.number index.number [] [] small low (more, refl) begins))) has)
 
+      -- the ranges that are there before the records' entries are put, and are there still
+      set_before : HasSet (built_place prefix index.number) (built_of store index.number) m
+      set_before =
+          subst (λ s. HasPositions s prefix index.number (built_of store index.number) m) building
+          (of_contained (λ (i : IndexDefinition). HasPositions (state_of store i.number) prefix i.number (built_of store i.number) m) store.schema.indexes index there.0 there.1 there.2 holds.ranges)
+
+      set_behind : HasSet (built_place prefix index.number) (built_of store index.number) first
+      set_behind =
+          kept_range prefix WriteOnly index.number (built_of store index.number) m first
+          (λ more. build_within prefix index some m (built_place prefix index.number ++ more) (not_entry prefix index.number 6 (int (pos index.number) ∷ []) (built_place prefix index.number ++ more) refl (more, refl)))
+          set_before
+
+      still_stored : stored_in (built_place prefix index.number) first ≡ stored_in (built_place prefix index.number) m
+      still_stored = set_told (built_place prefix index.number) (built_of store index.number) first set_behind ∙ sym (set_told (built_place prefix index.number) (built_of store index.number) m set_before)
+
       own_ranges : HasPositions (state_of store index.number) prefix index.number (built_of (built store index.number range) index.number) last
       own_ranges =
           subst₂ (λ s ranges. HasPositions s prefix index.number ranges last) (sym building) (sym (built_itself store index.number range))
-          (joins first (built_of store index.number) gap
-          (kept_range prefix WriteOnly index.number (built_of store index.number) m first
-          (λ more. build_within prefix index some m (built_place prefix index.number ++ more) (not_entry prefix index.number 6 (int (pos index.number) ∷ []) (built_place prefix index.number ++ more) refl (more, refl)))
-          (subst (λ s. HasPositions s prefix index.number (built_of store index.number) m) building
-          (of_contained (λ (i : IndexDefinition). HasPositions (state_of store i.number) prefix i.number (built_of store i.number) m) store.schema.indexes index there.0 there.1 there.2 holds.ranges))))
+          (joins first still_stored (built_of store index.number) gap set_behind)

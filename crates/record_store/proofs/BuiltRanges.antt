@@ -9,8 +9,7 @@ use Rattle.kv_core.specs.Range.{KeyRange, contains}
 use Rattle.kv_core.specs.declared.change.Mutation.TheVariants.{ClearRange}
 use Rattle.kv_core.proofs.Changes.{get-after, get-kept}
 use Rattle.kv_core.proofs.Stored.{get-stored}
-use Rattle.range_set.specs.Calls.{whole_range}
-use Rattle.range_set.specs.Stored.{range_pair}
+use Rattle.range_set.specs.Stored.{range_pair, whole_range}
 use Rattle.range_set.proofs.WholeRead.{inside}
 use Rattle.index_maint.proofs.Lookups.{lookup-none}
 use Rattle.metadata.specs.declared.index.IndexDefinition.{IndexDefinition}

@@ -13,9 +13,9 @@ use Rattle.kv_core.proofs.Lists.{All-take}
 use Rattle.kv_core.proofs.Pairs.{All-reverse}
 use Rattle.range_set.specs.declared.error.RangeSetError.{RangeSetError}
 use Rattle.range_set.specs.declared.error.RangeSetError.TheVariants as set
-use Rattle.range_set.specs.Calls.{IsPositionTold, IsUntold, last_upto, upto_range}
+use Rattle.range_set.specs.Calls.{IsPositionTold, IsUntold, last_upto}
 use Rattle.range_set.specs.Gaps.{has_position}
-use Rattle.range_set.specs.Stored.{AreStored, AreWritten, HasSet, IsFirstDamaged, range_pair}
+use Rattle.range_set.specs.Stored.{AreStored, AreWritten, HasSet, IsFirstDamaged, range_pair, upto_range}
 use Rattle.metadata.specs.declared.index.IndexDefinition.{IndexDefinition}
 use Rattle.metadata.specs.declared.index.IndexKind.{IndexKind}
 use Rattle.metadata.specs.declared.index.IndexKind.TheVariants.{Value, Count, Sum}
