@@ -188,10 +188,14 @@ module _ (prefix : List ℕ) (m : Map) (store : Store) (index : IndexDefinition)
           (of_contained (λ (i : IndexDefinition). HasPositions (state_of store i.number) prefix i.number (built_of store i.number) m) store.schema.indexes index there.0 there.1 there.2 holds.ranges)
 
       set_behind : HasSet (built_place prefix index.number) (built_of store index.number) first
-      set_behind =
-          kept_range prefix WriteOnly index.number (built_of store index.number) m first
-          (λ more. build_within prefix index some m (built_place prefix index.number ++ more) (not_entry prefix index.number 6 (int (pos index.number) ∷ []) (built_place prefix index.number ++ more) refl (more, refl)))
-          set_before
+      set_behind = record {
+        ranges = set_before.ranges;
+        stored = set_before.stored;
+        has = λ more.
+            let at = built_place prefix index.number ++ more in
+            build_within prefix index some m at (not_entry prefix index.number 6 (int (pos index.number) ∷ []) at refl (more, refl)) ∙ set_before.has more;
+        same = set_before.same;
+      }
 
       still_stored : stored_in (built_place prefix index.number) first ≡ stored_in (built_place prefix index.number) m
       still_stored = set_told (built_place prefix index.number) (built_of store index.number) first set_behind ∙ sym (set_told (built_place prefix index.number) (built_of store index.number) m set_before)
