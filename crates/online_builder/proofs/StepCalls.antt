@@ -235,7 +235,7 @@ module _ (maps : ℕ → Map) (refuses : KeyRange → ℕ → ReadError → Type
             ran_then was_found part.ran (λ m one two.
             let is : Some first ≡ gap_in place m = sym some ∙ gap_there m one.0 in (
               added_so (Some first) (there.added ∷ part.added ∷ []) m is (λ i. one.1.0 i ++ two.0 i ∷ []),
-              (sound_so (Some first) m is (one.1.1.0.0, two.1), λ store holds same. (sym some ∙ one.1.1.1 store holds same, (two.2 store holds same, one.0))),
+              (sound_so (Some first) m is (one.1.1.0.0, two.1), λ store holds same. (sym some ∙ one.1.1.1 store holds same, two.2 store holds same, one.0)),
             ))
 
         -- MEMORY: it was wanting behind the reads
@@ -254,10 +254,10 @@ module _ (maps : ℕ → Map) (refuses : KeyRange → ℕ → ReadError → Type
             is_part = first_parts plan.limit first index store.records least holds.lawful.ordered holds.lawful.storable
 
             range_is : range ≡ here
-            range_is = made ∙ part_is plan.limit first index store.records rows least holds.lawful.ordered holds.lawful.storable is_gap.some seen.1.0
+            range_is = made ∙ part_is plan.limit first index store.records rows least holds.lawful.ordered holds.lawful.storable is_gap.some seen.1
 
             rows_are : rows ≡ records_within here index store.records
-            rows_are = seen.1.0 ∙ sym is_part.first
+            rows_are = seen.1 ∙ sym is_part.first
 
             some_keys : has_keys range ≡ true
             some_keys = ap has_keys range_is ∙ is_part.some is_gap.some
@@ -266,7 +266,7 @@ module _ (maps : ℕ → Map) (refuses : KeyRange → ℕ → ReadError → Type
             free = λ at inside. is_gap.within at (is_part.inside at inside)
 
             stored_is : ranges ≡ unwrap_or (stored_in place m) []
-            stored_is = sym (ap (λ o. unwrap_or o []) seen.1.1)
+            stored_is = sym (ap (λ o. unwrap_or o []) seen.2)
 
             here_writes : build_writes opened.prefix index rows ++ insertion place ranges range ≡ built_writes opened.prefix index here m store.records
             here_writes = λ i. build_writes opened.prefix index (rows_are i) ++ insertion place (stored_is i) (range_is i)
@@ -276,7 +276,7 @@ module _ (maps : ℕ → Map) (refuses : KeyRange → ℕ → ReadError → Type
             built_here joins =
                 subst (λ ms. Holds opened.prefix (after_all ms m) (Some (built store index.number here))) (sym here_writes)
                 (built_holds opened.prefix m store index (subst (λ (s : Schema). Contains s.indexes index) (sym same.schema) contained) holds here (store_building opened index.number known building store same) free
-                (λ n alike. subst₂ (λ rs r. Joins place r n (after_all (insertion place rs r) n)) stored_is range_is (joins n (alike ∙ seen.1.1))))
+                (λ n alike. subst₂ (λ rs r. Joins place r n (after_all (insertion place rs r) n)) stored_is range_is (joins n (alike ∙ seen.2))))
 
           -- EMPTY: no set of ranges leaves a gap whose part has no position
           pub step_empty : has_keys range ≡ false → IsAnswered maps opened (step_call opened plan) Finished old last
