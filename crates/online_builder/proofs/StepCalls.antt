@@ -1,5 +1,5 @@
 -- What a step of a builder comes to, from what its reads and its writes establish.
-use Rattle.std.proofs.Common.{◌≡◌, ◌⊎◌, inl, inr, ℕ, ◌≤◌, true, false, ◌==◌, List, [], ◌∷◌, ◌++◌, length, take, refl, sym, ap, subst, subst₂, ◌∙◌, Option, Some, None, Ok, Err, Result, unwrap_or}
+use Rattle.std.proofs.Common.{◌≡◌, ◌⊎◌, inl, inr, ℕ, ◌≤◌, true, false, ◌==◌, List, [], ◌∷◌, ◌++◌, length, take, refl, sym, ap, subst, subst₂, ◌∙◌, Option, Some, None, Ok, Err, unwrap_or}
 use Rattle.std.specs.Prelude.{IsNone, option_and_then}
 use Rattle.std.specs.List.{Contains}
 use Rattle.std.proofs.lemmas.Bool.{true≢false}
