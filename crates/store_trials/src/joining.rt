@@ -59,11 +59,7 @@ fn built(alloc: Global, scene: &mut Scene, row: &Joined) -> Result<(), Fail> {
     for range in *ranges {
         take(alloc, scene, &(Pair, *range, "", ""))?;
     }
-    take(
-        alloc,
-        scene,
-        &(Perform, r#"["build",0,"v",5]"#, "", *told),
-    )
+    take(alloc, scene, &(Perform, r#"["build",0,"v",5]"#, "", *told))
 }
 
 #[test]
