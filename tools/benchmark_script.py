@@ -3,9 +3,11 @@
 transaction settled before the next begins.
 
 By default 10,000 saves in transactions of 100 records by 4 clients, and no loads, queries and indexes. A script has
-4,000,000 bytes at most. With --together the clients begin together, save and commit in turn, and are settled together.
-With --build an index of this kind is built over the saved records in the end, --records of them in a transaction. With
---sql the same work is printed for the shell of SQLite (`sqlite3 :memory: < FILE`), one transaction after another.
+4,000,000 bytes at most. More loads than saves begin again at the first record. --others adds indexes over a type
+without records, which --disabled disables: each opening of the store reads their states. With --together the clients
+begin together, save and commit in turn, and are settled together. With --build an index of this kind is built over the
+saved records in the end, --records of them in a transaction. With --sql the same work is printed for the shell of
+SQLite (`sqlite3 :memory: < FILE`), one transaction after another.
 """
 
 import argparse
@@ -59,8 +61,8 @@ def save(options, client, number):
         yield from load(options, client, earlier(options, number))
 
 
-def load(_, client, number):
-    yield ["load", client, "t", [number]]
+def load(options, client, number):
+    yield ["load", client, "t", [number % max(1, options.saves)]]
 
 
 def query(options, client, number):
@@ -105,11 +107,19 @@ def build(index, count, records):
     yield from (["begin", 0], ["readable", 0, name], ["commit", 0], ["settle"])
 
 
+def others(options):
+    """The indexes over a type that has no records."""
+    return [{"name": f"other_{it}", "kind": "value", "type": "other", "columns": ["k"]} for it in range(options.others)]
+
+
 def steps(options):
     """The steps: a store with some indexes, the saves, the loads of these, the queries, then an index built."""
-    kind = {"name": "t", "fields": fields(options), "key": ["k"]}
-    schema = {"types": [kind], "indexes": INDEXES[:options.indexes]}
-    yield from (["begin", 0], ["create", 0, schema], ["commit", 0], ["settle"])
+    kinds = [{"name": name, "fields": fields(options), "key": ["k"]} for name in ("t", "other")]
+    schema = {"types": kinds[:2 if options.others else 1], "indexes": INDEXES[:options.indexes] + others(options)}
+    yield from (["begin", 0], ["create", 0, schema])
+    if options.disabled:
+        yield from (["disable", 0, it["name"]] for it in others(options))
+    yield from (["commit", 0], ["settle"])
     turns = rounds if options.together else transactions
     yield from turns(save, options.saves, options)
     yield from turns(load, options.loads, options)
@@ -126,8 +136,8 @@ def insert_sql(options, number):
         yield from load_sql(options, earlier(options, number))
 
 
-def load_sql(_, number):
-    yield f"SELECT * FROM t WHERE k = {number};"
+def load_sql(options, number):
+    yield f"SELECT * FROM t WHERE k = {number % max(1, options.saves)};"
 
 
 def query_sql(options, number):
@@ -162,6 +172,8 @@ def main():
     parser.add_argument("--queries", type=int, default=0, help="queries of the records with one value of the field a")
     parser.add_argument("--whole", type=int, default=0, help="queries of all records")
     parser.add_argument("--indexes", type=int, default=0, choices=range(3), metavar="0..2")
+    parser.add_argument("--others", type=int, default=0, help="indexes over another type")
+    parser.add_argument("--disabled", action="store_true", help="these are disabled")
     parser.add_argument("--records", type=int, default=100, help="records, loads or queries of one transaction")
     parser.add_argument("--clients", type=int, default=4, choices=range(1, 17), metavar="1..16")
     parser.add_argument("--together", action="store_true", help="the clients' transactions are open together")

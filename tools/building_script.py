@@ -3,8 +3,9 @@
 
 Three clients write records while a fourth one builds a VALUE, a COUNT and a SUM index over 2,000 of them, a hundred
 records of each index in a transaction. All four begin together, commit in turn, and are settled together; who conflicts
-does the same again in the next round. The model keeps records and built ranges as values, and of each transaction the
-ranges of keys that it read and wrote: it has no map, no roles and no entries, and totals are counted at the end.
+does the same again in the next round. The model keeps records as values, of each index where what is built ends, since
+it is one range from the first position on, and of each transaction the ranges of keys that it read and wrote: it has no
+map, no roles and no entries, and totals are counted at the end.
 """
 
 import json
@@ -72,10 +73,10 @@ class Transaction:
 
 @dataclass
 class Model:
-    """The committed records and built ranges, and of each committed version what it wrote."""
+    """The committed records, where what is built ends, and of each committed version what it wrote."""
 
     records: dict = field(default_factory=dict)
-    built: dict = field(default_factory=lambda: {name: [] for name in NUMBERS})
+    built: dict = field(default_factory=lambda: {name: b"" for name in NUMBERS})
     upkeep: bool = False
     version: int = 0
     written: list = field(default_factory=list)
@@ -87,8 +88,7 @@ class Model:
         self.lines.append((step, reply))
 
     def begin(self, client):
-        built = {name: list(ranges) for name, ranges in self.built.items()}
-        self.transactions[client] = Transaction(self.version, dict(self.records), built)
+        self.transactions[client] = Transaction(self.version, dict(self.records), dict(self.built))
         self.take(["begin", client], f"begun {self.version}")
 
     def opened(self, client):
@@ -109,10 +109,8 @@ class Model:
         if new:
             transaction.records[number] = new
         for name in TOTALS if self.upkeep and (old or new) else []:
-            end = built_key(name, position) + b"\0"
-            before = [begin for begin, _ in transaction.built[name] if begin <= position]
-            begin = built_key(name, max(before)) if before else built_place(name) + b"\0"
-            transaction.read((begin, end))
+            begin = built_key(name, b"") if transaction.built[name] else built_place(name) + b"\0"
+            transaction.read((begin, built_key(name, position) + b"\0"))
         if old or new:
             transaction.writes.append(point(ROWS + position))
             transaction.effects.append((number, new))
@@ -131,17 +129,16 @@ class Model:
         """A step of a builder; answers whether it was the last one."""
         transaction = self.opened(client)
         transaction.read((built_place(name) + b"\0", built_place(name) + b"\xff"))
-        begin = max((end for _, end in transaction.built[name]), default=b"")
-        step = ["build", client, name, STEP]
+        begin, step = transaction.built[name], ["build", client, name, STEP]
         if begin == b"\xff":
             self.take(step, "finished")
             return True
         found = sorted(it for it in map(pack, transaction.records) if begin <= it)[:STEP]
         end = found[-1] + b"\0" if len(found) == STEP else b"\xff"
         transaction.read((ROWS + begin, ROWS + end))
-        transaction.built[name].append((begin, end))
-        transaction.writes.append(point(built_key(name, begin)))
-        transaction.effects.append((name, (begin, end)))
+        transaction.built[name] = end
+        transaction.writes.append(point(built_key(name, b"")))
+        transaction.effects.append((name, end))
         self.take(step, f"built {len(found)} {text_of((begin, end))}")
         return False
 
@@ -171,7 +168,7 @@ class Model:
             self.written.append((version, transaction.writes))
             for what, effect in transaction.effects:
                 if what in NUMBERS:
-                    self.built[what].append(effect)
+                    self.built[what] = effect
                 elif effect:
                     self.records[what] = effect
                 else:

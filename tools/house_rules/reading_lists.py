@@ -1,9 +1,9 @@
 """The lists of what to read that documents have, and what these lack or have too much.
 
-A list stands under a heading, in a table. A row begins with its number, and then has files of definitions by their
-crates: `CRATE`: `FILE` LINES, of `FILE` LINES; .. and so on. A file has `of` where only a part of its definitions is
-needed. Its lines are those of the ones that are needed, with their comments, without empty lines. A file may stand in
-several rows, each with a part of it.
+A list stands under a heading, in a table, and lacks what the lists of its document before it have. A row begins with
+its number, and then has files of definitions by their crates: `CRATE`: `FILE` LINES, of `FILE` LINES; .. and so on. A
+file has `of` where only a part of its definitions is needed. Its lines are those of the ones that are needed, with
+their comments, without empty lines. A file may stand in several rows, each with a part of it.
 """
 import re
 from collections import Counter
@@ -31,9 +31,11 @@ class ReadingList:
     starts: list
 
 
+HEADLINE = "docs/proof/HEADLINE.md"
 LISTS = [
-    ReadingList(
-        "docs/proof/HEADLINE.md", "What to read, in this order", [("schedule", "specs/Contract.antt", "IsRightRun")]),
+    ReadingList(HEADLINE, "To believe the headline, read", [("schedule", "specs/Headline.antt", "IsHeadline")]),
+    ReadingList(HEADLINE, "To believe what is right, read", [("schedule", "specs/Right.antt", "IsRightRun")]),
+    ReadingList(HEADLINE, "To believe what is exact, read", [("schedule", "specs/Exact.antt", "IsExactRun")]),
 ]
 
 
@@ -103,10 +105,12 @@ def faults_of(text, sizes):
 
 def faults_in(root, paths):
     """How many files the lists of a repository should have, and the document and the kind of each fault."""
-    needs, names, seen, faults = Needs(root, paths), text_of(root, NAMES), 0, []
+    needs, names, seen, faults, before = Needs(root, paths), text_of(root, NAMES), 0, [], {}
     for it in LISTS:
         text = under(text_of(root, it.document), it.heading)
-        sizes = sizes_of(needs.specifications, needs.of(it.starts))
+        places, known = needs.of(it.starts), before.get(it.document, set())
+        before[it.document] = known | places
+        sizes = sizes_of(needs.specifications, places - known)
         seen += len(sizes)
         if text or sizes:
             faults += [(it.document, fault) for fault in sorted(faults_of(text, sizes))]

@@ -20,22 +20,43 @@ SOURCE, SPEC, PROOF = "crates/low/src/lib.rt", "crates/low/specs/Low.antt", "cra
 SHOWN, EDITED = "crates/low/src/shown.rt", "crates/low/src/edited.rt"
 LOW, GUIDE, EXAMPLES = "crates/low/README.md", "docs/guide/GUIDE.md", "examples/README.md"
 HIGH, SERVING = "crates/high/specs/High.antt", "definitions say whom they serve"
-CONTRACT, HEADLINE = "crates/schedule/specs/Contract.antt", "docs/proof/HEADLINE.md"
+CONTRACT, HEADLINE = "crates/schedule/specs/Headline.antt", "docs/proof/HEADLINE.md"
+RIGHTLY, EXACTLY = "crates/schedule/specs/Right.antt", "crates/schedule/specs/Exact.antt"
 # in two parts, so that these tests break no rule themselves
 PUBLISHED, LABEL = "pa" + "per", "D" + "12"
 CRATES = "# each crate\nlow:\n"
 EDIT, KNOWN = "crates/low/wrong-bodies/edited.edits", "tools/house_rules/known.txt"
 SIX = "".join(f"    n{it};\n" for it in range(6))
-RUN = "-- Private: a run\npub IsRightRun : ℕ → Type 0\nIsRightRun n = n ≡ n\n"
+RUN = "-- Private: a run\npub IsHeadline : ℕ → Type 0\nIsHeadline n = n ≡ n\n"
+# a run that rests on the headline's definition too, which its list doesn't repeat
+RIGHT_RUN = """use Rattle.schedule.specs.Headline.{IsHeadline}
+
+-- Private: a run
+pub IsRightRun : ℕ → Type 0
+IsRightRun n = IsHeadline n
+"""
+EXACT_RUN = "-- Private: a run\npub IsExactRun : ℕ → Type 0\nIsExactRun n = n ≡ n\n"
 LISTED = """# The promise
 
-## What to read, in this order
+### To believe the headline, read
 
 It rests on the definitions in these 1 files, about 100 lines in all.
 
 | | Files | What they say |
 |---|---|---|
-| 1 | `schedule`: `Contract` 5 | what a run is |
+| 1 | `schedule`: `Headline` 5 | what a run is |
+
+### To believe what is right, read
+
+Besides, these 1 files, about 100 lines.
+
+| 1 | `schedule`: `Right` 5 | what a run is |
+
+### To believe what is exact, read
+
+Besides, these 1 files, about 100 lines.
+
+| 1 | `schedule`: `Exact` 5 | what a run is |
 
 ## More
 
@@ -51,8 +72,10 @@ RIGHT = {
     SHOWN: "// Shown.\nfn shown(n: u64) -> u64\n    ensures { result ≡ n + 1 }\n{\n    n + 1\n}\n",
     SPEC: "-- Private: the next number\nabbrev pub next : ℕ → ℕ\nnext n = n + 1\n",
     CONTRACT: RUN,
+    RIGHTLY: RIGHT_RUN,
+    EXACTLY: EXACT_RUN,
     HEADLINE: LISTED,
-    NAMING: "| right run | what a run is | `schedule/Contract`: `IsRightRun` |\n",
+    NAMING: "| run | what a run is | `schedule/Headline`, `schedule/Right`, `schedule/Exact` |\n",
     PROOF: f"-- {'a wide line of a proof ' * 10}\n",
     "tools/one.py": '"""A tool."""\n',
     EDITED: "// Edited.\nfn edited(n: u64) -> u64 {\n    n + 3\n}\n",
@@ -111,13 +134,14 @@ WRONG = {
     ],
     "lists have what is needed": [
         *[(HEADLINE, LISTED.replace(old, new)) for old, new in (
-            ("## What", "## Which"), ("| 1 |", "| |"), ("| `sch", "| of `sch"), ("`Contract` 5", "of `Contract` 5"),
-            ("`Contract` 5", "`Contract` 10"), ("`Contract` 5", "`Contract` 4"), ("`Contract` 5", "`Contract`"),
-            ("`Contract` 5", "`Contract` 5, `Other` 5"), ("`Contract` 5", "`Contract` 5; `low`: `Low` 5"),
+            ("believe the", "know the"), ("| 1 |", "| |"), ("| `sch", "| of `sch"), ("`Headline` 5", "of `Headline` 5"),
+            ("`Headline` 5", "`Headline` 10"), ("`Headline` 5", "`Headline` 4"), ("`Headline` 5", "`Headline`"),
+            ("`Headline` 5", "`Headline` 5, `Other` 5"), ("`Headline` 5", "`Headline` 5; `low`: `Low` 5"),
+            ("`Right` 5", "`Right` 5, `Headline` 5"), ("`Right` 5", "`Headline` 5"), ("`Exact` 5", "`Exact` 10"),
             ("1 files", "2 files"), ("100 lines", "200 lines"), ("100 lines", "50 lines"), ("these ", ""))],
         (HEADLINE, None), (NAMING, None), (CONTRACT, None), (CONTRACT, RUN + "\n-- Private: more\npub more : ℕ\n"),
-        (CONTRACT, RUN.replace("Right", "Wrong")),
-        (CONTRACT, RUN + "".join(f"IsRightRun {it} = 0 ≡ {it}\n" for it in range(8))),
+        (CONTRACT, RUN.replace("Head", "Foot")),
+        (CONTRACT, RUN + "".join(f"IsHeadline {it} = 0 ≡ {it}\n" for it in range(8))),
         (CONTRACT, "use Rattle.low.specs.Low.{next}\n\n" + RUN.replace("≡ n", "≡ next n")),
     ],
     "documents are narrow": [
@@ -148,7 +172,7 @@ ALSO_RIGHT = [
     (SPEC, "-- Private: these.\nuse Rattle.std.specs.Prelude.{ℕ}\n\npub one : ℕ\n\n-- two\npub two : ℕ\n"),
     (EDIT, "name: one\nbug: it is n\nold: n + 3\nnew: n + 2\nfile: src/edited.rt\nold: n + 2\nnew: n\n"),
     (SOURCE, f"const {LABEL}: u64 = 1;\n// a wallpa" + "pers' T\n"),
-    (CONTRACT, RUN + "IsRightRun m =\n    -- none\n\n    m ≡ 0\n"), (CONTRACT, RUN.replace("pub", "\npub")),
+    (CONTRACT, RUN + "IsHeadline m =\n    -- none\n\n    m ≡ 0\n"), (CONTRACT, RUN.replace("pub", "\npub")),
     (HEADLINE, LISTED.replace("these 1 files, about", "these\n1 files, about")),
     (LOW, "é" * 100 + f"\n\n| {'a' * 100} |\n\n    {'a' * 97}\n- a\n\n  ```\n  {'a' * 99}\n  ```\n"),
     (GUIDE, f"# A\n\n[{'a ' * 50}](#a)\n- [`{'a' * 90}`](../../crates/low/README.md).\n"),
@@ -294,7 +318,7 @@ class Lists(unittest.TestCase):
                 for path, text in {**texts, CONTRACT: run.replace("LINE", line).replace("NAMED", named)}.items():
                     write(root, path, text)
                 needs = Needs(root, files(root, SPECS))
-                found = needs.of([("schedule", "specs/Contract.antt", "IsRightRun")])
+                found = needs.of([("schedule", "specs/Headline.antt", "IsRightRun")])
             names = [needs.specifications.definition(it).names[0] for it in sorted(found)]
             self.assertEqual(names, [*wanted, "IsRightRun"], (line, named))
 

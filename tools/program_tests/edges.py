@@ -68,6 +68,20 @@ def bytes_case(count, line):
     return run_case(f"a byte string of {count} bytes", script.encode(), b"1 begun 0\n2 ok\n" + line)
 
 
+def built_case(letters):
+    """A builder goes on behind a record whose position is too long for a key of a built range."""
+    text, behind = "n" * letters, "02" + "6e" * letters + "0000"
+    steps = [
+        created('{"name":"v","fields":[["s","text"]],"key":["s"]}'), f'["save",0,"v",["{text}"]]',
+        '["save",0,"v",["z"]]', '["index",0,{"name":"cnt","kind":"count","type":"v","columns":[]}]',
+        '["write_only",0,"cnt"]', *['["build",0,"cnt",1]'] * 3]
+    told = ["begun 0", "ok", "saved new", "saved new", "disabled", "ok",
+            f"built 1 ..{behind}", f"built 1 {behind}..027a0000", "built 0 027a0000..ff"]
+    script = f'{{"steps":[{",".join(steps)}]}}'
+    lines = "".join(f"{number} {line}\n" for number, line in enumerate(told, 1))
+    return run_case(f"a build behind a key of {letters} letters", script.encode(), lines.encode())
+
+
 def split_cases():
     """Splits of the most bytes and of one more, between resolvers and between servers."""
     for key in ("resolver_splits", "storage_splits"):
@@ -94,6 +108,7 @@ def long_cases():
         *split_cases(),
         indexed_case(9_988, b"3 saved new\n4 removed\n"),
         indexed_case(9_989, b"3 refused KeyTooLarge\n4 none\n"),
+        built_case(9_989),
         Case("10,000 nested tuples", ["unpack", "05" * 10_000], b"", 1, b"", b"refused TooDeep at 16\n"),
         Case("5,000 escapes, no end", ["unpack", "01" + "00ff" * 5_000], b"", 1, b"", b"refused Truncated at 0\n"),
         Case("5,000 escapes and the end", ["unpack", "01" + "00ff" * 5_000 + "00"], b"", 0, zeros, b""),

@@ -10,6 +10,8 @@ FOLDERS = ("wrong-bodies", "must-fail")
 TWICE = "another edit of this crate has its name"
 # where an answer to a goal of a function begins in its file of answers
 ANSWER = re.compile(r"(?:pub |abbrev |unfolding |unfoldable )*([^\s:]+) :")
+# what a file of answers imports of the branches of a goal
+BRANCHES = re.compile(r"(use \S+\.Goals\.)\{([^}]*)\}$")
 
 
 class BadEdit(Exception):
@@ -130,6 +132,16 @@ def texts_of(folder):
     return texts
 
 
+def without_branches(lines):
+    """The lines of a file of answers, of which none imports a branch of a goal that no other line names."""
+    plain = "\n".join(it for it in lines if not BRANCHES.match(it))
+    for line in lines:
+        found = BRANCHES.match(line)
+        named = [it for it in found[2].split(", ") if it in plain] if found else []
+        if not found or named:
+            yield f"{found[1]}{{{', '.join(named)}}}" if found else line
+
+
 def set_aside(answers, texts):
     """The texts of a crate without these answers, each a file and a goal that is answered there."""
     after = dict(texts)
@@ -140,7 +152,7 @@ def set_aside(answers, texts):
             is_kept = begun[1] not in goals if begun else is_kept
             if is_kept:
                 kept.append(line)
-        after[file] = "\n".join(kept)
+        after[file] = "\n".join(without_branches(kept))
     return after
 
 

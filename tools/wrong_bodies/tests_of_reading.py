@@ -78,6 +78,10 @@ class Reading(unittest.TestCase):
         file, text = "proofs/next/Answers.antt", "use Goals as goal\n\npub one : goal.one\none c = (\n  a,\n)\n\n"
         two = "pub two : goal.two\nunfolding b\ntwo c = b\n"
         self.assertEqual(set_aside({(file, "one")}, {file: text + two})[file], "use Goals as goal\n\n" + two)
+        branch = "use A.Goals.{in-Some, in-None}\n"
+        self.assertEqual(set_aside({(file, "one")}, {file: branch + text + two})[file], "use Goals as goal\n\n" + two)
+        some = "pub two : goal.two\ntwo c = in-Some\n"
+        self.assertIn("use A.Goals.{in-Some}\n", set_aside({(file, "one")}, {file: branch + text + some})[file])
         both = set_aside({(file, "one"), (file, "two")}, {file: text + two})
         self.assertEqual(both[file].strip(), "use Goals as goal")
 
@@ -93,8 +97,12 @@ class Reading(unittest.TestCase):
         body = bodies_in("src/maps.rt", "fn of() {}\n")[0]
         note, at = "note: src/maps.rt:1:1: it is not proved", "./proofs/maps/of/Answers.antt:7:4: error: `returns`: "
         unfit, answer = f"{at}expected type `⊥`", ("proofs/maps/of/Answers.antt", "returns")
+        limit = "note: src/maps.rt:1:1: `search` found no proof (`returns`); `search` gave up at one of its limits"
+        left = "fn low::maps::of: no proof: expected answers in ./proofs/maps/of/Answers.antt; " \
+               "`search` did not prove `returns`"
         for lines, verdict, answers in [
             ([note], Verdict.REFUSED, set()), ([unfit, note], Verdict.REFUSED, {answer}),
+            ([limit], Verdict.REFUSED, set()), ([left], Verdict.REFUSED, set()),
             ([unfit], Verdict.UNFIT, {answer}), ([f"{at}record `A`,", "  has no field `b`"], Verdict.WEAK, {answer}),
             ([f"{at}record `A` has no field `b`", unfit], Verdict.UNFIT, {answer}),
             (["fn of: not proved"], Verdict.UNTOLD, set()), ([note, "  `b` is not in scope"], Verdict.REFUSED, set()),
@@ -104,6 +112,7 @@ class Reading(unittest.TestCase):
             found = verdict_alone(1, [*lines, "logic=not-proved"])
             self.assertEqual((found[0], found[2]), (verdict, answers), lines)
             self.assertIs(verdict_alone(0, lines)[0], Verdict.UNTOLD)
+            self.assertEqual(verdict_alone(1, [*lines, "killed", ""])[:2], (Verdict.SILENT, "killed"), lines)
 
     def test_edits_beside_bodies(self):
         texts = {"src/lib.rt": LOW, "proofs/next/Answers.antt": "a", "proofs/second/Answers.antt": "a"}

@@ -6,9 +6,12 @@ from bodies import is_goal_of, is_proof_of
 
 # a proof file that names what the edit took away
 STALE = re.compile(r"has no field|\(nearest: |is not in scope|has no `|was not admitted|were not checked")
-NOTE = re.compile(r"note: (?:\./)?(\S+?):(\d+):\d+: it is not proved")
+NOTE = re.compile(r"note: (?:\./)?(\S+?):(\d+):\d+: (?:it is not proved|`search` found no proof)")
 # how such a note names its goal
 GOAL = re.compile(r"\(`([^`]+)`\)")
+# a function without a file of answers: the goals that a search left open, also one that gave up at its limits
+OPEN = re.compile(r"fn \S+: no proof: expected answers in (?:\./)?proofs/(\S+)/[^/\s]+\.antt; "
+                  r"`search` did not prove (.*)")
 ANSWER = re.compile(r"(?:\./)?(proofs/(\S+)/[^/\s]+\.antt):\d+:\d+: error(?:: `((?:decreases-|invariant-)?)([^`]+)`)?")
 ERROR = re.compile(r"\S+:\d+:\d+: error")
 
@@ -24,6 +27,8 @@ class Verdict(Enum):
     WEAK = "refused only because a proof file names what it took away: change a value, and keep the names"
     # nothing is said of the function, or only that it calls one that isn't proved; alone this is 'still proved'
     UNTOLD = "NOT REFUSED: the crate is still proved"
+    # the check of the edit alone ended before it said whether the crate is proved: it says nothing of the contract
+    SILENT = "NOT REFUSED: its check ended without a verdict"
     # the edit can't be read or applied, or the edited text doesn't reach the prover
     UNREAD = "BAD EDIT"
     # its crate isn't proved without any edit, or one below it
@@ -47,11 +52,19 @@ def answers_in(lines):
     return frozenset((it[1], it[3] + it[4]) for it in found if os.path.basename(it[1]) == "Answers.antt")
 
 
+def goals_in(line):
+    """The open goals that a line names."""
+    left, one = OPEN.match(line), GOAL.search(line)
+    return re.findall(r"`([^`]+)`", left[2]) if left else [one[1]] if one else []
+
+
 def speaks_of(body, line):
     """Whether a line says that this function isn't proved, for a reason of its own."""
-    note = NOTE.match(line)
+    note, left = NOTE.match(line), OPEN.match(line)
     if note:
         return note[1] == body.file and body.first <= int(note[2]) <= body.last
+    if left:
+        return is_proof_of(body, left[1]) and any(is_goal_of(body, left[1], goal) for goal in goals_in(line))
     answer = ANSWER.match(line)
     return bool(answer) and is_proof_of(body, answer[2]) and is_goal_of(body, answer[2], answer[4] or "")
 
@@ -61,9 +74,9 @@ def verdict_of_lines(told):
 
     Only an open goal says something of the contract. An answer that doesn't fit says that this term proves it no more.
     """
-    open_goals = [line for line in told if NOTE.match(line)]
+    open_goals = [line for line in told if NOTE.match(line) or OPEN.match(line)]
     if open_goals:
-        return Verdict.REFUSED, ", ".join(goal[1] for goal in map(GOAL.search, open_goals) if goal)
+        return Verdict.REFUSED, ", ".join(dict.fromkeys(goal for line in open_goals for goal in goals_in(line)))
     unfit = next((line for line in told if not STALE.search(line)), None)
     if unfit:
         return Verdict.UNFIT, unfit
@@ -83,7 +96,9 @@ def reached_prover(lines):
 
 def verdict_alone(status, lines):
     """What a check of a crate with one edit says of it, the line that says so, and the answers that don't fit."""
-    if status == 0 or not any(re.match(r"logic=not-proved|only=\d+ proved=", line) for line in lines):
+    if status == 0:
         return Verdict.UNTOLD, "", frozenset()
-    told = [line for line in joined(lines) if NOTE.match(line) or ERROR.match(line)]
+    if not any(re.match(r"logic=not-proved|only=\d+ proved=", line) for line in lines):
+        return Verdict.SILENT, next((line for line in reversed(lines) if line), f"status {status}"), frozenset()
+    told = [line for line in joined(lines) if NOTE.match(line) or OPEN.match(line) or ERROR.match(line)]
     return *verdict_of_lines(told), answers_in(told)

@@ -2,7 +2,7 @@
 // for `bench_threads loads` and `bench_threads commits`, and by `database`, which opens one.
 use crate::commands::{create, load, save};
 use cluster_core::{Config, Splits};
-use runtime::{Client, CommitError, Done, End, EnterError, Waits, begin, open};
+use runtime::{Client, CommandError, CommitError, Done, End, Waits, begin, open};
 use schedule::Reply;
 use std::alloc::Global;
 use std::io::ErrorKind;
@@ -56,7 +56,7 @@ fn loads<E: End>(alloc: Global, client: &mut Client<E>, turn: u32) -> Option<u32
     for place in 0..COMMANDS {
         let number = turn.wrapping_mul(COMMANDS).wrapping_add(place);
         let command = load(alloc, scattered(number)).ok()?;
-        if let Ok(Reply::Found(_)) = tx.perform(&command) {
+        if let Reply::Found(_) = tx.call(&command).ok()? {
             found = found.wrapping_add(1);
         }
     }
@@ -76,9 +76,9 @@ fn saves<E: End, R: Wait>(
     for place in 0..count {
         let number = i64::from(first.wrapping_add(place));
         let command = save(alloc, number, number).ok()?;
-        match tx.perform(&command) {
+        match tx.call(&command) {
             Ok(_) => {}
-            Err(EnterError::TooOld) => return Some(0),
+            Err(CommandError::TooOld) => return Some(0),
             Err(_) => return None,
         }
     }
@@ -123,7 +123,7 @@ fn filled<E: End, R: Wait>(
     records: u32,
 ) -> Option<()> {
     let mut tx = begin(client).ok()?;
-    tx.perform(&create(alloc).ok()?).ok()?;
+    tx.call(&create(alloc).ok()?).ok()?;
     tx.commit(rt).ok()?;
     for number in 0..records / COMMANDS {
         if saves(rt, alloc, client, number.wrapping_mul(COMMANDS), COMMANDS)? < COMMANDS {

@@ -1,5 +1,9 @@
 // The commands on a store of books. Called by `clerks`.
+ghost use Rattle.std.specs.Prelude.{◌≡◌};
+ghost use Rattle.runtime.specs.Runs.{Continues};
+
 use metadata::{Cell, Cells, Field, Fields, Kind, Names, SchemaRequest, TypeRequest};
+use runtime::{CommandError, End, Txn};
 use schedule::Command;
 use std::alloc::{AllocError, Global};
 use tuple_codec::Text;
@@ -28,23 +32,43 @@ pub(crate) fn make_store(alloc: Global) -> Result<Command, AllocError> {
     Ok(Command::Create(SchemaRequest::new(types, Vec::new(alloc))))
 }
 
-/// Saves how many copies there are of a book.
-pub(crate) fn save_copies(alloc: Global, title: &str, copies: i64) -> Result<Command, AllocError> {
+/// The name of the type, and the cell of a title.
+fn book_and_title(alloc: Global, title: &str) -> Result<(Text, Cell), AllocError> {
     let book = Text::from_str(alloc, "book")?;
-    let title = Cell::Text(Text::from_str(alloc, title)?);
-    let cells = vec![in alloc; title, Cell::Int(copies)]?;
-    Ok(Command::Save(book, Cells::new(cells)))
+    Ok((book, Cell::Text(Text::from_str(alloc, title)?)))
 }
 
-/// Asks for a book.
-pub(crate) fn load_book(alloc: Global, title: &str) -> Result<Command, AllocError> {
-    let book = Text::from_str(alloc, "book")?;
-    let title = Cell::Text(Text::from_str(alloc, title)?);
-    Ok(Command::Load(book, Cells::new(vec![in alloc; title]?)))
+/// Saves how many copies there are of a book.
+pub(crate) fn save_copies<E: End>(
+    alloc: Global,
+    tx: &mut Txn<'_, E>,
+    title: &str,
+    copies: i64,
+) -> Result<(), CommandError>
+    ensures same_reference { tx.new.client.ghost_name ≡ tx.old.client.ghost_name }
+    ensures continues { Continues tx.old.client.now tx.new.client.now }
+{
+    let (book, title) = book_and_title(alloc, title)?;
+    tx.save(book, Cells::new(vec![in alloc; title, Cell::Int(copies)]?))?;
+    Ok(())
+}
+
+/// How many copies there are of a book.
+pub(crate) fn copies<E: End>(
+    alloc: Global,
+    tx: &mut Txn<'_, E>,
+    title: &str,
+) -> Result<i64, CommandError>
+    ensures same_reference { tx.new.client.ghost_name ≡ tx.old.client.ghost_name }
+    ensures continues { Continues tx.old.client.now tx.new.client.now }
+{
+    let (book, title) = book_and_title(alloc, title)?;
+    let found = tx.load(book, Cells::new(vec![in alloc; title]?))?;
+    Ok(found.map_or(0, |book| copies_in(&book)))
 }
 
 /// How many copies there are of a book with these cells.
-pub(crate) fn copies_in(book: &Cells) -> i64 {
+fn copies_in(book: &Cells) -> i64 {
     match book.as_slice() {
         [_, Cell::Int(copies)] => *copies,
         _ => 0,

@@ -1,12 +1,9 @@
 // The transactions of the shop, and the threads on which clerks run them. Called by `main`.
-ghost use Rattle.std.specs.Prelude.{◌≡◌};
-ghost use Rattle.runtime.specs.Runs.{Continues};
 
-use crate::books::{copies_in, load_book, make_store, save_copies};
+use crate::books::{copies, make_store, save_copies};
 use crate::error::EmbedError;
-use runtime::{Body, BodyError, Client, End, EnterError, Txn};
-use schedule::{Command, Reply};
-use std::alloc::{AllocError, Global};
+use runtime::{Body, Client, CommandError, End, Txn};
+use std::alloc::Global;
 use std::sync::Wait;
 use std::thread;
 use std::thread::Threads;
@@ -22,24 +19,6 @@ pub(crate) const COPIES: i64 = 100;
 
 pub(crate) const SOLD: i64 = 10;
 
-/// Performs a command, where memory suffices to make it.
-fn perform<E: End>(
-    tx: &mut Txn<'_, E>,
-    command: Result<Command, AllocError>,
-) -> Result<Reply, BodyError>
-    ensures same_reference { tx.new.client.ghost_name ≡ tx.old.client.ghost_name }
-    ensures continues { Continues tx.old.client.now tx.new.client.now }
-{
-    let Ok(command) = command else {
-        return Err(BodyError::Entry(EnterError::Memory));
-    };
-    match tx.perform(&command) {
-        Ok(Reply::Refused(why)) => Err(BodyError::Refused(why)),
-        Ok(reply) => Ok(reply),
-        Err(error) => Err(BodyError::Entry(error)),
-    }
-}
-
 /// Makes the store, with all copies of the book.
 #[derive(Drop)]
 struct Fill {
@@ -51,10 +30,9 @@ impl<E: End> Body<E> for Fill {
 
     ghost did = { λ body old result new after. Unit {0} };
 
-    fn attempt(&mut self, tx: &mut Txn<'_, E>) -> Result<(), BodyError> {
-        perform(tx, make_store(self.alloc))?;
-        perform(tx, save_copies(self.alloc, TITLE, COPIES))?;
-        Ok(())
+    fn attempt(&mut self, tx: &mut Txn<'_, E>) -> Result<(), CommandError> {
+        tx.call(&make_store(self.alloc)?)?;
+        save_copies(self.alloc, tx, TITLE, COPIES)
     }
 }
 
@@ -69,11 +47,8 @@ impl<E: End> Body<E> for Look {
 
     ghost did = { λ body old result new after. Unit {0} };
 
-    fn attempt(&mut self, tx: &mut Txn<'_, E>) -> Result<i64, BodyError> {
-        match perform(tx, load_book(self.alloc, TITLE))? {
-            Reply::Found(book) => Ok(copies_in(&book)),
-            _ => Ok(0),
-        }
+    fn attempt(&mut self, tx: &mut Txn<'_, E>) -> Result<i64, CommandError> {
+        copies(self.alloc, tx, TITLE)
     }
 }
 
@@ -88,12 +63,9 @@ impl<E: End> Body<E> for Sell {
 
     ghost did = { λ body old result new after. Unit {0} };
 
-    fn attempt(&mut self, tx: &mut Txn<'_, E>) -> Result<i64, BodyError> {
-        let left = match perform(tx, load_book(self.alloc, TITLE))? {
-            Reply::Found(book) => copies_in(&book).saturating_sub(1),
-            _ => 0,
-        };
-        perform(tx, save_copies(self.alloc, TITLE, left))?;
+    fn attempt(&mut self, tx: &mut Txn<'_, E>) -> Result<i64, CommandError> {
+        let left = copies(self.alloc, tx, TITLE)?.saturating_sub(1);
+        save_copies(self.alloc, tx, TITLE, left)?;
         Ok(left)
     }
 }

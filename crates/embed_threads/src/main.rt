@@ -9,7 +9,7 @@ mod error;
 use clerks::{COPIES, TITLE, left, open_shop, sell_beside};
 use cluster_core::Config;
 use error::EmbedError;
-use runtime::{Waits, open};
+use runtime::{Client, End, Waits, open};
 use std::alloc::Global;
 use std::io;
 use std::process::ExitCode;
@@ -24,19 +24,34 @@ struct Day {
     left: i64,
 }
 
-/// Opens the shop, and has two clerks sell there.
-fn trade<R: Threads + Wait + Sync>(rt: &R, alloc: Global) -> Result<Day, EmbedError> {
-    let mut clients = open(rt, alloc, Waits { rt }, &Config::single(alloc))?;
-    let mut one = clients.pop().ok_or(EmbedError::NoClient)?;
-    let mut other = clients.pop().ok_or(EmbedError::NoClient)?;
-    open_shop(rt, alloc, &mut one)?;
-    let (sold, also_sold) = sell_beside(rt, alloc, &mut one, &mut other)?;
-    let left = left(rt, alloc, &mut one)?;
+/// Opens the shop with a client of a database, has it sell there beside another one, and reads what
+/// is left.
+fn trade<E: End + Send, R: Threads + Wait + Sync>(
+    rt: &R,
+    alloc: Global,
+    one: &mut Client<E>,
+    other: &mut Client<E>,
+) -> Result<Day, EmbedError> {
+    open_shop(rt, alloc, one)?;
+    let (sold, also_sold) = sell_beside(rt, alloc, one, other)?;
+    let left = left(rt, alloc, one)?;
     Ok(Day {
         sold,
         also_sold,
         left,
     })
+}
+
+/// Opens the database, and has its first two clients trade.
+fn open_and_trade<R: Threads + Wait + Sync>(rt: &R, alloc: Global) -> Result<Day, EmbedError> {
+    let mut clients = open(rt, alloc, Waits { rt }, &Config::single(alloc))?;
+    let Some((one, others)) = clients.as_mut_slice().split_first_mut() else {
+        return Err(EmbedError::NoClient);
+    };
+    let Some((other, _)) = others.split_first_mut() else {
+        return Err(EmbedError::NoClient);
+    };
+    trade(rt, alloc, one, other)
 }
 
 /// The lines that tell a day.
@@ -54,7 +69,7 @@ fn lines(alloc: Global, day: &Day) -> Result<Vec<String>, EmbedError> {
 
 /// Does all of it, and answers the lines that tell it.
 fn demonstrate<R: Threads + Wait + Sync>(rt: &R, alloc: Global) -> Result<Vec<String>, EmbedError> {
-    let day = trade(rt, alloc)?;
+    let day = open_and_trade(rt, alloc)?;
     lines(alloc, &day)
 }
 

@@ -1,17 +1,14 @@
 -- Runs of bytes compared as the numbers that they spell, the first byte the most significant.
 use Rattle.std.proofs.Common.{◌≡◌, ℕ, zero, suc, ◌+◌, ◌*◌, ◌<◌, ◌≤◌, true, false, List, [], ◌∷◌, length, take, drop, refl, sym, ap, ◌∙◌, arith}
 use Rattle.std.proofs.lemmas.Bool.{true≢false}
-use Rattle.std.proofs.lemmas.Cmp.{nat_list_cmp_total, tied_itself}
 use Rattle.std.proofs.lemmas.List.{get_or-drop, drop-drop, length-drop, length-take-le, take_all}
 use Rattle.std.specs.Cmp.{nat_cmp_is, ranks}
 use Rattle.std.specs.List.{slice_index}
-use Rattle.std.specs.Ordering.{is_eq, is_ne, nat_cmp, ordering_then, MatchOrdering}
+use Rattle.std.specs.Ordering.{is_ne, nat_cmp, ordering_then, MatchOrdering}
 use Rattle.std.specs.declared.cmp.Ordering.{Ordering}
 use Rattle.std.specs.declared.cmp.Ordering.TheVariants.{Less, Equal, Greater}
 use Rattle.std.specs.Slice.Scan.{big_endian}
 use Rattle.kv_core.specs.Bytes.{key_cmp}
-use Rattle.kv_core.proofs.Lists.{take-take}
-use Rattle.kv_core.proofs.Order.{tied_keys}
 
 abbrev pub AreBytes : List ℕ → Type 0
 AreBytes xs = (k : ℕ) → slice_index xs k < 256
@@ -64,17 +61,17 @@ first_bytes (suc n) [] h k = omega arith
 first_bytes (suc n) (x ∷ xs) h zero = h 0
 first_bytes (suc n) (x ∷ xs) h (suc k) = first_bytes n xs (λ j. h (suc j)) k
 
--- the number that the eight bytes from a place on spell
-abbrev pub word : List ℕ → ℕ → ℕ
-word xs at = big_endian 0 (take 8 (drop at xs))
+-- the number that so many bytes from a place on spell
+abbrev pub word : ℕ → List ℕ → ℕ → ℕ
+word width xs at = big_endian 0 (take width (drop at xs))
 
-eight_by_number : (own other : List ℕ) (at : ℕ) → at + 8 ≤ length own → at + 8 ≤ length other → AreBytes own → AreBytes other
-    → key_cmp (take 8 (drop at own)) (take 8 (drop at other)) ≡ nat_cmp (word own at) (word other at)
-eight_by_number own other at p q g h =
-    by_number 0 (take 8 (drop at own)) (take 8 (drop at other)) (eight own p ∙ sym (eight other q)) (first_bytes 8 (drop at own) (later own g)) (first_bytes 8 (drop at other) (later other h))
+words_by_number : (width : ℕ) (own other : List ℕ) (at : ℕ) → at + width ≤ length own → at + width ≤ length other → AreBytes own → AreBytes other
+    → key_cmp (take width (drop at own)) (take width (drop at other)) ≡ nat_cmp (word width own at) (word width other at)
+words_by_number width own other at p q g h =
+    by_number 0 (take width (drop at own)) (take width (drop at other)) (all own p ∙ sym (all other q)) (first_bytes width (drop at own) (later own g)) (first_bytes width (drop at other) (later other h))
   where
-    eight : (xs : List ℕ) → at + 8 ≤ length xs → length (take 8 (drop at xs)) ≡ 8
-    eight xs l = length-take-le 8 (drop at xs) (omega (arith, l, length-drop at xs))
+    all : (xs : List ℕ) → at + width ≤ length xs → length (take width (drop at xs)) ≡ width
+    all xs l = length-take-le width (drop at xs) (omega (arith, l, length-drop at xs))
 
     later : (xs : List ℕ) → AreBytes xs → AreBytes (drop at xs)
     later xs small k = omega (arith, get_or-drop at xs k 0, small (at + k))
@@ -100,40 +97,32 @@ parts (suc n) (u ∷ us) (v ∷ vs) p q =
     ap (ordering_then (nat_cmp u v)) (parts n us vs (omega (arith, p)) (omega (arith, q)))
     ∙ then_assoc (nat_cmp u v) (key_cmp (take n us) (take n vs)) (key_cmp (drop n us) (drop n vs))
 
-tie : (r : Ordering) → is_ne r ≡ false → is_eq r ≡ true
-tie Less e = absurd (true≢false e)
-tie Equal e = refl
-tie Greater e = absurd (true≢false e)
+level_order : (r : Ordering) → is_ne r ≡ false → r ≡ Equal
+level_order Less e = absurd (true≢false e)
+level_order Equal e = refl
+level_order Greater e = absurd (true≢false e)
 
--- where the first ones are equal, so are the first ones of these
-fewer_tie : (n k : ℕ) (us vs : List ℕ) → n ≤ k → is_ne (key_cmp (take k us) (take k vs)) ≡ false → key_cmp (take n us) (take n vs) ≡ Equal
-fewer_tie n k us vs few e =
-    let same : take k us ≡ take k vs = tied_keys (take k us) (take k vs) (tie (key_cmp (take k us) (take k vs)) e) in
-    ap (key_cmp (take n us)) (sym (take-take n k vs few) ∙ ap (take n) (sym same) ∙ take-take n k us few) ∙ tied_itself nat_list_cmp_total (take n us)
+module _ (width : ℕ) (own other : List ℕ) (at : ℕ) (order : Ordering) (p : at + width ≤ length own) (q : at + width ≤ length other) (g : AreBytes own) (h : AreBytes other)
+    (is : order ≡ nat_cmp (word width own at) (word width other at)) (before : key_cmp own other ≡ key_cmp (drop at own) (drop at other)) where
+  told : order ≡ key_cmp (take width (drop at own)) (take width (drop at other))
+  told = is ∙ sym (words_by_number width own other at p q g h)
 
-module _ (own other : List ℕ) (at : ℕ) (order : Ordering) (p : at + 8 ≤ length own) (q : at + 8 ≤ length other) (g : AreBytes own) (h : AreBytes other)
-    (is : order ≡ nat_cmp (word own at) (word other at)) (before : key_cmp own other ≡ key_cmp (drop at own) (drop at other)) where
-  eight : order ≡ key_cmp (take 8 (drop at own)) (take 8 (drop at other))
-  eight = is ∙ sym (eight_by_number own other at p q g h)
-
-  split : (n : ℕ) → n ≤ 8 → key_cmp own other ≡ ordering_then (key_cmp (take n (drop at own)) (take n (drop at other))) (key_cmp (drop (at + n) own) (drop (at + n) other))
-  split n few =
-      before ∙ parts n (drop at own) (drop at other) (omega (arith, p, few, length-drop at own)) (omega (arith, q, few, length-drop at other))
-      ∙ (λ i. ordering_then (key_cmp (take n (drop at own)) (take n (drop at other))) (key_cmp (drop-drop n at own i) (drop-drop n at other i)))
+  split : key_cmp own other ≡ ordering_then (key_cmp (take width (drop at own)) (take width (drop at other))) (key_cmp (drop (at + width) own) (drop (at + width) other))
+  split =
+      before ∙ parts width (drop at own) (drop at other) (omega (arith, p, length-drop at own)) (omega (arith, q, length-drop at other))
+      ∙ (λ i. ordering_then (key_cmp (take width (drop at own)) (take width (drop at other))) (key_cmp (drop-drop width at own i) (drop-drop width at other i)))
 
   -- words that differ decide
   pub word_decides : is_ne order ≡ true → order ≡ key_cmp own other
-  word_decides e = sym (split 8 (omega arith) ∙ ap (λ r. ordering_then r (key_cmp (drop (at + 8) own) (drop (at + 8) other))) (sym eight) ∙ then_first order _ e)
+  word_decides e = sym (split ∙ ap (λ r. ordering_then r (key_cmp (drop (at + width) own) (drop (at + width) other))) (sym told) ∙ then_first order _ e)
 
-  -- and equal ones leave it to what comes behind them, or behind the first bytes of them
-  pub word_passes : (n : ℕ) → n ≤ 8 → is_ne order ≡ false → key_cmp own other ≡ key_cmp (drop (at + n) own) (drop (at + n) other)
-  word_passes n few e =
-      split n few
-      ∙ ap (λ r. ordering_then r (key_cmp (drop (at + n) own) (drop (at + n) other))) (fewer_tie n 8 (drop at own) (drop at other) few (sym (ap is_ne eight) ∙ e))
+  -- and equal ones leave it to what comes behind them
+  pub word_passes : is_ne order ≡ false → key_cmp own other ≡ key_cmp (drop (at + width) own) (drop (at + width) other)
+  word_passes e = split ∙ ap (λ r. ordering_then r (key_cmp (drop (at + width) own) (drop (at + width) other))) (sym told ∙ level_order order e)
 
   -- the last ones decide in any case
-  pub word_is_last : length own ≡ at + 8 → length other ≡ at + 8 → order ≡ key_cmp own other
-  word_is_last l k = eight ∙ (λ i. key_cmp (take_all 8 (drop at own) (omega (arith, l, length-drop at own)) i) (take_all 8 (drop at other) (omega (arith, k, length-drop at other)) i)) ∙ sym before
+  pub word_is_last : length own ≡ at + width → length other ≡ at + width → order ≡ key_cmp own other
+  word_is_last l k = told ∙ (λ i. key_cmp (take_all width (drop at own) (omega (arith, l, length-drop at own)) i) (take_all width (drop at other) (omega (arith, k, length-drop at other)) i)) ∙ sym before
 
 -- numbers that differ, or not
 pub ne_is_ne : (x y : ℕ) → (x ≡ y → ⊥) → is_ne (nat_cmp x y) ≡ true

@@ -3,7 +3,7 @@ ghost use Rattle.std.specs.Prelude.{◌≡◌, ◌≢◌, ◌≤◌, length, IfN
 ghost use Rattle.kv_core.specs.Bytes.{key_cmp, next_key};
 ghost use Rattle.kv_core.specs.declared.short_bytes.TheConstants.{SHORT_BYTES};
 
-use crate::words::word_at;
+use crate::words::{half_at, quarter_at, word_at};
 use std::alloc::Global;
 use std::cmp::Ordering;
 use std::marker::Model;
@@ -34,8 +34,8 @@ impl Model for ShortBytes {
     ghost invariant = { λ a. (a.count ≤ SHORT_BYTES) × AreZeroFrom a.count a.bytes };
 }
 
-/// How two arrays compare that differ, or None. Their words are taken at four places, of which the
-/// last overlaps the one before it.
+/// How two arrays compare that differ, or None: by three words, then a half and a quarter of one.
+/// None of them overlap, so that the compiler loads each at once.
 #[inline(always)]
 fn order_if_differing(bytes: &[u8; SHORT_BYTES], others: &[u8; SHORT_BYTES]) -> Option<Ordering>
     ensures same { IfNone result (bytes.now ≡ others.now) }
@@ -54,9 +54,13 @@ fn order_if_differing(bytes: &[u8; SHORT_BYTES], others: &[u8; SHORT_BYTES]) -> 
     if word != other {
         return Some(word.cmp(&other));
     }
-    let (word, other) = (word_at(bytes, 22), word_at(others, 22));
-    if word != other {
-        return Some(word.cmp(&other));
+    let (half, other) = (half_at(bytes, 24), half_at(others, 24));
+    if half != other {
+        return Some(half.cmp(&other));
+    }
+    let (quarter, other) = (quarter_at(bytes, 28), quarter_at(others, 28));
+    if quarter != other {
+        return Some(quarter.cmp(&other));
     }
     None
 }

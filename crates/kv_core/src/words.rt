@@ -23,6 +23,29 @@ pub(crate) fn word_at(bytes: &[u8], place: usize) -> u64
     ])
 }
 
+/// The number that the four bytes from a place on spell, the first one the most significant.
+#[inline(always)]
+pub(crate) fn half_at(bytes: &[u8], place: usize) -> u32
+    requires { place + 4 ≤ length bytes.now }
+    ensures { result ≡ big_endian 0 (take 4 (drop place bytes.now)) }
+{
+    u32::from_be_bytes([
+        bytes[place],
+        bytes[place + 1],
+        bytes[place + 2],
+        bytes[place + 3],
+    ])
+}
+
+/// The number that the two bytes from a place on spell, the first one the most significant.
+#[inline(always)]
+pub(crate) fn quarter_at(bytes: &[u8], place: usize) -> u16
+    requires { place + 2 ≤ length bytes.now }
+    ensures { result ≡ big_endian 0 (take 2 (drop place bytes.now)) }
+{
+    u16::from_be_bytes([bytes[place], bytes[place + 1]])
+}
+
 /// How two runs of bytes compare: by their first byte that differs, and a prefix comes first.
 ///
 /// They are compared eight bytes at a time, as numbers, and the last few one by one.

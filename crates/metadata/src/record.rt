@@ -152,6 +152,15 @@ impl Record {
         key_tuple(alloc, self.definition.number, &cells)
     }
 
+    /// An equal record, which shares the definition.
+    pub fn copy(&self) -> Result<Record, AllocError>
+        ensures { IfOk result (λ copy. copy ≡ self.now) }
+    {
+        let cells = self.cells.copy()?;
+        let definition = self.definition.clone()?;
+        Ok(Record { definition, cells })
+    }
+
     /// The cells, handed back.
     #[inline(always)]
     pub fn into_cells(self) -> Cells

@@ -14,7 +14,7 @@ use Rattle.index_maint.specs.Built.{position}
 use Rattle.index_maint.specs.Kept.{records_within}
 use Rattle.index_maint.specs.Parts.{IsFirstPart, end_behind, first_part}
 use Rattle.index_maint.proofs.FirstParts.{first_parts}
-use Rattle.record_store.specs.Store.{built, built_of}
+use Rattle.record_store.specs.Store.{built, built_by, built_of}
 use Rattle.record_store.proofs.BuildHolds.{built_itself}
 use Rattle.online_builder.specs.Advance.{HasAdvanced, HasGaps, StepsAdvance, unbuilt}
 use Rattle.online_builder.proofs.GapCounts.{gap_is, same_gaps}
@@ -137,14 +137,14 @@ steps_advance store index limit (suc gaps) gap least lawful has is = by_end (key
 
     taken : unbuilt (built store index.number part) index + length (records_within part index store.records) ≡ unbuilt store index
     taken =
-        ap (λ ranges. length (filter (λ r. not (has_position ranges (position r))) (of_type index.type_number store.records)) + length (records_within part index store.records)) (built_itself store index.number part)
+        ap (λ ranges. length (filter (λ r. not (has_position ranges (position r))) (of_type index.type_number store.records)) + length (records_within part index store.records)) (ap built_by (built_itself store index.number part))
         ∙ fewer_unbuilt part set (of_type index.type_number store.records) free
 
     by_end : (b : Bool) → key_lt part.end gap.end ≡ b → HasAdvanced index store (built store index.number part) (suc gaps) (length (records_within part index store.records))
     by_end false none = record {
       left = gaps;
       counted =
-          subst (λ ranges. HasGaps ranges gaps) (sym (built_itself store index.number part))
+          subst (λ ranges. HasGaps ranges gaps) (sym (ap built_by (built_itself store index.number part)))
           (subst (λ range. HasGaps (range ∷ set) gaps) (sym (whole_part set gap part is refl is_part.upto (is_part.some is_gap.some) none)) left);
       no_more = omega arith;
       records = taken;
@@ -153,7 +153,7 @@ steps_advance store index limit (suc gaps) gap least lawful has is = by_end (key
     by_end true less = record {
       left = suc gaps;
       counted =
-          subst (λ ranges. HasGaps ranges (suc gaps)) (sym (built_itself store index.number part)) (
+          subst (λ ranges. HasGaps ranges (suc gaps)) (sym (ap built_by (built_itself store index.number part))) (
             record { begin = part.end; end = gap.end },
             rest_first set gap part is refl is_part.upto (is_part.some is_gap.some) less,
             same_gaps (gap ∷ set) (record { begin = part.end; end = gap.end } ∷ part ∷ set) gaps (rest_same set gap part is refl is_part.upto (is_part.some is_gap.some)) left,

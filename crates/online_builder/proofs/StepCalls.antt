@@ -1,10 +1,10 @@
 -- What a step of a builder comes to, from what its reads and its writes establish.
-use Rattle.std.proofs.Common.{◌≡◌, ◌⊎◌, inl, inr, ℕ, ◌≤◌, true, false, ◌==◌, List, [], ◌∷◌, ◌++◌, length, take, refl, sym, ap, subst, ◌∙◌, Option, Some, None, Ok, Err, Result}
+use Rattle.std.proofs.Common.{◌≡◌, ◌⊎◌, inl, inr, ℕ, ◌≤◌, true, false, ◌==◌, List, [], ◌∷◌, ◌++◌, length, take, refl, sym, ap, subst, subst₂, ◌∙◌, Option, Some, None, Ok, Err, unwrap_or}
 use Rattle.std.specs.Prelude.{IsNone, option_and_then}
 use Rattle.std.specs.List.{Contains}
 use Rattle.std.proofs.lemmas.Bool.{true≢false}
 use Rattle.kv_core.specs.Limits.{write_all_refusal}
-use Rattle.kv_core.specs.Map.{Map, after, after_all, pairs_in}
+use Rattle.kv_core.specs.Map.{Map, after_all, pairs_in}
 use Rattle.kv_core.specs.Range.{KeyRange, has_keys}
 use Rattle.kv_core.specs.declared.change.CommitRequest.{CommitRequest}
 use Rattle.kv_core.specs.declared.change.Mutation.{Mutation}
@@ -14,14 +14,17 @@ use Rattle.cluster_core.specs.declared.answers.ReadError.{ReadError}
 use Rattle.txn.specs.Reads.{with_mutations}
 use Rattle.txn.proofs.Running.{ran_because, ran_then}
 use Rattle.range_set.specs.declared.error.RangeSetError.{RangeSetError}
-use Rattle.range_set.specs.Calls.{all_ranges, whole_range}
+use Rattle.range_set.specs.Calls.{all_ranges}
 use Rattle.range_set.specs.Calls as reads
-use Rattle.range_set.specs.Gaps.{IsFirstGap, IsGap, first_gap, has_position}
-use Rattle.range_set.specs.Stored.{IsFirstDamaged, IsInGap, Joins, insertion}
-use Rattle.range_set.specs.Told.{IsGapIn, gap_in, ranges_in}
+use Rattle.range_set.specs.Gaps.{IsFirstGap, IsGap, SamePositions, first_gap, has_position}
+use Rattle.range_set.specs.Steps.{set_memory}
+use Rattle.range_set.specs.Stored.{IsFirstDamaged, IsInGap, Joins, insertion, whole_range}
+use Rattle.range_set.specs.Told.{AreRangesIn, gap_in, ranges_in, stored_in}
+use Rattle.range_set.proofs.Answered.{wanting}
 use Rattle.range_set.proofs.Gaps.{first_gap_is}
 use Rattle.range_set.proofs.RangeRows.{not_damaged}
 use Rattle.range_set.proofs.RangesTold.{ranges_told}
+use Rattle.range_set.proofs.Telling.{gap_read}
 use Rattle.metadata.specs.declared.index.IndexDefinition.{IndexDefinition}
 use Rattle.metadata.specs.declared.index.State.TheVariants.{WriteOnly}
 use Rattle.metadata.specs.Record.{Record}
@@ -62,9 +65,9 @@ refused_named maps refuses {old = old} {new = new} opened plan error is same =
     subst (λ o. IsRefused maps refuses opened (call_on (step_meaning plan.limit) (step_footprint opened plan.limit) o) error old new) (sym is) (inr refl, same)
 
 -- what is written isn't nothing
-some_written : (xs : List Mutation) (x : Mutation) → (length (xs ++ x ∷ []) == 0) ≡ false
-some_written [] x = filled x []
-some_written (y ∷ xs) x = filled y (xs ++ x ∷ [])
+some_written : (xs : List Mutation) (x : Mutation) (rest : List Mutation) → (length (xs ++ x ∷ rest) == 0) ≡ false
+some_written [] x rest = filled x rest
+some_written (y ∷ xs) x rest = filled y (xs ++ x ∷ rest)
 
 -- no pair of none is damaged
 none_bad : {Form : List ℕ × List ℕ → Type 0} (key : List ℕ) → IsFirstBad Form [] key → ⊥
@@ -151,33 +154,41 @@ module _ (maps : ℕ → Map) (refuses : KeyRange → ℕ → ReadError → Type
       refused_unread maps refuses opened (step_call opened plan) service_here (of_set error) accepted
       (record { added = ranges.added; ran = ran_because ranges.ran (λ m says. first_unread (λ range. refuses range old.read_version) (of_set error) ranges.added m says) })
 
-  module _ {old mid : CommitRequest} (at : List ℕ) (gap : Option KeyRange) (is_place : at ≡ place) (answer : reads.IsSetAnswered maps at (all_ranges at) old mid (λ set. gap ≡ first_gap set)) (tells : IsGapIn maps at old mid gap) where
+  -- WANTING: memory was wanting behind the built ranges
+  pub step_wanting : {old mid : CommitRequest} (at : List ℕ) (ranges : List KeyRange) → at ≡ place → reads.IsSetAnswered maps at (all_ranges at) old mid (SamePositions ranges) → IsRefused maps refuses opened (step_call opened plan) Memory old mid
+  step_wanting {old = old} {mid = mid} at ranges is_place read = unfound at set_memory is_place (wanting maps refuses at (all_ranges at) old mid (SamePositions ranges) read)
+
+  module _ {old mid : CommitRequest} (at : List ℕ) (ranges : List KeyRange) (gap : Option KeyRange) (is_place : at ≡ place) (read : reads.IsSetAnswered maps at (all_ranges at) old mid (SamePositions ranges)) (told : AreRangesIn maps at old mid ranges)
+      (is_first : gap ≡ first_gap ranges) where
     there : reads.IsSetAnswered maps place (all_ranges place) old mid (λ set. gap ≡ first_gap set)
-    there = subst (λ p. reads.IsSetAnswered maps p (all_ranges p) old mid (λ set. gap ≡ first_gap set)) is_place answer
+    there = subst (λ p. reads.IsSetAnswered maps p (all_ranges p) old mid (λ set. gap ≡ first_gap set)) is_place (gap_read maps refuses at old mid ranges gap is_first read)
 
     found_ran : DidRead maps (there.added ∷ []) old mid (λ m. (there.added ∷ [] ≡ (all_built opened.prefix index.number).added m)
         × (IsSound opened (all_built opened.prefix index.number) m × AtStore opened m (λ store. gap ≡ gap_of store index.number)))
     found_ran = set_read opened index.number known building (λ set. gap ≡ first_gap set) there
 
-    -- the gap is that which each map tells, and the first one of each store there
-    was_found : DidRead maps (there.added ∷ []) old mid (λ m. (gap ≡ gap_in place m) × ((there.added ∷ [] ≡ (all_built opened.prefix index.number).added m)
+    -- the ranges are those that each map tells, and the gap is their first one, and that of each store there
+    was_found : DidRead maps (there.added ∷ []) old mid (λ m. (stored_in place m ≡ Some ranges) × ((there.added ∷ [] ≡ (all_built opened.prefix index.number).added m)
         × (IsSound opened (all_built opened.prefix index.number) m × AtStore opened m (λ store. gap ≡ gap_of store index.number))))
     was_found = record {
       version = found_ran.version;
       wrote = found_ran.wrote;
       reads = found_ran.reads;
-      over = λ m agree. ((subst (λ p. IsGapIn maps p old mid gap) is_place tells).over m agree, found_ran.over m agree);
+      over = λ m agree. ((subst (λ p. AreRangesIn maps p old mid ranges) is_place told).over m agree, found_ran.over m agree);
     }
+
+    gap_there : (m : Map) → stored_in place m ≡ Some ranges → gap ≡ gap_in place m
+    gap_there m stored = is_first ∙ sym (ap (option_and_then first_gap) stored)
 
     -- FINISHED: there is none
     pub step_finished : gap ≡ None → IsAnswered maps opened (step_call opened plan) Finished old mid
     step_finished none =
         answered_reading maps refuses opened (step_call opened plan) service_here Finished accepted refl
-        (ran_because was_found (λ m found. let is : None ≡ gap_in place m = sym none ∙ found.0 in (added_so None (there.added ∷ []) m is found.1.0, (sound_so None m is found.1.1.0, found.1.1.1))))
+        (ran_because was_found (λ m found. let is : None ≡ gap_in place m = sym none ∙ gap_there m found.0 in (added_so None (there.added ∷ []) m is found.1.0, (sound_so None m is found.1.1.0, found.1.1.1))))
         (λ m store holds same first.
         let nothing : None ≡ gap_of store index.number = sym none ∙ first in record {
           answers = sym (ap (λ g. Ok (progress_in plan.limit index store g)) nothing);
-          wrote = ap (step_writes opened.prefix plan.limit index store) nothing;
+          wrote = ap (step_writes opened.prefix plan.limit index m store) nothing;
           holds = subst (λ g. Holds opened.prefix m (Some (stepped plan.limit index store g))) nothing holds;
         })
 
@@ -210,21 +221,21 @@ module _ (maps : ℕ → Map) (refuses : KeyRange → ℕ → ReadError → Type
           (record {
             added = there.added ∷ unread.added;
             ran = ran_then was_found unread.ran (λ m one says.
-                unread_so (λ range. refuses range old.read_version) (Some first) error (there.added ∷ unread.added) m (sym some ∙ one.0)
+                unread_so (λ range. refuses range old.read_version) (Some first) error (there.added ∷ unread.added) m (sym some ∙ gap_there m one.0)
                 (unread_behind (λ range. refuses range old.read_version) error unread.added m one.1.0 one.1.1.0 (subst (λ v. IsUnread (λ range. refuses range v) opened (limited_to plan.limit keys) error unread.added m) was_found.version says)));
           })
 
       module _ (least : 1 ≤ plan.limit) {last : CommitRequest} (rows : List Record) (part : HasReadPart maps opened plan.limit index first rows mid last) where
-        -- what was read tells of a store
-        abbrev Told : Store → Type 0
-        Told store = (Some first ≡ gap_of store index.number) × (rows ≡ take plan.limit (records_within first index store.records))
+        -- what was read tells of a map and a store
+        abbrev Told : Map → Store → Type 0
+        Told m store = (Some first ≡ gap_of store index.number) × (rows ≡ take plan.limit (records_within first index store.records)) × (stored_in place m ≡ Some ranges)
 
-        was_read : DidRead maps (there.added ∷ part.added ∷ []) old last (λ m. (there.added ∷ part.added ∷ [] ≡ service_here.footprint.reading.added m) × (IsSound opened service_here.footprint.reading m × AtStore opened m Told))
+        was_read : DidRead maps (there.added ∷ part.added ∷ []) old last (λ m. (there.added ∷ part.added ∷ [] ≡ service_here.footprint.reading.added m) × (IsSound opened service_here.footprint.reading m × AtStore opened m (Told m)))
         was_read =
             ran_then was_found part.ran (λ m one two.
-            let is : Some first ≡ gap_in place m = sym some ∙ one.0 in (
+            let is : Some first ≡ gap_in place m = sym some ∙ gap_there m one.0 in (
               added_so (Some first) (there.added ∷ part.added ∷ []) m is (λ i. one.1.0 i ++ two.0 i ∷ []),
-              (sound_so (Some first) m is (one.1.1.0.0, two.1), λ store holds same. (sym some ∙ one.1.1.1 store holds same, two.2 store holds same)),
+              (sound_so (Some first) m is (one.1.1.0.0, two.1), λ store holds same. (sym some ∙ one.1.1.1 store holds same, two.2 store holds same, one.0)),
             ))
 
         -- MEMORY: it was wanting behind the reads
@@ -232,21 +243,21 @@ module _ (maps : ℕ → Map) (refuses : KeyRange → ℕ → ReadError → Type
         step_memory = refused_memory maps refuses opened (step_call opened plan) service_here accepted was_read
 
         module _ (range : KeyRange) (made : range ≡ part_made plan.limit rows first) where
-          module _ (store : Store) (m : Map) (holds : Holds opened.prefix m (Some store)) (same : IsOpenAs opened store) (told : Told store) where
+          module _ (store : Store) (m : Map) (holds : Holds opened.prefix m (Some store)) (same : IsOpenAs opened store) (seen : Told m store) where
             abbrev here : KeyRange
             here = first_part plan.limit first index store.records
 
             is_gap : IsGap (has_position (built_of store index.number)) first
-            is_gap = subst (IsFirstGap (has_position (built_of store index.number))) (sym told.0) (first_gap_is (built_of store index.number))
+            is_gap = subst (IsFirstGap (has_position (built_of store index.number))) (sym seen.0) (first_gap_is (built_of store index.number))
 
             is_part : IsFirstPart plan.limit first here index store.records
             is_part = first_parts plan.limit first index store.records least holds.lawful.ordered holds.lawful.storable
 
             range_is : range ≡ here
-            range_is = made ∙ part_is plan.limit first index store.records rows least holds.lawful.ordered holds.lawful.storable is_gap.some told.1
+            range_is = made ∙ part_is plan.limit first index store.records rows least holds.lawful.ordered holds.lawful.storable is_gap.some seen.1
 
             rows_are : rows ≡ records_within here index store.records
-            rows_are = told.1 ∙ sym is_part.first
+            rows_are = seen.1 ∙ sym is_part.first
 
             some_keys : has_keys range ≡ true
             some_keys = ap has_keys range_is ∙ is_part.some is_gap.some
@@ -254,14 +265,18 @@ module _ (maps : ℕ → Map) (refuses : KeyRange → ℕ → ReadError → Type
             free : IsInGap here (built_of store index.number)
             free = λ at inside. is_gap.within at (is_part.inside at inside)
 
-            here_writes : build_writes opened.prefix index rows ++ insertion place range ∷ [] ≡ built_writes opened.prefix index here store.records
-            here_writes = λ i. build_writes opened.prefix index (rows_are i) ++ insertion place (range_is i) ∷ []
+            stored_is : ranges ≡ unwrap_or (stored_in place m) []
+            stored_is = sym (ap (λ o. unwrap_or o []) seen.2)
 
-            built_here : ((n : Map) → Joins place range n (after (insertion place range) n)) → Holds opened.prefix (after_all (build_writes opened.prefix index rows ++ insertion place range ∷ []) m) (Some (built store index.number here))
+            here_writes : build_writes opened.prefix index rows ++ insertion place ranges range ≡ built_writes opened.prefix index here m store.records
+            here_writes = λ i. build_writes opened.prefix index (rows_are i) ++ insertion place (stored_is i) (range_is i)
+
+            built_here : ((n : Map) → stored_in place n ≡ Some ranges → Joins place range n (after_all (insertion place ranges range) n)) →
+                Holds opened.prefix (after_all (build_writes opened.prefix index rows ++ insertion place ranges range) m) (Some (built store index.number here))
             built_here joins =
                 subst (λ ms. Holds opened.prefix (after_all ms m) (Some (built store index.number here))) (sym here_writes)
                 (built_holds opened.prefix m store index (subst (λ (s : Schema). Contains s.indexes index) (sym same.schema) contained) holds here (store_building opened index.number known building store same) free
-                (subst (λ r. (n : Map) → Joins place r n (after (insertion place r) n)) range_is joins))
+                (λ n alike. subst₂ (λ rs r. Joins place r n (after_all (insertion place rs r) n)) stored_is range_is (joins n (alike ∙ seen.2))))
 
           -- EMPTY: no set of ranges leaves a gap whose part has no position
           pub step_empty : has_keys range ≡ false → IsAnswered maps opened (step_call opened plan) Finished old last
@@ -269,9 +284,9 @@ module _ (maps : ℕ → Map) (refuses : KeyRange → ℕ → ReadError → Type
               answered_reading maps refuses opened (step_call opened plan) service_here Finished accepted refl was_read
               (λ m store holds same seen. absurd (true≢false (sym (some_keys store m holds same seen) ∙ none)))
 
-          module _ (list : List Mutation) (wrote : list ≡ build_writes opened.prefix index rows ++ insertion place range ∷ []) where
-            wrote_there : (m : Map) (store : Store) → Holds opened.prefix m (Some store) → IsOpenAs opened store → Told store → list ≡ service_here.footprint.writes store
-            wrote_there m store holds same seen = wrote ∙ here_writes store m holds same seen ∙ ap (step_writes opened.prefix plan.limit index store) seen.0
+          module _ (list : List Mutation) (wrote : list ≡ build_writes opened.prefix index rows ++ insertion place ranges range) where
+            wrote_there : (m : Map) (store : Store) → Holds opened.prefix m (Some store) → IsOpenAs opened store → Told m store → list ≡ service_here.footprint.writes m store
+            wrote_there m store holds same seen = wrote ∙ here_writes store m holds same seen ∙ ap (step_writes opened.prefix plan.limit index m store) seen.0
 
             -- LIMIT: what is to be written was refused
             pub step_limited : {new : CommitRequest} (error : WriteError) → new ≡ last → (error ≡ write.Memory) ⊎ (write_all_refusal last.mutations list ≡ Some error) → IsRefused maps refuses opened (step_call opened plan) (of_write error) old new
@@ -280,11 +295,11 @@ module _ (maps : ℕ → Map) (refuses : KeyRange → ℕ → ReadError → Type
                 (λ m store holds alike seen. (record { answer = _; is = refl }, wrote_there m store holds alike seen)) same says
 
             -- BUILT: the part is built
-            pub step_built : {new : CommitRequest} (records : ℕ) → records ≡ length rows → ((n : Map) → Joins place range n (after (insertion place range) n)) → new ≡ with_mutations list last → IsNone (write_all_refusal last.mutations list) →
+            pub step_built : {new : CommitRequest} (records : ℕ) → records ≡ length rows → ((n : Map) → stored_in place n ≡ Some ranges → Joins place range n (after_all (insertion place ranges range) n)) → new ≡ with_mutations list last → IsNone (write_all_refusal last.mutations list) →
                 IsAnswered maps opened (step_call opened plan) (Built records range) old new
             step_built {new = new} records many joins is allowed =
                 answered maps refuses opened (step_call opened plan) service_here (Built records range) list accepted
-                (ap (λ ms. length ms == 0) wrote ∙ some_written (build_writes opened.prefix index rows) (insertion place range)) was_read is allowed
+                (ap (λ ms. length ms == 0) wrote ∙ some_written (build_writes opened.prefix index rows) _ _) was_read is allowed
                 (λ m store holds same seen. record {
                   answers =
                       ap Ok (sym ((λ i. Built (many i) (range_is store m holds same seen i)) ∙ ap (λ rs. Built (length rs) (here store m holds same seen)) (rows_are store m holds same seen)

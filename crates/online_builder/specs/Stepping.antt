@@ -2,6 +2,7 @@
 use Rattle.std.specs.Prelude.{ℕ, Bool, true, false, List, [], ◌∷◌, length, Option, Some, None, Ok, nat_lt}
 use Rattle.std.specs.Prelude.{if◌then◌else◌}
 use Rattle.kv_core.specs.Bytes.{next_key}
+use Rattle.kv_core.specs.Map.{Map}
 use Rattle.kv_core.specs.Range.{KeyRange, part_before}
 use Rattle.kv_core.specs.declared.change.Mutation.{Mutation}
 use Rattle.range_set.specs.Told.{gap_in}
@@ -41,18 +42,18 @@ abbrev pub stepped : ℕ → IndexDefinition → Store → Option KeyRange → S
 stepped limit index store None = store
 stepped limit index store (Some gap) = built store index.number (first_part limit gap index store.records)
 
--- what it writes
-abbrev pub step_writes : List ℕ → ℕ → IndexDefinition → Store → Option KeyRange → List Mutation
-step_writes prefix limit index store None = []
-step_writes prefix limit index store (Some gap) =
-    built_writes prefix index (first_part limit gap index store.records) store.records
+-- what it writes, by the map that is there
+abbrev pub step_writes : List ℕ → ℕ → IndexDefinition → Map → Store → Option KeyRange → List Mutation
+step_writes prefix limit index m store None = []
+step_writes prefix limit index m store (Some gap) =
+    built_writes prefix index (first_part limit gap index store.records) m store.records
 
--- what it reads behind the built ranges by the first gap that they leave: the first records in it
+-- what it reads after the built ranges by the first gap that they leave: the first records in it
 abbrev pub reading_behind : Opened → ℕ → IndexDefinition → Option KeyRange → Reading
 reading_behind opened limit index None = whole []
 reading_behind opened limit index (Some gap) = limited_to limit (positions_range opened.prefix index.type_number gap)
 
--- all built ranges, and what is read behind them
+-- all built ranges, and what is read after them
 abbrev pub reading_by : Opened → ℕ → IndexDefinition → Option KeyRange → Reading
 reading_by opened limit index gap = record {
   asked = λ m. built_range opened.prefix index.number ∷ (reading_behind opened limit index gap).asked m;
@@ -81,7 +82,7 @@ step_meaning limit index = record {
 abbrev pub step_footprint : Opened → ℕ → IndexDefinition → Footprint
 step_footprint opened limit index = record {
   reading = step_reading opened limit index;
-  writes = λ store. step_writes opened.prefix limit index store (gap_of store index.number);
+  writes = λ m store. step_writes opened.prefix limit index m store (gap_of store index.number);
 }
 
 abbrev pub step_call : Opened → BuildTask → Call Progress
@@ -91,7 +92,7 @@ step_call opened plan =
 
 -- ---- beneath the call
 
--- Private: the position behind the last of some records, or this end where there are none
+-- Private: the position after the last of some records, or this end where there are none
 abbrev pub last_position : List Record → List ℕ → List ℕ
 last_position [] end = end
 last_position (r ∷ rows) end = last_position rows (next_key (position r))

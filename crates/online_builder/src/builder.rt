@@ -1,11 +1,12 @@
 // The online build of an index. Called by `schedule` for the command `build`.
-ghost use Rattle.std.specs.Prelude.{◌≡◌, ◌≤◌, ◌∷◌, ◌++◌, [], IfErr, IfOk, IsTrue, OnOk};
-ghost use Rattle.kv_core.specs.Bytes.{next_key};
-ghost use Rattle.kv_core.specs.Map.{Map, after};
+ghost use Rattle.std.specs.Prelude.{◌≡◌, ◌≤◌, ◌++◌, IfErr, IfOk, IsTrue, OnOk, Some};
+ghost use Rattle.kv_core.specs.Bytes.{end_of_keys, key_lt, next_key};
+ghost use Rattle.kv_core.specs.Map.{Map, after_all};
 ghost use Rattle.kv_core.specs.Range.{has_keys};
 ghost use Rattle.index_maint.specs.Built.{position as position_of};
 ghost use Rattle.index_maint.specs.Kept.{build_writes};
 ghost use Rattle.range_set.specs.Stored.{Joins, insertion};
+ghost use Rattle.range_set.specs.Told.{stored_in};
 ghost use Rattle.record_store.specs.Call.{IsAnswered, IsRefused};
 ghost use Rattle.online_builder.specs.Stepping.{part_made, step_call};
 
@@ -13,7 +14,7 @@ use crate::progress::Progress;
 use index_maint::{built_place, position, push_build};
 use kv_core::{Bytes, KeyRange, Mutation};
 use metadata::{IndexDefinition, Record};
-use range_set::{first_gap, insert_mutation};
+use range_set::{Ranges, read_ranges};
 use record_store::{Store, StoreError};
 use std::alloc::{AllocError, Global};
 use std::marker::Model;
@@ -38,7 +39,7 @@ impl Model for Builder {
     ghost invariant = { λ b. 1 ≤ b.limit };
 }
 
-// The byte string behind the position of a record.
+// The byte string after the position of a record.
 fn behind(alloc: Global, one: &Record) -> Result<Bytes, AllocError>
     ensures { IfOk result (λ end. end ≡ next_key (position_of one.now)) }
 {
@@ -72,24 +73,29 @@ fn part_of(
     }
 }
 
-// What is written to build these records, and with them the range, which has a position.
+// What is written to build these records, and with them the range, which has a position, beside the
+// ranges that are stored under the place.
 fn build_mutations(
     alloc: Global,
     store: &Store,
     index: &IndexDefinition,
     place: &[u8],
+    ranges: &Ranges,
     range: &KeyRange,
     rows: &[Record],
 ) -> Result<Vec<Mutation>, AllocError>
-    requires { IsTrue (has_keys range.now) }
+    requires place { IsTrue (key_lt place.now end_of_keys) }
+    requires range { IsTrue (has_keys range.now) }
     ensures writes { IfOk result (λ mutations. mutations.items
-        ≡ build_writes store.now.prefix index.now rows.now ++ insertion place.now range.now ∷ []) }
-    ensures joins { OnOk result ((m : Map) →
-        Joins place.now range.now m (after (insertion place.now range.now) m)) }
+        ≡ build_writes store.now.prefix index.now rows.now
+        ++ insertion place.now ranges.now range.now) }
+    ensures joins { OnOk result ((m : Map) → stored_in place.now m ≡ Some ranges.now →
+        Joins place.now range.now m (after_all (insertion place.now ranges.now range.now) m)) }
 {
     let mut mutations = Vec::new(alloc);
     push_build(alloc, store.prefix(), index, rows, &mut mutations)?;
-    mutations.push(insert_mutation(alloc, place, range)?)?;
+    let mut inserted = ranges.insertion(alloc, place, range)?;
+    mutations.append(&mut inserted)?;
     Ok(mutations)
 }
 
@@ -105,8 +111,8 @@ impl Builder {
 
     /// Builds, in the first range of positions of the index that aren't built, the records at the first
     /// of them, up to the limit: what each defines is written, and the range from the gap's begin up to
-    /// behind the last of them is built, or all of the gap where it has fewer. Nothing is written where
-    /// every position is built.
+    /// after the last of them is built, or all of the gap where it has fewer. It is stored as one range
+    /// with the built ranges that touch it. Nothing is written where every position is built.
     ///
     /// All built ranges of the index are read, and then, where there is a gap, the records in it up to
     /// the limit. Refused with `UnknownIndex` where there is no such index, and with `WrongState` where
@@ -128,7 +134,8 @@ impl Builder {
         let limit = self.limit as usize;
         let index = store.write_only_index(&self.name)?;
         let place = built_place(alloc, store.prefix(), index.number)?;
-        let found = first_gap(alloc, place.as_slice(), tx, db)?;
+        let ranges = read_ranges(alloc, place.as_slice(), tx, db)?;
+        let found = ranges.first_gap(alloc)?;
         let Some(gap) = found else {
             return Ok(Progress::Finished);
         };
@@ -144,6 +151,7 @@ impl Builder {
             store,
             index,
             place.as_slice(),
+            &ranges,
             &range,
             rows.as_slice(),
         )?;

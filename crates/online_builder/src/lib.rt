@@ -1,7 +1,7 @@
 //! A builder of write-only indexes: each step builds a range of positions in a transaction, beside
 //! which others write records.
 //!
-//! A call answers `StoreError::Memory` only where memory is wanting. A step that fails writes
+//! A call answers `StoreError::Memory` only where memory runs out. A step that fails writes
 //! nothing; the ranges that it read stay in the transaction.
 #![tactic(auto)]
 

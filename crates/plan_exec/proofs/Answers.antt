@@ -28,20 +28,20 @@ use Rattle.planner.proofs.Residual.{each_member}
 use Rattle.plan_exec.specs.Scannable.{AreStatesOf, IsScannable}
 use Rattle.plan_exec.proofs.Exactly.{exactly}
 
+pub readable_told : (o : Option State) → option_map_or is_readable o false ≡ true → o ≡ Some Readable
+readable_told None h = cc
+readable_told (Some Readable) h = refl
+readable_told (Some WriteOnly) h = cc
+readable_told (Some Disabled) h = cc
+
 -- USABLE: an index that may be used is told to be readable
 pub scannable : (store : Store) (states : List (ℕ × State)) (t : TypeDefinition) (i : IndexDefinition) → AreStatesOf store states → MayBeUsed store.schema states t i → IsScannable store t i
 scannable store states t i told may = record {
   there = may.in_schema;
   value = value_is i.kind may.of_values;
   over = may.of_type;
-  readable = told i.number Readable (is_told (listed_state states i.number) may.readable);
+  readable = told i.number Readable (readable_told (listed_state states i.number) may.readable);
 }
-  where
-    is_told : (o : Option State) → option_map_or is_readable o false ≡ true → o ≡ Some Readable
-    is_told None h = cc
-    is_told (Some Readable) h = refl
-    is_told (Some WriteOnly) h = cc
-    is_told (Some Disabled) h = cc
 
 -- ANSWERS: a plan that is right for a query is so over the map of a store
 pub answers : (prefix : List ℕ) (m : Map) (store : Store) (query : Query) (plan : Plan) (t : TypeDefinition) →

@@ -16,7 +16,7 @@ use Rattle.metadata.specs.Records.{of_type}
 use Rattle.metadata.specs.Schema.{find_type}
 use Rattle.metadata.proofs.StoredApart.{named_typed}
 use Rattle.record_store.specs.Call.{AtStore, Opened}
-use Rattle.record_store.specs.Store.{state_in}
+use Rattle.record_store.proofs.Listed.{state_told_there}
 use Rattle.query.specs.Query.{Allows}
 use Rattle.query.specs.View.{query_of}
 use Rattle.planner.specs.Asked.{AskedPlan}
@@ -76,7 +76,7 @@ module _ (opened : Opened) (plan : AskedPlan) (t : TypeDefinition) (accepted : A
         there = subst (λ schema. Rattle.std.specs.Prelude.Contains schema.indexes i) (sym same.schema) at.there;
         value = (over i c).kind;
         over = (over i c).type ∙ sym accepted.has_type.extends.same_number;
-        readable = ap (λ states. state_in states i.number) same.states ∙ at.readable;
+        readable = state_told_there opened store i same at.there ∙ at.readable;
       })
 
   -- what the steps find in a map is the plan's meaning

@@ -64,7 +64,7 @@ le_is a b = ap (λ o. not (is_lt o)) (nat_list_cmp_total.antisymm b a) ∙ by (b
     by Greater = refl
 
 -- the keys of the range that is read are those of the planner's range behind the key
-same_within : (key : List ℕ) (range : planned.PlanRange) (k : List ℕ) → contains (scan_range key range) k ≡ planned.range_has (planned.behind key range) k
+pub same_within : (key : List ℕ) (range : planned.PlanRange) (k : List ℕ) → contains (scan_range key range) k ≡ planned.range_has (planned.behind key range) k
 same_within key range k = by (key_lt (key ++ range.begin) (key ++ range.end)) refl ∙ ap (λ b. b && key_lt k (key ++ range.end)) (le_is (key ++ range.begin) k)
   where
     none : (b : Bool) → key_le (key ++ range.begin) k ≡ b → key_lt (key ++ range.begin) (key ++ range.end) ≡ false →

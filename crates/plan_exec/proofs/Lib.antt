@@ -31,3 +31,4 @@ pub mod RowLevels
 pub mod ChainedLevels
 pub mod FirstRows
 pub mod FirstPart
+pub mod Within

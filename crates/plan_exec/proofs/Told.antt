@@ -1,5 +1,5 @@
 -- What an open store tells of its indexes is so of each store that was opened so, and what a plan made from that does there.
-use Rattle.std.specs.Prelude.{◌≡◌, ◌==◌, ℕ, Bool, true, false, cond, List, [], ◌∷◌, map, Some, Result, Ok, Err, IfOk, All, refl}
+use Rattle.std.specs.Prelude.{◌≡◌, ◌==◌, ◌||◌, ℕ, Bool, true, false, cond, List, [], ◌∷◌, map, Some, Result, Ok, Err, IfOk, All, refl}
 use Rattle.std.proofs.Common.{ap, sym, ◌∙◌, subst}
 use Rattle.std.proofs.lemmas.Bool.{eqb-true}
 use Rattle.std.proofs.lemmas.Option.{same_Some}
@@ -10,7 +10,9 @@ use Rattle.metadata.specs.Schema.{Schema, find_type}
 use Rattle.metadata.proofs.StoredApart.{named_typed}
 use Rattle.record_store.specs.Call.{IsOpenAs, Opened}
 use Rattle.record_store.specs.Calls.{index_states}
+use Rattle.record_store.specs.Holds.{has_number}
 use Rattle.record_store.specs.Store.{Store, state_in}
+use Rattle.record_store.proofs.Listed.{state_told}
 use Rattle.query.specs.Query.{Query}
 use Rattle.planner.specs.Asked.{AskedPlan}
 use Rattle.planner.specs.Plan.{Plan}
@@ -23,23 +25,25 @@ use Rattle.plan_exec.specs.Planning.{AnswersQuery, ScansReadable}
 use Rattle.plan_exec.specs.Scannable.{AreStatesOf}
 use Rattle.plan_exec.proofs.Answers.{answers, itself, scannable}
 
--- what is told for a number is the state by those that are listed
-told_state : (states : List (ℕ × State)) (indexes : List IndexDefinition) (number : ℕ) (state : State) →
-    listed_state (map (λ (index : IndexDefinition). (index.number, state_in states index.number)) indexes) number ≡ Some state → state_in states number ≡ state
+-- what is told for a number is the state by those that are listed, of an index that is there
+pub told_state : (states : List (ℕ × State)) (indexes : List IndexDefinition) (number : ℕ) (state : State) →
+    listed_state (map (λ (index : IndexDefinition). (index.number, state_in states index.number)) indexes) number ≡ Some state → (has_number indexes number ≡ true) × (state_in states number ≡ state)
 told_state states [] number state e = cc
 told_state states (index ∷ indexes) number state e = by (index.number == number) refl (told_state states indexes number state) e
   where
     told : List (ℕ × State)
     told = map (λ (index : IndexDefinition). (index.number, state_in states index.number)) indexes
 
-    by : (b : Bool) → (index.number == number) ≡ b → (listed_state told number ≡ Some state → state_in states number ≡ state) →
-        cond b (Some (state_in states index.number)) (listed_state told number) ≡ Some state → state_in states number ≡ state
-    by true same later h = ap (state_in states) (sym (eqb-true index.number number same)) ∙ same_Some (state_in states index.number) state h
+    by : (b : Bool) → (index.number == number) ≡ b → (listed_state told number ≡ Some state → (has_number indexes number ≡ true) × (state_in states number ≡ state)) →
+        cond b (Some (state_in states index.number)) (listed_state told number) ≡ Some state → ((b || has_number indexes number) ≡ true) × (state_in states number ≡ state)
+    by true same later h = (refl, ap (state_in states) (sym (eqb-true index.number number same)) ∙ same_Some (state_in states index.number) state h)
     by false other later h = later h
 
 -- STATES: so what an open store tells are the states of a store that was opened so
 pub states_told : (opened : Opened) (store : Store) → IsOpenAs opened store → AreStatesOf store (index_states opened)
-states_told opened store as_opened number state e = ap (λ states. state_in states number) as_opened.states ∙ told_state opened.states opened.schema.indexes number state e
+states_told opened store as_opened number state e =
+    let (there, is) = told_state opened.states opened.schema.indexes number state e in
+    state_told opened store number as_opened (ap (λ (s : Schema). has_number s.indexes number) as_opened.schema ∙ there) ∙ is
 
 -- the indexes that may be used by what is told may be scanned there
 pub scans_readable : (opened : Opened) (plan : Plan) → All (MayBeUsed opened.schema (index_states opened) plan.definition) (indexes_of plan.root) → ScansReadable opened plan

@@ -94,7 +94,7 @@ module _ {A B : Type 0} (key : A → List Cell) (other_key : B → List Cell) wh
   joined (finds a ∷ course) other = joined_head a course (joined course) other
   joined (fails k ∷ course) other = fails k ∷ []
 
--- all courses of a list joined, the first one with those behind it
+-- all courses of a list joined, the first one with those after it
 abbrev pub all_joined : {A : Type 0} → (A → List Cell) → List (Course A) → Course A
 all_joined key [] = []
 all_joined key (course ∷ []) = course

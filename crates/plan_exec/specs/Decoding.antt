@@ -9,13 +9,13 @@ use Rattle.plan_exec.specs.declared.entry.EntryForm.{EntryForm}
 use Rattle.plan_exec.specs.declared.error.ExecError.{ExecError}
 use Rattle.plan_exec.specs.declared.error.ExecError.TheVariants.{Corrupt, Memory}
 
--- why something isn't made of pairs: memory is wanting, or the first of which it isn't has this key
+-- why something isn't made of pairs: memory runs out, or the first of which it isn't has this key
 abbrev pub IsDamage : {A : Type 0} → Result A (List ℕ) → ExecError → Type 0
 IsDamage found Memory = Unit {0}
 IsDamage found (Corrupt key) = found ≡ Err key
 IsDamage found error = ⊥
 
--- what the keys of an index's entries begin with, and the kinds of their columns and of the key fields behind them
+-- what the keys of an index's entries begin with, and the kinds of their columns and of the key fields after them
 pub record IsFormOf (prefix : List ℕ) (t : TypeDefinition) (i : IndexDefinition) (form : EntryForm) : Type 0 where
   pub front : form.front.items ≡ entries_prefix prefix i.number
   pub columns : form.columns.items ≡ column_kinds t i

@@ -62,7 +62,7 @@ pub record IsExecuted (maps : ℕ → Map) (opened : Opened) (plan : AskedPlan) 
   pub added : List KeyRange
   pub ran : DidRead maps added old new (HasRows opened plan type rows added)
 
--- why reads stopped behind the ones that were added: memory is wanting, or the next read is refused so; or none is, and
+-- why reads stopped after the ones that were added: memory runs out, or the next read is refused so; or none is, and
 -- the first damaged pair has this key
 abbrev pub IsExecutionStopped :
     (KeyRange → ReadError → Type 0) → List PlanRead → Option (List ℕ) → ExecError → List KeyRange → Type 0
@@ -113,7 +113,7 @@ pub record HasBegun (opened : Opened) (plan : AskedPlan) (type : TypeDefinition)
   pub meaning :
       (all : List Record) → rows_of opened.prefix (entries m) type (plan_of plan) ≡ Some all → IsPrefix rows all
 
--- the execution of a plan that the store accepts was cut short behind these rows
+-- the execution of a plan that the store accepts was cut short after these rows
 pub record IsCutShort (maps : ℕ → Map) (refuses : KeyRange → ℕ → ReadError → Type 0) (opened : Opened)
     (plan : AskedPlan) (rows : List Record) (error : ExecError) (old new : CommitRequest) : Type 0 where
   pub type : TypeDefinition

@@ -8,7 +8,7 @@ use Rattle.metadata.specs.Order.{cells_cmp}
 use Rattle.plan_exec.specs.Course.{Course, finds, joined, merged}
 use Rattle.plan_exec.specs.declared.level.Level.{Level}
 
--- a course behind what is known of it
+-- a course after what is known of it
 abbrev pub head_then : {A : Type 0} → Option A → Course A → Course A
 head_then None course = course
 head_then (Some a) course = finds a ∷ course

@@ -12,3 +12,4 @@ pub mod Streams
 pub mod Levels
 pub mod Sources
 pub mod Rows
+pub mod Within

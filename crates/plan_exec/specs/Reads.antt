@@ -41,7 +41,7 @@ abbrev pub onto_first : {A : Type 0} → A → List (List A) → List (List A)
 onto_first x [] = (x ∷ []) ∷ []
 onto_first x (piece ∷ pieces) = (x ∷ piece) ∷ pieces
 
--- a list cut where so many elements are left of the first piece behind its next one, and of each other piece: the last
+-- a list cut where so many elements are left of the first piece after its next one, and of each other piece: the last
 -- piece is shorter than one, maybe empty
 abbrev pub cut_from : {A : Type 0} → ℕ → ℕ → List A → List (List A)
 cut_from more left [] = [] ∷ []
@@ -52,7 +52,7 @@ cut_from more (suc left) (x ∷ xs) = onto_first x (cut_from more left xs)
 abbrev pub batches : {A : Type 0} → List A → List (List A)
 batches xs = cut_from (BATCH - 1) (BATCH - 1) xs
 
--- a reading behind one read
+-- a reading after one read
 abbrev pub read_first : {A : Type 0} → PlanRead → PlanReading A → PlanReading A
 read_first read reading = record { reads = read ∷ reading.reads; found = reading.found }
 
@@ -62,7 +62,7 @@ pairs_within range reversed pairs =
     let found = filter (λ pair. contains range pair.0) pairs in
     if reversed then reverse found else found
 
--- the range that is read for a scan behind a key: where its end would come before its begin it is empty
+-- the range that is read for a scan after a key: where its end would come before its begin it is empty
 abbrev pub scan_range : List ℕ → planned.PlanRange → KeyRange
 scan_range key range = record { begin = key ++ range.begin; end = key_max (key ++ range.begin) (key ++ range.end) }
 

@@ -27,7 +27,7 @@ RowsLevel = Level (List Pair → Course Record) Record
 abbrev pub new_level : (List Pair → Course Record) → RowsLevel
 new_level course = record { stream = course; head = None; other = None }
 
--- the rows of one part behind another
+-- the rows of one part after another
 abbrev pub chained_levels : List RowsLevel → List Pair → Course Record
 chained_levels [] pairs = []
 chained_levels (level ∷ levels) pairs = level.stream pairs ++ chained_levels levels pairs

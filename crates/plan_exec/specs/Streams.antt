@@ -39,7 +39,7 @@ pub record HasGiven {A : Type 0} (maps : ℕ → Map) (before : List Pair → Co
       (λ m. (done : List PlanRead) × (added ≡ ranges_added done)
       × GoesOn (before (entries m)) done given (after (entries m)))
 
--- why a course stops where it is: memory is wanting, the next read is refused so, or the pair with this key is damaged
+-- why a course stops where it is: memory runs out, the next read is refused so, or the pair with this key is damaged
 abbrev pub StopsHere : {A : Type 0} → (KeyRange → ReadError → Type 0) → Course A → ExecError → Type 0
 StopsHere refuses course Memory = Unit {0}
 StopsHere refuses course (Read error) =

@@ -13,7 +13,7 @@ use record_store::Store;
 use std::alloc::{AllocError, Global};
 use std::rc::Rc;
 
-// What stands behind the front in a key.
+// What stands after the front in a key.
 #[inline(always)]
 fn behind<'a>(front: &[u8], key: &'a [u8]) -> Option<&'a [u8]>
     ensures { MatchOption result (BeginsWith front.now key.now → ⊥) (λ rest. key.now ≡ front.now ++ rest.now) }

@@ -100,7 +100,7 @@ fn is_number(cell: &Cell, number: u64) -> bool
     }
 }
 
-// Whether the cells are a primary key of the type behind its number.
+// Whether the cells are a primary key of the type after its number.
 fn is_key(kinds: &[Kind], cells: &[Cell]) -> bool
     ensures { result ≡ (all_fit kinds.now cells.now && not (list_any is_null cells.now)) }
 {
@@ -129,7 +129,7 @@ fn first_of<T>(count: usize, items: &[T]) -> &[T]
     }
 }
 
-// What stands behind so many elements of a list.
+// What stands after so many elements of a list.
 fn behind<T>(count: usize, items: &[T]) -> &[T]
     ensures { result.now ≡ drop count items.now }
 {

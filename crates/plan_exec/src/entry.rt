@@ -10,7 +10,7 @@ pub(crate) struct Entry {
 }
 
 /// What the keys of an index's entries begin with, and the kinds of their columns and of the key
-/// fields behind them.
+/// fields after them.
 #[derive(Drop)]
 pub(crate) struct EntryForm {
     pub(crate) front: Vec<u8>,

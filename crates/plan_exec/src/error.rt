@@ -22,7 +22,7 @@ pub enum ExecError {
     /// The pair of this key isn't one that a store has there.
     #[error("the pair of the key {0} isn't one that a store has there")]
     Corrupt(Bytes),
-    /// Memory is wanting.
+    /// Memory runs out.
     #[error("out of memory")]
     Memory,
 }

@@ -29,7 +29,7 @@ use txn::{Snapshot, Transaction};
 /// - `OtherSchema` where the store has no type of the plan's number, name and key whose fields begin
 ///   with the plan's, and `IndexNotReadable` where an index of the plan isn't there with its
 ///   definition, or isn't readable. Nothing was read then.
-/// - `Read` with the snapshot's refusal of a read, behind the ranges read before it.
+/// - `Read` with the snapshot's refusal of a read, after the ranges read before it.
 /// - `Corrupt` with the key of the first pair, in reading order, that isn't one that a store has
 ///   there; an entry without its record is one.
 ///

@@ -59,7 +59,7 @@ pub(crate) fn entries_key(store: &Store, index: &IndexDefinition) -> Result<Vec<
     entries_prefix(store.alloc(), store.prefix(), index.number)
 }
 
-// The key of the record with a primary key of these cells, behind what the keys of all records begin
+// The key of the record with a primary key of these cells, after what the keys of all records begin
 // with.
 pub(crate) fn record_key(
     store: &Store,
@@ -76,7 +76,7 @@ pub(crate) fn record_key(
     Ok(Bytes::new(key))
 }
 
-// Bytes behind a key.
+// Bytes after a key.
 fn behind(alloc: Global, key: &[u8], rest: &ByteString) -> Result<Bytes, AllocError>
     ensures { IfOk result (λ bytes. bytes ≡ key.now ++ rest.now) }
 {
@@ -96,7 +96,7 @@ fn end_behind(begin: &Bytes, end: Bytes) -> Result<Bytes, AllocError>
     }
 }
 
-// The range that is read for a scan behind a key.
+// The range that is read for a scan after a key.
 pub(crate) fn scan_range(
     alloc: Global,
     key: &[u8],

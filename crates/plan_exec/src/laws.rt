@@ -1,6 +1,7 @@
 // Laws of plans over the map of a store: functions that do nothing, whose clauses are theorems.
 // They are for callers' proofs; no code calls them.
 ghost use Rattle.plan_exec.specs.Laws.{PlannedAnswer, PlansAnswer, StatesAreTold, StoresAreExact, UsableAreScannable};
+ghost use Rattle.plan_exec.specs.Within.{PlansReadTheirScansUntil, PlansReadTheirScans};
 
 /// The map that holds a store has exactly the records of each type of its schema, and exactly their
 /// entries in each readable index over it.
@@ -25,4 +26,12 @@ pub fn states_are_told()
 pub fn plans_answer()
     ensures right { PlansAnswer }
     ensures planned { PlannedAnswer }
+{}
+
+/// Executing a plan asks for keys of its scans' ranges alone, and for the keys of records whose
+/// primary keys stand in entries that its scans have, and no more is kept as read. So it is for
+/// each map, whole or damaged, and also where the rows aren't asked for to the end.
+pub fn plans_read_their_scans()
+    ensures within { PlansReadTheirScans }
+    ensures until { PlansReadTheirScansUntil }
 {}

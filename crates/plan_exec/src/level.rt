@@ -8,7 +8,7 @@ use crate::error::ExecError;
 use crate::streams::Stream;
 use txn::{Snapshot, Transaction};
 
-/// A stream before the levels behind it, with the next thing of the stream and that of those levels,
+/// A stream before the levels after it, with the next thing of the stream and that of those levels,
 /// where they are known.
 #[derive(Drop)]
 pub(crate) struct Level<R: Stream> {

@@ -27,5 +27,7 @@ mod streams;
 
 pub use error::ExecError;
 pub use execution::{execute, execute_each};
-pub use laws::{plans_answer, states_are_told, stores_are_exact, usable_are_scannable};
+pub use laws::{
+    plans_answer, plans_read_their_scans, states_are_told, stores_are_exact, usable_are_scannable,
+};
 pub use planning::plan_for_store;

@@ -26,18 +26,18 @@ pub(crate) enum Step<'a> {
     Scanned(RecordStream<'a>),
     /// It gives the records of a fetch, and has no parts.
     Fetched(FetchStream<'a>),
-    /// It gives the rows of one part behind another, as far as the filter is true at them.
+    /// It gives the rows of one part after another, as far as the filter is true at them.
     Kept(&'a Filter),
-    /// It gives the rows of one part behind another, without those whose primary key stood before.
+    /// It gives the rows of one part after another, without those whose primary key stood before.
     First(PrimaryKeys),
     /// It gives the rows of all parts in the order of their primary keys, each key once.
     Merged,
-    /// It gives the rows of one part behind another.
+    /// It gives the rows of one part after another.
     Chained,
 }
 
 /// The rows of a step and of those below it. Among parts that are merged, also its next row and the
-/// next row of the parts behind it, where these are known.
+/// next row of the parts after it, where these are known.
 #[derive(Drop)]
 pub(crate) struct Rows<'a> {
     pub(crate) step: Step<'a>,

@@ -27,5 +27,6 @@ pub mod KeyOrder
 pub mod Bodies
 pub mod ByField
 pub mod RisingKeys
+pub mod ReadBack
 pub mod RisingRows
 pub mod RisingPlans

@@ -1,32 +1,29 @@
 -- A node that rises by its form gives rows with rising primary keys, whatever pairs the map has.
-use Rattle.std.specs.Prelude.{◌≡◌, ℕ, Bool, true, false, cond, not, List, [], ◌∷◌, ◌++◌, All, filter, flat_map, Option, Some, None, Result, Ok, Err, refl, option_map, option_and_then, bytes_eq, pos}
+use Rattle.std.specs.Prelude.{◌≡◌, ℕ, Bool, false, not, List, [], ◌∷◌, ◌++◌, filter, flat_map, Option, Some, None, refl, option_map, option_and_then, pos}
 use Rattle.std.specs.List.{list_all, list_any}
 use Rattle.std.specs.Option.{option_zip}
-use Rattle.std.specs.Result.{result_ok}
 use Rattle.std.specs.FinMap.Entries.{find}
 use Rattle.std.specs.Ordering.{eq_by_cmp}
 use Rattle.std.specs.declared.cmp.Ordering.TheVariants.{Less}
 use Rattle.std.proofs.Common.{ap, sym, ◌∙◌, subst}
 use Rattle.std.proofs.lemmas.List.{append-nil, append_cancel_left}
 use Rattle.std.proofs.lemmas.Option.{none-some, same_Some}
-use Rattle.std.proofs.lemmas.Slice.Eq.{bytes_eq-Decides}
 use Rattle.tuple_codec.specs.Item.{int}
 use Rattle.tuple_codec.specs.Order.{bytes_cmp}
 use Rattle.tuple_codec.specs.Spelling.{item_spelling, outer}
 use Rattle.metadata.specs.declared.cells.Cell.{Cell}
 use Rattle.metadata.specs.declared.cells.Cell.TheVariants.{Int}
 use Rattle.metadata.specs.declared.definition.TypeDefinition.{TypeDefinition}
-use Rattle.metadata.specs.declared.refusal.Refusal.{Refusal}
 use Rattle.metadata.specs.Cell.{IsCell, cells_at, items_of}
 use Rattle.metadata.specs.Layout.{Pair, record_key, records_prefix}
 use Rattle.metadata.specs.Order.{cells_cmp}
-use Rattle.metadata.specs.Record.{Record, key_cells, primary_key, record_in}
+use Rattle.metadata.specs.Record.{Record, key_cells, primary_key}
 use Rattle.metadata.proofs.CellItems.{all-cells_at}
 use Rattle.metadata.proofs.StoredOnce.{made_is}
 use Rattle.query.specs.Truth.{selects}
-use Rattle.planner.specs.Layout.{keyed, primary_cells, stored_record}
+use Rattle.planner.specs.Layout.{primary_cells, stored_record}
 use Rattle.planner.specs.Meaning.{of_each, pairs_scanned, scanned_keys, source_keys, fetched, in_key_order, keys_in_all, first_of_each, node_rows, all_rows}
-use Rattle.planner.specs.Pack.{pack, pack_cell, unpack}
+use Rattle.planner.specs.Pack.{pack, pack_cell}
 use Rattle.planner.specs.Plan.{Scan, IndexScan, Source, one, intersection, Node, scan, fetch, filtered, union, unordered_union, distinct, Nodes, no_nodes, node}
 use Rattle.planner.specs.Range.{behind}
 use Rattle.planner.specs.Rising.{PartsRise, Rises, SourceRises}
@@ -38,9 +35,10 @@ use Rattle.planner.proofs.Rows.{first_of_each_from, in_key_order_from, in_key_or
 use Rattle.planner.proofs.Scans.{bytes_behind}
 use Rattle.planner.proofs.Sorted.{Rise}
 use Rattle.planner.proofs.Sorts.{behind_fixed, pack_order}
+use Rattle.planner.proofs.ReadBack.{records_back}
 use Rattle.planner.proofs.RisingKeys.{IsKeyOf, keys_are, keys_rise, pairs_rise}
 use Rattle.planner.proofs.CodecLaws.{codec_laws}
-use Rattle.planner.proofs.Unpacked.{one_pack, packed_so}
+use Rattle.planner.proofs.Unpacked.{one_pack}
 
 -- ---- the key of a record
 
@@ -52,25 +50,15 @@ pub record IsRecordOf (prefix : List ℕ) (t : TypeDefinition) (key : List ℕ) 
 
 -- each such pair is read so
 pub record_read : (prefix : List ℕ) (t : TypeDefinition) (pair : Pair) (r : Record) → stored_record prefix t pair ≡ Some r → IsRecordOf prefix t pair.0 r
-record_read prefix t pair r e = by_cells (unpack pair.1) refl e
-  where
-    by_key : (cells : List Cell) (found : Record) (b : Bool) → All IsCell cells → record_in t cells ≡ Ok found → bytes_eq pair.0 (record_key prefix (primary_key found)) ≡ b → cond b (Some found) None ≡ Some r → IsRecordOf prefix t pair.0 r
-    by_key cells found false stored made same is = absurd (none-some r is)
-    by_key cells found true stored made same is =
-        subst (IsRecordOf prefix t pair.0) (made_is t cells found made ∙ same_Some found r is)
-        (record {
-          is = (bytes_eq-Decides pair.0 (record_key prefix (primary_key found))).0 same ∙ ap (λ x. record_key prefix (primary_key x)) (sym (made_is t cells found made));
-          primary = refl;
-          stored = all_each IsCell (cells_at cells t.key) (all-cells_at cells t.key stored);
-        })
-
-    by_made : (cells : List Cell) (res : Result Record Refusal) → All IsCell cells → record_in t cells ≡ res → option_and_then (keyed prefix pair.0) (result_ok res) ≡ Some r → IsRecordOf prefix t pair.0 r
-    by_made cells (Ok found) stored made is = by_key cells found (bytes_eq pair.0 (record_key prefix (primary_key found))) stored made refl is
-    by_made cells (Err refusal) stored made is = absurd (none-some r is)
-
-    by_cells : (o : Option (List Cell)) → unpack pair.1 ≡ o → option_and_then (keyed prefix pair.0) (option_and_then (λ cells. result_ok (record_in t cells)) o) ≡ Some r → IsRecordOf prefix t pair.0 r
-    by_cells None un is = absurd (none-some r is)
-    by_cells (Some cells) un is = by_made cells (record_in t cells) (packed_so pair.1 cells un).cells refl is
+record_read prefix t pair r e =
+    let back = (records_back prefix t pair r).0 e in
+    let made = made_is t r.cells r back.0.made in
+    subst (IsRecordOf prefix t pair.0) made
+    (record {
+      is = ap (λ (p : Pair). p.0) back.1 ∙ ap (λ x. record_key prefix (primary_key x)) (sym made);
+      primary = refl;
+      stored = all_each IsCell (cells_at r.cells t.key) (all-cells_at r.cells t.key back.0.are_stored);
+    })
 
 -- behind the type's number the keys of records are ordered as their key cells
 keys_order : (prefix : List ℕ) (number : ℕ) (a b : List Cell) → Each IsCell a → Each IsCell b →

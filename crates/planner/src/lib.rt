@@ -8,8 +8,10 @@
 mod bounds;
 mod by_field;
 mod conjuncts;
+mod copying;
 mod draft;
 mod fixing;
+mod laws;
 mod left_over;
 mod longest;
 mod matching;
@@ -21,5 +23,6 @@ mod serving;
 mod sorting;
 mod unions;
 
+pub use laws::pairs_are_read_back;
 pub use plan::{IndexScan, KeyRange, Node, Plan, PlanError, Scan, Source};
 pub use planner::plan as plan_query;

@@ -1,10 +1,8 @@
 // The commands of a race's transactions, and what performs them. Called by `racing`.
-ghost use Rattle.std.specs.Prelude.{◌≡◌};
-ghost use Rattle.runtime.specs.Runs.{Continues};
 
 use metadata::Cells;
-use runtime::{Body, BodyError, End, Txn};
-use schedule::{Command, Reply};
+use runtime::{Body, CommandError, End, Txn};
+use schedule::Command;
 use script::Race;
 use std::alloc::{AllocError, Global};
 use tuple_codec::Text;
@@ -31,19 +29,6 @@ pub(crate) fn indexing(alloc: Global, race: &Race) -> Result<Vec<Command>, Alloc
     Ok(vec![in alloc; index, mark]?)
 }
 
-/// Performs a command that is to be accepted.
-fn accept<E: End>(tx: &mut Txn<'_, E>, command: &Command) -> Result<Reply, BodyError>
-    ensures same_reference { tx.new.client.ghost_name ≡ tx.old.client.ghost_name }
-    ensures continues { Continues tx.old.client.now tx.new.client.now }
-{
-    match tx.perform(command) {
-        Ok(Reply::Refused(why)) => Err(BodyError::Refused(why)),
-        Ok(Reply::Corrupt(key)) => Err(BodyError::Corrupt(key)),
-        Ok(reply) => Ok(reply),
-        Err(error) => Err(BodyError::Entry(error)),
-    }
-}
-
 /// Commands that a transaction performs in turn, each of which is to be accepted.
 #[derive(Drop)]
 pub(crate) struct InTurn<'a> {
@@ -55,9 +40,9 @@ impl<E: End> Body<E> for InTurn<'_> {
 
     ghost did = { λ body old result new after. Unit {0} };
 
-    fn attempt(&mut self, tx: &mut Txn<'_, E>) -> Result<(), BodyError> {
+    fn attempt(&mut self, tx: &mut Txn<'_, E>) -> Result<(), CommandError> {
         for command in self.commands {
-            accept(tx, command)?;
+            tx.call(command)?;
         }
         Ok(())
     }

@@ -5,7 +5,7 @@ ghost use Rattle.race.specs.Racing.{end_rank, explains_end, first_fault};
 ghost use Rattle.race.specs.declared.error.Fault.TheVariants.{Memory};
 
 use cluster_core::ConfigError;
-use runtime::{BodyError, EnterError, RunError};
+use runtime::{CommandError, EnterError, RunError};
 use schedule::Refusal;
 use std::alloc::AllocError;
 use thiserror::Error;
@@ -25,7 +25,7 @@ pub enum RaceError {
     /// A command is refused: a pair isn't one that a store has there.
     #[error("refused Corrupt")]
     Corrupt,
-    /// Memory is wanting.
+    /// Memory runs out.
     #[error("out of memory")]
     Memory,
 }
@@ -39,7 +39,7 @@ pub(crate) enum Fault {
     Refused(Refusal),
     /// A command is refused: a pair isn't one that a store has there.
     Corrupt,
-    /// Memory is wanting.
+    /// Memory runs out.
     Memory,
 }
 
@@ -60,12 +60,21 @@ impl From<EnterError> for Fault {
     }
 }
 
+impl From<CommandError> for Fault {
+    fn from(error: CommandError) -> Fault {
+        match error {
+            CommandError::Refused(why) => Fault::Refused(why),
+            CommandError::Corrupt(_) => Fault::Corrupt,
+            CommandError::Memory => Fault::Memory,
+            CommandError::NotEntered | CommandError::TooOld => Fault::GaveUp,
+        }
+    }
+}
+
 impl From<RunError> for Fault {
     fn from(error: RunError) -> Fault {
         match error {
-            RunError::Refused(BodyError::Entry(error)) => Fault::from(error),
-            RunError::Refused(BodyError::Refused(why)) => Fault::Refused(why),
-            RunError::Refused(BodyError::Corrupt(_)) => Fault::Corrupt,
+            RunError::Refused(error) => Fault::from(error),
             RunError::GaveUp => Fault::GaveUp,
         }
     }

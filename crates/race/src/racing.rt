@@ -7,7 +7,7 @@ use crate::error::{Fault, RaceError, ended, first_fault};
 use crate::telling::lines;
 use cluster_core::{Config, ConfigError};
 use metadata::Cells;
-use runtime::{Client, End, Gate, OpenError, Place, Waits, build_worker, open};
+use runtime::{Client, End, Gate, OpenError, GatePoint, Waits, build_worker, open};
 use schedule::Command;
 use script::Race;
 use std::alloc::Global;
@@ -31,7 +31,7 @@ const PLACES: u64 = 4;
 struct Open;
 
 impl Gate for Open {
-    fn pass(&mut self, _place: Place) {}
+    fn pass(&mut self, _place: GatePoint) {}
 }
 
 // The clients of a new database of this configuration.

@@ -3,19 +3,10 @@ use crate::asking::{all_records, counts_all};
 use crate::error::Fault;
 use metadata::Cells;
 use runtime::{Client, End, Txn, begin};
-use schedule::{AskedQuery, Command, Reply};
+use schedule::{AskedQuery, Command};
 use script::{Race, push_reply};
 use std::alloc::{AllocError, Global};
 use std::fmt::Write;
-
-// What a command replies that isn't refused.
-fn asked<E: End>(tx: &mut Txn<'_, E>, command: &Command) -> Result<Reply, Fault> {
-    match tx.perform(command)? {
-        Reply::Refused(why) => Err(Fault::Refused(why)),
-        Reply::Corrupt(_) => Err(Fault::Corrupt),
-        reply => Ok(reply),
-    }
-}
 
 // Performs a command, and writes its reply behind the words that begin a line.
 fn push_line<E: End>(
@@ -24,7 +15,7 @@ fn push_line<E: End>(
     text: &mut String,
     command: &Command,
 ) -> Result<(), Fault> {
-    let reply = asked(tx, command)?;
+    let reply = tx.call(command)?;
     push_reply(alloc, text, &reply)?;
     text.push_str("\n")?;
     Ok(())

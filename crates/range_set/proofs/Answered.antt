@@ -60,6 +60,10 @@ module _ (maps : ℕ → Map) (refuses : KeyRange → ℕ → ReadError → Type
           let bad : IsFirstDamaged place (reading.pairs m) key = subst (λ ps. IsFirstDamaged place ps key) here.1 is in
           (ap (λ r. r ∷ []) here.0, bad, λ set has. not_damaged place (reading.pairs m) key (written m set has) bad)
 
+  -- WANTING: behind an answer memory may still be wanting
+  pub wanting : (A : List KeyRange → Type 0) → IsSetAnswered maps place reading old new A → IsSetRefused maps refuses place reading set_memory old new
+  wanting A is = record { added = is.added ∷ []; ran = ran_because is.ran (λ m found. inr (ap (λ r. r ∷ []) found.0)) }
+
   -- SO: what an answer tells
   pub answered_so : (A B : List KeyRange → Type 0) → IsSetAnswered maps place reading old new A → ((set : List KeyRange) → A set → B set) → IsSetAnswered maps place reading old new B
   answered_so A B is so = record { added = is.added; ran = ran_because is.ran (λ m found. (found.0, found.1, λ set has. so set (found.2 set has))) }

@@ -1,10 +1,11 @@
--- Worked examples: gaps of sets, and the pair of a range.
+-- Worked examples: gaps of sets, the pair of a range, and what is written to insert one.
 use Rattle.std.proofs.Common.{◌≡◌, ℕ, true, false, List, [], ◌∷◌, Some, None, refl}
 use Rattle.tuple_codec.specs.Reading.{closed_at}
 use Rattle.kv_core.specs.Bytes.{end_of_keys}
-use Rattle.kv_core.specs.Range.{KeyRange}
+use Rattle.kv_core.specs.Range.{KeyRange, point}
+use Rattle.kv_core.specs.declared.change.Mutation.TheVariants.{ClearRange, Set}
 use Rattle.range_set.specs.Gaps.{first_gap, has_position, is_whole}
-use Rattle.range_set.specs.Stored.{range_pair}
+use Rattle.range_set.specs.Stored.{insertion, range_pair}
 use Rattle.range_set.specs.Told.{ranges_in}
 
 abbrev from : List ℕ → List ℕ → KeyRange
@@ -66,3 +67,21 @@ overlapping = refl
 side_by_side : ranges_in [] ((1 ∷ 5 ∷ 0 ∷ [], 7 ∷ []) ∷ (1 ∷ 7 ∷ 0 ∷ [], 255 ∷ []) ∷ []) ≡ Some (from (5 ∷ []) (7 ∷ []) ∷ from (7 ∷ []) end_of_keys ∷ [])
 unfolding closed_at
 side_by_side = refl
+
+-- where [5, 7) and [9, FF) stand, [7, 9) touches both: the first one's pair gets the last one's end, whose own pair goes
+touches_both : insertion (21 ∷ []) (from (5 ∷ []) (7 ∷ []) ∷ from (9 ∷ []) end_of_keys ∷ []) (from (7 ∷ []) (9 ∷ []))
+    ≡ Set (21 ∷ 1 ∷ 5 ∷ 0 ∷ []) end_of_keys ∷ ClearRange (point (21 ∷ 1 ∷ 9 ∷ 0 ∷ [])) ∷ []
+touches_both = refl
+
+-- [7, 8) touches the first one: its pair gets the new end
+touches_left : insertion (21 ∷ []) (from (5 ∷ []) (7 ∷ []) ∷ from (9 ∷ []) end_of_keys ∷ []) (from (7 ∷ []) (8 ∷ [])) ≡ Set (21 ∷ 1 ∷ 5 ∷ 0 ∷ []) (8 ∷ []) ∷ []
+touches_left = refl
+
+-- [8, 9) touches the last one: a pair with its end is put, and its own goes
+touches_right : insertion (21 ∷ []) (from (5 ∷ []) (7 ∷ []) ∷ from (9 ∷ []) end_of_keys ∷ []) (from (8 ∷ []) (9 ∷ []))
+    ≡ Set (21 ∷ 1 ∷ 8 ∷ 0 ∷ []) end_of_keys ∷ ClearRange (point (21 ∷ 1 ∷ 9 ∷ 0 ∷ [])) ∷ []
+touches_right = refl
+
+-- [1, 2) touches none, and stands beside them
+touches_none : insertion (21 ∷ []) (from (5 ∷ []) (7 ∷ []) ∷ from (9 ∷ []) end_of_keys ∷ []) (from (1 ∷ []) (2 ∷ [])) ≡ Set (21 ∷ 1 ∷ 1 ∷ 0 ∷ []) (2 ∷ []) ∷ []
+touches_none = refl

@@ -1,23 +1,17 @@
--- A range that is inserted in a gap joins the set.
-use Rattle.std.proofs.Common.{◌≡◌, inl, inr, ℕ, Bool, true, false, cond, ◌||◌, List, [], ◌∷◌, ◌++◌, map, Some, refl, sym, ap, subst, ◌∙◌, ◌&&◌, IsTrue}
+-- Ranges with one more that lies in a gap of them: they may still be stored, and their pairs are those and one more.
+use Rattle.std.proofs.Common.{◌≡◌, inl, inr, ℕ, Bool, true, false, cond, ◌||◌, List, [], ◌∷◌, map, Some, refl, sym, ap, ◌∙◌, ◌&&◌, IsTrue}
 use Rattle.std.specs.BTreeMap.{is_at}
-use Rattle.std.specs.List.{AllByRecursion}
+use Rattle.std.specs.List.{AllByRecursion, list_any}
 use Rattle.std.specs.Map.{lookup}
 use Rattle.std.specs.Ordering.{is_eq, is_lt}
 use Rattle.std.proofs.lemmas.Bool.{true≢false, false_from_ne_true}
 use Rattle.std.proofs.lemmas.Cmp.{nat_list_cmp_total, tied_itself}
 use Rattle.tuple_codec.specs.Item.{AreBytes}
 use Rattle.kv_core.specs.Bytes.{key_cmp, key_le, key_lt}
-use Rattle.kv_core.specs.Map.{Map, after}
 use Rattle.kv_core.specs.Range.{KeyRange, contains}
-use Rattle.kv_core.specs.declared.change.CommitRequest.{CommitRequest}
-use Rattle.kv_core.specs.declared.change.Mutation.TheVariants.{Set}
-use Rattle.kv_core.proofs.Changes.{after_all-append, get-set}
 use Rattle.kv_core.proofs.Order.{cases_key, le_from, le_from_lt, le_refl, le_trans, lt_le_trans, tied_keys}
-use Rattle.kv_core.proofs.Stored.{get-stored}
-use Rattle.txn.specs.Reads.{seen, with_mutation}
 use Rattle.range_set.specs.Gaps.{has_position}
-use Rattle.range_set.specs.Stored.{AreStored, IsInGap, IsStoredRange, Joins, insertion, range_key, range_pair}
+use Rattle.range_set.specs.Stored.{AreStored, IsInGap, IsStoredRange, range_key, range_pair}
 use Rattle.range_set.proofs.PlacePairs.{key_order}
 
 abbrev Pair : Type 0
@@ -58,7 +52,7 @@ all_later low high [] upto all = tt
 all_later low high (range ∷ ranges) upto all = (le_trans low high range.begin upto all.0, all_later low high ranges upto all.1)
 
 -- ranges with one more, in the order of their begins
-abbrev with_inserted : KeyRange → List KeyRange → List KeyRange
+abbrev pub with_inserted : KeyRange → List KeyRange → List KeyRange
 with_inserted range [] = range ∷ []
 with_inserted range (first ∷ ranges) = cond (key_lt range.begin first.begin) (range ∷ first ∷ ranges) (first ∷ with_inserted range ranges)
 
@@ -71,7 +65,7 @@ all_with P range (first ∷ ranges) p all = by_test (key_lt range.begin first.be
     by_test false rest = (all.0, rest)
 
 -- STORED: they may still be stored
-still_stored : (range : KeyRange) (ranges : List KeyRange) → IsStoredRange range → AreStored ranges → IsInGap range ranges → AreStored (with_inserted range ranges)
+pub still_stored : (range : KeyRange) (ranges : List KeyRange) → IsStoredRange range → AreStored ranges → IsInGap range ranges → AreStored (with_inserted range ranges)
 still_stored range [] is stored gap = (is, tt, tt)
 still_stored range (first ∷ ranges) is stored gap = by_test (key_lt range.begin first.begin) refl (still_stored range ranges is stored.2 (rest_gap range first ranges gap))
   where
@@ -82,20 +76,20 @@ still_stored range (first ∷ ranges) is stored gap = by_test (key_lt range.begi
     by_test false high rest =
         (stored.0, all_with (λ later. IsTrue (key_le first.end later.begin)) range ranges (begins_after range first ranges gap is high) stored.1, rest)
 
--- COVER: they have the new positions and the old ones
-with_inserted_has : (range : KeyRange) (ranges : List KeyRange) (position : List ℕ) → has_position (with_inserted range ranges) position ≡ (contains range position || has_position ranges position)
-with_inserted_has range [] position = refl
-with_inserted_has range (first ∷ ranges) position = by_test (key_lt range.begin first.begin) (with_inserted_has range ranges position)
+-- ANY: one of them passes a test where the new one does or one of the others
+pub with_inserted_any : (test : KeyRange → Bool) (range : KeyRange) (ranges : List KeyRange) → list_any test (with_inserted range ranges) ≡ (test range || list_any test ranges)
+with_inserted_any test range [] = refl
+with_inserted_any test range (first ∷ ranges) = by_test (key_lt range.begin first.begin) (with_inserted_any test range ranges)
   where
     swap : (a b c : Bool) → (b || (a || c)) ≡ (a || (b || c))
     swap true true c = refl
     swap true false c = refl
     swap false b c = refl
 
-    by_test : (b : Bool) → has_position (with_inserted range ranges) position ≡ (contains range position || has_position ranges position) →
-        has_position (cond b (range ∷ first ∷ ranges) (first ∷ with_inserted range ranges)) position ≡ (contains range position || (contains first position || has_position ranges position))
+    by_test : (b : Bool) → list_any test (with_inserted range ranges) ≡ (test range || list_any test ranges) →
+        list_any test (cond b (range ∷ first ∷ ranges) (first ∷ with_inserted range ranges)) ≡ (test range || (test first || list_any test ranges))
     by_test true rest = refl
-    by_test false rest = ap (λ b. contains first position || b) rest ∙ swap (contains range position) (contains first position) (has_position ranges position)
+    by_test false rest = ap (λ b. test first || b) rest ∙ swap (test range) (test first) (list_any test ranges)
 
 -- ---- their pairs
 
@@ -105,7 +99,8 @@ key_differs place a b h k low = false_from_ne_true (is_eq (key_cmp (range_key pl
     true≢false (sym low ∙ ap is_lt (sym (key_order place a b h k) ∙ ap (key_cmp (range_key place a)) (tied_keys (range_key place b) (range_key place a) same)
     ∙ tied_itself nat_list_cmp_total (range_key place a))))
 
-looked_up : (place : List ℕ) (range : KeyRange) (ranges : List KeyRange) (q : List ℕ) → IsStoredRange range → AreStored ranges → IsInGap range ranges →
+-- PAIRS: a key has the new range's end, or what it had
+pub looked_up : (place : List ℕ) (range : KeyRange) (ranges : List KeyRange) (q : List ℕ) → IsStoredRange range → AreStored ranges → IsInGap range ranges →
     lookup (is_at (key_cmp q)) (map (range_pair place) (with_inserted range ranges))
     ≡ cond (is_eq (key_cmp q (range_key place range.begin))) (Some range.end) (lookup (is_at (key_cmp q)) (map (range_pair place) ranges))
 looked_up place range [] q is stored gap = refl
@@ -136,29 +131,3 @@ looked_up place range (first ∷ ranges) q is stored gap =
             ∙ key_differs place first.begin range.begin stored.0.begin is.begin lower))
         turned true false f r = refl
         turned false r f s = refl
-
--- INSERT: a map has the set with the range once that is written
-pub inserted : (place : List ℕ) (range : KeyRange) (m : Map) → IsStoredRange range → Joins place range m (after (insertion place range) m)
-inserted place range m is set gap has =
-    let free : IsInGap range has.ranges = λ position inside. has.same position ∙ gap position inside in
-    record {
-      ranges = with_inserted range has.ranges;
-      stored = still_stored range has.ranges is has.stored free;
-      has = λ rest.
-          let q = place ++ rest in
-          get-set m (range_key place range.begin) range.end q
-          ∙ ap (λ o. cond (is_eq (key_cmp q (range_key place range.begin))) (Some range.end) o) (has.has rest ∙ get-stored (map (range_pair place) has.ranges) q)
-          ∙ sym (get-stored (map (range_pair place) (with_inserted range has.ranges)) q ∙ looked_up place range has.ranges q is has.stored free);
-      same = λ position. with_inserted_has range has.ranges position ∙ ap (λ b. contains range position || b) (has.same position);
-    }
-
--- SEEN: so the transaction sees it then
-pub seen_joined : (place : List ℕ) (range : KeyRange) (old new : CommitRequest) → IsStoredRange range → new ≡ with_mutation (insertion place range) old → (m : Map) → Joins place range (seen old m) (seen new m)
-seen_joined place range old new is made m =
-    subst (λ n. Joins place range (seen old m) n)
-    (sym (ap (λ (t : CommitRequest). seen t m) made ∙ after_all-append old.mutations (insertion place range ∷ []) m))
-    (inserted place range (seen old m) is)
-
-pub set_joined : (place : List ℕ) (range : KeyRange) (old new : CommitRequest) (key value : List ℕ) → IsStoredRange range → (key, value) ≡ range_pair place range → new ≡ with_mutation (Set key value) old →
-    (m : Map) → Joins place range (seen old m) (seen new m)
-set_joined place range old new key value is pair made = seen_joined place range old new is (made ∙ ap (λ (p : Pair). with_mutation (Set p.0 p.1) old) pair)

@@ -11,8 +11,7 @@ use Rattle.kv_core.specs.Bytes.{end_of_keys, key_cmp, key_le, key_lt, next_key}
 use Rattle.kv_core.specs.Range.{is_key_range}
 use Rattle.kv_core.proofs.Order.{le_from_lt}
 use Rattle.kv_core.proofs.Pairs.{next_least}
-use Rattle.range_set.specs.Calls.{upto_range, whole_range}
-use Rattle.range_set.specs.Stored.{range_key}
+use Rattle.range_set.specs.Stored.{range_key, upto_range, whole_range}
 
 -- a key that has bytes is one with anything behind it
 below_more : (b : ℕ) (p q : List ℕ) → key_lt (b ∷ p) end_of_keys ≡ true → key_lt ((b ∷ p) ++ q) end_of_keys ≡ true
@@ -27,7 +26,8 @@ below_more b p q low = by_order (nat_cmp b 255) p low
     by_order Equal rest h = absurd (not_below_nothing rest h)
     by_order Greater rest h = cc
 
-key_below : (place begin : List ℕ) → key_lt place end_of_keys ≡ true → key_lt (range_key place begin) end_of_keys ≡ true
+-- KEY: so does the key of each range
+pub key_below : (place begin : List ℕ) → key_lt place end_of_keys ≡ true → key_lt (range_key place begin) end_of_keys ≡ true
 key_below [] begin low = refl
 key_below (b ∷ place) begin low = below_more b place (spelling (bytes begin ∷ [])) low
 

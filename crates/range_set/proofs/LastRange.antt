@@ -13,8 +13,7 @@ use Rattle.kv_core.proofs.Order.{cases_key, le_from_lt, le_lt_trans, less_self, 
 use Rattle.kv_core.proofs.Pairs.{next_least}
 use Rattle.kv_core.proofs.Stored.{last_first, pairs_in-stored, stored}
 use Rattle.range_set.specs.Gaps.{has_position}
-use Rattle.range_set.specs.Stored.{ArePairsOf, AreStored, AreWritten, HasSet, IsStoredRange, range_key, range_pair}
-use Rattle.range_set.specs.Calls.{upto_range}
+use Rattle.range_set.specs.Stored.{ArePairsOf, AreStored, AreWritten, HasSet, IsStoredRange, range_key, range_pair, upto_range}
 use Rattle.range_set.specs.Steps.{ends_behind}
 use Rattle.range_set.proofs.PlacePairs.{key_order, keys_rise, place_pairs}
 

@@ -1,4 +1,4 @@
--- The ranges that pairs stand for, and the first gap of them, are told by functions.
+-- The ranges that pairs stand for, and those that a map has with their first gap, are told by functions.
 use Rattle.std.proofs.Common.{◌≡◌, ◌&&◌, ℕ, Bool, true, false, cond, List, [], ◌∷◌, map, Some, None, refl, sym, ap, subst, ◌∙◌, IsTrue}
 use Rattle.std.specs.Prelude.{bytes_eq, option_and_then}
 use Rattle.std.specs.List.{AllByRecursion, list_all}
@@ -15,15 +15,13 @@ use Rattle.kv_core.specs.Bytes.{end_of_keys, key_le, key_lt}
 use Rattle.kv_core.specs.Map.{Map, pairs_in}
 use Rattle.kv_core.specs.Range.{KeyRange}
 use Rattle.kv_core.proofs.Order.{le_from_lt}
-use Rattle.range_set.specs.Calls.{whole_range}
 use Rattle.range_set.specs.Gaps.{first_gap}
-use Rattle.range_set.specs.Steps.{gap_from}
-use Rattle.range_set.specs.Stored.{ArePairsOf, AreStored, IsStoredRange, range_key, range_pair}
-use Rattle.range_set.specs.Told.{GapTold, RangesTold, are_bytes, are_in_order, are_written, begin_in, gap_in, is_range_pair, is_stored, range_in, ranges_in}
+use Rattle.range_set.specs.Stored.{ArePairsOf, AreStored, HasSet, IsStoredRange, range_key, range_pair, whole_range}
+use Rattle.range_set.specs.Told.{GapTold, RangesTold, are_bytes, are_in_order, are_written, begin_in, is_range_pair, is_stored, range_in, ranges_in, stored_in}
+use Rattle.range_set.proofs.Gaps.{same_gap}
 use Rattle.range_set.proofs.Inserts.{all_later}
 use Rattle.range_set.proofs.RangeRows.{all_from}
-use Rattle.range_set.proofs.Walks.{gap_found}
-use Rattle.range_set.proofs.WholeRead.{all_written, gap_told}
+use Rattle.range_set.proofs.WholeRead.{whole_read}
 
 abbrev Pair : Type 0
 Pair = List ℕ × List ℕ
@@ -126,13 +124,13 @@ ranges_tell place pairs ranges are =
     in_order : are_in_order [] (map (range_in place) (map (range_pair place) ranges)) ≡ true
     in_order = ap (are_in_order []) (ranges_again place ranges) ∙ order_tells [] ranges are.stored (all_from ranges)
 
+pub some_ranges : (a b : List KeyRange) → Some a ≡ Some b → a ≡ b
+some_ranges a b same = cc
+
 -- TOLD: and ranges that are told are those of the pairs
 pub ranges_told : (place : List ℕ) (pairs : List Pair) (ranges : List KeyRange) → ranges_in place pairs ≡ Some ranges → ArePairsOf place pairs ranges
 ranges_told place pairs ranges told = by_test (are_written place pairs) refl told
   where
-    some_ranges : (a b : List KeyRange) → Some a ≡ Some b → a ≡ b
-    some_ranges a b same = cc
-
     by_test : (b : Bool) → are_written place pairs ≡ b → cond b (Some (map (range_in place) pairs)) None ≡ Some ranges → ArePairsOf place pairs ranges
     by_test true passed is =
         let parts = and_parts (list_all (is_range_pair place) pairs) (are_in_order [] (map (range_in place) pairs)) passed in
@@ -145,13 +143,10 @@ ranges_told place pairs ranges told = by_test (are_written place pairs) refl tol
 pub ranges_are_told : RangesTold
 ranges_are_told place pairs ranges = (ranges_tell place pairs ranges, ranges_told place pairs ranges)
 
--- GAP: what going through the ranges finds is the gap that the map tells
-pub gap_walked : (place : List ℕ) (m : Map) (ranges : List KeyRange) → ArePairsOf place (pairs_in m (whole_range place)) ranges → gap_from [] ranges ≡ gap_in place m
-gap_walked place m ranges are =
-    gap_found ranges ranges are.stored (λ position. refl) ∙ sym (ap (option_and_then first_gap) (ranges_tell place (pairs_in m (whole_range place)) ranges are))
+-- SET: those of a set that a map has are told
+pub set_told : (place : List ℕ) (set : List KeyRange) (m : Map) → (has : HasSet place set m) → stored_in place m ≡ Some has.ranges
+set_told place set m has = ranges_tell place (pairs_in m (whole_range place)) has.ranges (record { stored = has.stored; are = whole_read place set m has })
 
--- SET: and it is the first one of each set that the map has
+-- GAP: and so is its first gap
 pub gap_is_told : GapTold
-gap_is_told place set m has =
-    let written = all_written place set m has in
-    sym (gap_walked place m written.0 written.1) ∙ gap_told place set written.0 m written.1 has
+gap_is_told place set m has = ap (option_and_then first_gap) (set_told place set m has) ∙ same_gap has.ranges set has.same

@@ -1,6 +1,6 @@
 -- What each call's read tells, and why a call is refused behind it.
-use Rattle.std.proofs.Common.{◌≡◌, ℕ, Bool, true, false, not, List, [], Option, Some, None, refl, ap, subst, sym, ◌∙◌}
-use Rattle.std.specs.Option.{is_none, is_some}
+use Rattle.std.proofs.Common.{◌≡◌, ℕ, Bool, true, false, not, List, Option, Some, None, refl, ap, subst, sym, ◌∙◌}
+use Rattle.std.specs.Option.{is_none, is_some, option_and_then}
 use Rattle.tuple_codec.specs.Item.{AreBytes}
 use Rattle.kv_core.specs.Map.{Agree, Map, pairs_in}
 use Rattle.kv_core.specs.Range.{KeyRange}
@@ -8,20 +8,20 @@ use Rattle.kv_core.specs.Read.{range_read, read_of}
 use Rattle.kv_core.specs.declared.change.CommitRequest.{CommitRequest}
 use Rattle.cluster_core.specs.declared.answers.ReadError.{ReadError}
 use Rattle.txn.specs.Reads.{has_read, seen}
-use Rattle.txn.proofs.Running.{ran_read}
+use Rattle.txn.proofs.Running.{ran_because, ran_read}
 use Rattle.range_set.specs.declared.error.RangeSetError.{RangeSetError}
 use Rattle.range_set.specs.declared.error.RangeSetError.TheVariants.{Memory, Read, Corrupt}
 use Rattle.range_set.specs.Calls.{IsPositionTold, IsSetAnswered, IsSetRefused, IsUntold, all_ranges, last_upto}
-use Rattle.range_set.specs.Calls.{upto_range, whole_range}
-use Rattle.range_set.specs.Gaps.{first_gap, has_position}
-use Rattle.range_set.specs.Steps.{HaveNoRanges, ends_behind, gap_from}
-use Rattle.range_set.specs.Stored.{ArePairsOf, AreWritten}
-use Rattle.range_set.specs.Told.{IsGapIn}
-use Rattle.range_set.proofs.Answered.{IsReading, answered, damaged}
+use Rattle.range_set.specs.Gaps.{SamePositions, first_gap, has_position}
+use Rattle.range_set.specs.Steps.{HaveNoRanges, ends_behind}
+use Rattle.range_set.specs.Stored.{ArePairsOf, AreWritten, upto_range, whole_range}
+use Rattle.range_set.specs.Told.{AreRangesIn, IsGapIn}
+use Rattle.range_set.proofs.Answered.{IsReading, answered, answered_so, damaged}
+use Rattle.range_set.proofs.Gaps.{same_gap}
 use Rattle.range_set.proofs.LastRange.{found_written, range_found_tells}
 use Rattle.range_set.proofs.RangeRows.{not_damaged}
-use Rattle.range_set.proofs.RangesTold.{gap_walked}
-use Rattle.range_set.proofs.WholeRead.{all_written, gap_told}
+use Rattle.range_set.proofs.RangesTold.{ranges_tell}
+use Rattle.range_set.proofs.WholeRead.{all_written, positions_read}
 
 abbrev Pair : Type 0
 Pair = List ℕ × List ℕ
@@ -54,20 +54,28 @@ module _ (maps : ℕ → Map) (refuses : KeyRange → ℕ → ReadError → Type
     whole_reading : IsReading maps (all_ranges place) range slice old new
     whole_reading m agree = (is, same ∙ says m agree ∙ ap (pairs_in (seen old m)) is)
 
-    -- GAP: they tell the first gap
-    pub gap_found_there : (ranges row : List KeyRange) (gap : Option KeyRange) → ArePairsOf place slice ranges → row ≡ ranges → gap ≡ gap_from [] row → IsSetAnswered maps place (all_ranges place) old new (λ set. gap ≡ first_gap set)
-    gap_found_there ranges row gap are rows finds =
-        answered maps refuses place (all_ranges place) old new range slice ranges (λ set. gap ≡ first_gap set) made whole_reading are
-        (λ m set there has. finds ∙ ap (gap_from []) rows ∙ gap_told place set ranges m there has)
+    -- SET: they have the positions of each set that is there
+    pub ranges_found_there : (ranges : List KeyRange) → ArePairsOf place slice ranges → IsSetAnswered maps place (all_ranges place) old new (SamePositions ranges)
+    ranges_found_there ranges are =
+        answered maps refuses place (all_ranges place) old new range slice ranges (SamePositions ranges) made whole_reading are
+        (λ m set there has. positions_read place set ranges m there has)
 
-    -- IN: and it is the one that the map's pairs tell
-    pub gap_found_in : (ranges row : List KeyRange) (gap : Option KeyRange) → ArePairsOf place slice ranges → row ≡ ranges → gap ≡ gap_from [] row → IsGapIn maps place old new gap
-    gap_found_in ranges row gap are rows finds =
+    -- IN: and they are those that the map's pairs tell
+    pub ranges_found_in : (ranges : List KeyRange) → ArePairsOf place slice ranges → AreRangesIn maps place old new ranges
+    ranges_found_in ranges are =
         ran_read (whole_range place) (made ∙ ap (λ r. has_read r old) is)
-        (λ m agree. finds ∙ ap (gap_from []) rows ∙ gap_walked place (seen old m) ranges (subst (λ ps. ArePairsOf place ps ranges) (whole_reading m agree).1 are))
+        (λ m agree. ranges_tell place (pairs_in (seen old m) (whole_range place)) ranges (subst (λ ps. ArePairsOf place ps ranges) (whole_reading m agree).1 are))
 
-    pub gap_damaged : (error : RangeSetError) → HaveNoRanges place slice error → IsSetRefused maps refuses place (all_ranges place) error old new
-    gap_damaged error none = damaged maps refuses place (all_ranges place) old new range slice error made whole_reading none (λ m set has. all_written place set m has)
+    pub ranges_damaged : (error : RangeSetError) → HaveNoRanges place slice error → IsSetRefused maps refuses place (all_ranges place) error old new
+    ranges_damaged error none = damaged maps refuses place (all_ranges place) old new range slice error made whole_reading none (λ m set has. all_written place set m has)
+
+  -- ---- the first gap of ranges that were read
+
+  pub gap_read : (ranges : List KeyRange) (gap : Option KeyRange) → gap ≡ first_gap ranges → IsSetAnswered maps place (all_ranges place) old new (SamePositions ranges) → IsSetAnswered maps place (all_ranges place) old new (λ set. gap ≡ first_gap set)
+  gap_read ranges gap is read = answered_so maps refuses place (all_ranges place) old new (SamePositions ranges) (λ set. gap ≡ first_gap set) read (λ set same. is ∙ same_gap ranges set same)
+
+  pub gap_read_in : (ranges : List KeyRange) (gap : Option KeyRange) → gap ≡ first_gap ranges → AreRangesIn maps place old new ranges → IsGapIn maps place old new gap
+  gap_read_in ranges gap is read = ran_because read (λ m told. is ∙ sym (ap (option_and_then first_gap) told))
 
 -- NONE: what has no value, by the test of the call
 pub none_told : {T : Type 0} (o : Option T) (none : Bool) → is_some o ≡ not none → none ≡ is_none o

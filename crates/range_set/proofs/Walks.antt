@@ -13,7 +13,7 @@ use Rattle.range_set.proofs.Inserts.{all_later, first_has, lies_in}
 use Rattle.range_set.proofs.RangeRows.{all_from}
 
 -- ranges that begin at a position or behind it have no position before it
-none_low : (low position : List ℕ) (ranges : List KeyRange) → AllByRecursion (λ later. IsTrue (key_le low later.begin)) ranges → key_lt position low ≡ true → has_position ranges position ≡ false
+pub none_low : (low position : List ℕ) (ranges : List KeyRange) → AllByRecursion (λ later. IsTrue (key_le low later.begin)) ranges → key_lt position low ≡ true → has_position ranges position ≡ false
 none_low low position [] all less = refl
 none_low low position (range ∷ ranges) all less =
     ap (λ b. (not b && key_lt position range.end) || has_position ranges position) (lt_le_trans position low range.begin less all.0) ∙ none_low low position ranges all.1 less

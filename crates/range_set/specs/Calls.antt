@@ -1,9 +1,7 @@
 -- What the calls on a set of positions establish, whatever map the snapshot turns out to have.
 use Rattle.std.specs.Prelude.{◌≡◌, ◌⊎◌, ℕ, Bool, IsTrue, true, List, [], ◌∷◌}
 use Rattle.tuple_codec.specs.Item.{AreBytes}
-use Rattle.tuple_codec.specs.Subspace.{range_begin, range_end}
-use Rattle.kv_core.specs.Bytes.{next_key}
-use Rattle.kv_core.specs.Map.{Agree, Map, after, pairs_in}
+use Rattle.kv_core.specs.Map.{Agree, Map, after_all, pairs_in}
 use Rattle.kv_core.specs.Range.{KeyRange, contains}
 use Rattle.kv_core.specs.Read.{range_read, read_of}
 use Rattle.kv_core.specs.declared.change.CommitRequest.{CommitRequest}
@@ -12,15 +10,9 @@ use Rattle.txn.specs.Runs.{Ran}
 use Rattle.range_set.specs.declared.error.RangeSetError.{RangeSetError}
 use Rattle.range_set.specs.declared.error.RangeSetError.TheVariants.{Memory, Read, Corrupt}
 use Rattle.range_set.specs.Gaps.{has_position}
-use Rattle.range_set.specs.Stored.{AreWritten, HasSet, IsFirstDamaged, IsInGap, IsStoredRange, insertion, range_key}
-
--- the keys of all ranges of a set
-abbrev pub whole_range : List ℕ → KeyRange
-whole_range place = record { begin = range_begin place; end = range_end place }
-
--- the keys of those ranges that begin at a position or before it
-abbrev pub upto_range : List ℕ → List ℕ → KeyRange
-upto_range place position = record { begin = range_begin place; end = next_key (range_key place position) }
+use Rattle.range_set.specs.Stored.{AreWritten, HasSet, IsFirstDamaged, IsInGap, IsStoredRange, upto_range}
+use Rattle.range_set.specs.Stored.{whole_range}
+use Rattle.range_set.specs.Told.{insertion_in}
 
 -- what a call reads of a map: the range that it asks for, the range that it adds to those read, and the pairs
 pub record SetReading : Type 0 where
@@ -58,9 +50,9 @@ abbrev pub InsertMeets : Type 0
 InsertMeets =
     (place position : List ℕ) (range : KeyRange) (set : List KeyRange) (m : Map) → AreBytes position →
     IsStoredRange range → IsInGap range set → IsTrue (contains range position) → HasSet place set m →
-    Agree ((last_upto place position).added m ∷ []) m (after (insertion place range) m) → ⊥
+    Agree ((last_upto place position).added m ∷ []) m (after_all (insertion_in place m range) m) → ⊥
 
--- why the pair found tells nothing of a position: memory is wanting, or the first damaged pair has this key, and no set
+-- why the pair found tells nothing of a position: memory runs out, or the first damaged pair has this key, and no set
 -- is in a map of which it was read
 abbrev pub IsUntold : List ℕ → List ℕ → List (List ℕ × List ℕ) → RangeSetError → Type 0
 IsUntold place position pairs Memory = Unit {0}
@@ -89,7 +81,7 @@ pub record IsSetAnswered (maps : ℕ → Map) (place : List ℕ) (reading : SetR
   pub ran : Ran maps (added ∷ []) old new []
       (λ m. (added ≡ reading.added m) × AreWritten place (reading.pairs m) × AtSets place m Answer)
 
--- why a call isn't answered: memory is wanting, before the read or behind it; or the read is refused, and adds nothing;
+-- why a call isn't answered: memory runs out, before the read or after it; or the read is refused, and adds nothing;
 -- or it was answered, the first damaged pair of it has this key, and no set is there
 abbrev pub IsSetUnread :
     (KeyRange → ReadError → Type 0) → List ℕ → SetReading → RangeSetError → List KeyRange → Map → Type 0

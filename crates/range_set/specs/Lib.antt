@@ -1,5 +1,5 @@
 pub mod Gaps
 pub mod Stored
+pub mod Told
 pub mod Calls
 pub mod Steps
-pub mod Told

@@ -24,18 +24,18 @@ abbrev pub only_bytes : List Item → Option (List ℕ)
 only_bytes (bytes begin ∷ []) = Some begin
 only_bytes other = None
 
--- Private: a key was read as this tuple behind the place, and as no other
+-- Private: a key was read as this tuple after the place, and as no other
 pub record IsSpelledAs (place key : List ℕ) (t : List Item) : Type 0 where
   pub spelled : SpellsUnder place t key
   pub only : (u : List Item) → SpellsUnder place u key → t ≡ u
 
--- Private: why a key is read as no tuple: memory is wanting, or there is none behind the place
+-- Private: why a key is read as no tuple: memory runs out, or there is none after the place
 abbrev pub IsUnspelled : List ℕ → List ℕ → RangeSetError → Type 0
 IsUnspelled place key Memory = Unit {0}
 IsUnspelled place key (Read error) = ⊥
 IsUnspelled place key (Corrupt damaged) = (damaged ≡ key) × ((u : List Item) → SpellsUnder place u key → ⊥)
 
--- Private: why the range from a begin to an end isn't one that may be stored: memory is wanting, or it isn't
+-- Private: why the range from a begin to an end isn't one that may be stored: memory runs out, or it isn't
 abbrev pub IsNoStoredRange : List ℕ → List ℕ → List ℕ → RangeSetError → Type 0
 IsNoStoredRange key begin end Memory = Unit {0}
 IsNoStoredRange key begin end (Read error) = ⊥
@@ -47,31 +47,31 @@ pub record IsPairOfRange (place : List ℕ) (pair : List ℕ × List ℕ) (range
   pub stored : IsStoredRange range
   pub is : pair ≡ range_pair place range
 
--- Private: why a pair isn't read as a range: memory is wanting, or it stands for none
+-- Private: why a pair isn't read as a range: memory runs out, or it stands for none
 abbrev pub IsPairOfNoRange : List ℕ → List ℕ × List ℕ → RangeSetError → Type 0
 IsPairOfNoRange place pair Memory = Unit {0}
 IsPairOfNoRange place pair (Read error) = ⊥
 IsPairOfNoRange place pair (Corrupt key) =
     (key ≡ pair.0) × ((range : KeyRange) → IsPairOfRange place pair range → ⊥)
 
--- Private: a pair stands for this range, which begins at a position or behind it
+-- Private: a pair stands for this range, which begins at a position or after it
 pub record IsNext (place end : List ℕ) (pair : List ℕ × List ℕ) (range : KeyRange) : Type 0 where
   pub stands : IsPairOfRange place pair range
   pub behind : IsTrue (key_le end range.begin)
 
--- Private: why a pair stands for no such range: memory is wanting, or it doesn't
+-- Private: why a pair stands for no such range: memory runs out, or it doesn't
 abbrev pub IsNotNext : List ℕ → List ℕ → List ℕ × List ℕ → RangeSetError → Type 0
 IsNotNext place end pair Memory = Unit {0}
 IsNotNext place end pair (Read error) = ⊥
 IsNotNext place end pair (Corrupt key) = (key ≡ pair.0) × ((range : KeyRange) → IsNext place end pair range → ⊥)
 
--- Private: why pairs aren't read as ranges: memory is wanting, or the first damaged one has this key
+-- Private: why pairs aren't read as ranges: memory runs out, or the first damaged one has this key
 abbrev pub HaveNoRanges : List ℕ → List (List ℕ × List ℕ) → RangeSetError → Type 0
 HaveNoRanges place pairs Memory = Unit {0}
 HaveNoRanges place pairs (Read error) = ⊥
 HaveNoRanges place pairs (Corrupt key) = IsFirstDamaged place pairs key
 
--- Private: the first of some ranges ends behind a position, if there is one
+-- Private: the first of some ranges ends after a position, if there is one
 abbrev pub ends_behind : List ℕ → List KeyRange → Bool
 ends_behind position [] = false
 ends_behind position (range ∷ ranges) = key_lt position range.end

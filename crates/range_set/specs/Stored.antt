@@ -1,14 +1,15 @@
 -- How a map has a set of positions under a place: as the pairs of disjoint ranges.
-use Rattle.std.specs.Prelude.{◌≡◌, ℕ, IsTrue, false, List, [], ◌∷◌, ◌++◌, map, None}
+use Rattle.std.specs.Prelude.{◌≡◌, ℕ, Bool, IsTrue, false, if◌then◌else◌, List, [], ◌∷◌, ◌++◌, map, None}
 use Rattle.std.specs.FinMap.{from_entries, get}
-use Rattle.std.specs.List.{AllByRecursion}
+use Rattle.std.specs.List.{AllByRecursion, list_any}
+use Rattle.std.specs.Ordering.{is_eq}
 use Rattle.tuple_codec.specs.Item.{AreBytes, bytes}
-use Rattle.tuple_codec.specs.Subspace.{subspace_key}
-use Rattle.kv_core.specs.Bytes.{end_of_keys, key_le, key_lt}
+use Rattle.tuple_codec.specs.Subspace.{range_begin, range_end, subspace_key}
+use Rattle.kv_core.specs.Bytes.{end_of_keys, key_cmp, key_le, key_lt, next_key}
 use Rattle.kv_core.specs.Map.{Map}
-use Rattle.kv_core.specs.Range.{KeyRange, contains}
+use Rattle.kv_core.specs.Range.{KeyRange, contains, point}
 use Rattle.kv_core.specs.declared.change.Mutation.{Mutation}
-use Rattle.kv_core.specs.declared.change.Mutation.TheVariants.{Set}
+use Rattle.kv_core.specs.declared.change.Mutation.TheVariants.{ClearRange, Set}
 use Rattle.range_set.specs.Gaps.{SamePositions, has_position}
 
 -- a range that may be stored: it has a position, ends at the end of positions or before it, and its ends are bytes
@@ -24,9 +25,17 @@ AreStored [] = Unit {0}
 AreStored (range ∷ ranges) =
     IsStoredRange range × AllByRecursion (λ later. IsTrue (key_le range.end later.begin)) ranges × AreStored ranges
 
--- the key of the range that begins at a position: the pack of its bytes, behind the place
+-- the key of the range that begins at a position: the pack of its bytes, after the place
 abbrev pub range_key : List ℕ → List ℕ → List ℕ
 range_key place begin = subspace_key place (bytes begin ∷ [])
+
+-- the keys of all ranges of a set
+abbrev pub whole_range : List ℕ → KeyRange
+whole_range place = record { begin = range_begin place; end = range_end place }
+
+-- the keys of those ranges that begin at a position or before it
+abbrev pub upto_range : List ℕ → List ℕ → KeyRange
+upto_range place position = record { begin = range_begin place; end = next_key (range_key place position) }
 
 -- the pair that stands for a range
 abbrev pub range_pair : List ℕ → KeyRange → List ℕ × List ℕ
@@ -51,9 +60,36 @@ pub record HasSet (place : List ℕ) (set : List KeyRange) (m : Map) : Type 0 wh
 abbrev pub IsInGap : KeyRange → List KeyRange → Type 0
 IsInGap range set = (position : List ℕ) → IsTrue (contains range position) → has_position set position ≡ false
 
--- what is written to insert a range
-abbrev pub insertion : List ℕ → KeyRange → Mutation
-insertion place range = Set (range_key place range.begin) range.end
+-- one of these ranges begins at the position
+abbrev pub begins_at : List KeyRange → List ℕ → Bool
+begins_at ranges position = list_any (λ range. is_eq (key_cmp range.begin position)) ranges
+
+-- one of these ranges ends at the position
+abbrev pub ends_at : List KeyRange → List ℕ → Bool
+ends_at ranges position = list_any (λ range. is_eq (key_cmp range.end position)) ranges
+
+-- where the one of these ranges begins that ends at the position, or the position itself if none does
+abbrev pub begin_of_left : List KeyRange → List ℕ → List ℕ
+begin_of_left [] position = position
+begin_of_left (range ∷ ranges) position =
+    if is_eq (key_cmp range.end position) then range.begin else begin_of_left ranges position
+
+-- where the one of these ranges ends that begins at the position, or the position itself if none does
+abbrev pub end_of_right : List KeyRange → List ℕ → List ℕ
+end_of_right [] position = position
+end_of_right (range ∷ ranges) position =
+    if is_eq (key_cmp range.begin position) then range.end else end_of_right ranges position
+
+-- a range with those of these ranges that touch it: from where the left one begins to where the right one ends
+abbrev pub with_neighbours : List KeyRange → KeyRange → KeyRange
+with_neighbours ranges range =
+    record { begin = begin_of_left ranges range.begin; end = end_of_right ranges range.end }
+
+-- what is written to insert a range beside these: it is put with its neighbours, and the right one's pair goes
+abbrev pub insertion : List ℕ → List KeyRange → KeyRange → List Mutation
+insertion place ranges range =
+    Set (range_key place (with_neighbours ranges range).begin) (with_neighbours ranges range).end
+    ∷ (if begins_at ranges range.end then ClearRange (point (range_key place range.end)) ∷ [] else [])
 
 -- a range in a gap joins each set that a map has, where the map becomes another one
 abbrev pub Joins : List ℕ → KeyRange → Map → Map → Type 0

@@ -1,5 +1,5 @@
-// The ranges that pairs stand for. Called by `reading`; `bytes_known` also by `inserting`, for its
-// proof.
+// The ranges that pairs stand for. Called by `reading` and `ranges`; `bytes_known` also by
+// `inserting`, for its proof.
 ghost use Rattle.std.specs.Prelude.{◌≡◌, IfErr, IfOk};
 ghost use Rattle.tuple_codec.specs.Item.{AreBytes};
 ghost use Rattle.range_set.specs.Steps.{HaveNoRanges, IsNext, IsNoStoredRange, IsNotNext};
@@ -31,7 +31,7 @@ fn only_bytes(tuple: Tuple) -> Option<Bytes>
     }
 }
 
-// The tuple behind the place in a key, if there is one.
+// The tuple after the place in a key, if there is one.
 fn tuple_behind(alloc: Global, place: &[u8], key: &Bytes) -> Result<Tuple, RangeSetError>
     ensures spelled { IfOk result (IsSpelledAs place.now key.now) }
     ensures refused { IfErr result (IsUnspelled place.now key.now) }
@@ -61,7 +61,7 @@ fn range_between(key: &Bytes, begin: Bytes, end: &Bytes) -> Result<KeyRange, Ran
     }
 }
 
-// The range that a pair behind the place stands for.
+// The range that a pair after the place stands for.
 fn range_found(alloc: Global, place: &[u8], pair: &Pair) -> Result<KeyRange, RangeSetError>
     ensures found { IfOk result (IsPairOfRange place.now pair.now) }
     ensures refused { IfErr result (IsPairOfNoRange place.now pair.now) }

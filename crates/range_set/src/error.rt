@@ -1,4 +1,4 @@
-// The errors of reads. Used by `reading` and `decoding`; `record_store` passes them on.
+// The errors of reads. Used by `reading`, `ranges` and `decoding`; `record_store` passes them on.
 ghost use Rattle.std.specs.Prelude.{◌≡◌};
 ghost use Rattle.range_set.specs.Steps.{set_memory, set_read};
 
@@ -10,7 +10,7 @@ use thiserror::Error;
 /// Why a set of positions isn't read.
 #[derive(Debug, Drop, Error)]
 pub enum RangeSetError {
-    /// Memory is wanting.
+    /// Memory runs out.
     #[error("out of memory")]
     Memory,
     /// The read is refused.

@@ -1,10 +1,9 @@
-// The keys of a set of positions. Called by `reading` and `inserting`; `upto_range` also by
-// `record_store`.
+// The keys of a set of positions. Called by `reading`, `ranges` and `inserting`; `upto_range` also
+// by `record_store`.
 ghost use Rattle.std.specs.Prelude.{◌≡◌, ◌∷◌, [], IfOk, IsTrue};
 ghost use Rattle.tuple_codec.specs.Item.{bytes};
 ghost use Rattle.kv_core.specs.Bytes.{end_of_keys, key_lt};
-ghost use Rattle.range_set.specs.Calls.{upto_range, whole_range};
-ghost use Rattle.range_set.specs.Stored.{range_key};
+ghost use Rattle.range_set.specs.Stored.{range_key, upto_range, whole_range};
 
 use kv_core::{Bytes, KeyRange};
 use std::alloc::{AllocError, Global};

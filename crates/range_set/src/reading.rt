@@ -1,23 +1,23 @@
 // Membership, gaps and wholeness, read in a transaction. Called by `record_store` for what is
-// built, and by `online_builder` for what is to be.
+// built.
 ghost use Rattle.std.specs.Prelude.{◌≡◌, IfErr, IfOk, IsTrue, OnOk};
 ghost use Rattle.kv_core.specs.Bytes.{end_of_keys, key_lt};
 ghost use Rattle.range_set.specs.Calls.{IsPositionTold, IsSetAnswered, IsSetRefused, IsUntold};
 ghost use Rattle.range_set.specs.Calls.{all_ranges, last_upto};
-ghost use Rattle.range_set.specs.Calls.{upto_range, whole_range};
 ghost use Rattle.range_set.specs.Gaps.{first_gap, has_position, is_whole};
 ghost use Rattle.range_set.specs.Steps.{ends_behind};
+ghost use Rattle.range_set.specs.Stored.{upto_range, whole_range};
 ghost use Rattle.range_set.specs.Told.{IsGapIn};
 
 use crate::decoding::{bytes_known, ranges_found};
 use crate::error::RangeSetError;
-use crate::layout::{upto_range, whole_range};
-use crate::walking::first_gap_of;
+use crate::layout::upto_range;
+use crate::ranges::read_ranges;
 use kv_core::{KeyRange, Pair};
 use std::alloc::Global;
 use txn::{Snapshot, Transaction};
 
-// Whether the first of some ranges, if there is one, ends behind a position.
+// Whether the first of some ranges, if there is one, ends after a position.
 fn ends_behind(ranges: &[KeyRange], position: &[u8]) -> bool
     ensures { result ≡ ends_behind position.now ranges.now }
 {
@@ -78,9 +78,7 @@ pub fn contains<S: Snapshot>(
 /// The first range of positions that aren't in the set, or None where each is. Also where no set is
 /// there, it is the gap that the pairs of the map tell.
 ///
-/// All keys of ranges are read. Refused with the snapshot's refusal of that read, and with
-/// `Corrupt` and the key of the first pair that stands for no range that may be stored, or for one
-/// that overlaps the range of the pair before it. A refused read adds nothing to the ranges read.
+/// Reads as `read_ranges` does, and is refused as that is.
 pub fn first_gap<S: Snapshot>(
     alloc: Global,
     place: &[u8],
@@ -98,10 +96,8 @@ pub fn first_gap<S: Snapshot>(
         IsSetRefused (S.map_at db.now) (S.may_refuse db.now) place.now (all_ranges place.now)
         error tx.old tx.new) }
 {
-    let range = whole_range(alloc, place)?;
-    let pairs = tx.get_all(db, &range)?;
-    let ranges = ranges_found(alloc, place, pairs.as_slice())?;
-    let gap = first_gap_of(alloc, ranges.as_slice())?;
+    let ranges = read_ranges(alloc, place, tx, db)?;
+    let gap = ranges.first_gap(alloc)?;
     Ok(gap)
 }
 

@@ -1,4 +1,4 @@
-// The first gap of ranges in order. Called by `reading`.
+// The first gap of ranges in order. Called by `ranges`.
 ghost use Rattle.std.specs.Prelude.{◌≡◌, [], IfOk, IsTrue, None};
 ghost use Rattle.kv_core.specs.Bytes.{end_of_keys, key_le};
 ghost use Rattle.range_set.specs.Steps.{gap_between, gap_from};

@@ -24,7 +24,7 @@ use Rattle.metadata.specs.Records.{of_type}
 use Rattle.metadata.specs.Schema.{Schema, find_type}
 use Rattle.metadata.specs.Written.{schema_bytes}
 use Rattle.metadata.proofs.StoredApart.{named_typed, number_small}
-use Rattle.record_store.specs.Store.{Store, indexed, listed_as, new_state}
+use Rattle.record_store.specs.Store.{Store, indexed, listed_by, new_state, altered_at, state_in}
 use Rattle.record_store.specs.declared.error.StoreError.{StoreError}
 use Rattle.record_store.specs.declared.error.StoreError.TheVariants.{Memory}
 use Rattle.record_store.specs.Layout.{schema_key, type_range}
@@ -37,6 +37,7 @@ use Rattle.record_store.specs.Meaning.{index_meaning}
 use Rattle.record_store.specs.Reading.{HasNotFound, HasRead}
 use Rattle.record_store.specs.Steps.{DidRead, of_write}
 use Rattle.record_store.specs.IndexWrites.{index_added_writes, state_writes}
+use Rattle.record_store.proofs.IndexCalls.{opened_so}
 use Rattle.record_store.proofs.Answered.{IsServed, answered, done_with, refused_limit, refused_memory, refused_unread}
 use Rattle.record_store.proofs.NewIndexes.{indexed_holds}
 use Rattle.record_store.proofs.RecordCalls.{filled}
@@ -148,9 +149,10 @@ module _ (maps : ℕ → Map) (refuses : KeyRange → ℕ → ReadError → Type
 
 -- OPENED: the store has the index in its schema, and its state
 pub indexed_as : (opened : Opened) (request : IndexRequest) (index : IndexDefinition) (state : State) (prefix : List ℕ) (schema : Schema) (states : List (ℕ × State)) → new_index opened.schema request ≡ Ok index → add_index opened.schema request ≡ Ok schema →
-    prefix ≡ opened.prefix → states ≡ listed_as index.number state opened.states → IsIndexedAs opened (record { prefix = prefix; schema = schema; states = states }) request state
-indexed_as opened request index state prefix schema states made added prefixes listed = record {
-  index = index;
-  accepted = made;
-  is = λ i. record { prefix = prefixes i; schema = added_is opened.schema schema request index added made i; states = listed i };
-}
+    prefix ≡ opened.prefix → states ≡ listed_by schema.indexes (altered_at index.number state (state_in opened.states)) → IsIndexedAs opened (record { prefix = prefix; schema = schema; states = states }) request state
+indexed_as opened request index state prefix schema states made added prefixes listed_now =
+    let grown = added_is opened.schema schema request index added made in record {
+      index = index;
+      accepted = made;
+      is = opened_so opened prefix schema (with_index opened.schema index) states index.number state prefixes grown (listed_now ∙ ap (λ (s : Schema). listed_by s.indexes (altered_at index.number state (state_in opened.states))) grown);
+    }

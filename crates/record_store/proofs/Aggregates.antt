@@ -1,6 +1,6 @@
 -- What reading the total of a group comes to.
-use Rattle.std.proofs.Common.{◌≡◌, inl, inr, ℕ, ◌%◌, ◌^◌, ◌<◌, zero, suc, Bool, true, false, cond, ℤ, List, [], ◌∷◌, Option, Some, None, Ok, Err, refl, sym, ap, subst, ◌∙◌, arith, length, unwrap_or, pos}
-use Rattle.std.specs.Prelude.{All, bytes_eq, get_or}
+use Rattle.std.proofs.Common.{◌≡◌, inl, inr, ℕ, ◌%◌, ◌^◌, suc, Bool, true, false, cond, ℤ, List, [], ◌∷◌, Option, Some, None, Ok, refl, sym, ap, subst, ◌∙◌, arith, length, unwrap_or, pos}
+use Rattle.std.specs.Prelude.{All, bytes_eq}
 use Rattle.std.specs.List.{AllByRecursion, Contains, filter, find, sum_by}
 use Rattle.std.specs.FinMap.{get}
 use Rattle.std.proofs.lemmas.Bool.{and_parts}
@@ -23,7 +23,6 @@ use Rattle.metadata.specs.declared.index.IndexKind.{IndexKind}
 use Rattle.metadata.specs.declared.index.IndexKind.TheVariants.{Value, Count, Sum}
 use Rattle.metadata.specs.declared.index.State.{State}
 use Rattle.metadata.specs.declared.index.State.TheVariants.{Readable, WriteOnly, Disabled}
-use Rattle.metadata.specs.declared.refusal.Refusal.TheVariants.{UnknownIndex}
 use Rattle.metadata.specs.Cell.{IsCell, items_of}
 use Rattle.metadata.specs.Group.{fits_field, fits_group, fits_places}
 use Rattle.metadata.specs.Record.{primary_key}
@@ -46,16 +45,11 @@ use Rattle.record_store.specs.Reading.{HasNotFound, IsNoTotal, IsTotalFound, IsT
 use Rattle.record_store.specs.Steps.{DidRead}
 use Rattle.record_store.proofs.Answered.{IsServed}
 use Rattle.record_store.proofs.Kept.{itself, not_entry}
+use Rattle.record_store.proofs.Listed.{of_contained, state_told_there}
 use Rattle.record_store.proofs.OneRecord.{read_at}
 use Rattle.record_store.proofs.Stopping.{all_begin}
 
 -- ---- indexes and groups
-
--- what holds of each holds of one that is there
-pub of_contained : {X : Type 0} (P : X → Type 0) (xs : List X) (x : X) (k : ℕ) → k < length xs → get_or xs k x ≡ x → AllByRecursion P xs → P x
-of_contained P [] x k within is all = absurd (omega (arith, within))
-of_contained P (y ∷ ys) x zero within is all = subst P is all.0
-of_contained P (y ∷ ys) x (suc k) within is all = of_contained P ys x k (omega (arith, within)) is all.1
 
 -- an index that is found by its name is there
 pub found_contained : (name : List ℕ) (indexes : List IndexDefinition) (index : IndexDefinition) → find (λ (one : IndexDefinition). bytes_eq one.name name) indexes ≡ Some index → Contains indexes index
@@ -115,7 +109,7 @@ module _ (opened : Opened) (index : IndexDefinition) (group : List Cell) (known 
   had : (m : Map) (store : Store) → Holds opened.prefix m (Some store) → IsOpenAs opened store → HasDefined index.kind opened.prefix index store.records m
   had m store holds same =
       let there = subst (λ (s : Schema). Contains s.indexes index) (sym same.schema) known.there in
-      subst (λ s. HasKept s opened.prefix index (built_of store index.number) store.records m) (ap (λ ss. state_in ss index.number) same.states ∙ known.readable)
+      subst (λ s. HasKept s opened.prefix index (built_of store index.number) store.records m) (state_told_there opened store index same known.there ∙ known.readable)
       (of_contained (λ (i : IndexDefinition). HasKept (state_of store i.number) opened.prefix i (built_of store i.number) store.records m) store.schema.indexes index there.0 there.1 there.2 holds.entries)
 
   -- so that of the group stands at its key

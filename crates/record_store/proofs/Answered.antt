@@ -96,7 +96,7 @@ done_with meaning footprint outcome = call_on meaning footprint (by_schema outco
 -- what is so at a store once the call is done, but for the limits
 pub record IsServed {A : Type 0} (opened : Opened) (service : Service A) (answer : A) (list : List Mutation) (m : Map) (store : Store) : Type 0 where
   pub answers : service.meaning.answer store ≡ Ok answer
-  pub wrote : list ≡ service.footprint.writes store
+  pub wrote : list ≡ service.footprint.writes m store
   pub holds : Holds opened.prefix (after_all list m) (Some (service.meaning.after store))
 
 -- ANYWAY: a call is refused so whatever reads may be refused, where it is so and none may
@@ -163,8 +163,8 @@ module _ {A : Type 0} (maps : ℕ → Map) (refuses : KeyRange → ℕ → ReadE
   memory_still (Ok service) same = record { added = []; ran = ran_still same (λ m. none_begin (service.footprint.reading.added m)) }
 
   -- LIMIT: what the call writes was refused
-  pub refused_limit : {added : List KeyRange} {old mid new : CommitRequest} {F : Store → Type 0} (call : Call A) (service : Service A) (list : List Mutation) (error : WriteError) → call ≡ Ok service →
-      DidRead maps added old mid (λ m. (added ≡ service.footprint.reading.added m) × (IsSound opened service.footprint.reading m × AtStore opened m F)) → ((m : Map) (store : Store) → Holds opened.prefix m (Some store) → IsOpenAs opened store → F store → IsAccepted service store × (list ≡ service.footprint.writes store)) → new ≡ mid →
+  pub refused_limit : {added : List KeyRange} {old mid new : CommitRequest} {F : Map → Store → Type 0} (call : Call A) (service : Service A) (list : List Mutation) (error : WriteError) → call ≡ Ok service →
+      DidRead maps added old mid (λ m. (added ≡ service.footprint.reading.added m) × (IsSound opened service.footprint.reading m × AtStore opened m (F m))) → ((m : Map) (store : Store) → Holds opened.prefix m (Some store) → IsOpenAs opened store → F m store → IsAccepted service store × (list ≡ service.footprint.writes m store)) → new ≡ mid →
       (error ≡ write.Memory) ⊎ (write_all_refusal mid.mutations list ≡ Some error) → IsRefused maps refuses opened call (of_write error) old new
   refused_limit {added = added} {old = old} {mid = mid} {new = new} {F = F} call service list error accepted ran wrote same says =
       subst (λ c. IsRefused maps refuses opened c (of_write error) old new) (sym accepted)
@@ -175,18 +175,18 @@ module _ {A : Type 0} (maps : ℕ → Map) (refuses : KeyRange → ℕ → ReadE
             (λ m found. of_limit (λ e. IsFailure (λ range. refuses range old.read_version) opened service e old.mutations added m) error says (subst (IsBeginning added) found.0 (all_begin added)) (λ e is. (found.0, found.1.0, limit e m found.1.1 is)));
       }))
     where
-      limit : (e : WriteError) (m : Map) → AtStore opened m F → write_all_refusal mid.mutations list ≡ Some e → AtStore opened m (λ store. IsAccepted service store × (write_all_refusal old.mutations (service.footprint.writes store) ≡ Some e))
+      limit : (e : WriteError) (m : Map) → AtStore opened m (F m) → write_all_refusal mid.mutations list ≡ Some e → AtStore opened m (λ store. IsAccepted service store × (write_all_refusal old.mutations (service.footprint.writes m store) ≡ Some e))
       limit e m found is store holds schema = (
         (wrote m store holds schema (found store holds schema)).0,
-        ap (λ ms. write_all_refusal ms (service.footprint.writes store)) (sym (ran.wrote ∙ append-nil old.mutations))
+        ap (λ ms. write_all_refusal ms (service.footprint.writes m store)) (sym (ran.wrote ∙ append-nil old.mutations))
             ∙ ap (write_all_refusal mid.mutations) (sym ((wrote m store holds schema (found store holds schema)).1)) ∙ is,
       )
 
   -- ANSWERED: reads, and then writes that no limit refuses
-  pub answered : {added : List KeyRange} {old mid new : CommitRequest} {F : Store → Type 0} (call : Call A) (service : Service A) (answer : A) (list : List Mutation) → call ≡ Ok service → (length list == 0) ≡ not (service.meaning.changes answer) →
-      DidRead maps added old mid (λ m. (added ≡ service.footprint.reading.added m) × (IsSound opened service.footprint.reading m × AtStore opened m F)) →
+  pub answered : {added : List KeyRange} {old mid new : CommitRequest} {F : Map → Store → Type 0} (call : Call A) (service : Service A) (answer : A) (list : List Mutation) → call ≡ Ok service → (length list == 0) ≡ not (service.meaning.changes answer) →
+      DidRead maps added old mid (λ m. (added ≡ service.footprint.reading.added m) × (IsSound opened service.footprint.reading m × AtStore opened m (F m))) →
       new ≡ with_mutations list mid → IsNone (write_all_refusal mid.mutations list) →
-      ((m : Map) (store : Store) → Holds opened.prefix m (Some store) → IsOpenAs opened store → F store → IsServed opened service answer list m store) → IsAnswered maps opened call answer old new
+      ((m : Map) (store : Store) → Holds opened.prefix m (Some store) → IsOpenAs opened store → F m store → IsServed opened service answer list m store) → IsAnswered maps opened call answer old new
   answered {added = added} {old = old} {mid = mid} call service answer list accepted changes ran is allowed serves = record {
     service = service;
     accepted = accepted;
@@ -210,9 +210,9 @@ module _ {A : Type 0} (maps : ℕ → Map) (refuses : KeyRange → ℕ → ReadE
   }
 
   -- ANSWERED: reads alone
-  pub answered_reading : {added : List KeyRange} {old new : CommitRequest} {F : Store → Type 0} (call : Call A) (service : Service A) (answer : A) → call ≡ Ok service → true ≡ not (service.meaning.changes answer) →
-      DidRead maps added old new (λ m. (added ≡ service.footprint.reading.added m) × (IsSound opened service.footprint.reading m × AtStore opened m F)) →
-      ((m : Map) (store : Store) → Holds opened.prefix m (Some store) → IsOpenAs opened store → F store → IsServed opened service answer [] m store) → IsAnswered maps opened call answer old new
+  pub answered_reading : {added : List KeyRange} {old new : CommitRequest} {F : Map → Store → Type 0} (call : Call A) (service : Service A) (answer : A) → call ≡ Ok service → true ≡ not (service.meaning.changes answer) →
+      DidRead maps added old new (λ m. (added ≡ service.footprint.reading.added m) × (IsSound opened service.footprint.reading m × AtStore opened m (F m))) →
+      ((m : Map) (store : Store) → Holds opened.prefix m (Some store) → IsOpenAs opened store → F m store → IsServed opened service answer [] m store) → IsAnswered maps opened call answer old new
   answered_reading {added = added} {old = old} call service answer accepted changes ran serves = record {
     service = service;
     accepted = accepted;

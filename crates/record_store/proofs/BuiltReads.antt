@@ -13,7 +13,8 @@ use Rattle.cluster_core.specs.declared.answers.ReadError.{ReadError}
 use Rattle.cluster_core.specs.declared.answers.ReadError.TheVariants as read
 use Rattle.txn.specs.Reads.{has_read, seen}
 use Rattle.txn.proofs.Running.{ran_read, ran_still, ran_then}
-use Rattle.range_set.specs.Calls.{last_upto, upto_range}
+use Rattle.range_set.specs.Calls.{last_upto}
+use Rattle.range_set.specs.Stored.{upto_range}
 use Rattle.metadata.specs.declared.index.IndexDefinition.{IndexDefinition}
 use Rattle.index_maint.specs.Layout.{built_place}
 use Rattle.record_store.specs.declared.error.StoreError.{StoreError}

@@ -28,11 +28,12 @@ use Rattle.metadata.specs.Lawful.{IsLawfulSchema}
 use Rattle.metadata.specs.Written.{schema_bytes}
 use Rattle.index_maint.proofs.KeptLaw.{defined_none}
 use Rattle.index_maint.proofs.RecordLists.{all_filter, all_with_record, ordered-filter, ordered-with_record}
-use Rattle.record_store.specs.Store.{Store, built_of, created, extended, removed, saved, state_of}
-use Rattle.record_store.specs.Layout.{built_place, place, record_key, record_pair, record_value, schema_key}
-use Rattle.record_store.specs.Holds.{HasPairs, HasPositions, Holds, IsListed, IsNoEntry, IsNoRange, IsOfSchema}
+use Rattle.metadata.specs.declared.index.State.TheVariants as declared
+use Rattle.record_store.specs.Store.{Readable, Store, created, extended, listed_by, removed, saved, state_of}
+use Rattle.record_store.specs.Layout.{built_place, place, record_key, record_pair, record_value, schema_key, state_pair}
+use Rattle.record_store.specs.Holds.{HasPairs, HasPositions, Holds, IsNoEntry, IsNoRange, IsOfSchema}
 use Rattle.record_store.proofs.Held.{id, id_order, tie}
-use Rattle.record_store.proofs.Kept.{HasIndex, clear_leaves, itself, kept_indexes, kept_ranges, no_entry_at, no_entry_in, no_entry_schema, nothing_at, other_place, record_in_place, set_leaves, set_there}
+use Rattle.record_store.proofs.Kept.{HasIndex, clear_leaves, itself, kept_indexes, kept_ranges, lawful_so, no_entry_at, no_entry_in, no_entry_schema, nothing_at, other_place, record_in_place, set_leaves, set_there}
 
 module _ (prefix : List ℕ) where
   -- pairs that go as a change does are had after it
@@ -77,15 +78,13 @@ module _ (prefix : List ℕ) where
   -- SAVE: where a map is as the one with a record's pair put, but for entries, which are those of the store with the record, it holds that store
   pub saved_by : (m n : Map) (store : Store) (new : Record) → IsOfSchema store.schema new → IsStorable new → Holds prefix m (Some store) →
       ((at : List ℕ) → IsNoEntry prefix store.schema.indexes at → get n at ≡ get (after (Set (record_key prefix (primary_key new)) (record_value new.cells)) m) at) →
-      AllByRecursion (λ index. HasIndex prefix (built_of store index.number) (with_record new store.records) n index (state_of store index.number)) store.schema.indexes → Holds prefix n (Some (saved store new))
+      AllByRecursion (λ index. HasIndex prefix (with_record new store.records) n index (store.status index.number)) store.schema.indexes → Holds prefix n (Some (saved store new))
   saved_by m n store new typed can holds leaves entries = record {
     lawful = record {
       schema = holds.lawful.schema;
       typed = all_with_record (IsOfSchema store.schema) new store.records typed holds.lawful.typed;
       ordered = ordered-with_record new store.records can holds.lawful.storable holds.lawful.ordered;
       storable = all_with_record IsStorable new store.records can holds.lawful.storable;
-      rising = holds.lawful.rising;
-      listed = holds.lawful.listed;
     };
     schema =
         leaves (schema_key prefix) (no_entry_schema prefix store.schema.indexes)
@@ -99,7 +98,7 @@ module _ (prefix : List ℕ) where
         leaves (place prefix 5 ++ bytes) (no_entry_in prefix 5 store.schema.indexes bytes refl)
         ∙ set_leaves m (id prefix new) (record_value new.cells) (place prefix 5 ++ bytes) (other_place prefix 1 (primary_key new) 5 [] (place prefix 5 ++ bytes) refl (bytes, refl)) ∙ holds.states bytes;
     ranges =
-        kept_ranges prefix (state_of store) (built_of store) m n store.schema.indexes
+        kept_ranges prefix store.status m n store.schema.indexes
         (λ number bytes.
         let at = built_place prefix number ++ bytes in
         leaves at (no_entry_at prefix 6 (int (pos number) ∷ []) store.schema.indexes at refl (bytes, refl))
@@ -112,15 +111,13 @@ module _ (prefix : List ℕ) where
   -- REMOVE: where a map is as the one with a record's key cleared, but for entries, which are those of the store without the record, it holds that store
   pub removed_by : (m n : Map) (store : Store) (key : List Item) → IsTuple key → Holds prefix m (Some store) →
       ((at : List ℕ) → IsNoEntry prefix store.schema.indexes at → get n at ≡ get (after (ClearRange (point (record_key prefix key))) m) at) →
-      AllByRecursion (λ index. HasIndex prefix (built_of store index.number) (without_record key store.records) n index (state_of store index.number)) store.schema.indexes → Holds prefix n (Some (removed store key))
+      AllByRecursion (λ index. HasIndex prefix (without_record key store.records) n index (store.status index.number)) store.schema.indexes → Holds prefix n (Some (removed store key))
   removed_by m n store key t holds leaves entries = record {
     lawful = record {
       schema = holds.lawful.schema;
       typed = all_filter (IsOfSchema store.schema) (λ r. not (has_primary_key key r)) store.records holds.lawful.typed;
       ordered = ordered-filter (λ r. not (has_primary_key key r)) store.records holds.lawful.ordered;
       storable = all_filter IsStorable (λ r. not (has_primary_key key r)) store.records holds.lawful.storable;
-      rising = holds.lawful.rising;
-      listed = holds.lawful.listed;
     };
     schema =
         leaves (schema_key prefix) (no_entry_schema prefix store.schema.indexes)
@@ -134,7 +131,7 @@ module _ (prefix : List ℕ) where
         leaves (place prefix 5 ++ bytes) (no_entry_in prefix 5 store.schema.indexes bytes refl)
         ∙ clear_leaves m (record_key prefix key) (place prefix 5 ++ bytes) (other_place prefix 1 key 5 [] (place prefix 5 ++ bytes) refl (bytes, refl)) ∙ holds.states bytes;
     ranges =
-        kept_ranges prefix (state_of store) (built_of store) m n store.schema.indexes
+        kept_ranges prefix store.status m n store.schema.indexes
         (λ number bytes.
         let at = built_place prefix number ++ bytes in
         leaves at (no_entry_at prefix 6 (int (pos number) ∷ []) store.schema.indexes at refl (bytes, refl))
@@ -150,14 +147,14 @@ module _ (prefix : List ℕ) where
   saved_holds m store new none typed can holds =
       let then = after (Set (record_key prefix (primary_key new)) (record_value new.cells)) m in
       saved_by m then store new typed can holds (λ at apart. refl)
-      (subst (AllByRecursion (λ index. HasIndex prefix (built_of store index.number) (with_record new store.records) then index (state_of store index.number))) (sym none) tt)
+      (subst (AllByRecursion (λ index. HasIndex prefix (with_record new store.records) then index (store.status index.number))) (sym none) tt)
 
   pub removed_holds : (m : Map) (store : Store) (key : List Item) → store.schema.indexes ≡ [] → IsTuple key → Holds prefix m (Some store) →
       Holds prefix (after (ClearRange (point (record_key prefix key))) m) (Some (removed store key))
   removed_holds m store key none t holds =
       let then = after (ClearRange (point (record_key prefix key))) m in
       removed_by m then store key t holds (λ at apart. refl)
-      (subst (AllByRecursion (λ index. HasIndex prefix (built_of store index.number) (without_record key store.records) then index (state_of store index.number))) (sym none) tt)
+      (subst (AllByRecursion (λ index. HasIndex prefix (without_record key store.records) then index (store.status index.number))) (sym none) tt)
 
   -- ---- a schema
 
@@ -171,16 +168,18 @@ module _ (prefix : List ℕ) where
   -- CREATE: with a schema's pair put where nothing is, the map holds the new store
   pub created_holds : (m : Map) (schema : Schema) → IsLawfulSchema schema → Holds prefix m None → Holds prefix (after (Set (schema_key prefix) (schema_bytes schema)) m) (Some (created schema))
   created_holds m schema made holds = record {
-    lawful = record { schema = made; typed = tt; ordered = tt; storable = tt; rising = tt; listed = tt };
+    lawful = record { schema = made; typed = tt; ordered = tt; storable = tt };
     schema = set_there m (schema_key prefix) (schema_bytes schema);
     records = λ bytes. made_nothing m (schema_bytes schema) 1 [] bytes refl holds ∙ sym (get-stored [] (place prefix 1 ++ bytes));
     entries = each schema.indexes;
-    states = λ bytes. made_nothing m (schema_bytes schema) 5 [] bytes refl holds ∙ sym (get-stored [] (place prefix 5 ++ bytes));
+    states =
+        subst (λ ss. HasPairs (place prefix 5) (map (state_pair prefix) ss) (after (Set (schema_key prefix) (schema_bytes schema)) m)) (sym (none_listed schema.indexes))
+        (λ bytes. made_nothing m (schema_bytes schema) 5 [] bytes refl holds ∙ sym (get-stored [] (place prefix 5 ++ bytes)));
     ranges = none_of schema.indexes;
     nothing_else = λ at under elsewhere. set_leaves m (schema_key prefix) (schema_bytes schema) at elsewhere.schema ∙ ap (get m) under.1 ∙ holds under.0;
   }
     where
-      each : (indexes : List IndexDefinition) → AllByRecursion (λ index. HasIndex prefix [] [] (after (Set (schema_key prefix) (schema_bytes schema)) m) index (state_of (created schema) index.number)) indexes
+      each : (indexes : List IndexDefinition) → AllByRecursion (λ index. HasIndex prefix [] (after (Set (schema_key prefix) (schema_bytes schema)) m) index Readable) indexes
       each [] = tt
       each (index ∷ indexes) = (
         defined_none index.kind prefix index [] (after (Set (schema_key prefix) (schema_bytes schema)) m) refl
@@ -188,7 +187,11 @@ module _ (prefix : List ℕ) where
         each indexes,
       )
 
-      none_of : (indexes : List IndexDefinition) → AllByRecursion (λ index. HasPositions (state_of (created schema) index.number) prefix index.number (built_of (created schema) index.number) (after (Set (schema_key prefix) (schema_bytes schema)) m)) indexes
+      none_listed : (indexes : List IndexDefinition) → listed_by indexes (λ number. declared.Readable) ≡ []
+      none_listed [] = refl
+      none_listed (index ∷ indexes) = none_listed indexes
+
+      none_of : (indexes : List IndexDefinition) → AllByRecursion (λ index. HasPositions prefix index.number (after (Set (schema_key prefix) (schema_bytes schema)) m) Readable) indexes
       none_of [] = tt
       none_of (index ∷ indexes) = (λ bytes. made_nothing m (schema_bytes schema) 6 (int (pos index.number) ∷ []) bytes refl holds, none_of indexes)
 
@@ -196,23 +199,17 @@ module _ (prefix : List ℕ) where
   pub extended_holds : (m : Map) (store : Store) (schema : Schema) → schema.indexes ≡ store.schema.indexes → IsLawfulSchema schema → AllByRecursion (IsOfSchema schema) store.records → Holds prefix m (Some store) →
       Holds prefix (after (Set (schema_key prefix) (schema_bytes schema)) m) (Some (extended store schema))
   extended_holds m store schema same made typed holds = record {
-    lawful = record {
-      schema = made;
-      typed = typed;
-      ordered = holds.lawful.ordered;
-      storable = holds.lawful.storable;
-      rising = holds.lawful.rising;
-      listed = subst (λ is. AllByRecursion (IsListed is) store.states) (sym same) holds.lawful.listed;
-    };
+    lawful = lawful_so store schema store.status made typed holds.lawful;
     schema = set_there m (schema_key prefix) (schema_bytes schema);
     records = λ bytes. leaves 1 [] bytes refl ∙ holds.records bytes;
     entries =
-        subst (AllByRecursion (λ index. HasIndex prefix (built_of store index.number) store.records then index (state_of store index.number))) (sym same)
-        (kept_indexes prefix store.records (state_of store) (built_of store) m then store.schema.indexes (λ number bytes. leaves 2 (int (pos number) ∷ []) bytes refl) holds.entries);
-    states = λ bytes. leaves 5 [] bytes refl ∙ holds.states bytes;
+        subst (AllByRecursion (λ index. HasIndex prefix store.records then index (store.status index.number))) (sym same)
+        (kept_indexes prefix store.records store.status m then store.schema.indexes (λ number bytes. leaves 2 (int (pos number) ∷ []) bytes refl) holds.entries);
+    states = λ bytes.
+        leaves 5 [] bytes refl ∙ subst (λ is. HasPairs (place prefix 5) (map (state_pair prefix) (listed_by is (state_of store))) m) (sym same) holds.states bytes;
     ranges =
-        subst (AllByRecursion (λ index. HasPositions (state_of store index.number) prefix index.number (built_of store index.number) then)) (sym same)
-        (kept_ranges prefix (state_of store) (built_of store) m then store.schema.indexes (λ number bytes. leaves 6 (int (pos number) ∷ []) bytes refl) holds.ranges);
+        subst (AllByRecursion (λ index. HasPositions prefix index.number then (store.status index.number))) (sym same)
+        (kept_ranges prefix store.status m then store.schema.indexes (λ number bytes. leaves 6 (int (pos number) ∷ []) bytes refl) holds.ranges);
     nothing_else = λ at under elsewhere.
         set_leaves m (schema_key prefix) (schema_bytes schema) at elsewhere.schema
         ∙ holds.nothing_else at under (record { schema = elsewhere.schema; records = elsewhere.records; entries = subst (λ is. IsNoEntry prefix is at) same elsewhere.entries; states = elsewhere.states; ranges = subst (λ is. IsNoRange prefix is at) same elsewhere.ranges });

@@ -1,11 +1,11 @@
 -- The range of an index's entries: what clearing it leaves, and that it has all entries.
-use Rattle.std.proofs.Common.{◌≡◌, ◌⊎◌, inl, inr, ℕ, Bool, true, false, not, cond, ◌&&◌, ◌||◌, ◌==◌, List, [], ◌∷◌, ◌++◌, append-nil, refl, sym, ap, subst, ◌∙◌, Option, Some, None, map}
+use Rattle.std.proofs.Common.{◌≡◌, ◌⊎◌, inl, inr, ℕ, Bool, true, false, not, cond, ◌&&◌, ◌==◌, List, [], ◌∷◌, ◌++◌, append-nil, refl, sym, ap, subst, ◌∙◌, Option, Some, None, map}
 use Rattle.std.specs.Prelude.{All, MatchBool}
 use Rattle.std.specs.FinMap.{get}
 use Rattle.std.specs.List.{AllByRecursion, starts_with}
 use Rattle.std.specs.Ordering.{is_lt}
 use Rattle.std.proofs.Math.Dec.{eqb}
-use Rattle.std.proofs.lemmas.Bool.{eqb-true, false_from_ne_true, true≢false}
+use Rattle.std.proofs.lemmas.Bool.{false_from_ne_true, true≢false}
 use Rattle.tuple_codec.specs.Item.{Item, AreItems}
 use Rattle.tuple_codec.specs.Item as item
 use Rattle.tuple_codec.specs.Spelling.{spelling}
@@ -32,14 +32,16 @@ use Rattle.metadata.proofs.CellItems.{all-cells_at, are_items-items_of}
 use Rattle.index_maint.specs.Built.{built_records}
 use Rattle.index_maint.specs.Changes.{entries_map}
 use Rattle.index_maint.specs.Entries.{entry_items, entry_of}
-use Rattle.index_maint.specs.Kept.{HasDefined, HasPart}
+use Rattle.index_maint.specs.Kept.{HasDefined, HasKept, HasPart}
 use Rattle.index_maint.specs.Layout.{entries_prefix, entry_pair, entry_pairs}
 use Rattle.index_maint.specs.Totals.{HasTotals, Share, count_share, sum_share}
 use Rattle.index_maint.proofs.Lookups.{lookup-none}
 use Rattle.index_maint.proofs.RecordLists.{all_filter}
+use Rattle.record_store.specs.Store.{Status, built_by, state_by}
 use Rattle.record_store.specs.Layout.{entries_range}
 use Rattle.record_store.specs.Holds.{has_number}
 use Rattle.record_store.proofs.Held.{under}
+use Rattle.record_store.proofs.Listed.{of_number}
 use Rattle.record_store.proofs.Kept.{HasIndex}
 use Rattle.record_store.proofs.Keys.{above_itself}
 
@@ -118,7 +120,7 @@ module _ (prefix : List ℕ) (records : List Record) (storable : AllByRecursion 
       (sym (low_inside prefix index.number (spelling (items_of group)) (group_low group is.cells))
       ∙ ap (λ bs. contains (entries_range prefix index.number) (entries_prefix prefix index.number ++ bs)) (sym same) ∙ out))
 
-  pub nothing_out : (index : IndexDefinition) (ranges : List KeyRange) (state : State) (bytes : List ℕ) → HasIndex prefix ranges records m index state →
+  nothing_out : (index : IndexDefinition) (ranges : List KeyRange) (state : State) (bytes : List ℕ) → HasKept state prefix index ranges records m →
       contains (entries_range prefix index.number) (entries_prefix prefix index.number ++ bytes) ≡ false → get m (entries_prefix prefix index.number ++ bytes) ≡ None
   nothing_out index ranges Readable bytes has out = by_kind index.kind has
     where
@@ -139,16 +141,10 @@ module _ (prefix : List ℕ) (records : List Record) (storable : AllByRecursion 
   nothing_out index ranges Disabled bytes has out = has bytes
 
   -- so has the index with a number
-  pub nothing_out_of : (states : ℕ → State) (built : ℕ → List KeyRange) (number : ℕ) (indexes : List IndexDefinition) (bytes : List ℕ) → has_number indexes number ≡ true →
-      AllByRecursion (λ index. HasIndex prefix (built index.number) records m index (states index.number)) indexes →
+  pub nothing_out_of : (status : ℕ → Status) (number : ℕ) (indexes : List IndexDefinition) (bytes : List ℕ) → has_number indexes number ≡ true →
+      AllByRecursion (λ index. HasIndex prefix records m index (status index.number)) indexes →
       contains (entries_range prefix number) (entries_prefix prefix number ++ bytes) ≡ false → get m (entries_prefix prefix number ++ bytes) ≡ None
-  nothing_out_of states built number [] bytes there all out = absurd (cc)
-  nothing_out_of states built number (index ∷ indexes) bytes there all out = by_test (index.number == number) refl there (λ more. nothing_out_of states built number indexes bytes more all.1 out)
-    where
-      by_test : (b : Bool) → (index.number == number) ≡ b → (b || has_number indexes number) ≡ true → (has_number indexes number ≡ true → get m (entries_prefix prefix number ++ bytes) ≡ None) →
-          get m (entries_prefix prefix number ++ bytes) ≡ None
-      by_test true is some go =
-          let same = eqb-true index.number number is in
-          subst (λ n. contains (entries_range prefix n) (entries_prefix prefix n ++ bytes) ≡ false → get m (entries_prefix prefix n ++ bytes) ≡ None) same
-          (nothing_out index (built index.number) (states index.number) bytes all.0) out
-      by_test false is some go = go some
+  nothing_out_of status number indexes bytes there all out =
+      let (index, same, has) = of_number (λ index. HasIndex prefix records m index (status index.number)) number indexes there all in
+      subst (λ n. contains (entries_range prefix n) (entries_prefix prefix n ++ bytes) ≡ false → get m (entries_prefix prefix n ++ bytes) ≡ None) same
+      (nothing_out index (built_by (status index.number)) (state_by (status index.number)) bytes has) out

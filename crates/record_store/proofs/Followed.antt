@@ -1,5 +1,5 @@
 -- How indexes follow their records by what was found of built ranges.
-use Rattle.std.proofs.Common.{◌≡◌, inl, inr, ℕ, Bool, true, false, cond, ◌&&◌, ◌==◌, ◌<◌, ◌≤◌, ◌^◌, List, [], ◌∷◌, ◌++◌, refl, sym, ap, subst, ◌∙◌, Option, Some, append-nil, append_assoc, arith, length, take, map, pos}
+use Rattle.std.proofs.Common.{◌≡◌, inl, inr, ℕ, Bool, true, false, cond, ◌&&◌, ◌==◌, ◌<◌, ◌≤◌, List, [], ◌∷◌, ◌++◌, refl, sym, ap, subst, ◌∙◌, Option, Some, append-nil, append_assoc, arith, length, take, map, pos}
 use Rattle.std.specs.Prelude.{drop, filter, get_or, reverse, suc, zero}
 use Rattle.std.specs.List.{AllByRecursion, Contains, flat_map}
 use Rattle.std.proofs.lemmas.Bool.{and_parts}
@@ -13,9 +13,9 @@ use Rattle.kv_core.proofs.Lists.{All-take}
 use Rattle.kv_core.proofs.Pairs.{All-reverse}
 use Rattle.range_set.specs.declared.error.RangeSetError.{RangeSetError}
 use Rattle.range_set.specs.declared.error.RangeSetError.TheVariants as set
-use Rattle.range_set.specs.Calls.{IsPositionTold, IsUntold, last_upto, upto_range}
+use Rattle.range_set.specs.Calls.{IsPositionTold, IsUntold, last_upto}
 use Rattle.range_set.specs.Gaps.{has_position}
-use Rattle.range_set.specs.Stored.{AreStored, AreWritten, HasSet, IsFirstDamaged, range_pair}
+use Rattle.range_set.specs.Stored.{AreStored, AreWritten, HasSet, IsFirstDamaged, range_pair, upto_range}
 use Rattle.metadata.specs.declared.index.IndexDefinition.{IndexDefinition}
 use Rattle.metadata.specs.declared.index.IndexKind.{IndexKind}
 use Rattle.metadata.specs.declared.index.IndexKind.TheVariants.{Value, Count, Sum}
@@ -29,24 +29,22 @@ use Rattle.index_maint.specs.Built.{position_of}
 use Rattle.index_maint.specs.Kept.{kept_writes, part_changes_by}
 use Rattle.index_maint.proofs.Places.{entries_elsewhere, parts_apart}
 use Rattle.index_maint.proofs.RecordIndexes.{flat_map-filter}
-use Rattle.index_maint.proofs.Several.{AreApart}
 use Rattle.record_store.specs.declared.error.StoreError.{StoreError}
 use Rattle.record_store.specs.declared.error.StoreError.TheVariants.{Memory, Read, Write, Corrupt, Refused, NoStore, AlreadyThere, OtherSchema, NotAggregate, NotReadable, WrongState, NotBuilt}
 use Rattle.record_store.specs.BuiltReading.{asks, found_of, is_asked}
 use Rattle.record_store.specs.Call.{IsOpenAs, Opened}
 use Rattle.record_store.specs.Form.{IsFirstBad, IsWritten}
-use Rattle.record_store.specs.Holds.{HasPositions, Holds}
+use Rattle.record_store.specs.Holds.{HasPositions, Holds, has_number}
 use Rattle.record_store.specs.IndexWrites.{index_writes, is_built, one_index_writes}
 use Rattle.record_store.specs.Layout.{built_place, record_key}
 use Rattle.record_store.specs.Reading.{HaveFollowed, HaveNotFollowed, IsToldOf, IsUntoldOf, asked_built}
 use Rattle.record_store.specs.Steps.{of_set}
 use Rattle.record_store.specs.Store.{Store, built_of, state_in, state_of}
-use Rattle.record_store.proofs.Aggregates.{of_contained}
 use Rattle.record_store.proofs.BuiltReads.{flat_more, flat_split}
 use Rattle.record_store.proofs.Held.{under}
-use Rattle.record_store.proofs.Kept.{itself, not_range}
+use Rattle.record_store.proofs.Kept.{itself, not_range, set_held}
 use Rattle.record_store.proofs.Openings.{pairs_lie}
-use Rattle.record_store.proofs.States.{schema_apart}
+use Rattle.record_store.proofs.Listed.{all_there, contained_low, of_contained, schema_apart, state_told, state_told_there}
 use Rattle.record_store.proofs.StateSteps.{all_taken}
 
 abbrev Pair : Type 0
@@ -60,15 +58,6 @@ asked_state Readable kind asked = cc
 asked_state WriteOnly kind asked = refl
 asked_state Disabled kind asked = cc
 
--- an index of a lawful schema has a number of 64 bits
-low_of : (indexes : List IndexDefinition) (index : IndexDefinition) → AreApart indexes → Contains indexes index → index.number < 2 ^ 64
-low_of indexes index apart there = at indexes there.0 there.1 there.2 apart
-  where
-    at : (indexes : List IndexDefinition) (k : ℕ) → k < length indexes → get_or indexes k index ≡ index → AreApart indexes → index.number < 2 ^ 64
-    at [] k within is apart = absurd (omega (arith, within))
-    at (i ∷ indexes) zero within is apart = subst (λ (j : IndexDefinition). j.number < 2 ^ 64) is apart.0
-    at (i ∷ indexes) (suc k) within is apart = at indexes k (omega (arith, within)) is apart.2
-
 module _ (opened : Opened) (lawful : IsLawfulSchema opened.schema) (number : ℕ) (position : List ℕ) (index : IndexDefinition) (there : Contains opened.schema.indexes index) where
   abbrev place : List ℕ
   place = built_place opened.prefix index.number
@@ -78,9 +67,9 @@ module _ (opened : Opened) (lawful : IsLawfulSchema opened.schema) (number : ℕ
   has_set asked m store holds same =
       let known = subst (λ (s : Schema). Contains s.indexes index) (sym same.schema) there in
       let parts = and_parts (index.type_number == number) (is_asked (state_in opened.states index.number) index.kind) asked in
-      subst (λ s. HasPositions s opened.prefix index.number (built_of store index.number) m)
-      (ap (λ ss. state_in ss index.number) same.states ∙ asked_state (state_in opened.states index.number) index.kind parts.1)
-      (of_contained (λ (i : IndexDefinition). HasPositions (state_of store i.number) opened.prefix i.number (built_of store i.number) m) store.schema.indexes index known.0 known.1 known.2 holds.ranges)
+      set_held opened.prefix index.number m (store.status index.number)
+      (state_told_there opened store index same there ∙ asked_state (state_in opened.states index.number) index.kind parts.1)
+      (of_contained (λ (i : IndexDefinition). HasPositions opened.prefix i.number m (store.status i.number)) store.schema.indexes index known.0 known.1 known.2 holds.ranges)
 
   -- where it isn't asked for nothing is found
   unasked_found : asks opened number index ≡ false → (m : Map) → found_of opened number position m index ≡ []
@@ -151,7 +140,7 @@ module _ (opened : Opened) (lawful : IsLawfulSchema opened.schema) (number : ℕ
       let at = subst (BeginsWith (built_place opened.prefix one.index.number)) (sym (ap (λ (p : Pair). p.0) one.is)) (spelling (bytes one.range.begin ∷ []), refl) in
       let apart = schema_apart opened.schema lawful in
       let same : one.index.number ≡ index.number =
-      parts_apart opened.prefix pair.0 (int (pos 6)) one.index.number index.number [] [] (low_of opened.schema.indexes one.index apart one.there) (low_of opened.schema.indexes index apart there) at begins in
+      parts_apart opened.prefix pair.0 (int (pos 6)) one.index.number index.number [] [] (contained_low opened.schema.indexes one.index apart one.there) (contained_low opened.schema.indexes index apart there) at begins in
       none (one.range ∷ [], record { stored = (one.stored, tt, tt); are = ap (λ (p : Pair). p ∷ []) (one.is ∙ ap (λ n. range_pair (built_place opened.prefix n) one.range) same) })
 
   first_bad : (m : Map) (found : List Pair) (key : List ℕ) → found ≡ (last_upto place position).pairs m → IsFirstDamaged place found key → IsFirstBad (IsWritten opened.prefix opened.schema) found key
@@ -290,11 +279,12 @@ module _ (opened : Opened) (store : Store) (same : IsOpenAs opened store) (key :
   abbrev wanted : IndexDefinition → List Mutation
   wanted index = kept_writes (state_of store index.number) opened.prefix index (is_built store index.number key) old new
 
-  one_wants : (index : IndexDefinition) → one_index_writes opened number (asked_built opened number (position_of key) store index) old new index ≡ cond (index.type_number == number) (wanted index) []
-  one_wants index = by_type (index.type_number == number) refl
+  one_wants : (index : IndexDefinition) → has_number store.schema.indexes index.number ≡ true →
+      one_index_writes opened number (asked_built opened number (position_of key) store index) old new index ≡ cond (index.type_number == number) (wanted index) []
+  one_wants index there = by_type (index.type_number == number) refl
     where
       same_state : state_in opened.states index.number ≡ state_of store index.number
-      same_state = ap (λ ss. state_in ss index.number) (sym same.states)
+      same_state = sym (state_told opened store index.number same there)
 
       by_asked : (b : Bool) → is_asked (state_in opened.states index.number) index.kind ≡ b →
           kept_writes (state_in opened.states index.number) opened.prefix index (cond (true && b) (is_built store index.number key) false) old new ≡ kept_writes (state_in opened.states index.number) opened.prefix index (is_built store index.number key) old new
@@ -311,13 +301,13 @@ module _ (opened : Opened) (store : Store) (same : IsOpenAs opened store) (key :
           ap (λ b. cond b (kept_writes (state_in opened.states index.number) opened.prefix index (asked_built opened number (position_of key) store index) old new) []) is
           ∙ sym (ap (λ b. cond b (wanted index) []) is)
 
-  each_wants : (indexes : List IndexDefinition) →
+  each_wants : (indexes : List IndexDefinition) → AllByRecursion (λ index. has_number store.schema.indexes index.number ≡ true) indexes →
       flat_map (λ index. one_index_writes opened number (asked_built opened number (position_of key) store index) old new index) indexes ≡ flat_map (λ index. cond (index.type_number == number) (wanted index) []) indexes
-  each_wants [] = refl
-  each_wants (index ∷ indexes) = λ i. one_wants index i ++ each_wants indexes i
+  each_wants [] there = refl
+  each_wants (index ∷ indexes) there = λ i. one_wants index there.0 i ++ each_wants indexes there.1 i
 
   -- WRITES: what all indexes want written, by what was opened and told, is what the store wants written
   pub all_want : flat_map (λ index. one_index_writes opened number (asked_built opened number (position_of key) store index) old new index) opened.schema.indexes ≡ index_writes opened.prefix store number key old new
   all_want =
-      each_wants opened.schema.indexes ∙ sym (flat_map-filter wanted (λ index. index.type_number == number) opened.schema.indexes)
+      each_wants opened.schema.indexes (subst (λ (s : Schema). AllByRecursion (λ (i : IndexDefinition). has_number store.schema.indexes i.number ≡ true) s.indexes) same.schema (all_there store.schema.indexes)) ∙ sym (flat_map-filter wanted (λ index. index.type_number == number) opened.schema.indexes)
       ∙ ap (λ (s : Schema). flat_map wanted (filter (λ index. index.type_number == number) s.indexes)) (sym same.schema)

@@ -24,10 +24,9 @@ use Rattle.metadata.specs.Record.{Record, primary_key, key_cells}
 use Rattle.metadata.specs.Records.{AreOrdered, IsStorable, has_primary_key, of_type, record_at}
 use Rattle.metadata.specs.Cell.{items_of}
 use Rattle.metadata.specs.Written.{schema_bytes}
-use Rattle.metadata.specs.declared.index.State.{State}
 use Rattle.record_store.specs.Store.{Store}
 use Rattle.record_store.specs.Layout.{place, record_key, record_pair, record_value, schema_key, states_range, type_range}
-use Rattle.record_store.specs.Holds.{HasPairs, Holds, IsListed}
+use Rattle.record_store.specs.Holds.{HasPairs, Holds}
 use Rattle.record_store.proofs.Keys.{in_type_range, key_order, record_key_is, states_end_is}
 
 -- ---- keys under a prefix
@@ -61,11 +60,6 @@ nothing_rises = tt
 -- what the keys of a type's records begin with, behind the place of records
 abbrev pub type_begin : ℕ → List ℕ
 type_begin n = spelling (int (pos n) ∷ [])
-
--- where there is no index no state is listed
-pub none_listed : (states : List (ℕ × State)) → AllByRecursion (IsListed []) states → states ≡ []
-none_listed [] listed = refl
-none_listed (one ∷ states) listed = let no : false ≡ true = listed.0.there in absurd (cc)
 
 module _ (prefix : List ℕ) where
   -- ---- look-ups

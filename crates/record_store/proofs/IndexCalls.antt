@@ -1,9 +1,5 @@
 -- What the calls on indexes come to.
-use Rattle.std.proofs.Common.{◌≡◌, ℕ, Bool, true, false, cond, ◌||◌, ◌==◌, ◌<◌, ◌≤◌, arith, List, [], ◌∷◌, ◌++◌, refl, sym, ap, subst, ◌∙◌, Option, Some, None, Ok, Err, Result, length, drop, ◌+◌}
-use Rattle.std.specs.List.{find}
-use Rattle.std.specs.Prelude.{get_or, zero, suc}
-use Rattle.std.specs.Str.{bytes_eq}
-use Rattle.std.proofs.lemmas.Bool.{eq-eqb, or_left, or_right}
+use Rattle.std.proofs.Common.{◌≡◌, ℕ, true, List, [], ◌∷◌, refl, sym, ap, subst, ◌∙◌, Option, Some, None, Ok, Err, Result}
 use Rattle.kv_core.specs.Map.{Map, after_all}
 use Rattle.kv_core.specs.Range.{point}
 use Rattle.kv_core.specs.declared.change.Mutation.{Mutation}
@@ -16,35 +12,29 @@ use Rattle.metadata.specs.IndexChange.{drop_index, without_index}
 use Rattle.metadata.specs.Lawful.{IsLawfulSchema}
 use Rattle.metadata.specs.Schema.{Schema, find_index}
 use Rattle.metadata.specs.Written.{schema_bytes}
-use Rattle.record_store.specs.Store.{Store, dropped, still_listed, with_state, without_state}
+use Rattle.record_store.specs.Store.{Store, dropped, listed_by, altered_at, state_in}
 use Rattle.record_store.specs.Layout.{built_range, entries_range, schema_key, state_key}
 use Rattle.record_store.specs.Holds.{Holds, has_number}
 use Rattle.record_store.specs.Call.{IsOpenAs, Opened, service_of}
-use Rattle.record_store.specs.Calls.{drop_footprint, opened_without}
+use Rattle.record_store.specs.Calls.{drop_footprint, opened_with}
 use Rattle.record_store.specs.Meaning.{drop_meaning, index_number}
 use Rattle.record_store.specs.IndexWrites.{drop_writes}
+use Rattle.record_store.proofs.Aggregates.{found_contained}
 use Rattle.record_store.proofs.Answered.{IsServed}
 use Rattle.record_store.proofs.IndexChanges.{dropped_holds}
+use Rattle.record_store.proofs.Listed.{contained_number}
 
 -- ---- names
 
 -- an index that is found by its name is there
-there_by : (o : Option IndexDefinition) (indexes : List IndexDefinition) (number : ℕ) → ((index : IndexDefinition) → o ≡ Some index → has_number indexes index.number ≡ true) → index_number o ≡ Ok number → has_number indexes number ≡ true
-there_by None indexes number go is = cc
-there_by (Some index) indexes number go is = let same : index.number ≡ number = cc in subst (λ n. has_number indexes n ≡ true) same (go index refl)
-
-found_there : (name : List ℕ) (indexes : List IndexDefinition) (index : IndexDefinition) → find (λ (one : IndexDefinition). bytes_eq one.name name) indexes ≡ Some index → has_number indexes index.number ≡ true
-found_there name [] index is = cc
-found_there name (one ∷ indexes) index is = by_test (bytes_eq one.name name) is (found_there name indexes index)
-  where
-    by_test : (b : Bool) → cond b (Some one) (find (λ (i : IndexDefinition). bytes_eq i.name name) indexes) ≡ Some index →
-        (find (λ (i : IndexDefinition). bytes_eq i.name name) indexes ≡ Some index → has_number indexes index.number ≡ true) → ((one.number == index.number) || has_number indexes index.number) ≡ true
-    by_test true some go =
-        let same : one ≡ index = cc in or_left (one.number == index.number) (has_number indexes index.number) (eq-eqb one.number index.number (ap (λ (i : IndexDefinition). i.number) same))
-    by_test false some go = or_right (one.number == index.number) (has_number indexes index.number) (go some)
-
 pub named_there : (schema : Schema) (name : List ℕ) (number : ℕ) → index_number (find_index schema name) ≡ Ok number → has_number schema.indexes number ≡ true
-named_there schema name number is = there_by (find_index schema name) schema.indexes number (λ index found. found_there name schema.indexes index found) is
+named_there schema name number is = by_found (find_index schema name) refl is
+  where
+    by_found : (o : Option IndexDefinition) → find_index schema name ≡ o → index_number o ≡ Ok number → has_number schema.indexes number ≡ true
+    by_found None none found = cc
+    by_found (Some index) some found =
+        let same : index.number ≡ number = cc in
+        subst (λ n. has_number schema.indexes n ≡ true) same (contained_number schema.indexes index (found_contained name schema.indexes index some))
 
 -- it is the one that is dropped
 pub drops : (schema : Schema) (name : List ℕ) (number : ℕ) → index_number (find_index schema name) ≡ Ok number → drop_index schema name ≡ Ok (without_index schema number)
@@ -62,54 +52,16 @@ pub dropped_is : (schema copy next : Schema) (name : List ℕ) (number : ℕ) �
 dropped_is schema copy next name number same is done =
     let both : ◌≡◌ {A = Result Schema Refusal} (Ok next) (Ok (without_index schema number)) = sym done ∙ ap (λ s. drop_index s name) same ∙ drops schema name number is in cc
 
--- ---- states
-
--- what is left at a place is what stands there, and the rest
-drop_at : {X : Type 0} (i : ℕ) (xs : List X) (x : X) → i < length xs → x ≡ get_or xs i x → drop i xs ≡ x ∷ drop (suc i) xs
-drop_at zero [] x within is = absurd (omega (arith, within))
-drop_at zero (y ∷ ys) x within is = ap (λ z. z ∷ ys) (sym is)
-drop_at (suc i) [] x within is = absurd (omega (arith, within))
-drop_at (suc i) (y ∷ ys) x within is = drop_at i ys x (omega (arith, within)) is
-
-all_dropped : {X : Type 0} (i : ℕ) (xs : List X) → length xs ≤ i → drop i xs ≡ []
-all_dropped zero [] within = refl
-all_dropped zero (x ∷ xs) within = absurd (omega (arith, within))
-all_dropped (suc i) [] within = refl
-all_dropped (suc i) (x ∷ xs) within = all_dropped i xs (omega (arith, within))
-
--- what stands at a place is told by no other value
-same_at : {X : Type 0} (i : ℕ) (xs : List X) (d e : X) → i < length xs → get_or xs i d ≡ get_or xs i e
-same_at zero [] d e within = absurd (omega (arith, within))
-same_at zero (x ∷ xs) d e within = refl
-same_at (suc i) [] d e within = absurd (omega (arith, within))
-same_at (suc i) (x ∷ xs) d e within = same_at i xs d e (omega (arith, within))
-
--- one more is listed
-pub listed_more : (number i : ℕ) (state : State) (all items next : List (ℕ × State)) (one : ℕ × State) (placed now_placed : Bool) → i < length all → one ≡ get_or all i one → items ++ still_listed placed number state (drop i all) ≡ with_state number state all →
-    ((rest : List (ℕ × State)) → items ++ still_listed placed number state (one ∷ rest) ≡ next ++ still_listed now_placed number state rest) → next ++ still_listed now_placed number state (drop (suc i) all) ≡ with_state number state all
-listed_more number i state all items next one placed now_placed within is so_far more =
-    sym (more (drop (suc i) all)) ∙ ap (λ ss. items ++ still_listed placed number state ss) (sym (drop_at i all one within is)) ∙ so_far
-
-pub listed_more_at : (number i : ℕ) (state : State) (all items next : List (ℕ × State)) (d : ℕ × State) (placed now_placed : Bool) → i < length all → items ++ still_listed placed number state (drop i all) ≡ with_state number state all →
-    ((rest : List (ℕ × State)) → items ++ still_listed placed number state (get_or all i d ∷ rest) ≡ next ++ still_listed now_placed number state rest) → next ++ still_listed now_placed number state (drop (i + 1) all) ≡ with_state number state all
-listed_more_at number i state all items next d placed now_placed within so_far more =
-    let after : suc i ≡ i + 1 = omega arith in
-    subst (λ (n : ℕ). next ++ still_listed now_placed number state (drop n all) ≡ with_state number state all) after
-    (listed_more number i state all items next (get_or all i d) placed now_placed within (same_at i all d (get_or all i d) within) so_far more)
-
--- all are listed
-pub listed_all : (number i : ℕ) (state : State) (all items : List (ℕ × State)) (placed : Bool) → length all ≤ i → items ++ still_listed placed number state (drop i all) ≡ with_state number state all → items ++ still_listed placed number state [] ≡ with_state number state all
-listed_all number i state all items placed within so_far = ap (λ ss. items ++ still_listed placed number state ss) (sym (all_dropped i all within)) ∙ so_far
-
 -- ---- calls
 
 -- the opened store that is left
-pub left_is : (opened : Opened) (prefix : List ℕ) (schema : Schema) (states : List (ℕ × State)) (number other : ℕ) (found : Result ℕ Refusal) → prefix ≡ opened.prefix → schema ≡ without_index opened.schema number → states ≡ without_state number opened.states →
-    found ≡ Ok number → found ≡ Ok other → ◌≡◌ {A = Opened} (record { prefix = prefix; schema = schema; states = states }) (opened_without opened other)
-left_is opened prefix schema states number other found prefixes schemas listed is again =
-    let both : ◌≡◌ {A = Result ℕ Refusal} (Ok number) (Ok other) = sym is ∙ again in
-    let same : number ≡ other = cc in
-    (λ i. record { prefix = prefixes i; schema = schemas i; states = listed i }) ∙ ap (opened_without opened) same
+pub opened_so : (opened : Opened) (prefix : List ℕ) (left schema : Schema) (states : List (ℕ × State)) (number : ℕ) (state : State) → prefix ≡ opened.prefix → left ≡ schema → states ≡ listed_by schema.indexes (altered_at number state (state_in opened.states)) →
+    ◌≡◌ {A = Opened} (record { prefix = prefix; schema = left; states = states }) (opened_with opened schema number state)
+opened_so opened prefix left schema states number state prefixes schemas listed_now = λ i. record { prefix = prefixes i; schema = schemas i; states = listed_now i }
+
+-- a name has one number
+pub one_number : (number other : ℕ) (found : Result ℕ Refusal) → found ≡ Ok number → found ≡ Ok other → number ≡ other
+one_number number other found is again = let both : ◌≡◌ {A = Result ℕ Refusal} (Ok number) (Ok other) = sym is ∙ again in cc
 
 -- DROP: the index is gone
 pub drop_served : (opened : Opened) (number : ℕ) (next : Schema) (list : List Mutation) → list ≡ Set (schema_key opened.prefix) (schema_bytes next) ∷ ClearRange (entries_range opened.prefix number) ∷ ClearRange (built_range opened.prefix number) ∷ ClearRange (point (state_key opened.prefix number)) ∷ [] →

@@ -20,7 +20,7 @@ use Rattle.record_store.specs.Holds.{Holds, IsNoEntry, IsOfSchema}
 use Rattle.record_store.specs.IndexWrites.{index_writes, remove_writes, save_writes}
 use Rattle.record_store.proofs.Changed.{removed_by, saved_by}
 use Rattle.record_store.proofs.Kept.{HasIndex, clear_leaves, kept_indexes, other_place, set_leaves}
-use Rattle.record_store.proofs.States.{schema_apart}
+use Rattle.record_store.proofs.Listed.{schema_apart}
 
 module _ (prefix : List ℕ) (store : Store) (number : ℕ) where
   -- LEAVE: a key of no entry is as before
@@ -29,8 +29,8 @@ module _ (prefix : List ℕ) (store : Store) (number : ℕ) where
 
   -- FOLLOW: all indexes are had of the records with the new one
   pub writes_follow : (key : List Item) (old new : Option Record) → IsReplacement key old new store.records → IsTyped number old → IsTyped number new → (m : Map) → AreApart store.schema.indexes →
-      AllByRecursion (λ index. HasIndex prefix (built_of store index.number) store.records m index (state_of store index.number)) store.schema.indexes →
-      AllByRecursion (λ index. HasIndex prefix (built_of store index.number) (replaced key new store.records) (after_all (index_writes prefix store number key old new) m) index (state_of store index.number)) store.schema.indexes
+      AllByRecursion (λ index. HasIndex prefix store.records m index (store.status index.number)) store.schema.indexes →
+      AllByRecursion (λ index. HasIndex prefix (replaced key new store.records) (after_all (index_writes prefix store number key old new) m) index (store.status index.number)) store.schema.indexes
   writes_follow key old new given before later m apart all = all_kept prefix (state_of store) (built_of store) number key old new store.schema.indexes store.records m apart given before later all
 
 module _ (prefix : List ℕ) where
@@ -42,7 +42,7 @@ module _ (prefix : List ℕ) where
       (λ at none. writes_leave prefix store number (primary_key new) old (Some new) then at none)
       (writes_follow prefix store number (primary_key new) old (Some new) given
       (old_typed number (key_cells new) (primary_key new) old (Some new) store.records given refl) refl then (schema_apart store.schema holds.lawful.schema)
-      (kept_indexes prefix store.records (state_of store) (built_of store) m then store.schema.indexes
+      (kept_indexes prefix store.records store.status m then store.schema.indexes
       (λ n bytes. set_leaves m (record_key prefix (primary_key new)) (record_value new.cells) (entries_prefix prefix n ++ bytes)
       (other_place prefix 1 (primary_key new) 2 (int (pos n) ∷ []) (entries_prefix prefix n ++ bytes) refl (bytes, refl))) holds.entries))
     where
@@ -73,6 +73,6 @@ module _ (prefix : List ℕ) where
           removed_by prefix m (after_all (index_writes prefix store old.definition.number key (Some old) None) then) store key tuple holds
           (λ at none. writes_leave prefix store old.definition.number key (Some old) None then at none)
           (writes_follow prefix store old.definition.number key (Some old) None given refl tt then (schema_apart store.schema holds.lawful.schema)
-          (kept_indexes prefix store.records (state_of store) (built_of store) m then store.schema.indexes
+          (kept_indexes prefix store.records store.status m then store.schema.indexes
           (λ n bytes. clear_leaves m (record_key prefix key) (entries_prefix prefix n ++ bytes)
           (other_place prefix 1 key 2 (int (pos n) ∷ []) (entries_prefix prefix n ++ bytes) refl (bytes, refl))) holds.entries))

@@ -1,5 +1,5 @@
 -- What a change of a store leaves: keys of other places, and what is had there.
-use Rattle.std.proofs.Common.{◌≡◌, ℕ, true, not, ◌&&◌, ◌==◌, cond, arith, List, [], ◌∷◌, ◌++◌, refl, sym, ap, ◌∙◌, Some, None, append-nil, append_assoc, pos}
+use Rattle.std.proofs.Common.{◌≡◌, ℕ, true, not, ◌&&◌, ◌==◌, cond, arith, List, [], ◌∷◌, ◌++◌, refl, sym, ap, subst, ◌∙◌, Some, None, append-nil, append_assoc, pos}
 use Rattle.std.proofs.lemmas.Bool.{and_parts, eqb-false, false_from_ne_true, ltb-true, not-true}
 use Rattle.std.proofs.lemmas.Cmp.{nat_list_cmp_total, tied_itself}
 use Rattle.std.specs.Prelude.{nat_lt}
@@ -11,26 +11,33 @@ use Rattle.tuple_codec.specs.Spelling.{int_spelling, spelling}
 use Rattle.tuple_codec.specs.Subspace.{BeginsWith, subspace_key}
 use Rattle.kv_core.specs.Bytes.{key_cmp}
 use Rattle.kv_core.specs.Map.{Map, after}
-use Rattle.kv_core.specs.Range.{KeyRange, point}
+use Rattle.kv_core.specs.Range.{point}
 use Rattle.kv_core.specs.declared.change.Mutation.TheVariants.{Set, ClearRange}
 use Rattle.kv_core.proofs.Changes.{get-after, get-set}
 use Rattle.kv_core.proofs.Order.{tied_keys}
 use Rattle.kv_core.proofs.Pairs.{contains-point-is}
 use Rattle.metadata.specs.declared.index.IndexDefinition.{IndexDefinition}
-use Rattle.metadata.specs.declared.index.State.{State}
-use Rattle.metadata.specs.declared.index.State.TheVariants.{Readable, WriteOnly, Disabled}
+use Rattle.metadata.specs.declared.index.State.TheVariants as declared
+use Rattle.metadata.specs.Lawful.{IsLawfulSchema}
 use Rattle.metadata.specs.Record.{Record}
+use Rattle.metadata.specs.Schema.{Schema}
+use Rattle.range_set.specs.Stored.{HasSet}
 use Rattle.index_maint.specs.Kept.{HasKept}
 use Rattle.index_maint.specs.Layout.{entries_prefix}
 use Rattle.index_maint.proofs.KeptLaw.{kept_within}
 use Rattle.index_maint.proofs.Places.{begins_before, entries_elsewhere, places_apart, places_differ}
+use Rattle.record_store.specs.Store.{Store, Status, Readable, WriteOnly, Disabled, built_by, state_by}
 use Rattle.record_store.specs.Layout.{built_place, place, record_key, schema_key, state_key}
-use Rattle.record_store.specs.Holds.{HasPositions, Holds, IsNoEntry, IsNoRange}
+use Rattle.record_store.specs.Holds.{HasPositions, Holds, IsLawful, IsNoEntry, IsNoRange, IsOfSchema}
 use Rattle.record_store.proofs.Keys.{record_key_is}
 
--- what a map has of an index, by its state
-abbrev pub HasIndex : List ℕ → List KeyRange → List Record → Map → IndexDefinition → State → Type 0
-HasIndex prefix ranges records m index state = HasKept state prefix index ranges records m
+-- a store is lawful with another schema of its records, and with another status of its indexes
+pub lawful_so : (store : Store) (schema : Schema) (status : ℕ → Status) → IsLawfulSchema schema → AllByRecursion (IsOfSchema schema) store.records → IsLawful store → IsLawful (record store { schema = schema; status = status })
+lawful_so store schema status made typed lawful = record { schema = made; typed = typed; ordered = lawful.ordered; storable = lawful.storable }
+
+-- what a map has of an index, by its status
+abbrev pub HasIndex : List ℕ → List Record → Map → IndexDefinition → Status → Type 0
+HasIndex prefix records m index status = HasKept (state_by status) prefix index (built_by status) records m
 
 -- ---- one key
 
@@ -109,35 +116,34 @@ module _ (prefix : List ℕ) where
   -- ---- indexes
 
   -- what a map has of an index it has where it is the same at the index's keys
-  pub kept_index : (ranges : List KeyRange) (records : List Record) (m n : Map) (index : IndexDefinition) (state : State) →
-      ((bytes : List ℕ) → get n (entries_prefix prefix index.number ++ bytes) ≡ get m (entries_prefix prefix index.number ++ bytes)) → HasIndex prefix ranges records m index state → HasIndex prefix ranges records n index state
-  kept_index ranges records m n index state same has = kept_within state prefix index ranges records m n (λ bytes. sym (same bytes)) has
+  pub kept_index : (records : List Record) (m n : Map) (index : IndexDefinition) (status : Status) →
+      ((bytes : List ℕ) → get n (entries_prefix prefix index.number ++ bytes) ≡ get m (entries_prefix prefix index.number ++ bytes)) → HasIndex prefix records m index status → HasIndex prefix records n index status
+  kept_index records m n index status same has = kept_within (state_by status) prefix index (built_by status) records m n (λ bytes. sym (same bytes)) has
 
-  pub kept_indexes : (records : List Record) (states : ℕ → State) (built : ℕ → List KeyRange) (m n : Map) (indexes : List IndexDefinition) →
+  pub kept_indexes : (records : List Record) (status : ℕ → Status) (m n : Map) (indexes : List IndexDefinition) →
       ((number : ℕ) (bytes : List ℕ) → get n (entries_prefix prefix number ++ bytes) ≡ get m (entries_prefix prefix number ++ bytes)) →
-      AllByRecursion (λ index. HasIndex prefix (built index.number) records m index (states index.number)) indexes →
-      AllByRecursion (λ index. HasIndex prefix (built index.number) records n index (states index.number)) indexes
-  kept_indexes records states built m n [] same all = tt
-  kept_indexes records states built m n (index ∷ indexes) same all =
-      (kept_index (built index.number) records m n index (states index.number) (same index.number) all.0, kept_indexes records states built m n indexes same all.1)
+      AllByRecursion (λ index. HasIndex prefix records m index (status index.number)) indexes → AllByRecursion (λ index. HasIndex prefix records n index (status index.number)) indexes
+  kept_indexes records status m n [] same all = tt
+  kept_indexes records status m n (index ∷ indexes) same all = (kept_index records m n index (status index.number) (same index.number) all.0, kept_indexes records status m n indexes same all.1)
 
   -- what a map has of an index's built positions it has where it is the same at their keys
-  pub kept_range : (state : State) (number : ℕ) (ranges : List KeyRange) (m n : Map) →
-      ((bytes : List ℕ) → get n (built_place prefix number ++ bytes) ≡ get m (built_place prefix number ++ bytes)) → HasPositions state prefix number ranges m → HasPositions state prefix number ranges n
-  kept_range Readable number ranges m n same has = λ bytes. same bytes ∙ has bytes
-  kept_range WriteOnly number ranges m n same has = record { ranges = has.ranges; stored = has.stored; has = λ rest. same rest ∙ has.has rest; same = has.same }
-  kept_range Disabled number ranges m n same has = λ bytes. same bytes ∙ has bytes
+  pub kept_range : (number : ℕ) (m n : Map) (status : Status) →
+      ((bytes : List ℕ) → get n (built_place prefix number ++ bytes) ≡ get m (built_place prefix number ++ bytes)) → HasPositions prefix number m status → HasPositions prefix number n status
+  kept_range number m n Readable same has = λ bytes. same bytes ∙ has bytes
+  kept_range number m n Disabled same has = λ bytes. same bytes ∙ has bytes
+  kept_range number m n (WriteOnly built) same has = record { ranges = has.ranges; stored = has.stored; has = λ rest. same rest ∙ has.has rest; same = has.same }
 
-  pub kept_ranges : (states : ℕ → State) (built : ℕ → List KeyRange) (m n : Map) (indexes : List IndexDefinition) →
+  pub kept_ranges : (status : ℕ → Status) (m n : Map) (indexes : List IndexDefinition) →
       ((number : ℕ) (bytes : List ℕ) → get n (built_place prefix number ++ bytes) ≡ get m (built_place prefix number ++ bytes)) →
-      AllByRecursion (λ index. HasPositions (states index.number) prefix index.number (built index.number) m) indexes →
-      AllByRecursion (λ index. HasPositions (states index.number) prefix index.number (built index.number) n) indexes
-  kept_ranges states built m n [] same all = tt
-  kept_ranges states built m n (index ∷ indexes) same all =
-      (kept_range (states index.number) index.number (built index.number) m n (same index.number) all.0, kept_ranges states built m n indexes same all.1)
+      AllByRecursion (λ index. HasPositions prefix index.number m (status index.number)) indexes → AllByRecursion (λ index. HasPositions prefix index.number n (status index.number)) indexes
+  kept_ranges status m n [] same all = tt
+  kept_ranges status m n (index ∷ indexes) same all = (kept_range index.number m n (status index.number) (same index.number) all.0, kept_ranges status m n indexes same all.1)
 
-  -- a state that isn't write-only has none
-  pub none_built : (state : State) (number : ℕ) (ranges : List KeyRange) (m : Map) → (state ≡ WriteOnly → ⊥) → ((bytes : List ℕ) → get m (built_place prefix number ++ bytes) ≡ None) → HasPositions state prefix number ranges m
-  none_built Readable number ranges m other none = none
-  none_built WriteOnly number ranges m other none = absurd (other refl)
-  none_built Disabled number ranges m other none = none
+-- of a write-only index it has the set of the built positions
+pub write_only_is : (status : Status) → state_by status ≡ declared.WriteOnly → status ≡ WriteOnly (built_by status)
+write_only_is Readable building = absurd (cc)
+write_only_is Disabled building = absurd (cc)
+write_only_is (WriteOnly built) building = refl
+
+pub set_held : (prefix : List ℕ) (number : ℕ) (m : Map) (status : Status) → state_by status ≡ declared.WriteOnly → HasPositions prefix number m status → HasSet (built_place prefix number) (built_by status) m
+set_held prefix number m status building has = subst (HasPositions prefix number m) (write_only_is status building) has

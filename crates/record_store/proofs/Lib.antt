@@ -16,6 +16,7 @@ pub mod RecordCalls
 pub mod Saves
 pub mod Removes
 pub mod Scanning
+pub mod Listed
 pub mod States
 pub mod IndexedRecords
 pub mod EntryRanges
@@ -24,6 +25,7 @@ pub mod NewIndexes
 pub mod StatePairs
 pub mod IndexSteps
 pub mod StateSteps
+pub mod KnownStates
 pub mod IndexCalls
 pub mod AddedCalls
 pub mod Marked

@@ -1,8 +1,6 @@
 -- What marking an index with another state comes to.
-use Rattle.std.proofs.Common.{◌≡◌, ◌⊎◌, inl, inr, ℕ, Bool, true, false, cond, ◌||◌, ◌==◌, List, [], ◌∷◌, length, refl, sym, ap, subst, ◌∙◌, Option, Some, None, Ok, Err, Result}
+use Rattle.std.proofs.Common.{◌≡◌, ◌⊎◌, inl, inr, ℕ, Bool, true, false, cond, ◌==◌, List, [], ◌∷◌, length, refl, sym, ap, subst, ◌∙◌, Option, Some, None, Ok, Err}
 use Rattle.std.specs.Prelude.{IsNone}
-use Rattle.std.specs.List.{AllByRecursion}
-use Rattle.std.proofs.lemmas.Bool.{eqb-true}
 use Rattle.kv_core.specs.Range.{KeyRange}
 use Rattle.kv_core.specs.Map.{Map, after_all}
 use Rattle.kv_core.specs.Limits.{write_all_refusal}
@@ -22,15 +20,14 @@ use Rattle.range_set.specs.Stored.{HasSet}
 use Rattle.metadata.specs.declared.index.IndexDefinition.{IndexDefinition}
 use Rattle.metadata.specs.declared.index.State.{State}
 use Rattle.metadata.specs.declared.index.State.TheVariants.{Readable, WriteOnly, Disabled}
-use Rattle.metadata.specs.declared.refusal.Refusal.{Refusal}
 use Rattle.metadata.specs.Schema.{Schema, find_index}
 use Rattle.record_store.specs.declared.error.StoreError.{StoreError}
 use Rattle.record_store.specs.declared.error.StoreError.TheVariants.{Memory, NotBuilt}
-use Rattle.record_store.specs.Store.{Store, built_of, created, marked, readable, state_in, state_of, with_state, without_state}
+use Rattle.record_store.specs.Store.{Store, built_of, created, listed_by, listed_states, marked, altered_at, state_in, state_of}
 use Rattle.record_store.specs.Layout.{built_place, built_range}
 use Rattle.record_store.specs.Holds.{HasPositions, Holds, has_number}
 use Rattle.record_store.specs.Call.{AtStore, Call, IsAnswered, IsOpenAs, IsRefused, IsSound, IsUnread, Opened, Reading, Service, all_built, call_on, service_of}
-use Rattle.record_store.specs.Calls.{mark_footprint, opened_readable, readable_call, readable_footprint}
+use Rattle.record_store.specs.Calls.{mark_footprint, readable_call, readable_footprint}
 use Rattle.record_store.specs.Meaning.{in_write_only, index_number, mark_meaning, readable_meaning, write_only_found, write_only_named}
 use Rattle.record_store.specs.IndexWrites.{marked_writes, readable_writes}
 use Rattle.record_store.specs.Reading.{HasNotFound}
@@ -38,6 +35,8 @@ use Rattle.record_store.specs.Steps.{DidRead, IsBeginning, IsNextRefused, of_set
 use Rattle.record_store.proofs.Answered.{IsServed, answered, refused_limit, refused_memory, refused_unread}
 use Rattle.record_store.proofs.IndexCalls.{named_there}
 use Rattle.record_store.proofs.IndexChanges.{marked_holds}
+use Rattle.record_store.proofs.Kept.{set_held}
+use Rattle.record_store.proofs.Listed.{not_readable, of_number, opened_marks, state_told}
 use Rattle.record_store.proofs.Marked.{readable_holds}
 use Rattle.record_store.proofs.Stopping.{all_begin, none_begin}
 
@@ -62,35 +61,25 @@ number_named opened name index is = ap index_number (found_write_only opened nam
 -- ---- marks
 
 -- what a write-only index is marked readable by: whether every position of it is built
-ready : (number : ℕ) (store : Store) → is_whole (built_of store number) ≡ true → (readable_meaning number).answer store ≡ Ok (without_state number store.states)
-ready number store whole = ap (λ b. cond b (Ok (without_state number store.states)) (Err NotBuilt)) whole
+ready : (number : ℕ) (store : Store) → is_whole (built_of store number) ≡ true → (readable_meaning number).answer store ≡ Ok (listed_states (marked store number Readable))
+ready number store whole = ap (λ b. cond b (Ok (listed_states (marked store number Readable))) (Err NotBuilt)) whole
 
 unready : (number : ℕ) (store : Store) → is_whole (built_of store number) ≡ false → (readable_meaning number).answer store ≡ Err NotBuilt
-unready number store none = ap (λ b. cond b (Ok (without_state number store.states)) (Err NotBuilt)) none
+unready number store none = ap (λ b. cond b (Ok (listed_states (marked store number Readable))) (Err NotBuilt)) none
 
 -- MARK: the index has its state, and nothing of it is kept
-pub mark_served : (opened : Opened) (number : ℕ) (state : State) (states : List (ℕ × State)) (list : List Mutation) → (state ≡ Readable → ⊥) → list ≡ marked_writes state opened.prefix number → states ≡ with_state number state opened.states →
-    has_number opened.schema.indexes number ≡ true → (m : Map) (store : Store) → Holds opened.prefix m (Some store) → IsOpenAs opened store → IsServed opened (service_of (mark_meaning state) (mark_footprint state opened) number) states list m store
+pub mark_served : (opened : Opened) (number : ℕ) (state : State) (states : List (ℕ × State)) (list : List Mutation) → (state ≡ Readable → ⊥) → list ≡ marked_writes state opened.prefix number →
+    states ≡ listed_by opened.schema.indexes (altered_at number state (state_in opened.states)) → has_number opened.schema.indexes number ≡ true → (m : Map) (store : Store) → Holds opened.prefix m (Some store) → IsOpenAs opened store →
+    IsServed opened (service_of (mark_meaning state) (mark_footprint state opened) number) states list m store
 mark_served opened number state states list other wrote is there m store holds same = record {
-  answers = ap Ok (sym (is ∙ ap (with_state number state) (sym same.states)));
+  answers = ap Ok (sym (is ∙ opened_marks opened store number state same));
   wrote = wrote;
   holds =
-      subst (λ ms. Holds opened.prefix (after_all ms m) (Some (marked state store number))) (sym wrote)
-      (marked_holds opened.prefix m store number (ap (λ (s : Schema). has_number s.indexes number) same.schema ∙ there) holds state other);
+      subst (λ ms. Holds opened.prefix (after_all ms m) (Some (marked store number state))) (sym wrote)
+      (marked_holds opened.prefix m store number (ap (λ (s : Schema). has_number s.indexes number) same.schema ∙ there) holds state (not_readable state other));
 }
 
 -- ---- built positions
-
--- what a map has of the index with a number
-positions_of : (prefix : List ℕ) (m : Map) (states : ℕ → State) (built : ℕ → List KeyRange) (number : ℕ) (indexes : List IndexDefinition) → has_number indexes number ≡ true →
-    AllByRecursion (λ index. HasPositions (states index.number) prefix index.number (built index.number) m) indexes → HasPositions (states number) prefix number (built number) m
-positions_of prefix m states built number [] there all = absurd (cc)
-positions_of prefix m states built number (index ∷ indexes) there all = by_test (index.number == number) refl there (λ more. positions_of prefix m states built number indexes more all.1)
-  where
-    by_test : (b : Bool) → (index.number == number) ≡ b → (b || has_number indexes number) ≡ true → (has_number indexes number ≡ true → HasPositions (states number) prefix number (built number) m) →
-        HasPositions (states number) prefix number (built number) m
-    by_test true is some go = subst (λ n. HasPositions (states n) prefix n (built n) m) (eqb-true index.number number is) all.0
-    by_test false is some go = go some
 
 module _ (opened : Opened) (number : ℕ) (there : has_number opened.schema.indexes number ≡ true) (building : state_in opened.states number ≡ WriteOnly) where
   abbrev place : List ℕ
@@ -101,13 +90,13 @@ module _ (opened : Opened) (number : ℕ) (there : has_number opened.schema.inde
 
   -- the state is that of each store that was opened so
   pub store_building : (store : Store) → IsOpenAs opened store → state_of store number ≡ WriteOnly
-  store_building store same = ap (λ ss. state_in ss number) same.states ∙ building
+  store_building store same = state_told opened store number same (ap (λ (s : Schema). has_number s.indexes number) same.schema ∙ there) ∙ building
 
   -- SET: a store that is there has the built positions as a set
   pub set_there : (m : Map) (store : Store) → Holds opened.prefix m (Some store) → IsOpenAs opened store → HasSet place (built_of store number) m
   set_there m store holds same =
-      subst (λ s. HasPositions s opened.prefix number (built_of store number) m) (store_building store same)
-      (positions_of opened.prefix m (state_of store) (built_of store) number store.schema.indexes (ap (λ (s : Schema). has_number s.indexes number) same.schema ∙ there) holds.ranges)
+      let (index, is, has) = of_number (λ i. HasPositions opened.prefix i.number m (store.status i.number)) number store.schema.indexes (ap (λ (s : Schema). has_number s.indexes number) same.schema ∙ there) holds.ranges in
+      set_held opened.prefix number m (store.status number) (store_building store same) (subst (λ n. HasPositions opened.prefix n m (store.status n)) is has)
 
   -- READ: all of it was read
   pub set_read : {maps : ℕ → Map} {old new : CommitRequest} (Answer : List KeyRange → Type 0) → (found : reads.IsSetAnswered maps place (all_ranges place) old new Answer) →
@@ -129,13 +118,13 @@ module _ (opened : Opened) (number : ℕ) (there : has_number opened.schema.inde
       by_error (set.Corrupt key) added m says = (says.0, inl says.1, λ store holds same. says.2 (built_of store number) (set_there m store holds same))
 
   -- READABLE: where every position is built the index is readable
-  pub readable_served : (states : List (ℕ × State)) (list : List Mutation) → list ≡ readable_writes opened.prefix number → states ≡ without_state number opened.states →
+  pub readable_served : (states : List (ℕ × State)) (list : List Mutation) → list ≡ readable_writes opened.prefix number → states ≡ listed_by opened.schema.indexes (altered_at number Readable (state_in opened.states)) →
       (m : Map) (store : Store) → Holds opened.prefix m (Some store) → IsOpenAs opened store → is_whole (built_of store number) ≡ true → IsServed opened (service_of readable_meaning (readable_footprint opened) number) states list m store
   readable_served states list wrote is m store holds same whole = record {
-    answers = ready number store whole ∙ ap Ok (sym (is ∙ ap (without_state number) (sym same.states)));
+    answers = ready number store whole ∙ ap Ok (sym (is ∙ opened_marks opened store number Readable same));
     wrote = wrote;
     holds =
-        subst (λ ms. Holds opened.prefix (after_all ms m) (Some (readable store number))) (sym wrote)
+        subst (λ ms. Holds opened.prefix (after_all ms m) (Some (marked store number Readable))) (sym wrote)
         (readable_holds opened.prefix m store number (ap (λ (s : Schema). has_number s.indexes number) same.schema ∙ there) holds (store_building store same) whole);
   }
 
@@ -147,14 +136,6 @@ pub refused_unbuilt : {A : Type 0} (maps : ℕ → Map) (refuses : KeyRange → 
 refused_unbuilt maps refuses {added = added} {old = old} {new = new} opened call service some accepted unbuilt ran =
     subst (λ c. IsRefused maps refuses opened c NotBuilt old new) (sym accepted)
     (record { added = added; ran = ran_because ran (λ m found. ((some, unbuilt), found.0, found.1.0, found.1.1)) })
-
--- OPENED: the store is left with that index readable
-pub readable_is : (opened : Opened) (prefix : List ℕ) (schema : Schema) (states : List (ℕ × State)) (number other : ℕ) (found : Result ℕ Refusal) → prefix ≡ opened.prefix → schema ≡ opened.schema → states ≡ without_state number opened.states →
-    found ≡ Ok number → found ≡ Ok other → ◌≡◌ {A = Opened} (record { prefix = prefix; schema = schema; states = states }) (opened_readable opened other)
-readable_is opened prefix schema states number other found prefixes schemas listed is again =
-    let both : ◌≡◌ {A = Result ℕ Refusal} (Ok number) (Ok other) = sym is ∙ again in
-    let same : number ≡ other = cc in
-    (λ i. record { prefix = prefixes i; schema = schemas i; states = listed i }) ∙ ap (opened_readable opened) same
 
 -- ---- the call that marks an index readable
 
@@ -207,7 +188,7 @@ module _ (maps : ℕ → Map) (refuses : KeyRange → ℕ → ReadError → Type
           (λ m store holds alike told. (record { answer = _; is = ready index.number store (sym told ∙ all) }, wrote)) same says
 
       -- ANSWERED: the index is readable
-      pub readable_answered : {new : CommitRequest} (states : List (ℕ × State)) → states ≡ without_state index.number opened.states → new ≡ with_mutations list mid → IsNone (write_all_refusal mid.mutations list) →
+      pub readable_answered : {new : CommitRequest} (states : List (ℕ × State)) → states ≡ listed_by opened.schema.indexes (altered_at index.number Readable (state_in opened.states)) → new ≡ with_mutations list mid → IsNone (write_all_refusal mid.mutations list) →
           IsAnswered maps opened (readable_call opened name) states old new
       readable_answered states left made allowed =
           answered maps refuses opened (readable_call opened name) (service_of readable_meaning (readable_footprint opened) index.number) states list accepted (ap (λ ms. length ms == 0) wrote) was_read made allowed

@@ -1,9 +1,11 @@
 -- What a map holds of a store after an index is added.
-use Rattle.std.proofs.Common.{◌≡◌, ℕ, Bool, true, false, ◌||◌, ◌==◌, ◌<◌, ◌^◌, List, [], ◌∷◌, ◌++◌, refl, sym, ap, subst, ◌∙◌, Some, None, map, pos, unwrap_or}
+use Rattle.std.proofs.Common.{◌≡◌, ℕ, Bool, true, false, not, ◌||◌, ◌==◌, ◌<◌, ◌^◌, List, [], ◌∷◌, ◌++◌, append-nil, refl, sym, ap, subst, ◌∙◌, Some, None, map, pos}
+use Rattle.std.specs.Prelude.{filter}
 use Rattle.std.specs.FinMap.{get}
 use Rattle.std.specs.List.{AllByRecursion}
-use Rattle.std.specs.Map.{lookup}
-use Rattle.std.proofs.lemmas.Bool.{eq-eqb, eqb-true, or_right}
+use Rattle.std.proofs.lemmas.Bool.{eq-eqb, or_right}
+use Rattle.std.proofs.lemmas.List.{map-append}
+use Rattle.std.proofs.lemmas.List.Elements.{filter-append}
 use Rattle.std.proofs.lemmas.List.Folds.{list_any-append}
 use Rattle.tuple_codec.specs.Item.{int}
 use Rattle.tuple_codec.specs.Spelling.{spelling}
@@ -13,6 +15,7 @@ use Rattle.kv_core.specs.declared.change.Mutation.TheVariants.{Set}
 use Rattle.metadata.specs.declared.index.IndexDefinition.{IndexDefinition}
 use Rattle.metadata.specs.declared.index.State.{State}
 use Rattle.metadata.specs.declared.index.State.TheVariants.{Readable, Disabled}
+use Rattle.metadata.specs.Index.{is_readable}
 use Rattle.metadata.specs.IndexChange.{with_index}
 use Rattle.metadata.specs.Lawful.{IsLawfulSchema}
 use Rattle.metadata.specs.Record.{Record}
@@ -22,13 +25,14 @@ use Rattle.index_maint.specs.Layout.{entries_prefix}
 use Rattle.index_maint.proofs.KeptLaw.{defined_none}
 use Rattle.index_maint.proofs.Places.{begins_before, indexes_apart, parts_apart}
 use Rattle.index_maint.proofs.Several.{AreApart}
-use Rattle.record_store.specs.Store.{Store, built_of, indexed, listed_as, new_state, state_of, with_state}
+use Rattle.record_store.specs.Store.{Store, extended, indexed, listed_by, listed_states, marked, marked_so, new_state, altered_at, state_by, state_of}
 use Rattle.record_store.specs.Layout.{built_place, place, schema_key, state_key, state_pair, state_value}
-use Rattle.record_store.specs.Holds.{HasPairs, HasPositions, Holds, IsLawful, IsListed, IsNoEntry, IsNoRange, has_number}
+use Rattle.record_store.specs.Holds.{HasPairs, HasPositions, Holds, IsNoEntry, IsNoRange, has_number}
 use Rattle.record_store.specs.IndexWrites.{index_added_writes, state_writes}
-use Rattle.record_store.proofs.IndexChanges.{nothing_stays, other_range, other_stays, records_stay}
-use Rattle.record_store.proofs.Kept.{HasIndex, itself, no_entry_at, no_range_at, not_entry, not_range, other_place, set_leaves, set_there}
-use Rattle.record_store.proofs.States.{all_with_state, disabled_listed, listed_more, rising_with, schema_apart, state_itself, state_of_none, state_other, states_low, states_put}
+use Rattle.record_store.proofs.IndexChanges.{nothing_stays, other_range, other_stays, positions_bare, records_stay}
+use Rattle.record_store.proofs.Kept.{HasIndex, itself, lawful_so, no_entry_at, no_range_at, not_entry, not_range, other_place, set_leaves, set_there}
+use Rattle.record_store.proofs.Listed.{all_others, listed_same, marked_is, put_itself, put_other, put_twice, schema_apart}
+use Rattle.record_store.proofs.States.{states_put}
 
 -- ---- the last index
 
@@ -48,14 +52,6 @@ last_low (index ∷ indexes) last apart = last_low indexes last apart.2
 last_other : (indexes : List IndexDefinition) (last : IndexDefinition) → AreApart (indexes ++ last ∷ []) → AllByRecursion (λ index. index.number ≡ last.number → ⊥) indexes
 last_other [] last apart = tt
 last_other (index ∷ indexes) last apart = ((all_parts (λ i. index.number ≡ i.number → ⊥) indexes last apart.1).1, last_other indexes last apart.2)
-
-none_before : (indexes : List IndexDefinition) (number : ℕ) → AllByRecursion (λ index. index.number ≡ number → ⊥) indexes → has_number indexes number ≡ true → ⊥
-none_before [] number others there = cc
-none_before (index ∷ indexes) number others there = by_test (index.number == number) refl there (none_before indexes number others.1)
-  where
-    by_test : (b : Bool) → (index.number == number) ≡ b → (b || has_number indexes number) ≡ true → (has_number indexes number ≡ true → ⊥) → ⊥
-    by_test true is some go = others.0 (eqb-true index.number number is)
-    by_test false is some go = go some
 
 module _ (prefix : List ℕ) (m : Map) (store : Store) (index : IndexDefinition) (made : IsLawfulSchema (with_index store.schema index)) (holds : Holds prefix m (Some store)) where
   apart_old : AreApart store.schema.indexes
@@ -106,44 +102,47 @@ module _ (prefix : List ℕ) (m : Map) (store : Store) (index : IndexDefinition)
       none_of [] apart differ = tt
       none_of (i ∷ indexes) apart differ = (λ begins. differ.0 (parts_apart prefix at (int (pos 6)) i.number index.number [] [] apart.0 low begins (bytes, refl)), none_of indexes apart.2 differ.1)
 
+  -- the store with the index in a state
+  abbrev now : State → Store
+  now state = marked (extended store (with_index store.schema index)) index.number state
+
+  there : has_number (store.schema.indexes ++ index ∷ []) index.number ≡ true
+  there =
+      list_any-append (λ (i : IndexDefinition). i.number == index.number) store.schema.indexes (index ∷ [])
+      ∙ or_right (has_number store.schema.indexes index.number) (has_number (index ∷ []) index.number) (ap (λ b. b || false) (eq-eqb index.number index.number refl))
+
+  -- where it is readable the same is listed as before
+  same_listed : listed_states (now Readable) ≡ listed_states store
+  same_listed =
+      let f = state_of (now Readable) in
+      let p : ℕ × State → Bool = λ one. not (is_readable one.1) in
+      let g : IndexDefinition → ℕ × State = λ i. (i.number, f i.number) in
+      ap (filter p) (map-append g store.schema.indexes (index ∷ [])) ∙ filter-append p (map g store.schema.indexes) (map g (index ∷ []))
+      ∙ ap (λ s. listed_by store.schema.indexes f ++ filter p ((index.number, s) ∷ [])) (ap state_by (put_itself index.number (marked_so Readable) store.status index.number refl))
+      ∙ append-nil (listed_by store.schema.indexes f) ∙ listed_same f (state_of store) store.schema.indexes (each store.schema.indexes others)
+    where
+      each : (indexes : List IndexDefinition) → AllByRecursion (λ i. i.number ≡ index.number → ⊥) indexes → AllByRecursion (λ i. state_of (now Readable) i.number ≡ state_of store i.number) indexes
+      each [] differ = tt
+      each (i ∷ indexes) differ = (ap state_by (put_other index.number (marked_so Readable) store.status i.number differ.0), each indexes differ.1)
+
   -- what the map holds once the new schema stands, and its state, if it has one
-  module _ (n : Map) (states : List (ℕ × State)) (lawful : IsLawful (record store { schema = with_index store.schema index; states = states }))
-      (leaves : (at : List ℕ) → (at ≡ schema_key prefix → ⊥) → (at ≡ state_key prefix index.number → ⊥) → (BeginsWith (entries_prefix prefix index.number) at → ⊥) → (BeginsWith (built_place prefix index.number) at → ⊥) → get n at ≡ get m at)
-      (same : (number : ℕ) → (number ≡ index.number → ⊥) → unwrap_or (lookup (λ own. own == number) states) Readable ≡ state_of store number) where
-    each : (indexes : List IndexDefinition) → AreApart indexes → AllByRecursion (λ i. i.number ≡ index.number → ⊥) indexes → AllByRecursion (λ i. HasIndex prefix (built_of store i.number) store.records m i (state_of store i.number)) indexes →
-        AllByRecursion (λ i. HasIndex prefix (built_of store i.number) store.records n i (unwrap_or (lookup (λ own. own == i.number) states) Readable)) indexes
-    each [] apart differ all = tt
-    each (i ∷ indexes) apart differ all = (
-      subst (HasIndex prefix (built_of store i.number) store.records n i) (sym (same i.number differ.0))
-          (other_stays prefix m n store index.number low holds leaves i (built_of store i.number) (state_of store i.number) apart.0 differ.0 all.0),
-      each indexes apart.2 differ.1 all.1,
-    )
-
-    each_range : (indexes : List IndexDefinition) → AreApart indexes → AllByRecursion (λ i. i.number ≡ index.number → ⊥) indexes →
-        AllByRecursion (λ i. HasPositions (state_of store i.number) prefix i.number (built_of store i.number) m) indexes →
-        AllByRecursion (λ i. HasPositions (unwrap_or (lookup (λ own. own == i.number) states) Readable) prefix i.number (built_of store i.number) n) indexes
-    each_range [] apart differ all = tt
-    each_range (i ∷ indexes) apart differ all = (
-      subst (λ s. HasPositions s prefix i.number (built_of store i.number) n) (sym (same i.number differ.0))
-          (other_range prefix m n store index.number low holds leaves i (built_of store i.number) (state_of store i.number) apart.0 differ.0 all.0),
-      each_range indexes apart.2 differ.1 all.1,
-    )
-
-    indexed_by : get n (schema_key prefix) ≡ Some (schema_bytes (with_index store.schema index)) → HasPairs (place prefix 5) (map (state_pair prefix) states) n →
-        HasIndex prefix (built_of store index.number) store.records n index (unwrap_or (lookup (λ own. own == index.number) states) Readable) →
-        HasPositions (unwrap_or (lookup (λ own. own == index.number) states) Readable) prefix index.number (built_of store index.number) n →
-        Holds prefix n (Some (record store { schema = with_index store.schema index; states = states }))
-    indexed_by written listed new none = record {
-      lawful = lawful;
+  module _ (state : State) (n : Map)
+      (leaves : (at : List ℕ) → (at ≡ schema_key prefix → ⊥) → (at ≡ state_key prefix index.number → ⊥) → (BeginsWith (entries_prefix prefix index.number) at → ⊥) → (BeginsWith (built_place prefix index.number) at → ⊥) → get n at ≡ get m at) where
+    indexed_by : get n (schema_key prefix) ≡ Some (schema_bytes (with_index store.schema index)) → HasPairs (place prefix 5) (map (state_pair prefix) (listed_states (now state))) n →
+        HasIndex prefix store.records n index (marked_so state) → ((bytes : List ℕ) → get n (built_place prefix index.number ++ bytes) ≡ None) → Holds prefix n (Some (now state))
+    indexed_by written listed_now new none = record {
+      lawful = lawful_so store (with_index store.schema index) (altered_at index.number (marked_so state) store.status) made holds.lawful.typed holds.lawful;
       schema = written;
       records = records_stay prefix m n store index.number low holds leaves;
       entries =
-          all_append (λ i. HasIndex prefix (built_of store i.number) store.records n i (unwrap_or (lookup (λ own. own == i.number) states) Readable)) store.schema.indexes index
-          (each store.schema.indexes apart_old others holds.entries) new;
-      states = listed;
+          all_append (λ i. HasIndex prefix store.records n i ((now state).status i.number)) store.schema.indexes index
+          (all_others (HasIndex prefix store.records m) (HasIndex prefix store.records n) index.number (marked_so state) store.status (other_stays prefix m n store index.number low holds leaves) store.schema.indexes apart_old others holds.entries)
+          (subst (HasIndex prefix store.records n index) (sym (put_itself index.number (marked_so state) store.status index.number refl)) new);
+      states = listed_now;
       ranges =
-          all_append (λ i. HasPositions (unwrap_or (lookup (λ own. own == i.number) states) Readable) prefix i.number (built_of store i.number) n) store.schema.indexes index
-          (each_range store.schema.indexes apart_old others holds.ranges) none;
+          all_append (λ i. HasPositions prefix i.number n ((now state).status i.number)) store.schema.indexes index
+          (all_others (λ i. HasPositions prefix i.number m) (λ i. HasPositions prefix i.number n) index.number (marked_so state) store.status (other_range prefix m n store index.number low holds leaves) store.schema.indexes apart_old others holds.ranges)
+          (subst (HasPositions prefix index.number n) (sym (put_itself index.number (marked_so state) store.status index.number refl)) (positions_bare state prefix index.number n none));
       nothing_else = λ at under elsewhere.
           let parts = all_parts (λ i. BeginsWith (entries_prefix prefix i.number) at → ⊥) store.schema.indexes index elsewhere.entries in
           let ranges = all_parts (λ i. BeginsWith (built_place prefix i.number) at → ⊥) store.schema.indexes index elsewhere.ranges in
@@ -165,50 +164,29 @@ module _ (prefix : List ℕ) (m : Map) (store : Store) (index : IndexDefinition)
   first_ranges bytes =
       first_leaves (built_place prefix index.number ++ bytes) (other_place prefix 0 [] 6 (int (pos index.number) ∷ []) (built_place prefix index.number ++ bytes) refl (bytes, refl)) ∙ no_range_before bytes
 
-  first_states : HasPairs (place prefix 5) (map (state_pair prefix) store.states) first
-  first_states bytes = first_leaves (place prefix 5 ++ bytes) (other_place prefix 0 [] 5 [] (place prefix 5 ++ bytes) refl (bytes, refl)) ∙ holds.states bytes
+  first_states : HasPairs (place prefix 5) (map (state_pair prefix) (listed_states (now Readable))) first
+  first_states =
+      subst (λ ss. HasPairs (place prefix 5) (map (state_pair prefix) ss) first) (sym same_listed)
+      (λ bytes. first_leaves (place prefix 5 ++ bytes) (other_place prefix 0 [] 5 [] (place prefix 5 ++ bytes) refl (bytes, refl)) ∙ holds.states bytes)
 
   -- NO RECORDS: where no record is of the type the index is readable
-  readable_now : of_type index.type_number store.records ≡ [] → Holds prefix first (Some (record store { schema = with_index store.schema index }))
+  readable_now : of_type index.type_number store.records ≡ [] → Holds prefix first (Some (now Readable))
   readable_now none =
-      indexed_by first store.states (record {
-        schema = made;
-        typed = holds.lawful.typed;
-        ordered = holds.lawful.ordered;
-        storable = holds.lawful.storable;
-        rising = holds.lawful.rising;
-        listed = listed_more store.schema.indexes (index ∷ []) store.states holds.lawful.listed;
-      }) (λ at schema state entry range. first_leaves at schema) (λ number differ. refl)
-      (set_there m (schema_key prefix) (schema_bytes (with_index store.schema index))) first_states
-      (subst (HasIndex prefix (built_of store index.number) store.records first index) (sym not_listed) (defined_none index.kind prefix index store.records first none first_nothing))
-      (subst (λ s. HasPositions s prefix index.number (built_of store index.number) first) (sym not_listed) first_ranges)
-    where
-      not_listed : unwrap_or (lookup (λ own. own == index.number) store.states) Readable ≡ Readable
-      not_listed = ap (λ o. unwrap_or o Readable) (state_of_none store.schema.indexes index.number store.states (none_before store.schema.indexes index.number others) holds.lawful.listed)
+      indexed_by Readable first (λ at schema state entry range. first_leaves at schema) (set_there m (schema_key prefix) (schema_bytes (with_index store.schema index))) first_states
+      (defined_none index.kind prefix index store.records first none first_nothing) first_ranges
 
   -- RECORDS: where there are some it is disabled
-  disabled_now : Holds prefix (after (Set (state_key prefix index.number) (state_value Disabled)) first) (Some (record store { schema = with_index store.schema index; states = with_state index.number Disabled store.states }))
+  disabled_now : Holds prefix (after (Set (state_key prefix index.number) (state_value Disabled)) first) (Some (now Disabled))
   disabled_now =
-      indexed_by last (with_state index.number Disabled store.states) (record {
-        schema = made;
-        typed = holds.lawful.typed;
-        ordered = holds.lawful.ordered;
-        storable = holds.lawful.storable;
-        rising = rising_with index.number Disabled store.states holds.lawful.rising;
-        listed =
-            all_with_state (IsListed (store.schema.indexes ++ index ∷ [])) index.number Disabled store.states (record { there = itself_there; state = disabled_listed })
-            (λ one is. record { there = is.there; state = disabled_listed }) (listed_more store.schema.indexes (index ∷ []) store.states holds.lawful.listed);
-      }) (λ at schema state entry range. put_leaves at state ∙ first_leaves at schema) (λ number differ. state_other index.number number Disabled store.states differ)
+      indexed_by Disabled last (λ at schema state entry range. put_leaves at state ∙ first_leaves at schema)
       (put_leaves (schema_key prefix) (other_place prefix 5 (int (pos index.number) ∷ []) 0 [] (schema_key prefix) refl (itself (schema_key prefix))) ∙ set_there m (schema_key prefix) (schema_bytes (with_index store.schema index)))
-      (states_put prefix index.number Disabled store.states first low (states_low store.schema.indexes store.states apart_old holds.lawful.listed) first_states)
-      (subst (HasIndex prefix (built_of store index.number) store.records last index) (sym (state_itself index.number Disabled store.states))
+      (subst (λ f. HasPairs (place prefix 5) (map (state_pair prefix) (listed_by (store.schema.indexes ++ index ∷ []) f)) last) states_now (states_put prefix index.number Disabled (now Readable) first made there refl first_states))
       (λ bytes.
       put_leaves (entries_prefix prefix index.number ++ bytes) (other_place prefix 5 (int (pos index.number) ∷ []) 2 (int (pos index.number) ∷ []) (entries_prefix prefix index.number ++ bytes) refl (bytes, refl))
-      ∙ first_nothing bytes))
-      (subst (λ s. HasPositions s prefix index.number (built_of store index.number) last) (sym (state_itself index.number Disabled store.states))
+      ∙ first_nothing bytes)
       (λ bytes.
       put_leaves (built_place prefix index.number ++ bytes) (other_place prefix 5 (int (pos index.number) ∷ []) 6 (int (pos index.number) ∷ []) (built_place prefix index.number ++ bytes) refl (bytes, refl))
-      ∙ first_ranges bytes))
+      ∙ first_ranges bytes)
     where
       last : Map
       last = after (Set (state_key prefix index.number) (state_value Disabled)) first
@@ -216,17 +194,16 @@ module _ (prefix : List ℕ) (m : Map) (store : Store) (index : IndexDefinition)
       put_leaves : (at : List ℕ) → (at ≡ state_key prefix index.number → ⊥) → get last at ≡ get first at
       put_leaves at state = set_leaves first (state_key prefix index.number) (state_value Disabled) at state
 
-      itself_there : has_number (store.schema.indexes ++ index ∷ []) index.number ≡ true
-      itself_there =
-          list_any-append (λ (i : IndexDefinition). i.number == index.number) store.schema.indexes (index ∷ [])
-          ∙ or_right (has_number store.schema.indexes index.number) (has_number (index ∷ []) index.number) (ap (λ b. b || false) (eq-eqb index.number index.number refl))
+      states_now : altered_at index.number Disabled (state_of (now Readable)) ≡ state_of (now Disabled)
+      states_now =
+          sym (marked_is (now Readable) index.number Disabled)
+          ∙ (λ j n. state_by (put_twice index.number (marked_so Readable) (marked_so Disabled) store.status j n))
 
   -- INDEX: with the schema put, and the state of the new index where it has one, the map holds the store with the index
   pub indexed_holds : Holds prefix (after_all (index_added_writes prefix store index) m) (Some (indexed store index))
   indexed_holds = by_records (of_type index.type_number store.records) refl
     where
       by_records : (records : List Record) → of_type index.type_number store.records ≡ records →
-          Holds prefix (after_all (Set (schema_key prefix) (schema_bytes (with_index store.schema index)) ∷ state_writes prefix index.number (new_state records)) m)
-          (Some (record store { schema = with_index store.schema index; states = listed_as index.number (new_state records) store.states }))
+          Holds prefix (after_all (Set (schema_key prefix) (schema_bytes (with_index store.schema index)) ∷ state_writes prefix index.number (new_state records)) m) (Some (now (new_state records)))
       by_records [] is = readable_now is
       by_records (r ∷ records) is = disabled_now

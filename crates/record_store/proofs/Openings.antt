@@ -1,5 +1,5 @@
 -- What reading a record and opening a store establish.
-use Rattle.std.proofs.Common.{◌≡◌, inl, inr, ℕ, Bool, true, false, cond, List, [], ◌∷◌, ◌++◌, refl, sym, ap, subst, subst₂, ◌∙◌, Option, Some, None, append-nil, map, pos}
+use Rattle.std.proofs.Common.{◌≡◌, inl, inr, ℕ, Bool, true, false, cond, List, [], ◌∷◌, ◌++◌, refl, sym, ap, subst, ◌∙◌, Option, Some, None, append-nil, map, pos}
 use Rattle.std.specs.List.{AllByRecursion, filter}
 use Rattle.std.specs.FinMap.{entries, get}
 use Rattle.tuple_codec.specs.Item.{int}
@@ -9,7 +9,6 @@ use Rattle.kv_core.specs.declared.change.CommitRequest.{CommitRequest}
 use Rattle.kv_core.proofs.Pairs.{entries-kept}
 use Rattle.cluster_core.specs.declared.answers.ReadError.{ReadError}
 use Rattle.txn.proofs.Running.{ran_because, ran_then}
-use Rattle.metadata.specs.declared.index.IndexDefinition.{IndexDefinition}
 use Rattle.metadata.specs.declared.index.State.{State}
 use Rattle.metadata.specs.Lawful.{IsLawfulSchema}
 use Rattle.metadata.specs.Schema.{Schema}
@@ -17,7 +16,7 @@ use Rattle.metadata.specs.Written.{schema_bytes}
 use Rattle.metadata.proofs.OneSchema.{written_once}
 use Rattle.record_store.specs.declared.error.StoreError.{StoreError}
 use Rattle.record_store.specs.declared.error.StoreError.TheVariants.{Memory, Read, Write, Corrupt, Refused, NoStore, AlreadyThere, OtherSchema, NotAggregate, NotReadable, WrongState, NotBuilt}
-use Rattle.record_store.specs.Store.{Serial}
+use Rattle.record_store.specs.Store.{Serial, listed_states}
 use Rattle.record_store.specs.Layout.{schema_key, state_pair, states_range}
 use Rattle.record_store.specs.Holds.{Holds, IsListed}
 use Rattle.record_store.specs.Form.{IsFirstBad, IsOpeningPair, IsSchemaPair, IsStatePair, read_in}
@@ -29,7 +28,7 @@ use Rattle.record_store.specs.Steps.{DidRead, no_memory}
 use Rattle.record_store.proofs.Held.{no_schema_held, no_schema_state, no_states, schema_held}
 use Rattle.record_store.proofs.Kept.{itself, other_place}
 use Rattle.record_store.proofs.StatePairs.{same_states, states_held}
-use Rattle.record_store.proofs.States.{schema_apart, states_low}
+use Rattle.record_store.proofs.Listed.{schema_apart, states_low, store_listed, store_low}
 use Rattle.record_store.proofs.RecordPairs.{at_key, none_bad, pairs_at}
 
 abbrev Pair : Type 0
@@ -91,7 +90,7 @@ module _ (prefix : List ℕ) where
       let bytes : schema_bytes store.schema ≡ schema_bytes schema = cc in record {
         schema = written_once store.schema schema holds.lawful.schema has.made bytes;
         states =
-            same_states prefix store.states states (states_low store.schema.indexes store.states (schema_apart store.schema holds.lawful.schema) holds.lawful.listed)
+            same_states prefix (listed_states store) states (store_low store holds.lawful.schema)
             (states_low schema.indexes states (schema_apart schema has.made) has.listed) (sym (states_held prefix m store holds) ∙ has.states);
       }
 
@@ -139,9 +138,9 @@ module _ (prefix : List ℕ) where
   opening_form m None holds =
       subst (AllByRecursion (IsOpeningPair prefix m)) (sym (opening_pairs m None [] (sym (no_schema_held prefix m holds)) (sym (no_states prefix m holds)))) tt
   opening_form m (Some store) holds =
-      subst (AllByRecursion (IsOpeningPair prefix m)) (sym (opening_pairs m (Some (schema_bytes store.schema)) (map (state_pair prefix) store.states) (sym (schema_held prefix m store holds)) (sym (states_held prefix m store holds)))) (
+      subst (AllByRecursion (IsOpeningPair prefix m)) (sym (opening_pairs m (Some (schema_bytes store.schema)) (map (state_pair prefix) (listed_states store)) (sym (schema_held prefix m store holds)) (sym (states_held prefix m store holds)))) (
         inl (record { schema = store.schema; made = holds.lawful.schema; is = refl }),
-        states_form m store.schema store.states holds.lawful.schema (schema_held prefix m store holds) holds.lawful.listed,
+        states_form m store.schema (listed_states store) holds.lawful.schema (schema_held prefix m store holds) (store_listed store),
       )
 
   -- a damaged opening
@@ -264,10 +263,3 @@ module _ (prefix : List ℕ) where
       added = opening_reach prefix;
       ran = ran_because (both_read one two) (λ m found. all_failure (λ range. refuses range old.read_version) m written pairs schema error is found.0 found.1 says);
     }
-
-  -- what is told of slices is so of what they show
-  pub states_by : (indexes mine : List IndexDefinition) (pairs read : List Pair) (states : List (ℕ × State)) → indexes ≡ mine → pairs ≡ read → AreStates prefix indexes pairs states → AreStates prefix mine read states
-  states_by indexes mine pairs read states is shown are = subst₂ (λ (is : List IndexDefinition) (ps : List Pair). AreStates prefix is ps states) is shown are
-
-  pub unstated_by : (indexes mine : List IndexDefinition) (pairs read : List Pair) (error : StoreError) → indexes ≡ mine → pairs ≡ read → HaveNoStates prefix indexes pairs error → HaveNoStates prefix mine read error
-  unstated_by indexes mine pairs read error is shown none = subst₂ (λ (is : List IndexDefinition) (ps : List Pair). HaveNoStates prefix is ps error) is shown none

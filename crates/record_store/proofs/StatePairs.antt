@@ -21,12 +21,13 @@ use Rattle.kv_core.specs.Range.{contains, entries_in}
 use Rattle.kv_core.proofs.Stored.{pairs_in-stored}
 use Rattle.metadata.specs.declared.index.State.{State}
 use Rattle.metadata.specs.declared.index.State.TheVariants.{Readable, WriteOnly, Disabled}
-use Rattle.record_store.specs.Store.{Store}
+use Rattle.record_store.specs.Store.{Store, listed_states}
 use Rattle.record_store.specs.Layout.{place, state_key, state_pair, state_value, states_range}
-use Rattle.record_store.specs.Holds.{AreRising, Holds}
+use Rattle.record_store.specs.Holds.{Holds}
 use Rattle.record_store.proofs.Held.{held_in}
 use Rattle.record_store.proofs.Kept.{state_key_is}
-use Rattle.record_store.proofs.States.{AreLow, schema_apart, state_order, states_low}
+use Rattle.record_store.proofs.Listed.{AreLow, AreRising, store_low, store_rising}
+use Rattle.record_store.proofs.States.{state_order}
 
 -- the tuple of a number of 64 bits
 number_tuple : (number : ℕ) → number < 2 ^ 64 → IsTuple (int (pos number) ∷ [])
@@ -65,12 +66,12 @@ module _ (prefix : List ℕ) where
   keys_rise (one ∷ states) low rising = (above one states low.0 low.1 rising.0, keys_rise states low.1 rising.1)
 
   -- STATES: the pairs in the range of the states are those of the states, in order
-  pub states_held : (m : Map) (store : Store) → Holds prefix m (Some store) → pairs_in m (states_range prefix) ≡ map (state_pair prefix) store.states
+  pub states_held : (m : Map) (store : Store) → Holds prefix m (Some store) → pairs_in m (states_range prefix) ≡ map (state_pair prefix) (listed_states store)
   states_held m store holds =
-      let low = states_low store.schema.indexes store.states (schema_apart store.schema holds.lawful.schema) holds.lawful.listed in
-      held_in prefix (place prefix 5) (map (state_pair prefix) store.states) m (states_range prefix) (0 ∷ []) (255 ∷ []) refl holds.states
-      ∙ pairs_in-stored (map (state_pair prefix) store.states) (states_range prefix) (keys_rise store.states low holds.lawful.rising)
-      ∙ all_inside store.states low
+      let low = store_low store holds.lawful.schema in
+      held_in prefix (place prefix 5) (map (state_pair prefix) (listed_states store)) m (states_range prefix) (0 ∷ []) (255 ∷ []) refl holds.states
+      ∙ pairs_in-stored (map (state_pair prefix) (listed_states store)) (states_range prefix) (keys_rise (listed_states store) low (store_rising store holds.lawful.schema))
+      ∙ all_inside (listed_states store) low
 
   -- ---- what pairs tell
 

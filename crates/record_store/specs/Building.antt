@@ -10,7 +10,7 @@ use Rattle.metadata.specs.declared.index.IndexDefinition.{IndexDefinition}
 use Rattle.metadata.specs.Layout.{records_prefix}
 use Rattle.metadata.specs.Record.{Record}
 use Rattle.range_set.specs.Gaps.{first_gap}
-use Rattle.range_set.specs.Stored.{insertion}
+use Rattle.range_set.specs.Told.{insertion_in}
 use Rattle.index_maint.specs.Kept.{build_writes, records_within}
 use Rattle.record_store.specs.Call.{AtStore, Opened, Reading}
 use Rattle.record_store.specs.Form.{IsWritten}
@@ -22,11 +22,12 @@ use Rattle.record_store.specs.Store.{Store, built_of}
 abbrev pub gap_of : Store → ℕ → Option KeyRange
 gap_of store number = first_gap (built_of store number)
 
--- what is written to build a range of positions: what each record there defines, and then the range
-abbrev pub built_writes : List ℕ → IndexDefinition → KeyRange → List Record → List Mutation
-built_writes prefix index range records =
+-- what is written to build a range of positions: what each record there defines, and then what inserts the range
+-- beside the built ranges that the map has
+abbrev pub built_writes : List ℕ → IndexDefinition → KeyRange → Map → List Record → List Mutation
+built_writes prefix index range m records =
     build_writes prefix index (records_within range index records)
-    ++ insertion (built_place prefix index.number) range ∷ []
+    ++ insertion_in (built_place prefix index.number) m range
 
 -- the keys of the records of the type with this number at positions of a range
 abbrev pub positions_range : List ℕ → ℕ → KeyRange → KeyRange

@@ -15,7 +15,7 @@ use Rattle.metadata.specs.declared.index.State.{State}
 use Rattle.metadata.specs.Schema.{Schema}
 use Rattle.record_store.specs.declared.error.StoreError.{StoreError}
 use Rattle.record_store.specs.declared.error.StoreError.TheVariants.{Memory, Read, Write, Corrupt}
-use Rattle.record_store.specs.Store.{Store}
+use Rattle.record_store.specs.Store.{Store, listed_states}
 use Rattle.record_store.specs.Holds.{Holds}
 use Rattle.record_store.specs.Meaning.{Meaning}
 use Rattle.range_set.specs.Stored.{AreWritten, IsFirstDamaged}
@@ -32,7 +32,7 @@ pub record Opened : Type 0 where
 -- the store was opened so
 pub record IsOpenAs (opened : Opened) (store : Store) : Type 0 where
   pub schema : store.schema ≡ opened.schema
-  pub states : store.states ≡ opened.states
+  pub states : listed_states store ≡ opened.states
 
 -- what a call reads of a map, in reading order: the ranges that it asks for, those that it adds to the ranges read, the
 -- index of which it reads all built ranges first, if it does, and the other pairs
@@ -107,14 +107,14 @@ AreDamaged opened (Some number) pairs key m =
 abbrev pub IsDamagedAt : Opened → Reading → List ℕ → Map → Type 0
 IsDamagedAt opened reading key m = AreDamaged opened reading.set (reading.pairs m) key m
 
--- what a call reads, and by the store that is there exactly what it writes, in order
+-- what a call reads, and by the map and the store that is there exactly what it writes, in order
 pub record Footprint : Type 0 where
   pub reading : Reading
-  pub writes : Store → List Mutation
+  pub writes : Map → Store → List Mutation
 
 -- a call that writes nothing
 abbrev pub reads_only : Reading → Footprint
-reads_only reading = record { reading = reading; writes = λ store. [] }
+reads_only reading = record { reading = reading; writes = λ m store. [] }
 
 -- what a call does that isn't refused before it reads
 pub record Service (A : Type 0) : Type 0 where
@@ -142,7 +142,7 @@ AtStore opened m Fact = (store : Store) → Holds opened.prefix m (Some store) �
 pub record IsDone {A : Type 0} (opened : Opened) (service : Service A) (answer : A) (before written : List Mutation)
     (m : Map) (store : Store) : Type 0 where
   pub answers : service.meaning.answer store ≡ Ok answer
-  pub wrote : written ≡ service.footprint.writes store
+  pub wrote : written ≡ service.footprint.writes m store
   pub allowed : write_all_refusal before written ≡ None
   pub holds : Holds opened.prefix (after_all written m) (Some (service.meaning.after store))
 
@@ -159,7 +159,7 @@ pub record IsAnswered {A : Type 0} (maps : ℕ → Map) (opened : Opened) (call 
       × IsSound opened service.footprint.reading m
       × AtStore opened m (IsDone opened service answer old.mutations written m))
 
--- why reads aren't answered: memory is wanting, or a read is refused, in either case behind the first ones; or all were
+-- why reads aren't answered: memory runs out, or a read is refused, in either case after the first ones; or all were
 -- answered, and the first pair read that isn't of the written form has this key, which no store has
 abbrev pub IsUnread : (KeyRange → ReadError → Type 0) → Opened → Reading → StoreError → List KeyRange → Map → Type 0
 IsUnread refuses opened reading Memory added m = IsBeginning added (reading.added m)
@@ -196,7 +196,7 @@ IsFailure refuses opened service (Corrupt key) before added m =
 IsFailure refuses opened service (Write error) before added m =
     (added ≡ service.footprint.reading.added m) × IsSound opened service.footprint.reading m
     × AtStore opened m (λ store. IsAccepted service store
-    × (write_all_refusal before (service.footprint.writes store) ≡ Some error))
+    × (write_all_refusal before (service.footprint.writes m store) ≡ Some error))
 IsFailure refuses opened service error before added m = IsRefusedThere opened service error added m
 
 -- a service wasn't done: it added these ranges to those read, and wrote nothing

@@ -9,7 +9,7 @@ use Rattle.metadata.specs.declared.definition.TypeRequest.{TypeRequest}
 use Rattle.metadata.specs.declared.index.IndexDefinition.{IndexDefinition}
 use Rattle.metadata.specs.declared.index.IndexRequest.{IndexRequest}
 use Rattle.metadata.specs.declared.index.State.{State}
-use Rattle.metadata.specs.declared.index.State.TheVariants.{WriteOnly, Disabled}
+use Rattle.metadata.specs.declared.index.State.TheVariants.{Readable, WriteOnly, Disabled}
 use Rattle.metadata.specs.declared.refusal.Refusal.{Refusal}
 use Rattle.metadata.specs.declared.refusal.Refusal.TheVariants.{UnknownIndex}
 use Rattle.metadata.specs.Change.{add_type}
@@ -19,7 +19,7 @@ use Rattle.metadata.specs.Records.{record_at}
 use Rattle.metadata.specs.Schema.{Schema, find_index, find_type}
 use Rattle.metadata.specs.Written.{schema_bytes}
 use Rattle.index_maint.specs.Totals.{group_key}
-use Rattle.record_store.specs.Store.{listed_as, state_in, with_state, without_state}
+use Rattle.record_store.specs.Store.{listed_by, altered_at, state_in}
 use Rattle.record_store.specs.Layout.{record_key, schema_key, type_range}
 use Rattle.record_store.specs.IndexWrites.{drop_writes, index_added_writes, marked_writes, readable_writes}
 use Rattle.record_store.specs.IndexWrites.{remove_writes, save_writes}
@@ -44,7 +44,7 @@ save_footprint opened r = record {
   reading =
       then_reads (whole (point (record_key opened.prefix (primary_key r)) ∷ []))
       (built_reading opened r.definition.number (position_of (primary_key r)) opened.schema.indexes);
-  writes = λ store. save_writes opened.prefix store r;
+  writes = λ m store. save_writes opened.prefix store r;
 }
 
 abbrev pub save_call : Opened → Record → Call (Option Record)
@@ -57,7 +57,7 @@ remove_footprint opened key = record {
       then_reads (whole (point (record_key opened.prefix key) ∷ []))
       (where_there (record_key opened.prefix key)
       (built_reading opened (type_number_in key) (position_of key) opened.schema.indexes));
-  writes = λ store. remove_writes opened.prefix store key (record_at key store.records);
+  writes = λ m store. remove_writes opened.prefix store key (record_at key store.records);
 }
 
 abbrev pub remove_call : Opened → List ℕ → List Cell → Call Bool
@@ -86,7 +86,7 @@ abbrev pub schema_writes : List ℕ → Schema → List Mutation
 schema_writes prefix schema = Set (schema_key prefix) (schema_bytes schema) ∷ []
 
 abbrev pub type_footprint : Opened → Schema → Footprint
-type_footprint opened schema = record { reading = whole []; writes = λ store. schema_writes opened.prefix schema }
+type_footprint opened schema = record { reading = whole []; writes = λ m store. schema_writes opened.prefix schema }
 
 abbrev pub type_call : Opened → TypeRequest → Call Schema
 type_call opened request =
@@ -96,23 +96,31 @@ type_call opened request =
 abbrev pub index_footprint : Opened → IndexDefinition → Footprint
 index_footprint opened index = record {
   reading = first_of (type_range opened.prefix index.type_number);
-  writes = λ store. index_added_writes opened.prefix store index;
+  writes = λ m store. index_added_writes opened.prefix store index;
 }
 
 abbrev pub index_call : Opened → IndexRequest → Call State
 index_call opened request =
     call_on index_meaning (index_footprint opened) (by_schema (new_index opened.schema request))
 
+-- the opened store with this schema, where the index with this number has this state
+abbrev pub opened_with : Opened → Schema → ℕ → State → Opened
+opened_with opened schema number state =
+    record opened {
+      schema = schema;
+      states = listed_by schema.indexes (altered_at number state (state_in opened.states));
+    }
+
 -- the opened store with one more index that has this state
 pub record IsIndexedAs (old new : Opened) (request : IndexRequest) (state : State) : Type 0 where
   pub index : IndexDefinition
   pub accepted : new_index old.schema request ≡ Ok index
-  pub is : new ≡ record old { schema = with_index old.schema index; states = listed_as index.number state old.states }
+  pub is : new ≡ opened_with old (with_index old.schema index) index.number state
 
 -- DROP: the schema is written without the index, and what is kept of it goes
 abbrev pub drop_footprint : Opened → ℕ → Footprint
 drop_footprint opened number =
-    record { reading = whole []; writes = λ store. drop_writes opened.prefix store number }
+    record { reading = whole []; writes = λ m store. drop_writes opened.prefix store number }
 
 abbrev pub drop_call : Opened → List ℕ → Call Schema
 drop_call opened name =
@@ -121,7 +129,7 @@ drop_call opened name =
 -- MARK: the state is written, and what is kept of the index goes
 abbrev pub mark_footprint : State → Opened → ℕ → Footprint
 mark_footprint state opened number =
-    record { reading = whole []; writes = λ store. marked_writes state opened.prefix number }
+    record { reading = whole []; writes = λ m store. marked_writes state opened.prefix number }
 
 abbrev pub mark_call : State → Opened → List ℕ → Call (List (ℕ × State))
 mark_call state opened name =
@@ -138,30 +146,19 @@ write_only_call opened name = mark_call WriteOnly opened name
 -- READABLE: the built ranges of the index are read; its state and these ranges go
 abbrev pub readable_footprint : Opened → ℕ → Footprint
 readable_footprint opened number =
-    record { reading = all_built opened.prefix number; writes = λ store. readable_writes opened.prefix number }
+    record { reading = all_built opened.prefix number; writes = λ m store. readable_writes opened.prefix number }
 
 abbrev pub readable_call : Opened → List ℕ → Call (List (ℕ × State))
 readable_call opened name =
     call_on (λ index. readable_meaning index.number) (λ index. readable_footprint opened index.number)
     (write_only_named opened.schema opened.states name)
 
--- the opened store without the index with this number, and with that index in a state that isn't readable
+-- so without the index with this number, and with that index in this state
 abbrev pub opened_without : Opened → ℕ → Opened
-opened_without opened number =
-    record opened { schema = without_index opened.schema number; states = without_state number opened.states }
+opened_without opened number = opened_with opened (without_index opened.schema number) number Readable
 
-abbrev pub opened_marked : State → Opened → ℕ → Opened
-opened_marked state opened number = record opened { states = with_state number state opened.states }
-
--- so with that index disabled, with it write-only, and with it readable
-abbrev pub opened_disabled : Opened → ℕ → Opened
-opened_disabled opened number = opened_marked Disabled opened number
-
-abbrev pub opened_write_only : Opened → ℕ → Opened
-opened_write_only opened number = opened_marked WriteOnly opened number
-
-abbrev pub opened_readable : Opened → ℕ → Opened
-opened_readable opened number = record opened { states = without_state number opened.states }
+abbrev pub opened_marked : Opened → ℕ → State → Opened
+opened_marked opened number state = opened_with opened opened.schema number state
 
 -- STATE: the state of the index of this name, or the refusal
 abbrev pub state_named : Opened → List ℕ → Result State Refusal

@@ -1,14 +1,13 @@
 -- How a map holds what is there: no store, or a store, place by place.
-use Rattle.std.specs.Prelude.{◌≡◌, ◌==◌, ◌<◌, ℕ, Bool, List, [], ◌∷◌, ◌++◌, Some, None, Ok, IsTrue, map}
+use Rattle.std.specs.Prelude.{◌≡◌, ◌==◌, ℕ, Bool, List, ◌++◌, Some, None, Ok, IsTrue, map}
 use Rattle.std.specs.List.{AllByRecursion, list_any}
 use Rattle.std.specs.FinMap.{from_entries, get}
 use Rattle.tuple_codec.specs.Subspace.{BeginsWith}
 use Rattle.kv_core.specs.Map.{Map}
-use Rattle.kv_core.specs.Range.{KeyRange}
 use Rattle.range_set.specs.Stored.{HasSet}
 use Rattle.metadata.specs.declared.index.IndexDefinition.{IndexDefinition}
 use Rattle.metadata.specs.declared.index.State.{State}
-use Rattle.metadata.specs.declared.index.State.TheVariants.{Readable, WriteOnly, Disabled}
+use Rattle.metadata.specs.declared.index.State.TheVariants.{Readable}
 use Rattle.metadata.specs.Lawful.{IsLawfulSchema}
 use Rattle.metadata.specs.Record.{Record, record_of}
 use Rattle.metadata.specs.Records.{AreOrdered, IsStorable}
@@ -16,7 +15,7 @@ use Rattle.metadata.specs.Schema.{Schema}
 use Rattle.metadata.specs.Written.{schema_bytes}
 use Rattle.index_maint.specs.Kept.{HasKept}
 use Rattle.index_maint.specs.Layout.{entries_prefix}
-use Rattle.record_store.specs.Store.{Store, Serial, built_of, state_of}
+use Rattle.record_store.specs.Store.{Store, Serial, Status, WriteOnly, built_of, listed_states, state_of}
 use Rattle.metadata.specs.Layout.{place_of_records, place_of_states}
 use Rattle.record_store.specs.Layout.{built_place, place, record_pair, schema_key, state_pair}
 
@@ -33,20 +32,12 @@ pub record IsListed (indexes : List IndexDefinition) (listed : ℕ × State) : T
   pub there : IsTrue (has_number indexes listed.0)
   pub state : listed.1 ≡ Readable → ⊥
 
--- the numbers of states rise strictly
-abbrev pub AreRising : List (ℕ × State) → Type 0
-AreRising [] = Unit {0}
-AreRising (one ∷ states) = AllByRecursion (λ later. one.0 < later.0) states × AreRising states
-
--- a lawful store: its schema is one that calls make, its records are of the schema, in order, and can be stored, and
--- its states are those of indexes that aren't readable, by rising numbers
+-- a lawful store: its schema is one that calls make, its records are of the schema, in order, and can be stored
 pub record IsLawful (store : Store) : Type 0 where
   pub schema : IsLawfulSchema store.schema
   pub typed : AllByRecursion (IsOfSchema store.schema) store.records
   pub ordered : AreOrdered store.records
   pub storable : AllByRecursion IsStorable store.records
-  pub rising : AreRising store.states
-  pub listed : AllByRecursion (IsListed store.schema.indexes) store.states
 
 -- the map of pairs
 abbrev pub pairs_map : List (List ℕ × List ℕ) → Map
@@ -64,12 +55,11 @@ IsNoEntry prefix indexes key = AllByRecursion (λ index. BeginsWith (entries_pre
 abbrev pub IsNoRange : List ℕ → List IndexDefinition → List ℕ → Type 0
 IsNoRange prefix indexes key = AllByRecursion (λ index. BeginsWith (built_place prefix index.number) key → ⊥) indexes
 
--- what a map has of an index's built positions by its state: a set that has just these where it is write-only, else
+-- what a map has of an index's built positions by its status: a set that has just these where it is write-only, else
 -- nothing
-abbrev pub HasPositions : State → List ℕ → ℕ → List KeyRange → Map → Type 0
-HasPositions Readable prefix number ranges m = (bytes : List ℕ) → get m (built_place prefix number ++ bytes) ≡ None
-HasPositions WriteOnly prefix number ranges m = HasSet (built_place prefix number) ranges m
-HasPositions Disabled prefix number ranges m = (bytes : List ℕ) → get m (built_place prefix number ++ bytes) ≡ None
+abbrev pub HasPositions : List ℕ → ℕ → Map → Status → Type 0
+HasPositions prefix number m (WriteOnly built) = HasSet (built_place prefix number) built m
+HasPositions prefix number m status = (bytes : List ℕ) → get m (built_place prefix number ++ bytes) ≡ None
 
 -- a key of no place: it isn't the schema's, and no record, entry, total, state or built range can have it
 pub record IsElsewhere (prefix : List ℕ) (indexes : List IndexDefinition) (key : List ℕ) : Type 0 where
@@ -88,11 +78,9 @@ pub record HoldsStore (prefix : List ℕ) (m : Map) (store : Store) : Type 0 whe
       AllByRecursion
       (λ index. HasKept (state_of store index.number) prefix index (built_of store index.number) store.records m)
       store.schema.indexes
-  pub states : HasPairs (place prefix place_of_states) (map (state_pair prefix) store.states) m
+  pub states : HasPairs (place prefix place_of_states) (map (state_pair prefix) (listed_states store)) m
   pub ranges :
-      AllByRecursion
-      (λ index. HasPositions (state_of store index.number) prefix index.number (built_of store index.number) m)
-      store.schema.indexes
+      AllByRecursion (λ index. HasPositions prefix index.number m (store.status index.number)) store.schema.indexes
   pub nothing_else :
       (key : List ℕ) → BeginsWith prefix key → IsElsewhere prefix store.schema.indexes key → get m key ≡ None
 

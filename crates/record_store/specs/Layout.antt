@@ -10,7 +10,7 @@ use Rattle.metadata.specs.declared.index.State.TheVariants.{Readable, WriteOnly,
 use Rattle.metadata.specs.Layout.{Pair, entries_prefix, place_of_schema, place_of_states, records_prefix}
 use Rattle.metadata.specs.Schema.{Schema}
 use Rattle.metadata.specs.Written.{schema_bytes}
-use Rattle.range_set.specs.Calls.{whole_range}
+use Rattle.range_set.specs.Stored.{whole_range}
 pub use Rattle.metadata.specs.Layout.{place, record_key, record_pair, record_value}
 pub use Rattle.index_maint.specs.Layout.{built_place}
 

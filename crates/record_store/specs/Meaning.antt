@@ -23,8 +23,8 @@ use Rattle.range_set.specs.Gaps.{is_whole}
 use Rattle.record_store.specs.declared.error.StoreError.{StoreError}
 use Rattle.record_store.specs.declared.error.StoreError.TheVariants.{Refused, OtherSchema, NotAggregate, NotReadable}
 use Rattle.record_store.specs.declared.error.StoreError.TheVariants.{WrongState, NotBuilt}
-use Rattle.record_store.specs.Store.{Store, built_of, dropped, extended, indexed, marked, new_state, readable, removed}
-use Rattle.record_store.specs.Store.{saved, state_in, state_of, with_state, without_state}
+use Rattle.record_store.specs.Store.{Store, built_of, dropped, extended, indexed, listed_states, marked, new_state}
+use Rattle.record_store.specs.Store.{removed, saved, state_in, state_of}
 
 -- what a call means: by the store that is there its answer, or why it is refused; the store after an answer; and
 -- whether an answer tells that something was changed
@@ -124,7 +124,8 @@ drop_meaning number = alters (λ store. without_index store.schema number) (λ s
 
 -- MARK: an index is in a state that isn't readable, and the states are answered
 abbrev pub mark_meaning : State → ℕ → Meaning (List (ℕ × State))
-mark_meaning state number = alters (λ store. with_state number state store.states) (λ store. marked state store number)
+mark_meaning state number =
+    alters (λ store. listed_states (marked store number state)) (λ store. marked store number state)
 
 -- an index in this state, if that is write-only, or the refusal
 abbrev pub in_write_only : State → IndexDefinition → Result IndexDefinition StoreError
@@ -143,9 +144,9 @@ write_only_named schema states name = write_only_found states (find_index schema
 -- READABLE: where every position of a write-only index is built it is readable, and the states are answered
 abbrev pub readable_meaning : ℕ → Meaning (List (ℕ × State))
 readable_meaning number = record {
-  answer =
-      λ store. if is_whole (built_of store number) then Ok (without_state number store.states) else Err NotBuilt;
-  after = λ store. readable store number;
+  answer = λ store.
+      if is_whole (built_of store number) then Ok (listed_states (marked store number Readable)) else Err NotBuilt;
+  after = λ store. marked store number Readable;
   changes = λ answer. true;
 }
 

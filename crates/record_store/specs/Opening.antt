@@ -50,7 +50,7 @@ pub record IsOpened (maps : ℕ → Map) (opened : Opened) (old new : CommitRequ
       DidRead maps (opening_reach opened.prefix) old new (λ m.
       HasSchema opened m × AtSerials opened.prefix m (IsThereAs opened))
 
--- why no store is opened: memory is wanting, or a read is refused, in either case behind the first ones; or all was
+-- why no store is opened: memory runs out, or a read is refused, in either case after the first ones; or all was
 -- read, and no schema stands there, or a pair does and the first pair read that isn't of the written form has this key,
 -- which no store has, nor is there none
 abbrev pub IsOpenFailure : (KeyRange → ReadError → Type 0) → List ℕ → StoreError → List KeyRange → Map → Type 0
@@ -94,7 +94,7 @@ pub record IsNewStore (maps : ℕ → Map) (prefix : List ℕ) (schema : Schema)
   -- all of whose indexes are readable
   pub readable : store.states ≡ []
 
--- why no store is made: memory is wanting, or a read is refused, in either case behind the first ones; or all was read
+-- why no store is made: memory runs out, or a read is refused, in either case after the first ones; or all was read
 -- that an opening reads, and a pair stands where a schema does, or a limit refuses the schema
 abbrev pub IsCreateFailure :
     (KeyRange → ReadError → Type 0) → Opened → StoreError → List Mutation → List KeyRange → Map → Type 0

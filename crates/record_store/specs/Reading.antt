@@ -37,7 +37,7 @@ use Rattle.record_store.specs.IndexWrites.{one_index_writes}
 use Rattle.range_set.specs.Gaps.{has_position}
 use Rattle.record_store.specs.Steps.{DidRead, IsBeginning, IsNextRefused}
 
--- Private: why reads of these ranges stopped behind the ones that were added: memory is wanting, or the next read is
+-- Private: why reads of these ranges stopped after the ones that were added: memory runs out, or the next read is
 -- refused so
 abbrev pub IsReadError : (KeyRange → ReadError → Type 0) → List KeyRange → List KeyRange → StoreError → Type 0
 IsReadError refuses asked added Memory = IsBeginning added asked
@@ -60,7 +60,7 @@ abbrev pub AreOfNoSchema : List ℕ → Type 0
 AreOfNoSchema bytes =
     (schema : Schema) → IsLawfulSchema schema → bytes ≡ schema_bytes schema → ⊥
 
--- Private: why bytes are no schema: memory is wanting, or they are those of none
+-- Private: why bytes are no schema: memory runs out, or they are those of none
 abbrev pub IsBadSchema : List ℕ → List ℕ → StoreError → Type 0
 IsBadSchema prefix bytes Memory = Unit {0}
 IsBadSchema prefix bytes (Corrupt key) = (key ≡ schema_key prefix) × AreOfNoSchema bytes
@@ -89,7 +89,7 @@ pub record IsPairOfState (prefix : List ℕ) (indexes : List IndexDefinition) (p
   pub is_listed : IsListed indexes listed
   pub is : pair ≡ state_pair prefix listed
 
--- Private: why a pair is that of no state: memory is wanting, or it isn't
+-- Private: why a pair is that of no state: memory runs out, or it isn't
 abbrev pub IsNoState : List ℕ → List IndexDefinition → List ℕ × List ℕ → StoreError → Type 0
 IsNoState prefix indexes pair Memory = Unit {0}
 IsNoState prefix indexes pair (Corrupt key) = (key ≡ pair.0) × (IsStatePair prefix indexes pair → ⊥)
@@ -101,7 +101,7 @@ pub record AreStates (prefix : List ℕ) (indexes : List IndexDefinition) (pairs
   pub are_listed : AllByRecursion (IsListed indexes) states
   pub are : pairs ≡ map (state_pair prefix) states
 
--- Private: behind pairs of states one isn't
+-- Private: after pairs of states one isn't
 pub record IsBadStateAmong (prefix : List ℕ) (indexes : List IndexDefinition) (pairs : List (List ℕ × List ℕ))
     (error : StoreError) : Type 0 where
   pub before : List (List ℕ × List ℕ)
@@ -112,7 +112,7 @@ pub record IsBadStateAmong (prefix : List ℕ) (indexes : List IndexDefinition) 
   pub good : AreStates prefix indexes before states
   pub none : IsNoState prefix indexes bad error
 
--- Private: why pairs aren't those of states: memory is wanting, or one of them isn't
+-- Private: why pairs aren't those of states: memory runs out, or one of them isn't
 abbrev pub HaveNoStates : List ℕ → List IndexDefinition → List (List ℕ × List ℕ) → StoreError → Type 0
 HaveNoStates prefix indexes pairs error = (error ≡ Memory) ⊎ IsBadStateAmong prefix indexes pairs error
 
@@ -128,7 +128,7 @@ IsFound type key None found = found ≡ None
 IsFound type key (Some value) None = ⊥
 IsFound type key (Some value) (Some found) = IsStoredAs type key value found
 
--- Private: why what was found is no record of the type: memory is wanting, or it is the value of none
+-- Private: why what was found is no record of the type: memory runs out, or it is the value of none
 abbrev pub IsNotFound : TypeDefinition → List ℕ → List ℕ → Option (List ℕ) → StoreError → Type 0
 IsNotFound type key at value Memory = Unit {0}
 IsNotFound type key at (Some value) (Corrupt damaged) = (damaged ≡ at) × IsOfNoRecord type key value
@@ -140,7 +140,7 @@ abbrev pub IsTotalFound : Option (List ℕ) → ℤ → Type 0
 IsTotalFound None total = total ≡ as_signed 0
 IsTotalFound (Some value) total = (length value ≡ 8) × (total ≡ as_signed (number_of value))
 
--- Private: why what was found at a key is no total: memory is wanting, or it has more or fewer than 8 bytes
+-- Private: why what was found at a key is no total: memory runs out, or it has more or fewer than 8 bytes
 abbrev pub IsNoTotal : List ℕ → Option (List ℕ) → StoreError → Type 0
 IsNoTotal at value Memory = Unit {0}
 IsNoTotal at (Some value) (Corrupt damaged) = (damaged ≡ at) × (length value ≡ 8 → ⊥)
@@ -187,7 +187,7 @@ pub record HasNotFound (maps : ℕ → Map) (refuses : KeyRange → ℕ → Read
   pub added : List KeyRange
   pub ran : DidRead maps added old new (IsUnread (λ range. refuses range old.read_version) opened reading error added)
 
--- Private: why reads stopped before all were answered: memory is wanting, or the next one is refused
+-- Private: why reads stopped before all were answered: memory runs out, or the next one is refused
 abbrev pub IsStopped : (KeyRange → ReadError → Type 0) → Reading → StoreError → List KeyRange → Map → Type 0
 IsStopped refuses reading Memory added m = IsBeginning added (reading.added m)
 IsStopped refuses reading (Read error) added m =
@@ -230,7 +230,7 @@ IsToldOf opened number position index found told =
     AllByRecursion (IsWritten opened.prefix opened.schema) found
     × AtStore opened m (λ store. told ≡ asked_built opened number position store index)
 
--- Private: why it doesn't: memory is wanting, or, where it is what was read of a map, the first pair of it that isn't
+-- Private: why it doesn't: memory runs out, or, where it is what was read of a map, the first pair of it that isn't
 -- of the written form has this key, and no store is there
 abbrev pub IsUntoldOf : Opened → ℕ → List ℕ → IndexDefinition → List (List ℕ × List ℕ) → StoreError → Type 0
 IsUntoldOf opened number position index found Memory = Unit {0}
@@ -239,7 +239,7 @@ IsUntoldOf opened number position index found (Corrupt key) =
     IsFirstBad (IsWritten opened.prefix opened.schema) found key × AtStore opened m (λ store. ⊥)
 IsUntoldOf opened number position index found error = ⊥
 
--- Private: mutations were put behind others; and where this was found for all indexes of a map, what was found for some
+-- Private: mutations were put after others; and where this was found for all indexes of a map, what was found for some
 -- of them is of the written form, and by each store there they are those that these indexes want written
 abbrev pub HaveFollowed :
     Opened → ℕ → List ℕ → Option Record → Option Record → List (List (List ℕ × List ℕ)) → List IndexDefinition →
@@ -252,7 +252,7 @@ HaveFollowed opened number position old new found indexes before after =
     more ≡ flat_map (λ index.
     one_index_writes opened number (asked_built opened number position store index) old new index) indexes))
 
--- Private: why indexes don't follow: memory is wanting, or, where this was found for all indexes of a map, the first
+-- Private: why indexes don't follow: memory runs out, or, where this was found for all indexes of a map, the first
 -- pair of it that isn't of the written form has this key, and no store is there
 abbrev pub HaveNotFollowed : Opened → ℕ → List ℕ → List (List (List ℕ × List ℕ)) → StoreError → Type 0
 HaveNotFollowed opened number position found Memory = Unit {0}
@@ -263,14 +263,14 @@ HaveNotFollowed opened number position found (Corrupt key) =
     × AtStore opened m (λ store. ⊥)
 HaveNotFollowed opened number position found error = ⊥
 
--- Private: a pair has the key of a record of the type behind the place of records, and its value
+-- Private: a pair has the key of a record of the type after the place of records, and its value
 pub record IsPairOf (records_place : List ℕ) (type : TypeDefinition) (pair : List ℕ × List ℕ) (stored : Record) :
     Type 0 where
   pub rest : List ℕ
   pub behind : pair.0 ≡ records_place ++ rest
   pub is : IsStoredAs type rest pair.1 stored
 
--- Private: why a pair is that of no record of the type: memory is wanting, or its key or its value is that of none
+-- Private: why a pair is that of no record of the type: memory runs out, or its key or its value is that of none
 abbrev pub IsPairOfNone : List ℕ → TypeDefinition → List ℕ × List ℕ → StoreError → Type 0
 IsPairOfNone records_place type pair Memory = Unit {0}
 IsPairOfNone records_place type pair (Corrupt key) =
@@ -284,7 +284,7 @@ ArePairsOfRecords records_place type (pair ∷ pairs) (stored ∷ records) =
     IsPairOf records_place type pair stored × ArePairsOfRecords records_place type pairs records
 ArePairsOfRecords records_place type pairs records = ⊥
 
--- Private: behind pairs that are those of records one isn't
+-- Private: after pairs that are those of records one isn't
 pub record IsBadAmong (records_place : List ℕ) (type : TypeDefinition) (pairs : List (List ℕ × List ℕ))
     (error : StoreError) : Type 0 where
   pub before : List (List ℕ × List ℕ)
@@ -295,7 +295,7 @@ pub record IsBadAmong (records_place : List ℕ) (type : TypeDefinition) (pairs 
   pub good : ArePairsOfRecords records_place type before records
   pub none : IsPairOfNone records_place type bad error
 
--- Private: why pairs have no records: memory is wanting, or behind pairs that are those of records one isn't
+-- Private: why pairs have no records: memory runs out, or after pairs that are those of records one isn't
 abbrev pub HaveNoRecords : List ℕ → TypeDefinition → List (List ℕ × List ℕ) → StoreError → Type 0
 HaveNoRecords records_place type pairs error = (error ≡ Memory) ⊎ IsBadAmong records_place type pairs error
 

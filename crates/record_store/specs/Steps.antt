@@ -59,7 +59,7 @@ pub record IsBeginning (ranges whole : List KeyRange) : Type 0 where
   pub rest : List KeyRange
   pub is : whole ≡ ranges ++ rest
 
--- of the ranges that were asked for, the one behind as many as were added is refused so
+-- of the ranges that were asked for, the one after as many as were added is refused so
 pub record IsNextRefused (refuses : KeyRange → ReadError → Type 0) (asked added : List KeyRange) (error : ReadError) :
     Type 0 where
   pub range : KeyRange

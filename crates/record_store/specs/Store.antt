@@ -1,46 +1,57 @@
--- The serial store: a schema, records by primary key, and the states of indexes, as values.
-use Rattle.std.specs.Prelude.{ℕ, Bool, true, false, ◌==◌, not, List, [], ◌∷◌, Option, unwrap_or, filter}
-use Rattle.std.specs.BTreeMap.{insert_entry}
+-- The serial store: a schema, records by primary key, and the status of each index, as values.
+use Rattle.std.specs.Prelude.{ℕ, ◌==◌, not, List, [], ◌∷◌, Option, unwrap_or, filter, map, if◌then◌else◌}
 use Rattle.std.specs.Option.{option_map}
-use Rattle.std.specs.Map.{lookup}
-use Rattle.std.specs.Ordering.{nat_cmp}
 use Rattle.tuple_codec.specs.Item.{Item}
 use Rattle.kv_core.specs.Range.{KeyRange}
 use Rattle.metadata.specs.declared.index.IndexDefinition.{IndexDefinition}
 use Rattle.metadata.specs.declared.index.State.{State}
-use Rattle.metadata.specs.declared.index.State.TheVariants.{Readable, Disabled}
-use Rattle.metadata.specs.Index.{listed_state}
+use Rattle.metadata.specs.declared.index.State.TheVariants as declared
+use Rattle.metadata.specs.Index.{is_readable, listed_state}
 use Rattle.metadata.specs.IndexChange.{with_index, without_index}
 use Rattle.metadata.specs.Schema.{Schema}
 use Rattle.metadata.specs.Record.{Record}
 use Rattle.metadata.specs.Records.{of_type, with_record, without_record}
 
--- a store: its records stand in the order of their primary keys, each key once, and so do the states of the indexes
--- that aren't readable, by the indexes' numbers; of an index that is being built it has the built positions, as ranges
--- of which only the positions count
+-- what an index is: readable, disabled, or write-only with the positions that are built, as ranges of which only the
+-- positions count
+pub data Status : Type 0 where
+  Readable : Status
+  Disabled : Status
+  WriteOnly : List KeyRange → Status
+
+-- a store: its records stand in the order of their primary keys, each key once; its indexes have a status by number
 pub record Store : Type 0 where
   pub schema : Schema
   pub records : List Record
-  pub states : List (ℕ × State)
-  pub built : List (ℕ × List KeyRange)
+  pub status : ℕ → Status
 
--- the state of the index with this number, by the states that are listed: it is readable where none is
-abbrev pub state_in : List (ℕ × State) → ℕ → State
-state_in states number = unwrap_or (listed_state states number) Readable
+-- the state and the built positions of an index with a status, and of the index with a number
+abbrev pub state_by : Status → State
+state_by Readable = declared.Readable
+state_by Disabled = declared.Disabled
+state_by (WriteOnly built) = declared.WriteOnly
+
+abbrev pub built_by : Status → List KeyRange
+built_by (WriteOnly built) = built
+built_by status = []
 
 abbrev pub state_of : Store → ℕ → State
-state_of store number = state_in store.states number
-
--- the built positions of the index with this number: none where none are listed
-abbrev pub built_in : List (ℕ × List KeyRange) → ℕ → List KeyRange
-built_in built number = unwrap_or (lookup (λ own. own == number) built) []
+state_of store number = state_by (store.status number)
 
 abbrev pub built_of : Store → ℕ → List KeyRange
-built_of store number = built_in store.built number
+built_of store number = built_by (store.status number)
 
--- built positions without those of the index with this number
-abbrev pub without_built : ℕ → List (ℕ × List KeyRange) → List (ℕ × List KeyRange)
-without_built number built = filter (λ listed. not (listed.0 == number)) built
+-- the states that are listed of indexes, with the indexes' numbers: those of the ones that aren't readable
+abbrev pub listed_by : List IndexDefinition → (ℕ → State) → List (ℕ × State)
+listed_by indexes state =
+    filter (λ one. not (is_readable one.1)) (map (λ index. (index.number, state index.number)) indexes)
+
+abbrev pub listed_states : Store → List (ℕ × State)
+listed_states store = listed_by store.schema.indexes (state_of store)
+
+-- the state of the index with this number, where these are listed
+abbrev pub state_in : List (ℕ × State) → ℕ → State
+state_in states number = unwrap_or (listed_state states number) declared.Readable
 
 -- no store, or a store
 abbrev pub Serial : Type 0
@@ -52,7 +63,7 @@ schema_in serial = option_map (λ store. store.schema) serial
 
 -- a new store of this schema, without records, whose indexes are readable
 abbrev pub created : Schema → Store
-created schema = record { schema = schema; records = []; states = []; built = [] }
+created schema = record { schema = schema; records = []; status = λ number. Readable }
 
 -- the store after a save, after a removal, and with another schema
 abbrev pub saved : Store → Record → Store
@@ -64,60 +75,37 @@ removed store key = record store { records = without_record key store.records }
 abbrev pub extended : Store → Schema → Store
 extended store schema = record store { schema = schema }
 
--- states with this one for the index with a number, in the place of what was listed for it, and without that of the
--- index
-abbrev pub with_state : ℕ → State → List (ℕ × State) → List (ℕ × State)
-with_state number state states = insert_entry nat_cmp states number state
+-- values by number, with this one for a number
+abbrev pub altered_at : {X : Type 0} → ℕ → X → (ℕ → X) → ℕ → X
+altered_at number value values = λ other. if other == number then value else values other
 
-abbrev pub without_state : ℕ → List (ℕ × State) → List (ℕ × State)
-without_state number states = filter (λ listed. not (listed.0 == number)) states
+-- the store where the index with this number has this status
+abbrev pub with_status : Store → ℕ → Status → Store
+with_status store number status = record store { status = altered_at number status store.status }
 
--- Private: the states that are still to be listed, where that of the index with this number has its place already or
--- not
-abbrev pub still_listed : Bool → ℕ → State → List (ℕ × State) → List (ℕ × State)
-still_listed true number state states = states
-still_listed false number state states = with_state number state states
+-- the status of an index that is marked with a state, of which nothing is built
+abbrev pub marked_so : State → Status
+marked_so declared.Readable = Readable
+marked_so declared.WriteOnly = WriteOnly []
+marked_so declared.Disabled = Disabled
+
+abbrev pub marked : Store → ℕ → State → Store
+marked store number state = with_status store number (marked_so state)
 
 -- the state of a new index over these records: it is readable where there are none, else disabled
 abbrev pub new_state : List Record → State
-new_state [] = Readable
-new_state (r ∷ records) = Disabled
+new_state [] = declared.Readable
+new_state (r ∷ records) = declared.Disabled
 
--- states with this one for a new index: it is listed where the index isn't readable
-abbrev pub listed_as : ℕ → State → List (ℕ × State) → List (ℕ × State)
-listed_as number Readable states = states
-listed_as number state states = with_state number state states
-
--- the store with one more index, and without the index with this number
+-- the store with one more index, and without the index with this number, of which nothing is kept
 abbrev pub indexed : Store → IndexDefinition → Store
-indexed store index = record store {
-  schema = with_index store.schema index;
-  states = listed_as index.number (new_state (of_type index.type_number store.records)) store.states;
-}
+indexed store index =
+    marked (extended store (with_index store.schema index)) index.number
+    (new_state (of_type index.type_number store.records))
 
 abbrev pub dropped : Store → ℕ → Store
-dropped store number = record store {
-  schema = without_index store.schema number;
-  states = without_state number store.states;
-  built = without_built number store.built;
-}
-
--- the store with that index in a state that isn't readable, and nothing of it built
-abbrev pub marked : State → Store → ℕ → Store
-marked state store number = record store {
-  states = with_state number state store.states;
-  built = without_built number store.built;
-}
-
--- the store with that index readable
-abbrev pub readable : Store → ℕ → Store
-readable store number = record store {
-  states = without_state number store.states;
-  built = without_built number store.built;
-}
+dropped store number = marked (extended store (without_index store.schema number)) number declared.Readable
 
 -- the store where this range of that index is built too
 abbrev pub built : Store → ℕ → KeyRange → Store
-built store number range = record store {
-  built = (number, range ∷ built_of store number) ∷ without_built number store.built;
-}
+built store number range = with_status store number (WriteOnly (range ∷ built_of store number))

@@ -8,14 +8,13 @@ ghost use Rattle.metadata.specs.Schema.{find_type};
 ghost use Rattle.metadata.specs.Written.{schema_bytes};
 ghost use Rattle.record_store.specs.Call.{IsAnswered, IsRefused, first_of};
 ghost use Rattle.record_store.specs.Calls.{IsIndexedAs, index_call};
-ghost use Rattle.record_store.specs.Store.{listed_as, new_state};
+ghost use Rattle.record_store.specs.Store.{new_state};
 ghost use Rattle.record_store.specs.IndexWrites.{state_writes};
 ghost use Rattle.record_store.specs.Layout.{schema_key, type_range};
 ghost use Rattle.record_store.specs.Reading.{HasNotFound, HasRead};
 
 use crate::create::schema_mutations;
 use crate::error::StoreError;
-use crate::indexes::with_state;
 use crate::layout::{place, state_key, state_value, type_range};
 use crate::scan::records_in;
 use crate::store::{Store, lawful_known, shared_schema};
@@ -23,7 +22,7 @@ use kv_core::Mutation;
 use metadata::{
     IndexRequest, MetadataError, PLACE_OF_RECORDS, Record, Schema, State, TypeDefinition,
 };
-use std::alloc::{AllocError, Global};
+use std::alloc::AllocError;
 use txn::{Snapshot, Transaction};
 
 // The state of a new index over these records.
@@ -34,22 +33,6 @@ fn state_over(records: &[Record]) -> State
         State::Readable
     } else {
         State::Disabled
-    }
-}
-
-// These states with this one for a new index.
-fn listed_as(
-    alloc: Global,
-    old: &[(u64, State)],
-    number: u64,
-    state: State,
-) -> Result<Vec<(u64, State)>, AllocError>
-    ensures { IfOk result (λ states. states.items ≡ listed_as number state old.now) }
-{
-    match state {
-        State::Readable => Vec::from_slice(alloc, old),
-        State::WriteOnly => with_state(alloc, old, number, state),
-        State::Disabled => with_state(alloc, old, number, state),
     }
 }
 
@@ -135,7 +118,7 @@ impl Store {
         let definition = self.definition(&request.type_name)?;
         let state = self.new_state(tx, db, definition)?;
         let mutations = self.addition(&next, index.number, state)?;
-        let states = listed_as(self.alloc(), self.states.as_slice(), index.number, state)?;
+        let states = self.listed_with(next.indexes(), index.number, state)?;
         let shared = shared_schema(self.alloc(), next)?;
         tx.write_all(mutations)?;
         self.schema = shared;

@@ -20,7 +20,7 @@ use std::alloc::{AllocError, Global};
 use tuple_codec::{Tuple, pack};
 use txn::{Snapshot, Transaction};
 
-// The position of a primary key of the type with this number: what is behind the number in its pack.
+// The position of a primary key of the type with this number: what is after the number in its pack.
 pub(crate) fn position_of(
     alloc: Global,
     number: u64,

@@ -13,7 +13,7 @@ use thiserror::Error;
 /// Why a call on the store isn't answered.
 #[derive(Debug, Drop, Error)]
 pub enum StoreError {
-    /// Memory is wanting.
+    /// Memory runs out.
     #[error("out of memory")]
     Memory,
     /// A read is refused.

@@ -1,18 +1,18 @@
 // The states of a store's indexes; its indexes are dropped. Called by `schedule` for the commands
 // `state` and `drop`, by `plan_exec`, and by `adding` and `marks`.
-ghost use Rattle.std.specs.Prelude.{◌≡◌, ◌++◌, ◌∷◌, [], ℕ, List, Ok, Err, Option, IfOk, IfErr, OnErr, OnOk};
+ghost use Rattle.std.specs.Prelude.{◌≡◌, ◌++◌, ◌∷◌, [], ℕ, Ok, Err, IfOk, IfErr, OnErr, OnOk, if◌then◌else◌};
 ghost use Rattle.kv_core.specs.Map.{Map};
 ghost use Rattle.metadata.specs.Schema.{find_index};
 ghost use Rattle.kv_core.specs.Range.{point};
 ghost use Rattle.kv_core.specs.declared.change.Mutation.TheVariants.{Set, ClearRange};
 ghost use Rattle.metadata.specs.Answers.{IsRefusedAs};
+ghost use Rattle.metadata.specs.Index.{is_readable};
 ghost use Rattle.metadata.specs.IndexChange.{without_index};
 ghost use Rattle.metadata.specs.Lawful.{IsLawfulSchema};
 ghost use Rattle.metadata.specs.Written.{schema_bytes};
-ghost use Rattle.metadata.specs.declared.index.State.{State};
 ghost use Rattle.record_store.specs.IndexWrites.{clear_kept};
 ghost use Rattle.record_store.specs.Layout.{built_range, entries_range, schema_key, state_key};
-ghost use Rattle.record_store.specs.Store.{still_listed, with_state};
+ghost use Rattle.record_store.specs.Store.{listed_by, altered_at, state_in};
 ghost use Rattle.txn.specs.Refusing.{NeverRefuses};
 ghost use Rattle.record_store.specs.Call.{IsAnswered, IsRefused};
 ghost use Rattle.record_store.specs.Calls.{drop_call};
@@ -24,61 +24,43 @@ use crate::error::StoreError;
 use crate::layout::{built_range, entries_range, state_key};
 use crate::store::{Store, lawful_known, shared_schema};
 use kv_core::{KeyRange, Mutation};
-use metadata::{MetadataError, Refusal, Schema, State};
+use metadata::{IndexDefinition, MetadataError, Refusal, Schema, State};
 use std::alloc::{AllocError, Global};
 use tuple_codec::Text;
 use txn::Transaction;
 
-// Puts a listed state behind others, and before it, where it hasn't its place yet, that of the
-// index with this number. Tells whether that one has its place now.
-fn push_listed(
-    listed: &(u64, State),
-    number: u64,
-    state: State,
-    is_placed: bool,
-    states: &mut Vec<(u64, State)>,
-) -> Result<bool, AllocError>
-    ensures { IfOk result (λ placed.
-        (rest : List (ℕ × State)) → states.old.items ++ still_listed is_placed number state (listed.now ∷ rest)
-        ≡ states.new.items ++ still_listed placed number state rest) }
+// Puts the state of the index with this number after others, unless it is readable.
+fn push_listed(number: u64, state: State, states: &mut Vec<(u64, State)>) -> Result<(), AllocError>
+    ensures { OnOk result (states.new.items
+        ≡ states.old.items ++ (if is_readable state then [] else (number, state) ∷ [])) }
 {
-    if is_placed {
-        states.push(*listed)?;
-        return Ok(true);
-    }
-    if listed.0 < number {
-        states.push(*listed)?;
-        return Ok(false);
-    }
-    states.push((number, state))?;
-    if number < listed.0 {
-        states.push(*listed)?;
-    }
-    Ok(true)
-}
-
-// These states with this one for the index with this number.
-pub(crate) fn with_state(
-    alloc: Global,
-    old: &[(u64, State)],
-    number: u64,
-    state: State,
-) -> Result<Vec<(u64, State)>, AllocError>
-    ensures { IfOk result (λ states. states.items ≡ with_state number state old.now) }
-{
-    let mut states = Vec::new(alloc);
-    let mut is_placed = false;
-    for listed in old {
-        let is_placed_now = push_listed(listed, number, state, is_placed, &mut states)?;
-        is_placed = is_placed_now;
-    }
-    if !is_placed {
+    if state != State::Readable {
         states.push((number, state))?;
     }
-    Ok(states)
+    Ok(())
 }
 
 impl Store {
+    // The states that are listed of these indexes, where the one with this number has this state
+    // and each other one the state that it has.
+    pub(crate) fn listed_with(
+        &self,
+        indexes: &[IndexDefinition],
+        number: u64,
+        state: State,
+    ) -> Result<Vec<(u64, State)>, AllocError>
+        ensures { IfOk result (λ states.
+            states.items ≡ listed_by indexes.now (altered_at number state (state_in self.now.states))) }
+    {
+        let mut states = Vec::new(self.alloc());
+        for index in indexes {
+            let own = self.state_of(index.number);
+            let now = if index.number == number { state } else { own };
+            push_listed(index.number, now, &mut states)?;
+        }
+        Ok(states)
+    }
+
     // The number of the index of this name.
     pub(crate) fn index_number(&self, name: &Text) -> Result<u64, MetadataError>
         ensures found { IfOk result (λ number. index_number (find_index self.now.schema name.now) ≡ Ok number) }
@@ -152,7 +134,7 @@ impl Store {
     }
 
     /// One state for each index of the store, with the index's number, in the order of its schema's
-    /// indexes: what a plan of a query is made from. Refused only where memory is wanting.
+    /// indexes: what a plan of a query is made from. Refused only where memory runs out.
     pub fn index_states(&self, alloc: Global) -> Result<Vec<(u64, State)>, AllocError>
         ensures { IfOk result (λ made. made.items ≡ index_states self.now) }
     {
@@ -178,11 +160,12 @@ impl Store {
     {
         let number = self.index_number(name)?;
         let next = self.schema_without(name, number)?;
+        let states = self.listed_with(next.indexes(), number, State::Readable)?;
         let mutations = self.drop_mutations(&next, number)?;
         let shared = shared_schema(self.alloc(), next)?;
         tx.write_all(mutations)?;
         self.schema = shared;
-        self.states.retain(|listed| listed.0 != number);
+        self.states = states;
         Ok(())
     }
 }

@@ -1,6 +1,6 @@
 //! A store of typed records under a prefix of the keys, used in transactions.
 //!
-//! A call answers `StoreError::Memory` only where memory is wanting. A call that fails writes
+//! A call answers `StoreError::Memory` only where memory runs out. A call that fails writes
 //! nothing; the ranges that it read stay in the transaction.
 #![tactic(auto)]
 
@@ -10,6 +10,7 @@ mod built;
 mod create;
 mod error;
 mod following;
+mod found_states;
 mod indexes;
 mod known;
 mod layout;

@@ -6,12 +6,11 @@ ghost use Rattle.metadata.specs.Schema.{find_index};
 ghost use Rattle.txn.specs.Refusing.{NeverRefuses};
 ghost use Rattle.record_store.specs.Call.{IsAnswered, IsRefused};
 ghost use Rattle.record_store.specs.Calls.{disable_call, mark_call, readable_call, write_only_call};
-ghost use Rattle.record_store.specs.Calls.{opened_disabled, opened_marked, opened_readable, opened_write_only};
+ghost use Rattle.record_store.specs.Calls.{opened_marked};
 ghost use Rattle.record_store.specs.IndexWrites.{marked_writes, readable_writes};
 ghost use Rattle.record_store.specs.Meaning.{index_number, write_only_named};
 
 use crate::error::StoreError;
-use crate::indexes::with_state;
 use crate::layout::{built_range, state_key, state_value};
 use crate::store::Store;
 use index_maint::built_place;
@@ -42,17 +41,17 @@ impl Store {
         ensures marked { OnOk result ((maps : ℕ → Map) →
             IsAnswered maps self.old (mark_call state self.old name.now) self.new.states tx.old tx.new) }
         ensures opened { OnOk result ((number : ℕ) → index_number (find_index self.old.schema name.now) ≡ Ok number →
-            self.new ≡ opened_marked state self.old number) }
+            self.new ≡ opened_marked self.old number state) }
         ensures kept { OnErr result (self.new ≡ self.old) }
         ensures refused { IfErr result (λ error.
             (maps : ℕ → Map) → IsRefused maps NeverRefuses self.old
             (mark_call state self.old name.now) error tx.old tx.new) }
     {
         let number = self.index_number(name)?;
-        let next = with_state(self.alloc(), self.states.as_slice(), number, state)?;
+        let states = self.listed_with(self.schema().indexes(), number, state)?;
         let mutations = self.marked_mutations(number, state)?;
         tx.write_all(mutations)?;
-        self.states = next;
+        self.states = states;
         Ok(())
     }
 
@@ -66,7 +65,7 @@ impl Store {
             ((maps : ℕ → Map) → IsAnswered maps self.old
             (disable_call self.old name.now) self.new.states tx.old tx.new) }
         ensures opened { OnOk result ((number : ℕ) → index_number (find_index self.old.schema name.now) ≡ Ok number →
-            self.new ≡ opened_disabled self.old number) }
+            self.new ≡ opened_marked self.old number State.Disabled) }
         ensures kept { OnErr result (self.new ≡ self.old) }
         ensures refused { IfErr result (λ error.
             (maps : ℕ → Map) → IsRefused maps NeverRefuses self.old
@@ -87,7 +86,7 @@ impl Store {
             ((maps : ℕ → Map) → IsAnswered maps self.old
             (write_only_call self.old name.now) self.new.states tx.old tx.new) }
         ensures opened { OnOk result ((number : ℕ) → index_number (find_index self.old.schema name.now) ≡ Ok number →
-            self.new ≡ opened_write_only self.old number) }
+            self.new ≡ opened_marked self.old number State.WriteOnly) }
         ensures kept { OnErr result (self.new ≡ self.old) }
         ensures refused { IfErr result (λ error.
             (maps : ℕ → Map) → IsRefused maps NeverRefuses self.old
@@ -142,7 +141,7 @@ impl Store {
         ensures marked { OnOk result (IsAnswered (S.map_at db.now) self.old
             (readable_call self.old name.now) self.new.states tx.old tx.new) }
         ensures opened { OnOk result ((number : ℕ) → index_number (find_index self.old.schema name.now) ≡ Ok number →
-            self.new ≡ opened_readable self.old number) }
+            self.new ≡ opened_marked self.old number State.Readable) }
         ensures kept { OnErr result (self.new ≡ self.old) }
         ensures refused { IfErr result (λ error.
             IsRefused (S.map_at db.now) (S.may_refuse db.now) self.old
@@ -155,9 +154,10 @@ impl Store {
         if !whole {
             return Err(StoreError::NotBuilt);
         }
+        let states = self.listed_with(self.schema().indexes(), number, State::Readable)?;
         let mutations = self.readable_mutations(number)?;
         tx.write_all(mutations)?;
-        self.states.retain(|listed| listed.0 != number);
+        self.states = states;
         Ok(())
     }
 }

@@ -1,24 +1,21 @@
 // How a store is opened. Called by `schedule` for every command but `create`, and by `embed`; what
 // an opening reads, `create` reads too.
-ghost use Rattle.std.specs.Prelude.{◌≡◌, ◌∷◌, [], IfOk, IfErr, IsTrue, MatchOption};
+ghost use Rattle.std.specs.Prelude.{◌≡◌, ◌∷◌, [], IfOk, IfErr, IfSome, IsTrue};
 ghost use Rattle.std.specs.FinMap.{get as value_at};
 ghost use Rattle.kv_core.specs.Bytes.{end_of_keys, key_lt};
 ghost use Rattle.kv_core.specs.Map.{pairs_in};
 ghost use Rattle.kv_core.specs.Range.{point};
-ghost use Rattle.record_store.specs.Form.{IsStatePair};
 ghost use Rattle.record_store.specs.Layout.{schema_key, states_range};
 ghost use Rattle.record_store.specs.Opening.{IsOpened, IsUnopened};
-ghost use Rattle.record_store.specs.Reading.{AreStates, HasNotRead, HaveNoStates, IsNoSchemaFound};
-ghost use Rattle.record_store.specs.Reading.{IsNoState, IsPairOfState, IsSchema};
+ghost use Rattle.record_store.specs.Reading.{HasNotRead, IsNoSchemaFound, IsSchema};
 ghost use Rattle.record_store.specs.Steps.{DidRead};
 
 use crate::error::StoreError;
 use crate::known::KnownSchema;
 use crate::layout::{schema_key, states_range};
-use crate::state_bytes::{after_states_place, numbered_from, state_of_value};
 use crate::store::Store;
 use kv_core::{Bytes, Pair};
-use metadata::{IndexDefinition, Schema, State};
+use metadata::Schema;
 use std::alloc::Global;
 use std::rc::Rc;
 use txn::{Snapshot, Transaction};
@@ -69,74 +66,14 @@ fn schema_found(
 ) -> Result<Rc<Schema>, StoreError>
     requires { IsTrue (key_lt prefix.now end_of_keys) }
     ensures found { IfOk result (λ schema. IsSchema written schema.value) }
+    ensures known { IfOk result (λ schema.
+        IfSome known.new.written (λ last. last.schema.value ≡ schema.value)) }
     ensures refused { IfErr result (IsNoSchemaFound prefix.now written) }
 {
     match written {
         None => Err(StoreError::NoStore),
         Some(bytes) => known.schema_of(alloc, prefix, bytes),
     }
-}
-
-// The state that a pair stands for, of one of these indexes, if it does. The index is looked for
-// from a place on first, then the place is the one after it; any place gives the same answer.
-fn state_told(
-    prefix: &[u8],
-    indexes: &[IndexDefinition],
-    from: &mut usize,
-    pair: &Pair,
-) -> Option<(u64, State)>
-    ensures { MatchOption result
-        (IsStatePair prefix.now indexes.now pair.now → ⊥)
-        (IsPairOfState prefix.now indexes.now pair.now) }
-{
-    let Some(bytes) = after_states_place(prefix, pair.0.as_slice()) else {
-        return None;
-    };
-    let Some((at, number)) = numbered_from(indexes, *from, bytes) else {
-        return None;
-    };
-    let Some(state) = state_of_value(pair.1.as_slice()) else {
-        return None;
-    };
-    *from = at + 1;
-    Some((number, state))
-}
-
-// The state that a pair stands for, of one of these indexes, which is looked for as above.
-fn state_found(
-    prefix: &[u8],
-    indexes: &[IndexDefinition],
-    from: &mut usize,
-    pair: &Pair,
-) -> Result<(u64, State), StoreError>
-    requires { IsTrue (key_lt prefix.now end_of_keys) }
-    ensures found { IfOk result (IsPairOfState prefix.now indexes.now pair.now) }
-    ensures refused { IfErr result (IsNoState prefix.now indexes.now pair.now) }
-{
-    match state_told(prefix, indexes, from, pair) {
-        Some(listed) => Ok(listed),
-        None => Err(StoreError::Corrupt(pair.0.copy()?)),
-    }
-}
-
-// The states that pairs stand for.
-fn states_found(
-    alloc: Global,
-    prefix: &[u8],
-    indexes: &[IndexDefinition],
-    pairs: &[Pair],
-) -> Result<Vec<(u64, State)>, StoreError>
-    requires { IsTrue (key_lt prefix.now end_of_keys) }
-    ensures found { IfOk result (λ states. AreStates prefix.now indexes.now pairs.now states.items) }
-    ensures refused { IfErr result (HaveNoStates prefix.now indexes.now pairs.now) }
-{
-    let mut states = Vec::with_capacity(alloc, pairs.len())?;
-    let mut from = 0;
-    for pair in pairs {
-        let found = state_found(prefix, indexes, &mut from, pair)?;
-        states.push(found)?;
-    }
-    Ok(states)
 }
 
 impl Store {
@@ -163,8 +100,8 @@ impl Store {
         Store::open_knowing(alloc, prefix, tx, db, &mut known)
     }
 
-    /// The same, where a schema may be known that needn't be decoded again. The store's is known
-    /// then.
+    /// The same, where a schema and states may be known that needn't be decoded again. The store's
+    /// are known then.
     pub fn open_knowing<S: Snapshot>(
         alloc: Global,
         prefix: &[u8],
@@ -181,7 +118,7 @@ impl Store {
         let written = read_schema(alloc, prefix, tx, db)?;
         let pairs = read_states(alloc, prefix, tx, db)?;
         let schema = schema_found(alloc, prefix, known, written)?;
-        let states = states_found(alloc, prefix, schema.indexes(), pairs.as_slice())?;
+        let states = known.states_of(alloc, prefix, &schema, pairs)?;
         let prefix = Vec::from_slice(alloc, prefix)?;
         Ok(Store {
             prefix,

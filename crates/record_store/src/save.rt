@@ -64,7 +64,7 @@ impl Store {
     /// Puts a record in the place of the one with its primary key, which is answered, and has the
     /// indexes of its type follow, of whatever kind: the readable ones, the entries of write-only
     /// VALUE indexes, and the totals of write-only COUNT and SUM indexes where the record's position is
-    /// built. Of each of these last is read, behind the record's key and in the order of the indexes'
+    /// built. Of each of these last is read, after the record's key and in the order of the indexes'
     /// numbers, the range that begins at the position or last before it; for other indexes nothing is.
     ///
     /// Refused with `OtherSchema` where the store's schema hasn't the record's type, before

@@ -55,14 +55,14 @@ impl Records {
     }
 }
 
-// What stands behind the place in a key.
+// What stands after the place in a key.
 pub(crate) fn behind<'a>(place: &[u8], key: &'a [u8]) -> Option<&'a [u8]>
     ensures { MatchOption result (BeginsWith place.now key.now → ⊥) (λ rest. key.now ≡ place.now ++ rest.now) }
 {
     key.strip_prefix(place)
 }
 
-// The record of the type that a pair behind the place of records stands for.
+// The record of the type that a pair after the place of records stands for.
 fn record_in(
     alloc: Global,
     place: &[u8],
@@ -83,7 +83,7 @@ fn record_in(
     }
 }
 
-// The records of the type that pairs behind the place of records stand for.
+// The records of the type that pairs after the place of records stand for.
 pub(crate) fn records_in(
     alloc: Global,
     place: &[u8],

@@ -2,7 +2,7 @@
 use Rattle.std.specs.Prelude.{◌≡◌, ℕ, List, Some, IsNone}
 use Rattle.cluster_core.specs.Configuration.{config_refusal}
 use Rattle.cluster_core.specs.declared.answers.Config.{Config}
-use Rattle.schedule.specs.Contract.{IsRightRun}
+use Rattle.schedule.specs.Right.{IsRightRun}
 use Rattle.schedule.specs.declared.step.Step.{Step}
 use Rattle.schedule.specs.declared.transcript.Transcript.{Transcript}
 use Rattle.script.specs.Script.{IsScript, explains_script}

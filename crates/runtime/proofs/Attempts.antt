@@ -1,5 +1,5 @@
 -- Attempts of a run, one after another.
-use Rattle.std.proofs.Common.{◌≡◌, ◌≢◌, ℕ, suc, ◌-◌, ◌≤◌, nat_lt, max, Bool, true, false, List, [], ◌∷◌, ◌++◌, Some, None, inl, inr, refl, sym, ap, ◌∙◌, subst, arith}
+use Rattle.std.proofs.Common.{◌≡◌, ◌≢◌, ℕ, suc, ◌-◌, ◌≤◌, nat_lt, max, Bool, true, false, [], ◌∷◌, ◌++◌, Some, None, inl, inr, refl, sym, ap, ◌∙◌, subst, arith}
 use Rattle.std.specs.Prelude.{Result, Ok, Err, IfOk, IfErr, if◌then◌else◌}
 use Rattle.std.proofs.lemmas.Bool.Decides.{nat_tests}
 use mathlib.Core.List.{IsPrefix}
@@ -7,93 +7,84 @@ use Rattle.schedule.specs.declared.step.Command.{Command}
 use Rattle.schedule.specs.declared.reply.Reply.{Reply}
 use Rattle.runtime.specs.declared.answers.Done.{Done}
 use Rattle.runtime.specs.Commits.{Answers}
-use Rattle.runtime.specs.declared.entry.Entry.{Entry}
-use Rattle.runtime.specs.declared.work.Work.{Work}
-use Rattle.runtime.specs.declared.entering.EnterError.{EnterError}
-use Rattle.runtime.specs.declared.entering.EnterError.TheVariants as entries
-use Rattle.runtime.specs.declared.answers.BodyError.{BodyError}
+use Rattle.runtime.specs.declared.open_transaction.OpenTransaction.{OpenTransaction}
+use Rattle.runtime.specs.declared.published_reads.EnterError.{EnterError}
+use Rattle.runtime.specs.declared.answers.CommandError.{CommandError}
 use Rattle.runtime.specs.declared.answers.CommitError.{CommitError}
 use Rattle.runtime.specs.declared.answers.CommitError.TheVariants.{Conflict, TooOld, VersionsExhausted, Unknown, Memory}
-use Rattle.runtime.specs.declared.running.Failure.TheVariants as failures
+use Rattle.runtime.specs.declared.retrying.Failure.TheVariants as failures
 use Rattle.runtime.specs.declared.answers.RunError.TheVariants as runs
 use Rattle.txn.specs.Attempts.{MayTryAgain, next_after}
 use Rattle.txn.specs.declared.retry.Ended.{Ended}
 use Rattle.txn.specs.declared.retry.Ended.TheVariants as ends
 use Rattle.txn.specs.declared.retry.Next.{Next}
 use Rattle.txn.specs.declared.retry.Next.TheVariants as nexts
-use Rattle.runtime.specs.Clients.{Knowledge, knows_that}
-use Rattle.runtime.specs.Serves.{IsUnanswered, KeepsList}
+use Rattle.runtime.specs.Clients.{IsFresh, IsSameTransaction, Knowledge, knows_that}
+use Rattle.runtime.specs.Serves.{IsUnanswered}
 use Rattle.runtime.specs.Runs.{AttemptFails, Continues, Ends, FailsSo, GoesOnFrom, InTurn, IsRun, Starts, Tries}
 use Rattle.runtime.specs.Runs.{TriesAndEnds, ended_by, failure_by, is_too_old}
-use Rattle.runtime.proofs.Beginnings.{prefix_same, prefix_self, prefix_trans}
+use Rattle.runtime.proofs.Beginnings.{prefix_self, prefix_trans}
 
 pub follows_self : (k : Knowledge) → GoesOnFrom k k
-follows_self k = record { name = refl; number = refl; list = prefix_self k.list }
+follows_self k = record { name = refl; number = refl; log = prefix_self k.log }
 
 pub follows_trans : {a b c : Knowledge} → GoesOnFrom a b → GoesOnFrom b c → GoesOnFrom a c
 follows_trans {a = a} {b = b} {c = c} p q = record {
   name = q.name ∙ p.name;
   number = q.number ∙ p.number;
-  list = prefix_trans a.list b.list c.list p.list q.list;
+  log = prefix_trans a.log b.log c.log p.log q.log;
 }
 
 pub continues_trans : {a b c : Knowledge} → Continues a b → Continues b c → Continues a c
 continues_trans p q = record {
   follows = follows_trans p.follows q.follows;
   last = q.last ∙ p.last;
-  begun = λ work is.
-      let mid = p.begun work is in
+  begun = λ open_tx is.
+      let mid = p.begun open_tx is in
       let end = q.begun mid.0 mid.1 in
-      (end.0, end.1, end.2 ∙ mid.2);
+      (end.0, end.1, record { over = end.2.over ∙ mid.2.over; version = end.2.version ∙ mid.2.version });
 }
-
--- a list that is kept, or has grown, begins with the one before
-pub keeps_prefix : (xs ys : List Entry) (result : Result Reply EnterError) → KeepsList result xs ys → IsPrefix xs ys
-keeps_prefix xs ys (Ok reply) is = prefix_same xs ys is
-keeps_prefix xs ys (Err entries.NotEntered) is = prefix_same xs ys is
-keeps_prefix xs ys (Err entries.TooOld) is = is
-keeps_prefix xs ys (Err entries.Memory) is = prefix_same xs ys is
 
 -- a command in a transaction leaves the rest of its client
-pub continues_by : (a b : Knowledge) (command : Command) (result : Result Reply EnterError) → b ≡ knows_that a.name b.list a.number a.last b.begun → KeepsList result a.list b.list →
-    ((work : Work) → a.begun ≡ Some work → IfOk result (λ reply. (after : Work) × (b.begun ≡ Some after) × (after.front ≡ work.front) × (after.trace.attempts ≡ work.trace.attempts ++ record { command = command; reply = reply } ∷ []))) →
-    ((work : Work) → a.begun ≡ Some work → IfErr result (λ error. (after : Work) × (b.begun ≡ Some after) × (after.front ≡ work.front) × IsUnanswered work.front b.list error command work.transaction work.trace after.transaction after.trace)) →
+pub continues_by : (a b : Knowledge) (command : Command) (result : Result Reply EnterError) → b ≡ knows_that a.name b.log a.number a.last b.begun → IsPrefix a.log b.log →
+    ((open_tx : OpenTransaction) → a.begun ≡ Some open_tx → IfOk result (λ reply. (after : OpenTransaction) × (b.begun ≡ Some after) × IsSameTransaction open_tx after × (after.trace.attempts ≡ open_tx.trace.attempts ++ record { command = command; reply = reply } ∷ []))) →
+    ((open_tx : OpenTransaction) → a.begun ≡ Some open_tx → IfErr result (λ error. (after : OpenTransaction) × (b.begun ≡ Some after) × IsSameTransaction open_tx after × IsUnanswered open_tx.prefix b.log error command open_tx.transaction open_tx.trace after.transaction after.trace)) →
     Continues a b
 continues_by a b command result same keeps grown refused = record {
-  follows = record { name = ap (λ (k : Knowledge). k.name) same; number = ap (λ (k : Knowledge). k.number) same; list = keeps_prefix a.list b.list result keeps };
+  follows = record { name = ap (λ (k : Knowledge). k.name) same; number = ap (λ (k : Knowledge). k.number) same; log = keeps };
   last = ap (λ (k : Knowledge). k.last) same;
-  begun = λ work is. goes work result (grown work is) (refused work is);
+  begun = λ open_tx is. goes open_tx result (grown open_tx is) (refused open_tx is);
 }
   where
-    goes : (work : Work) (r : Result Reply EnterError) → IfOk r (λ reply. (after : Work) × (b.begun ≡ Some after) × (after.front ≡ work.front) × (after.trace.attempts ≡ work.trace.attempts ++ record { command = command; reply = reply } ∷ [])) →
-        IfErr r (λ error. (after : Work) × (b.begun ≡ Some after) × (after.front ≡ work.front) × IsUnanswered work.front b.list error command work.transaction work.trace after.transaction after.trace) →
-        (after : Work) × (b.begun ≡ Some after) × (after.front ≡ work.front)
-    goes work (Ok reply) g r = (g.0, g.1, g.2)
-    goes work (Err error) g r = (r.0, r.1, r.2)
+    goes : (open_tx : OpenTransaction) (r : Result Reply EnterError) → IfOk r (λ reply. (after : OpenTransaction) × (b.begun ≡ Some after) × IsSameTransaction open_tx after × (after.trace.attempts ≡ open_tx.trace.attempts ++ record { command = command; reply = reply } ∷ [])) →
+        IfErr r (λ error. (after : OpenTransaction) × (b.begun ≡ Some after) × IsSameTransaction open_tx after × IsUnanswered open_tx.prefix b.log error command open_tx.transaction open_tx.trace after.transaction after.trace) →
+        (after : OpenTransaction) × (b.begun ≡ Some after) × IsSameTransaction open_tx after
+    goes open_tx (Ok reply) g r = (g.0, g.1, g.2)
+    goes open_tx (Err error) g r = (r.0, r.1, r.2)
 
-pub starts_by : (a b : Knowledge) → ((work : Work) × (b.begun ≡ Some work) × (work.front.list ≡ b.list) × (work.trace.attempts ≡ [])) → IsPrefix a.list b.list → b ≡ knows_that a.name b.list a.number a.last b.begun → Starts a b
-starts_by a b begun list same = record {
-  follows = record { name = ap (λ (k : Knowledge). k.name) same; number = ap (λ (k : Knowledge). k.number) same; list = list };
+pub starts_by : (a b : Knowledge) → ((open_tx : OpenTransaction) × (b.begun ≡ Some open_tx) × IsFresh b.name b.log open_tx) → IsPrefix a.log b.log → b ≡ knows_that a.name b.log a.number a.last b.begun → Starts a b
+starts_by a b begun log same = record {
+  follows = record { name = ap (λ (k : Knowledge). k.name) same; number = ap (λ (k : Knowledge). k.number) same; log = log };
   last = ap (λ (k : Knowledge). k.last) same;
   begun = begun;
 }
 
-pub ends_by : (a b c : Knowledge) (result : Result Done CommitError) → Starts a b → (k : Knowledge) → Continues b k → ((work : Work) → k.begun ≡ Some work → Answers k c work.transaction work.trace result) → IsPrefix k.list c.list → c ≡ knows_that k.name c.list k.number c.last None → Ends k result c
-ends_by a b c result starts k continues answer list same =
-    let work = continues.begun starts.begun.0 starts.begun.1 in
+pub ends_by : (a b c : Knowledge) (result : Result Done CommitError) → Starts a b → (k : Knowledge) → Continues b k → ((open_tx : OpenTransaction) → k.begun ≡ Some open_tx → Answers k c open_tx.transaction open_tx.trace result) → IsPrefix k.log c.log → c ≡ knows_that k.name c.log k.number c.last None → Ends k result c
+ends_by a b c result starts k continues answer log same =
+    let open_tx = continues.begun starts.begun.0 starts.begun.1 in
     record {
-      follows = record { name = ap (λ (k : Knowledge). k.name) same; number = ap (λ (k : Knowledge). k.number) same; list = list };
-      answer = (work.0, work.1, answer work.0 work.1);
+      follows = record { name = ap (λ (k : Knowledge). k.name) same; number = ap (λ (k : Knowledge). k.number) same; log = log };
+      answer = (open_tx.0, open_tx.1, answer open_tx.0 open_tx.1);
     }
 
 -- ---- how an attempt failed
 
-module _ {B A : Type 0} (did : B → Knowledge → Result A BodyError → Knowledge → B → Type 0) where
-  gave_up : (old new : B × Knowledge) (error : BodyError) (b : Bool) → is_too_old error ≡ b → Tries did old (Err error) new → FailsSo did old (if b then failures.Ended ends.TooOld else failures.Refused error) new
+module _ {B A : Type 0} (did : B → Knowledge → Result A CommandError → Knowledge → B → Type 0) where
+  gave_up : (old new : B × Knowledge) (error : CommandError) (b : Bool) → is_too_old error ≡ b → Tries did old (Err error) new → FailsSo did old (if b then failures.Ended ends.TooOld else failures.Refused error) new
   gave_up old new error true is tries = inl (error, is, tries)
   gave_up old new error false is tries = inr (is, tries)
 
-  pub body_failed : (old new : B × Knowledge) (error : BodyError) → Tries did old (Err error) new → FailsSo did old (failure_by error) new
+  pub body_failed : (old new : B × Knowledge) (error : CommandError) → Tries did old (Err error) new → FailsSo did old (failure_by error) new
   body_failed old new error tries = gave_up old new error (is_too_old error) refl tries
 
   pub commit_failed : (old new : B × Knowledge) (answer : A) (error : CommitError) → TriesAndEnds did old answer (Err error) new → FailsSo did old (failures.Ended (ended_by error)) new

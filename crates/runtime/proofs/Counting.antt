@@ -1,4 +1,4 @@
--- The committed entries of one client's submissions in a list that grows.
+-- The committed entries of one client's submissions in a log that grows.
 use Rattle.std.proofs.Common.{◌≡◌, ℕ, ◌+◌, ◌<◌, ◌≤◌, ◌==◌, Bool, true, false, not, ◌&&◌, ◌||◌, cond, is_none, nat_lt, nat_le, Option, Some, None, List, [], ◌∷◌, ◌++◌, refl, sym, ap, ◌∙◌, subst, arith, append-nil, append_assoc, true≢false}
 use Rattle.std.specs.Prelude.{filter, sum_by}
 use Rattle.std.specs.List.{list_any}
@@ -8,14 +8,14 @@ use Rattle.std.proofs.lemmas.List.Folds.{list_any-append}
 use Rattle.std.proofs.lemmas.List.Sums.{sum_by-append}
 use mathlib.Core.List.{IsPrefix}
 use Rattle.cluster_core.specs.declared.answers.Config.{Config}
-use Rattle.cluster_core.specs.declared.answers.Reported.TheVariants as reported
 use Rattle.cluster_core.specs.Decision.{Cause}
-use Rattle.cluster_core.specs.Roles.{told}
 use Rattle.kv_core.specs.Range.{KeyRange}
-use Rattle.runtime.specs.declared.entry.Entry.{Entry}
-use Rattle.runtime.specs.Lists.{cause_next, has_submission, is_once, is_same_submission}
+use Rattle.runtime.specs.declared.log_entry.Entry.{Entry}
+use Rattle.runtime.specs.declared.outcome.Outcome.TheVariants as outcomes
+use Rattle.runtime.specs.Outcomes.{decided}
+use Rattle.runtime.specs.Logs.{cause_next, has_submission, is_once, is_same_submission}
 use Rattle.runtime.specs.Builds.{committed_behind, is_numbered_in, own_committed}
-use Rattle.runtime.proofs.Lawful.{both_true, left_true, right_true}
+use Rattle.runtime.proofs.WellFormed.{both_true, left_true, right_true}
 use Rattle.runtime.proofs.Numbers.{is_numbered_so, number_of_last}
 
 not_true : (b : Bool) → not b ≡ true → b ≡ false
@@ -62,7 +62,7 @@ once_at x xs ys client number once there rest true is =
     none_same x client number ys (number_eq x.client client (left_true (x.client == client) (x.number == number) is)) (number_eq x.number number (right_true (x.client == client) (x.number == number) is)) behind
 once_at x xs ys client number once there rest false is = rest (sym (ap (λ b. b || has_submission client number xs) is) ∙ there)
 
--- what stands in a list doesn't stand behind it too
+-- what stands in a log doesn't stand behind it too
 pub once_apart : (xs ys : List Entry) (client number : ℕ) → is_once (xs ++ ys) ≡ true → has_submission client number xs ≡ true → has_submission client number ys ≡ false
 once_apart [] ys client number once there = absurd (true≢false (sym there))
 once_apart (x ∷ xs) ys client number once there =
@@ -78,7 +78,7 @@ none_before_by : (before more : List Entry) (e : Entry) (client number : ℕ) �
 none_before_by before more e client number is_client is_number once true is = absurd (true≢false (sym (number_here client number e more is_client is_number) ∙ once_apart before (e ∷ more) client number once is))
 none_before_by before more e client number is_client is_number once false is = is
 
--- ---- committed entries of a longer list
+-- ---- committed entries of a longer log
 
 behind_append : (config : Config) (log xs ys : List Entry) → committed_behind config log (xs ++ ys) ≡ committed_behind config log xs ++ committed_behind config (log ++ xs) ys
 behind_append config log [] ys = ap (λ l. committed_behind config l ys) (sym (append-nil log))
@@ -124,7 +124,7 @@ none_in client above upto (x ∷ xs) none =
     let others : list_any (is_numbered_in client above upto) xs ≡ false = none_in client above upto xs (λ n low high. or_right_false (is_numbered_so client n x) (has_submission client n xs) (none n low high)) in
     (λ i. here i || others i)
 
--- a longer list has no more of a client's entries whose numbers all stand already
+-- a longer log has no more of a client's entries whose numbers all stand already
 pub own_grown : (config : Config) (client above upto : ℕ) (xs ys : List Entry) → IsPrefix xs ys → is_once ys ≡ true → ((n : ℕ) → above < n → n ≤ upto → has_submission client n xs ≡ true) →
     own_committed config client above upto ys ≡ own_committed config client above upto xs
 own_grown config client above upto xs ys p once given =
@@ -218,10 +218,10 @@ sum_next f config client above last xs ys before e le grows ends once is_client 
 
 -- ---- what is told
 
-pub told_none : (why : Option Cause) (version v : ℕ) → reported.Committed v ≡ told why version → is_none why ≡ true
-told_none None version v is = refl
-told_none (Some why) version v is = absurd (cc)
+pub none_decided : (why : Option Cause) (version v : ℕ) → decided why version ≡ outcomes.Committed v → is_none why ≡ true
+none_decided None version v is = refl
+none_decided (Some why) version v is = absurd (cc)
 
-pub told_some : (why : Option Cause) (version seen : ℕ) (range : KeyRange) → reported.Conflict seen range ≡ told why version → is_none why ≡ false
-told_some None version seen range is = absurd (cc)
-told_some (Some why) version seen range is = refl
+pub some_decided : (why : Option Cause) (version seen : ℕ) (range : KeyRange) → decided why version ≡ outcomes.Conflict seen range → is_none why ≡ false
+some_decided None version seen range is = absurd (cc)
+some_decided (Some why) version seen range is = refl

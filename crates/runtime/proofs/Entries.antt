@@ -1,4 +1,4 @@
--- One entry more in a published list.
+-- One entry more in a published log.
 use Rattle.std.proofs.Common.{◌≡◌, ℕ, ◌+◌, ◌≤◌, cond, is_none, List, [], ◌∷◌, ◌++◌, length, map, refl, sym, ap, ◌∙◌, arith, append-nil, append_assoc, length-append}
 use Rattle.std.proofs.lemmas.List.{map-append, length-map}
 use Rattle.std.proofs.lemmas.List.Sums.{fold-append}
@@ -13,8 +13,8 @@ use Rattle.cluster_core.specs.Configuration.{first_tier}
 use Rattle.cluster_core.specs.Tier.{TierState, absorb_all, after_log}
 use Rattle.cluster_core.proofs.Growth.{numbered-push, later_changes_nothing, maps_stay}
 use Rattle.cluster_core.proofs.Causes.{cause_decides}
-use Rattle.runtime.specs.declared.entry.Entry.{Entry}
-use Rattle.runtime.specs.Lists.{requests_of, version_of, list_map, logged_mutations, list_tier, logged_next}
+use Rattle.runtime.specs.declared.log_entry.Entry.{Entry}
+use Rattle.runtime.specs.Logs.{requests_of, version_of, log_map, logged_mutations, log_tier, logged_next}
 
 pub requests_append : (xs ys : List Entry) → requests_of (xs ++ ys) ≡ requests_of xs ++ requests_of ys
 requests_append xs ys = map-append (λ (e : Entry). e.request) xs ys
@@ -51,16 +51,16 @@ log_grows splits last requests request =
 pub log_next : (config : Config) (log : List Entry) (e : Entry) → logged_mutations config (log ++ e ∷ []) ≡ logged_mutations config log ++ logged_next config log e.request ∷ []
 log_next config log e = ap (λ qs. decision.log config.resolver_splits (numbered config.start qs)) (requests_append log (e ∷ [])) ∙ log_grows config.resolver_splits config.start (requests_of log) e.request
 
--- the servers that pull what the logs have of one entry more are those of the longer list
-pub tier_next : (config : Config) (log : List Entry) (e : Entry) → absorb_all (logged_next config log e.request) (list_tier config log) ≡ list_tier config (log ++ e ∷ [])
+-- the servers that pull what the logs have of one entry more are those of the longer log
+pub tier_next : (config : Config) (log : List Entry) (e : Entry) → absorb_all (logged_next config log e.request) (log_tier config log) ≡ log_tier config (log ++ e ∷ [])
 tier_next config log e =
     sym (fold-append (λ (tier : TierState) (mutations : List Mutation). absorb_all mutations tier) (first_tier config) (logged_mutations config log) (logged_next config log e.request ∷ []))
     ∙ ap (λ l. after_log l (first_tier config)) (sym (log_next config log e))
 
--- ---- the maps of a longer list
+-- ---- the maps of a longer log
 
 -- one entry more leaves the map at each earlier version as it was
-pub map_next : (config : Config) (log : List Entry) (e : Entry) (version : ℕ) → version ≤ version_of config log → list_map config (log ++ e ∷ []) version ≡ list_map config log version
+pub map_next : (config : Config) (log : List Entry) (e : Entry) (version : ℕ) → version ≤ version_of config log → log_map config (log ++ e ∷ []) version ≡ log_map config log version
 map_next config log e version h =
     ap (λ qs. histories.map_at (decision.committed config.resolver_splits (numbered config.start qs)) version) (requests_append log (e ∷ []))
     ∙ maps_stay config.resolver_splits config.start (requests_of log) e.request version h
@@ -68,16 +68,16 @@ map_next config log e version h =
 pub version_next : (config : Config) (log : List Entry) (e : Entry) → version_of config (log ++ e ∷ []) ≡ version_of config log + 1
 version_next config log e = omega (arith, ap length (requests_append log (e ∷ [])), length-append (requests_of log) (e.request ∷ []))
 
-pub map_more : (config : Config) (log more : List Entry) (version : ℕ) → version ≤ version_of config log → list_map config (log ++ more) version ≡ list_map config log version
-map_more config log [] version h = ap (λ l. list_map config l version) (append-nil log)
+pub map_more : (config : Config) (log more : List Entry) (version : ℕ) → version ≤ version_of config log → log_map config (log ++ more) version ≡ log_map config log version
+map_more config log [] version h = ap (λ l. log_map config l version) (append-nil log)
 map_more config log (e ∷ more) version h =
-    ap (λ l. list_map config l version) (sym (append_assoc log (e ∷ []) more))
+    ap (λ l. log_map config l version) (sym (append_assoc log (e ∷ []) more))
     ∙ map_more config (log ++ e ∷ []) more version (omega (arith, h, version_next config log e))
     ∙ map_next config log e version h
 
--- the map at a version stays in every list that begins with one that has the version
-pub map_begins : (config : Config) (log ys : List Entry) (version : ℕ) → IsPrefix log ys → version ≤ version_of config log → list_map config ys version ≡ list_map config log version
-map_begins config log ys version p h = ap (λ l. list_map config l version) (sym p.1) ∙ map_more config log p.0 version h
+-- the map at a version stays in every log that begins with one that has the version
+pub map_begins : (config : Config) (log ys : List Entry) (version : ℕ) → IsPrefix log ys → version ≤ version_of config log → log_map config ys version ≡ log_map config log version
+map_begins config log ys version p h = ap (λ l. log_map config l version) (sym p.1) ∙ map_more config log p.0 version h
 
 pub version_begins : (config : Config) (log ys : List Entry) → IsPrefix log ys → version_of config log ≤ version_of config ys
 version_begins config log ys p = omega (arith, ap length (sym (ap requests_of p.1)), ap length (requests_append log p.0), length-append (requests_of log) (requests_of p.0))

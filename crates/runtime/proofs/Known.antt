@@ -5,40 +5,40 @@ use mathlib.Core.List.{IsPrefix}
 use Rattle.kv_core.specs.declared.change.CommitRequest.{CommitRequest}
 use Rattle.schedule.specs.declared.step.Command.{Command}
 use Rattle.schedule.specs.declared.reply.Reply.{Reply}
-use Rattle.runtime.specs.declared.entry.Entry.{Entry}
+use Rattle.runtime.specs.declared.log_entry.Entry.{Entry}
 use Rattle.runtime.specs.declared.trace.Trace.{Trace}
-use Rattle.runtime.specs.declared.work.Work.{Work}
-use Rattle.runtime.specs.declared.entering.EnterError.{EnterError}
-use Rattle.runtime.specs.declared.entering.EnterError.TheVariants.{NotEntered, TooOld, Memory}
-use Rattle.runtime.specs.History.{Reach}
-use Rattle.runtime.specs.Clients.{IsBegun}
-use Rattle.runtime.specs.Lists.{IsOpenOver, version_of}
+use Rattle.runtime.specs.declared.open_transaction.OpenTransaction.{OpenTransaction}
+use Rattle.runtime.specs.declared.published_reads.EnterError.{EnterError}
+use Rattle.runtime.specs.declared.published_reads.EnterError.TheVariants.{NotEntered, TooOld, Memory}
+use Rattle.runtime.specs.History.{Prefix}
+use Rattle.runtime.specs.Clients.{IsBegun, IsSameTransaction}
+use Rattle.runtime.specs.Logs.{IsOpenOver, version_of}
 use Rattle.runtime.specs.Serves.{IsUnanswered}
 use Rattle.runtime.proofs.Beginnings.{prefix_trans}
 use Rattle.runtime.proofs.Entries.{version_begins}
 
--- the transaction goes on over its list, which the longer one begins with
-pub begun_on : (me known : Reach) (work after : Work) → IsBegun me (Some work) → known.name ≡ me.name → IsPrefix me.list known.list → after.front ≡ work.front →
-    IsOpenOver work.front.name.config work.front.list after.transaction after.trace.attempts → after.transaction.read_version ≡ work.transaction.read_version → IsBegun known (Some after)
-begun_on me known work after is name list front over version =
-    subst (λ (f : Reach). (f.name ≡ known.name) × IsPrefix f.list known.list × IsOpenOver f.name.config f.list after.transaction after.trace.attempts × (after.transaction.read_version ≡ version_of f.name.config f.list)) (sym front)
-    (is.0 ∙ sym name, prefix_trans work.front.list me.list known.list is.1 list, over, version ∙ is.3)
+-- the transaction goes on over its log, which the longer one begins with
+pub begun_on : (me known : Prefix) (open_tx after : OpenTransaction) → IsBegun me (Some open_tx) → known.name ≡ me.name → IsPrefix me.log known.log → after.prefix ≡ open_tx.prefix →
+    IsOpenOver open_tx.prefix.name.config open_tx.prefix.log after.transaction after.trace.attempts → after.transaction.read_version ≡ open_tx.transaction.read_version → IsBegun known (Some after)
+begun_on me known open_tx after is name log prefix over version =
+    subst (λ (f : Prefix). (f.name ≡ known.name) × IsPrefix f.log known.log × IsOpenOver f.name.config f.log after.transaction after.trace.attempts × (after.transaction.read_version ≡ version_of f.name.config f.log)) (sym prefix)
+    (is.0 ∙ sym name, prefix_trans open_tx.prefix.log me.log known.log is.1 log, over, version ∙ is.3)
 
-unanswered_on : (front : Reach) (seen known : List Entry) (error : EnterError) (command : Command) (old : CommitRequest) (before : Trace) (new : CommitRequest) (after : Trace) → (error ≡ TooOld → IsPrefix seen known) →
-    IsUnanswered front seen error command old before new after → IsUnanswered front known error command old before new after
-unanswered_on front seen known NotEntered command old before new after learnt is = is
-unanswered_on front seen known TooOld command old before new after learnt is =
-    let config = front.name.config in
-    let window : ℕ = front.name.config.window in
-    let grown : version_of front.name.config seen ≤ version_of front.name.config known = version_begins front.name.config seen known (learnt refl) in
-    let above : window < version_of front.name.config seen - version_of front.name.config front.list = is.3 in
-    (is.0, is.1, prefix_trans front.list seen known is.2 (learnt refl), omega (arith, grown, above))
-unanswered_on front seen known Memory command old before new after learnt is = is
+unanswered_on : (prefix : Prefix) (seen known : List Entry) (error : EnterError) (command : Command) (old : CommitRequest) (before : Trace) (new : CommitRequest) (after : Trace) → (error ≡ TooOld → IsPrefix seen known) →
+    IsUnanswered prefix seen error command old before new after → IsUnanswered prefix known error command old before new after
+unanswered_on prefix seen known NotEntered command old before new after learnt is = is
+unanswered_on prefix seen known TooOld command old before new after learnt is =
+    let config = prefix.name.config in
+    let window : ℕ = prefix.name.config.window in
+    let grown : version_of prefix.name.config seen ≤ version_of prefix.name.config known = version_begins prefix.name.config seen known (learnt refl) in
+    let above : window < version_of prefix.name.config seen - version_of prefix.name.config prefix.log = is.3 in
+    (is.0, is.1, prefix_trans prefix.log seen known is.2 (learnt refl), omega (arith, grown, above))
+unanswered_on prefix seen known Memory command old before new after learnt is = is
 
--- why a command has no reply, by the list that the client knows then
-pub refused_on : (work after : Work) (seen known : List Entry) (answer : Result Reply EnterError) (command : Command) → (answer ≡ Err TooOld → IsPrefix seen known) → after.front ≡ work.front →
-    IfErr answer (λ error. IsUnanswered work.front seen error command work.transaction work.trace after.transaction after.trace) →
-    IfErr answer (λ error. (x : Work) × (Some after ≡ Some x) × (x.front ≡ work.front) × IsUnanswered work.front known error command work.transaction work.trace x.transaction x.trace)
-refused_on work after seen known (Ok reply) command learnt front is = tt
-refused_on work after seen known (Err error) command learnt front is =
-    (after, refl, front, unanswered_on work.front seen known error command work.transaction work.trace after.transaction after.trace (λ same. learnt (ap Err same)) is)
+-- why a command has no reply, by the log that the client knows then
+pub refused_on : (open_tx after : OpenTransaction) (seen known : List Entry) (answer : Result Reply EnterError) (command : Command) → (answer ≡ Err TooOld → IsPrefix seen known) → IsSameTransaction open_tx after →
+    IfErr answer (λ error. IsUnanswered open_tx.prefix seen error command open_tx.transaction open_tx.trace after.transaction after.trace) →
+    IfErr answer (λ error. (x : OpenTransaction) × (Some after ≡ Some x) × IsSameTransaction open_tx x × IsUnanswered open_tx.prefix known error command open_tx.transaction open_tx.trace x.transaction x.trace)
+refused_on open_tx after seen known (Ok reply) command learnt same is = tt
+refused_on open_tx after seen known (Err error) command learnt same is =
+    (after, refl, same, unanswered_on open_tx.prefix seen known error command open_tx.transaction open_tx.trace after.transaction after.trace (λ old. learnt (ap Err old)) is)

@@ -1,17 +1,18 @@
 mod Walks
 pub mod Adding
 pub mod Beginnings
-pub mod Turns
+pub mod Rounds
 pub mod Counting
-pub mod Told
 pub mod Entries
 pub mod Known
-pub mod Lawful
+pub mod WellFormed
 pub mod Moves
 pub mod Numbers
 pub mod Places
 pub mod Reporting
+pub mod Answering
 pub mod Attempts
+pub mod Replying
 pub mod Serving
-pub mod Vaults
+pub mod CommitLocks
 pub mod Sendable

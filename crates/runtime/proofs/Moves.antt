@@ -5,14 +5,14 @@ use lib.ListN.{get_elem?}
 use Rattle.left_right.specs.Register.{Admits, TurnsAt, Turns, Forks, Merges}
 use Rattle.atomic_table.proofs.Lists.{at_set, at_snoc}
 use Rattle.cluster_core.specs.Tier.{TierState, absorb_all}
-use Rattle.runtime.specs.declared.entry.Entry.{Entry}
+use Rattle.runtime.specs.declared.log_entry.Entry.{Entry}
 use Rattle.runtime.specs.declared.published.Published.{Published}
 use Rattle.runtime.specs.declared.published.Step.{Step}
 use Rattle.runtime.specs.declared.published.View.{View}
-use Rattle.runtime.specs.Lists.{list_tier}
-use Rattle.runtime.specs.History.{Name, Reach, list_reach, note_entry}
+use Rattle.runtime.specs.Logs.{log_tier}
+use Rattle.runtime.specs.History.{Name, Prefix, log_prefix, submitted_entry}
 use Rattle.std.specs.Prelude.{Result, Ok, Err, MatchResult, ⊤}
-use Rattle.runtime.specs.State.{list_shown, newcomer, knows, IsFold, Kept, Sees, Leads, LeadOn, entries_of, applied}
+use Rattle.runtime.specs.Publication.{publisher_view, newcomer, knows, IsFold, Kept, Sees, Leads, LeadOn, entries_of, applied}
 use Rattle.runtime.proofs.Entries.{tier_next}
 
 off : false ≡ true → ⊥
@@ -20,39 +20,39 @@ off e = true≢false (sym e)
 
 -- what the rule says of one view
 abbrev Fits : Name → View → Type 0
-Fits b v = v.named ≡ true → v.front.name ≡ b
+Fits b v = v.named ≡ true → v.prefix.name ≡ b
 
 fits_set : (b : Name) (views : List View) (seat : ℕ) (w : View) → ((j : ℕ) (u : View) → get_elem? views j ≡ some u → Fits b u) → Fits b w → (j : ℕ) (u : View) → get_elem? (set views seat w) j ≡ some u → Fits b u
 fits_set b views seat w all mine j u e = ⊎_elim (λ (t : (j ≡ seat) × (w ≡ u)). subst (Fits b) t.1 mine) (λ (t : (j ≢ seat) × (get_elem? views j ≡ some u)). all j u t.1) (at_set views seat j w u e)
 
 pub begins : (x : Published) → IsFold x → Kept x (newcomer ∷ [])
-begins x f = (f, λ j u e. ⊎_elim (λ (t : get_elem? [] j ≡ some u). λ n. absurd (nothing j u t)) (λ (t : newcomer ≡ u). subst (Fits x.front.name) t (λ n. absurd (off n))) (at_snoc [] newcomer u j e))
+begins x f = (f, λ j u e. ⊎_elim (λ (t : get_elem? [] j ≡ some u). λ n. absurd (nothing j u t)) (λ (t : newcomer ≡ u). subst (Fits x.prefix.name) t (λ n. absurd (off n))) (at_snoc [] newcomer u j e))
   where
     nothing : (j : ℕ) (u : View) → get_elem? [] j ≡ some u → ⊥
     nothing j u t = cc
 
 pub admits : Admits Kept newcomer
-admits x views h = (h.0, λ j v at. ⊎_elim (h.1 j v) (λ (e : newcomer ≡ v). subst (Fits x.front.name) e (λ n. absurd (off n))) (at_snoc views newcomer v j at))
+admits x views h = (h.0, λ j v at. ⊎_elim (h.1 j v) (λ (e : newcomer ≡ v). subst (Fits x.prefix.name) e (λ n. absurd (off n))) (at_snoc views newcomer v j at))
 
-pub sees : (seat : ℕ) (v : View) (x y : Published) → y.front.name ≡ x.front.name → IsFold y → TurnsAt Kept seat v x y Sees
+pub sees : (seat : ℕ) (v : View) (x y : Published) → y.prefix.name ≡ x.prefix.name → IsFold y → TurnsAt Kept seat v x y Sees
 sees seat v x y same f views h at =
-    let all : (j : ℕ) (u : View) → get_elem? views j ≡ some u → Fits y.front.name u = λ j u e n. h.1 j u e n ∙ sym same in
-    (knows y.front.name, (f, fits_set y.front.name views seat (knows y.front.name) all (λ n. refl)), (refl, f, all seat v at))
+    let all : (j : ℕ) (u : View) → get_elem? views j ≡ some u → Fits y.prefix.name u = λ j u e n. h.1 j u e n ∙ sym same in
+    (knows y.prefix.name, (f, fits_set y.prefix.name views seat (knows y.prefix.name) all (λ n. refl)), (refl, f, all seat v at))
 
 pub enters : (seat : ℕ) (v : View) → Turns Kept seat v (λ x. x) Sees
 enters seat v x views h at = sees seat v x x refl h.0 views h at
 
 pub forks : (seat : ℕ) (v : View) → Forks Kept seat v v v
 forks seat v x views h at =
-    (h.0, λ j u e. ⊎_elim (λ (b : get_elem? (set views seat v) j ≡ some u). fits_set x.front.name views seat v h.1 (h.1 seat v at) j u b) (λ (same : v ≡ u). subst (Fits x.front.name) same (h.1 seat v at)) (at_snoc (set views seat v) v u j e))
+    (h.0, λ j u e. ⊎_elim (λ (b : get_elem? (set views seat v) j ≡ some u). fits_set x.prefix.name views seat v h.1 (h.1 seat v at) j u b) (λ (same : v ≡ u). subst (Fits x.prefix.name) same (h.1 seat v at)) (at_snoc (set views seat v) v u j e))
 
 pub merges : (seat : ℕ) (v : View) (other : ℕ) (w : View) → Merges Kept seat v other w w newcomer
 merges seat v other w x views h at apart there =
-    let theirs : Fits x.front.name w = ⊎_elim (λ (t : (other ≡ seat) × (w ≡ w)). absurd (apart t.0)) (λ (t : (other ≢ seat) × (get_elem? views other ≡ some w)). h.1 other w t.1) (at_set views seat other w w there) in
-    (h.0, fits_set x.front.name (set views seat w) other newcomer (fits_set x.front.name views seat w h.1 theirs) (λ n. absurd (off n)))
+    let theirs : Fits x.prefix.name w = ⊎_elim (λ (t : (other ≡ seat) × (w ≡ w)). absurd (apart t.0)) (λ (t : (other ≢ seat) × (get_elem? views other ≡ some w)). h.1 other w t.1) (at_set views seat other w w there) in
+    (h.0, fits_set x.prefix.name (set views seat w) other newcomer (fits_set x.prefix.name views seat w h.1 theirs) (λ n. absurd (off n)))
 
 abbrev tier_at : Name → List Entry → TierState
-tier_at b log = list_tier b.config log
+tier_at b log = log_tier b.config log
 
 none_more : (l : List Entry) → l ≡ l ++ []
 none_more [] = refl
@@ -62,60 +62,60 @@ append_one : (l : List Entry) (e : Entry) (more : List Entry) → (l ++ e ∷ []
 append_one [] e more = refl
 append_one (x ∷ xs) e more = ap (λ ys. x ∷ ys) (append_one xs e more)
 
--- the pending steps lead from the state of a list to that of the longer list
+-- the pending steps lead from the state of a log to that of the longer log
 pub folded : (b : Name) (log : List Entry) (ss : List Step) → LeadOn b log ss
-    → fold applied (tier_at b log, list_reach b log) ss ≡ (tier_at b (log ++ entries_of ss), list_reach b (log ++ entries_of ss))
-folded b log [] f = ap (λ (l : List Entry). (tier_at b l, list_reach b l)) (none_more log)
+    → fold applied (tier_at b log, log_prefix b log) ss ≡ (tier_at b (log ++ entries_of ss), log_prefix b (log ++ entries_of ss))
+folded b log [] f = ap (λ (l : List Entry). (tier_at b l, log_prefix b l)) (none_more log)
 folded b log (s ∷ ss) f =
-    let next : List Entry = log ++ note_entry s.note ∷ [] in
-    let tier : absorb_all s.mutations (tier_at b log) ≡ tier_at b next = ap (λ ms. absorb_all ms (tier_at b log)) f.0.1 ∙ tier_next b.config log (note_entry s.note) in
-    let one : applied (tier_at b log, list_reach b log) s ≡ (tier_at b next, list_reach b next) = (λ i. (tier i, f.0.0 i)) in
-    ap (λ (z : TierState × Reach). fold applied z ss) one ∙ folded b next ss f.1 ∙ ap (λ (l : List Entry). (tier_at b l, list_reach b l)) (append_one log (note_entry s.note) (entries_of ss))
+    let next : List Entry = log ++ submitted_entry s.submitted ∷ [] in
+    let tier : absorb_all s.mutations (tier_at b log) ≡ tier_at b next = ap (λ ms. absorb_all ms (tier_at b log)) f.0.1 ∙ tier_next b.config log (submitted_entry s.submitted) in
+    let one : applied (tier_at b log, log_prefix b log) s ≡ (tier_at b next, log_prefix b next) = (λ i. (tier i, f.0.0 i)) in
+    ap (λ (z : TierState × Prefix). fold applied z ss) one ∙ folded b next ss f.1 ∙ ap (λ (l : List Entry). (tier_at b l, log_prefix b l)) (append_one log (submitted_entry s.submitted) (entries_of ss))
 
 -- one step more at the end
 pub follow_more : (b : Name) (log : List Entry) (ss : List Step) (s : Step) → LeadOn b log ss → Leads b (log ++ entries_of ss) s → LeadOn b log (ss ++ s ∷ [])
 follow_more b log [] s f leads = (subst (λ (l : List Entry). Leads b l s) (sym (none_more log)) leads, tt)
-follow_more b log (t ∷ ss) s f leads = (f.0, follow_more b (log ++ note_entry t.note ∷ []) ss s f.1 (subst (λ (l : List Entry). Leads b l s) (sym (append_one log (note_entry t.note) (entries_of ss))) leads))
+follow_more b log (t ∷ ss) s f leads = (f.0, follow_more b (log ++ submitted_entry t.submitted ∷ []) ss s f.1 (subst (λ (l : List Entry). Leads b l s) (sym (append_one log (submitted_entry t.submitted) (entries_of ss))) leads))
 
-pub entries_more : (ss : List Step) (s : Step) → entries_of (ss ++ s ∷ []) ≡ entries_of ss ++ note_entry s.note ∷ []
+pub entries_more : (ss : List Step) (s : Step) → entries_of (ss ++ s ∷ []) ≡ entries_of ss ++ submitted_entry s.submitted ∷ []
 entries_more [] s = refl
-entries_more (t ∷ ss) s = ap (λ es. note_entry t.note ∷ es) (entries_more ss s)
+entries_more (t ∷ ss) s = ap (λ es. submitted_entry t.submitted ∷ es) (entries_more ss s)
 
 -- a state that the pending steps lead to
-pub next_is : (x y : Published) (ss : List Step) → IsFold x → LeadOn x.front.name x.front.list ss → (y.tier, y.front) ≡ fold applied (x.tier, x.front) ss
-    → (y.front ≡ list_reach x.front.name (x.front.list ++ entries_of ss)) × IsFold y
+pub next_is : (x y : Published) (ss : List Step) → IsFold x → LeadOn x.prefix.name x.prefix.log ss → (y.tier, y.prefix) ≡ fold applied (x.tier, x.prefix) ss
+    → (y.prefix ≡ log_prefix x.prefix.name (x.prefix.log ++ entries_of ss)) × IsFold y
 next_is x y ss f follow is =
-    let p : (y.tier, y.front) ≡ (tier_at x.front.name (x.front.list ++ entries_of ss), list_reach x.front.name (x.front.list ++ entries_of ss)) = is ∙ ap (λ (t : TierState). fold applied (t, x.front) ss) f ∙ folded x.front.name x.front.list ss follow in
-    let front : y.front ≡ list_reach x.front.name (x.front.list ++ entries_of ss) = ap (λ (z : TierState × Reach). z.1) p in
-    (front, ap (λ (z : TierState × Reach). z.0) p ∙ sym (ap (λ (r : Reach). tier_at r.name r.list) front))
+    let p : (y.tier, y.prefix) ≡ (tier_at x.prefix.name (x.prefix.log ++ entries_of ss), log_prefix x.prefix.name (x.prefix.log ++ entries_of ss)) = is ∙ ap (λ (t : TierState). fold applied (t, x.prefix) ss) f ∙ folded x.prefix.name x.prefix.log ss follow in
+    let prefix : y.prefix ≡ log_prefix x.prefix.name (x.prefix.log ++ entries_of ss) = ap (λ (z : TierState × Prefix). z.1) p in
+    (prefix, ap (λ (z : TierState × Prefix). z.0) p ∙ sym (ap (λ (r : Prefix). tier_at r.name r.log) prefix))
 
 -- what a publish leaves
 abbrev pub Rests : Published → List Step → View → Type 0
-Rests x ss v = IsFold x × LeadOn x.front.name x.front.list ss × (v ≡ knows x.front.name)
+Rests x ss v = IsFold x × LeadOn x.prefix.name x.prefix.log ss × (v ≡ knows x.prefix.name)
 
 pub rests_after : {E : Type 0} (x y : Published) (ss ss' : List Step) (v w : View) (r : Result ⊤ E) → Rests x ss v
-    → MatchResult r (λ _. ((y.tier, y.front) ≡ fold applied (x.tier, x.front) ss) × (ss' ≡ [])) (λ _. (y ≡ x) × (ss' ≡ ss))
+    → MatchResult r (λ _. ((y.tier, y.prefix) ≡ fold applied (x.tier, x.prefix) ss) × (ss' ≡ [])) (λ _. (y ≡ x) × (ss' ≡ ss))
     → MatchResult r (λ _. Sees v x y w) (λ _. w ≡ v) → Rests y ss' w
-rests_after x y ss ss' v w (Ok t) rest values rule = (rule.1, subst (LeadOn y.front.name y.front.list) (sym values.1) tt, rule.0)
+rests_after x y ss ss' v w (Ok t) rest values rule = (rule.1, subst (LeadOn y.prefix.name y.prefix.log) (sym values.1) tt, rule.0)
 rests_after x y ss ss' v w (Err e) rest values rule =
-    (subst IsFold (sym values.0) rest.0, subst (λ (z : Published × List Step). LeadOn z.0.front.name z.0.front.list z.1) (λ i. (sym values.0 i, sym values.1 i)) rest.1, rule ∙ rest.2 ∙ ap (λ (z : Published). knows z.front.name) (sym values.0))
+    (subst IsFold (sym values.0) rest.0, subst (λ (z : Published × List Step). LeadOn z.0.prefix.name z.0.prefix.log z.1) (λ i. (sym values.0 i, sym values.1 i)) rest.1, rule ∙ rest.2 ∙ ap (λ (z : Published). knows z.prefix.name) (sym values.0))
 
 pub shown_after : {E : Type 0} (x y : Published) (ss ss' : List Step) (v : View) (r : Result ⊤ E) → Rests x ss v
-    → MatchResult r (λ _. ((y.tier, y.front) ≡ fold applied (x.tier, x.front) ss) × (ss' ≡ [])) (λ _. (y ≡ x) × (ss' ≡ ss))
-    → MatchResult r (λ _. list_shown y.front.name y.front.list (entries_of ss') ≡ list_shown x.front.name (x.front.list ++ entries_of ss) []) (λ _. list_shown y.front.name y.front.list (entries_of ss') ≡ list_shown x.front.name x.front.list (entries_of ss))
+    → MatchResult r (λ _. ((y.tier, y.prefix) ≡ fold applied (x.tier, x.prefix) ss) × (ss' ≡ [])) (λ _. (y ≡ x) × (ss' ≡ ss))
+    → MatchResult r (λ _. publisher_view y.prefix.name y.prefix.log (entries_of ss') ≡ publisher_view x.prefix.name (x.prefix.log ++ entries_of ss) []) (λ _. publisher_view y.prefix.name y.prefix.log (entries_of ss') ≡ publisher_view x.prefix.name x.prefix.log (entries_of ss))
 shown_after x y ss ss' v (Ok t) rest values =
     let n = next_is x y ss rest.0 rest.1 values.0 in
-    ap (λ (r : Reach). list_shown r.name r.list (entries_of ss')) n.0 ∙ ap (λ (l : List Step). list_shown x.front.name (x.front.list ++ entries_of ss) (entries_of l)) values.1
-shown_after x y ss ss' v (Err e) rest values = (λ i. list_shown (values.0 i).front.name (values.0 i).front.list (entries_of (values.1 i)))
+    ap (λ (r : Prefix). publisher_view r.name r.log (entries_of ss')) n.0 ∙ ap (λ (l : List Step). publisher_view x.prefix.name (x.prefix.log ++ entries_of ss) (entries_of l)) values.1
+shown_after x y ss ss' v (Err e) rest values = (λ i. publisher_view (values.0 i).prefix.name (values.0 i).prefix.log (entries_of (values.1 i)))
 
 -- what an append leaves
-pub rests_appended : (x : Published) (ss ss' : List Step) (v : View) (s : Step) (r : Result ⊤ Step) → Rests x ss v → Leads x.front.name (x.front.list ++ entries_of ss) s
+pub rests_appended : (x : Published) (ss ss' : List Step) (v : View) (s : Step) (r : Result ⊤ Step) → Rests x ss v → Leads x.prefix.name (x.prefix.log ++ entries_of ss) s
     → MatchResult r (λ _. ss' ≡ ss ++ s ∷ []) (λ z. (z ≡ s) × (ss' ≡ ss)) → Rests x ss' v
-rests_appended x ss ss' v s (Ok t) rest next more = (rest.0, subst (LeadOn x.front.name x.front.list) (sym more) (follow_more x.front.name x.front.list ss s rest.1 next), rest.2)
-rests_appended x ss ss' v s (Err z) rest next more = (rest.0, subst (LeadOn x.front.name x.front.list) (sym more.1) rest.1, rest.2)
+rests_appended x ss ss' v s (Ok t) rest next more = (rest.0, subst (LeadOn x.prefix.name x.prefix.log) (sym more) (follow_more x.prefix.name x.prefix.log ss s rest.1 next), rest.2)
+rests_appended x ss ss' v s (Err z) rest next more = (rest.0, subst (LeadOn x.prefix.name x.prefix.log) (sym more.1) rest.1, rest.2)
 
 pub shown_appended : (x : Published) (ss ss' : List Step) (s : Step) (r : Result ⊤ Step)
     → MatchResult r (λ _. ss' ≡ ss ++ s ∷ []) (λ z. (z ≡ s) × (ss' ≡ ss))
-    → MatchResult r (λ _. list_shown x.front.name x.front.list (entries_of ss') ≡ list_shown x.front.name x.front.list (entries_of ss ++ note_entry s.note ∷ [])) (λ z. (z ≡ s) × (list_shown x.front.name x.front.list (entries_of ss') ≡ list_shown x.front.name x.front.list (entries_of ss)))
-shown_appended x ss ss' s (Ok t) more = ap (list_shown x.front.name x.front.list) (ap entries_of more ∙ entries_more ss s)
-shown_appended x ss ss' s (Err z) more = (more.0, ap (λ (l : List Step). list_shown x.front.name x.front.list (entries_of l)) more.1)
+    → MatchResult r (λ _. publisher_view x.prefix.name x.prefix.log (entries_of ss') ≡ publisher_view x.prefix.name x.prefix.log (entries_of ss ++ submitted_entry s.submitted ∷ [])) (λ z. (z ≡ s) × (publisher_view x.prefix.name x.prefix.log (entries_of ss') ≡ publisher_view x.prefix.name x.prefix.log (entries_of ss)))
+shown_appended x ss ss' s (Ok t) more = ap (publisher_view x.prefix.name x.prefix.log) (ap entries_of more ∙ entries_more ss s)
+shown_appended x ss ss' s (Err z) more = (more.0, ap (λ (l : List Step). publisher_view x.prefix.name x.prefix.log (entries_of l)) more.1)

@@ -1,17 +1,15 @@
 -- Numbers of submissions, and the last ones.
-use Rattle.std.proofs.Common.{◌≡◌, ◌≢◌, ℕ, zero, suc, ◌-◌, ◌<◌, ◌^◌, ◌==◌, Bool, true, false, ◌&&◌, ◌||◌, List, [], ◌∷◌, ◌++◌, length, replicate, inl, inr, refl, ap, ◌∙◌, subst, arith}
+use Rattle.std.proofs.Common.{◌≡◌, ◌≢◌, ℕ, zero, suc, ◌<◌, ◌==◌, Bool, true, false, ◌&&◌, ◌||◌, List, [], ◌∷◌, ◌++◌, length, replicate, refl, ap, ◌∙◌, subst, arith}
 use Rattle.std.proofs.Common.{get_or-set_other, get_or-set_same}
 use Rattle.std.specs.Prelude.{slice_index, slice_set}
 use Rattle.std.proofs.lemmas.Bool.Decides.{nat_tests}
 use Rattle.std.proofs.lemmas.List.Folds.{list_any-append}
 use mathlib.Core.List.{IsPrefix}
-use Rattle.cluster_core.specs.declared.answers.Config.{Config}
-use Rattle.runtime.specs.declared.entry.Entry.{Entry}
-use Rattle.runtime.specs.declared.flight.Flight.{Flight}
-use Rattle.runtime.specs.declared.flight.Flight.TheVariants.{Idle, Lost, Ruled, Added}
-use Rattle.runtime.specs.Lists.{AreLast, IsExhausted, has_submission, version_of}
-use Rattle.runtime.specs.Holds.{IsBacked, is_idle}
-use Rattle.runtime.proofs.Entries.{version_begins}
+use Rattle.runtime.specs.declared.log_entry.Entry.{Entry}
+use Rattle.runtime.specs.declared.in_flight.InFlight.{InFlight}
+use Rattle.runtime.specs.declared.in_flight.InFlight.TheVariants.{Idle, Lost, Decided, Added}
+use Rattle.runtime.specs.Logs.{AreLast, has_submission}
+use Rattle.runtime.specs.CommitStates.{IsBacked, is_idle}
 
 or_left : (a b : Bool) → a ≡ true → (a || b) ≡ true
 or_left true b h = refl
@@ -64,19 +62,8 @@ pub last_next : (last : List ℕ) (client number : ℕ) (log : List Entry) (e : 
 last_next last client number log e inside is_client is_number are =
     record { stands = λ other above. next_at last client number log e inside is_client is_number are other (other == client) refl above }
 
-pub backed_idle : (last : List ℕ) (log : List Entry) (flight : Flight) → is_idle flight ≡ true → IsBacked last log flight → AreLast last log
+pub backed_idle : (last : List ℕ) (log : List Entry) (in_flight : InFlight) → is_idle in_flight ≡ true → IsBacked last log in_flight → AreLast last log
 backed_idle last log Idle idle are = are
 backed_idle last log Lost idle are = absurd (cc)
-backed_idle last log (Ruled ruled) idle are = absurd (cc)
+backed_idle last log (Decided decided) idle are = absurd (cc)
 backed_idle last log (Added step) idle are = absurd (cc)
-
--- ---- what a longer list says of it
-
-pub exhausted_begins : (config : Config) (xs ys : List Entry) (client own : ℕ) → IsPrefix xs ys → version_of config ys < 2 ^ 64 → IsExhausted config xs client own → IsExhausted config ys client own
-exhausted_begins config xs ys client own p room is = elim is [
-  | inl last ↦ let le = version_begins config xs ys p in inl (omega (arith, last, le, room))
-  | inr other ↦ inr (elim other [
-    | inl number ↦ inl (number_begins client (2 ^ 64 - 1) xs ys p number)
-    | inr mine ↦ inr mine
-  ])
-]

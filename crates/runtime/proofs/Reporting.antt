@@ -1,4 +1,4 @@
--- One hold: what the pipeline makes of a request that comes next.
+-- What the pipeline makes of a request that comes next.
 use Rattle.std.proofs.Common.{◌≡◌, ℕ, ◌+◌, ◌-◌, ◌<◌, ◌≤◌, ◌^◌, Bool, true, false, cond, is_none, nat_lt, Option, None, Some, List, [], ◌∷◌, ◌++◌, length, refl, sym, ap, ◌∙◌, subst, arith, length-append, true≢false}
 use Rattle.std.proofs.lemmas.Bool.Decides.{nat_tests}
 use Rattle.kv_core.specs.declared.change.CommitRequest.{CommitRequest}
@@ -12,16 +12,18 @@ use Rattle.cluster_core.specs.Roles.{PipelineState, all_handled, submit, submit_
 use Rattle.cluster_core.proofs.Growth.{later_changes_nothing}
 use Rattle.txn.specs.Holds.{verdict}
 use Rattle.schedule.specs.Standing.{is_told}
-use Rattle.runtime.specs.declared.entry.Entry.{Entry}
+use Rattle.runtime.specs.declared.log_entry.Entry.{Entry}
 use Rattle.runtime.specs.History.{Name}
-use Rattle.runtime.specs.Lists.{requests_of, version_of, pipeline_of, cause_next, logged_next, IsLawfulList, IsOpenOver}
-use Rattle.runtime.specs.Lists.{is_numbered}
+use Rattle.runtime.specs.Logs.{requests_of, version_of, pipeline_of, cause_next, logged_next, IsWellFormedLog, IsOpenOver}
+use Rattle.runtime.specs.Logs.{is_numbered}
 use Rattle.runtime.proofs.Entries.{requests_append}
 use Rattle.std.specs.Prelude.{slice_index, slice_set, is_some}
 use mathlib.Core.List.{IsPrefix}
 use Rattle.runtime.specs.declared.trace.Trace.{Trace}
-use Rattle.runtime.specs.Holds.{entry}
-use Rattle.runtime.proofs.Lawful.{pipeline_next, lawful_next, open_begins, numbered_more}
+use Rattle.runtime.specs.Outcomes.{GivesNext, decided, entry, outcome_by}
+use Rattle.runtime.specs.CommitStates.{AddsEntry, CommitView, IsHandled}
+use Rattle.cluster_core.specs.declared.answers.Reported.TheVariants as reported
+use Rattle.runtime.proofs.WellFormed.{pipeline_next, lawful_next, open_begins, numbered_more}
 
 told_committed : (why : Option Cause) (version : ℕ) → is_told (told why version) ≡ is_none why
 told_committed None version = refl
@@ -84,17 +86,38 @@ refused_last config log p read_version is below why =
 
 abbrev pub Taken : Name → List ℕ → List Entry → ℕ → ℕ → Trace → PipelineState → List Mutation → CommitRequest → Type 0
 Taken n last log client number trace q ms request =
-    ((q ≡ pipeline_of n.config (log ++ entry client number request trace ∷ [])) × (ms ≡ logged_next n.config log request) × IsLawfulList n.config (log ++ entry client number request trace ∷ []))
+    ((q ≡ pipeline_of n.config (log ++ entry client number request trace ∷ [])) × (ms ≡ logged_next n.config log request) × IsWellFormedLog n.config (log ++ entry client number request trace ∷ []))
     × (is_numbered (slice_set last client number) (log ++ entry client number request trace ∷ []) ≡ true)
 
-pub taken_next : (n : Name) (last : List ℕ) (log front : List Entry) (client number : ℕ) (request value : CommitRequest) (trace : Trace) (p q : PipelineState) (r : Reported) (ms : List Mutation) →
-    IsLawfulList n.config log → IsPrefix front log → IsOpenOver n.config front request trace.attempts → value ≡ request → is_numbered last log ≡ true → client < length last → slice_index last client < number →
+pub taken_next : (n : Name) (last : List ℕ) (log prefix : List Entry) (client number : ℕ) (request value : CommitRequest) (trace : Trace) (p q : PipelineState) (r : Reported) (ms : List Mutation) →
+    IsWellFormedLog n.config log → IsPrefix prefix log → IsOpenOver n.config prefix request trace.attempts → value ≡ request → is_numbered last log ≡ true → client < length last → slice_index last client < number →
     p ≡ pipeline_of n.config log → q ≡ all_handled (submit request p) → r ≡ verdict request q → is_some (submit_refusal p request.read_version) ≡ false → ms ≡ cond (is_told r) request.mutations [] →
     Taken n last log client number trace q ms value
-taken_next n last log front client number request value trace p q r ms law begins over same num inside above old new told_so allowed made =
+taken_next n last log prefix client number request value trace p q r ms law begins over same num inside above old new told_so allowed made =
     let e : Entry = entry client number request trace in
     let next = commit_next n.config log e p q r old new told_so in
     subst (Taken n last log client number trace q ms) (sym same) (
-      (next.0, logged_is n.config log request r ms (version_of n.config log + 1) next.1 made, lawful_next n.config last log e law (open_begins n.config front log e begins over) num above (room_next n.config log p request.read_version old (none_by (submit_refusal p request.read_version) allowed))),
+      (next.0, logged_is n.config log request r ms (version_of n.config log + 1) next.1 made, lawful_next n.config last log e law (open_begins n.config prefix log e begins over) num above (room_next n.config log p request.read_version old (none_by (submit_refusal p request.read_version) allowed))),
       numbered_more last client number log e inside above refl refl num,
     )
+
+-- ---- what became of a request that was reported
+
+decided_told : (why : Option Cause) (version : ℕ) → outcome_by (told why version) ≡ decided why version
+decided_told None version = refl
+decided_told (Some why) version = refl
+
+something_told : (why : Option Cause) (version : ℕ) → reported.NothingToDo ≡ told why version → ⊥
+something_told None version is = cc
+something_told (Some why) version is = cc
+
+pub handled_by : (old new : CommitView) (e : Entry) (r : Reported) → r ≡ told (cause_next old.name.config old.log e.request) (version_of old.name.config old.log + 1) → GivesNext old.last new.last e → AddsEntry old new e → IsHandled old new e (outcome_by r)
+handled_by old new e (reported.Committed version) is gives adds =
+    let why = cause_next old.name.config old.log e.request in
+    let next : ℕ = version_of old.name.config old.log + 1 in
+    record { reason = sym (decided_told why next) ∙ ap outcome_by (sym is); numbers = gives; added = adds }
+handled_by old new e (reported.Conflict seen range) is gives adds =
+    let why = cause_next old.name.config old.log e.request in
+    let next : ℕ = version_of old.name.config old.log + 1 in
+    record { reason = sym (decided_told why next) ∙ ap outcome_by (sym is); numbers = gives; added = adds }
+handled_by old new e reported.NothingToDo is gives adds = absurd (something_told (cause_next old.name.config old.log e.request) (version_of old.name.config old.log + 1) is)

@@ -15,23 +15,25 @@ use Rattle.cluster_core.specs.contracts.segments.Segments as Segments
 use Rattle.cluster_core.specs.contracts.kept.Writers as Writers
 use Rattle.cluster_core.specs.contracts.resolver.Resolver as Resolver
 use Rattle.cluster_core.specs.contracts.pipeline.Pipeline as Pipeline
-use Rattle.runtime.proofs.board.Board.TheSendSync as board
-use Rattle.runtime.proofs.front.Head.TheSendSync as head
-use Rattle.runtime.proofs.front.Front.TheSendSync as front
-use Rattle.runtime.proofs.flight.Flight.TheSendSync as flight
-use Rattle.runtime.specs.contracts.hold.Hold as Hold
-use Rattle.runtime.specs.contracts.hold.Hold.TheInside as inside
+use Rattle.runtime.proofs.publisher.Publisher.TheSendSync as publisher
+use Rattle.runtime.proofs.log_prefix.LogHead.TheSendSync as head
+use Rattle.runtime.proofs.log_prefix.LogPrefix.TheSendSync as prefix
+use Rattle.runtime.proofs.in_flight.InFlight.TheSendSync as in_flight
+use Rattle.runtime.specs.contracts.commit_state.CommitState as CommitState
+use Rattle.runtime.specs.contracts.commit_state.CommitState.TheInside as inside
 use Rattle.runtime.specs.contracts.client.Client as Client
 use Rattle.runtime.specs.contracts.client.Client.TheInside as of_client
-use Rattle.runtime.specs.contracts.turn.Owned as Owned
-use Rattle.runtime.specs.declared.turn.End.{Ghosts}
-use Rattle.runtime.proofs.vault.Vault.TheSendSync as vault
-use Rattle.runtime.proofs.work.Work.TheSendSync as work
+use Rattle.runtime.specs.contracts.critical_section.LockedState as LockedState
+use Rattle.runtime.specs.declared.critical_section.LockedState as owneds
+use Rattle.runtime.specs.declared.commit_lock.Lockable as bounds
+use Rattle.runtime.specs.declared.critical_section.End.{Ghosts}
+use Rattle.runtime.proofs.commit_lock.CommitLock.TheSendSync as lock
+use Rattle.runtime.proofs.open_transaction.OpenTransaction.TheSendSync as open_tx
 use Rattle.runtime.proofs.published.Published.TheSendSync as published
 use Rattle.runtime.specs.contracts.published.Published as Published
 use Rattle.runtime.specs.contracts.published.View as View
-use Rattle.runtime.specs.contracts.law.Lawful as Lawful
-use Rattle.runtime.specs.contracts.law.LawfulProtocolPublishedView.TheImpl as lawful
+use Rattle.runtime.specs.contracts.publication.PublishedRule as PublishedRule
+use Rattle.runtime.specs.contracts.publication.PublishedRuleProtocolPublishedView.TheImpl as well_formed
 use Rattle.left_right.specs.contracts.reader.Reader as Reader
 use Rattle.std.specs.contracts.alloc.Global as Heap
 use Rattle.std.specs.contracts.impls.GlobalAllocator.TheImpl as allocator
@@ -52,7 +54,7 @@ pipeline_send : IsSend Pipeline.the_row
 pipeline_send =
     search (splits.the_send, request.the_field_send, resolver_send, log.the_send, sendable, crosses) depth 20
 
-pub hold_send : IsSend Hold.the_row
+pub hold_send : IsSend CommitState.the_row
 hold_send =
     view_send inside.the_row _ _ _ _
     (recorded_send (inside.the_field).row _ _ (inside.the_type).to_one
@@ -61,44 +63,48 @@ hold_send =
       (
         pipeline_send,
         (
-          board.the_send,
+          publisher.the_send,
           (
             head.the_send,
             (
-              front.the_send,
-              (flight.the_field_send, (search (sendable, crosses) depth 20, tt)),
+              prefix.the_send,
+              (in_flight.the_field_send, (search (sendable, crosses) depth 20, tt)),
             ),
           ),
         ),
       ),
     )))
 
-owned_field : (E : RattleType) → IsSend E → IsSend (Owned.the_field E).row
+owned_field : (E : RattleType) → IsSend E → IsSend (LockedState.the_field E).row
 owned_field E s = search (hold_send, sendable, crosses) depth 20
 
-owned_send : (E : RattleType) → IsSend E → IsSend (Owned.the_row E)
-owned_send E s = recorded_send (Owned.the_field E).row _ _ (Owned.the_type E).to_one (owned_field E s)
+owned_send : (E : RattleType) → IsSend E → IsSend (LockedState.the_row E)
+owned_send E s = recorded_send (LockedState.the_field E).row _ _ (LockedState.the_type E).to_one (owned_field E s)
 
 reader_send :
-    IsSend (Reader.the_row Published.the_row View.the_row Lawful.the_row Heap.the_row lawful.ghosts allocator.ghosts)
+    IsSend (Reader.the_row Published.the_row View.the_row PublishedRule.the_row Heap.the_row well_formed.ghosts allocator.ghosts)
 reader_send = search (reader.the_send, published.the_sync, sendable, crosses) depth 20
+
+-- how the locked state is bound to its database
+abbrev bound_of : (E : RattleType) → bounds.Ghosts (LockedState.the_row E).Denot
+bound_of E = record { name = λ (o : owneds.LockedState E.Denot). o.state.name; last = λ (o : owneds.LockedState E.Denot). o.state.last }
 
 pub client_send : (E : RattleType) (g : Ghosts E.Denot) → IsSend E → IsSend (Client.the_row E g)
 client_send E g s =
-    let owned : IsSend (Owned.the_row E) = owned_send E s in
+    let owned : IsSend (LockedState.the_row E) = owned_send E s in
     view_send (of_client.the_row E g) _ _ _ _
     (recorded_send ((of_client.the_field E g).row) _ _ (of_client.the_type E g).to_one
     (struct_send (shape (of_client.the_type E g)) (
       heap.the_field_send,
       (
-        Arc-send _ (vault.the_send _ _ owned) (vault.the_sync _ _ owned),
+        Arc-send _ (lock.the_send (LockedState.the_row E) (bound_of E) owned) (lock.the_sync (LockedState.the_row E) (bound_of E) owned),
         (
           seat.the_send _ _ (option.the_send _ owned),
           (
             option.the_field_send _ reader_send,
             (
-              front.the_send,
-              (search (sendable, crosses), (search (sendable, crosses), (option.the_field_send _ work.the_send, tt))),
+              prefix.the_send,
+              (search (sendable, crosses), (search (sendable, crosses), (option.the_field_send _ open_tx.the_send, tt))),
             ),
           ),
         ),

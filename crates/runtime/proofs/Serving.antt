@@ -1,8 +1,8 @@
--- What stands in the type of a list: its history is legal, and its map at each version holds the serial store.
+-- What stands in the type of a log: its history is legal, and its map at each version holds the serial store.
 use Rattle.std.proofs.Common.{All, ◌≡◌, ℕ, suc, ◌+◌, ◌-◌, ◌<◌, ◌≤◌, Bool, true, false, cond, not, ◌==◌, nat_lt, List, [], ◌∷◌, ◌++◌, length, map, Option, None, Some, inl, inr, refl, sym, ap, ◌∙◌, subst, arith, append-nil, true≢false}
 use Rattle.std.proofs.lemmas.Bool.Decides.{nat_tests}
 use Rattle.std.proofs.lemmas.List.{length-map}
-use Rattle.std.proofs.lemmas.List.Elements.{All-from_recursion}
+use Rattle.std.proofs.lemmas.List.Elements.{All-contains, All-from_recursion}
 use Rattle.std.specs.List.{AllByRecursion}
 use Rattle.std.specs.Option.{option_or}
 use mathlib.Core.List.{IsPrefix}
@@ -23,29 +23,30 @@ use Rattle.cluster_core.proofs.LogMaps.{tier_has_database}
 use Rattle.cluster_core.proofs.Versions.{rising-numbered}
 use Rattle.schedule.specs.declared.step.Command.{Command}
 use Rattle.schedule.specs.declared.reply.Reply.{Reply}
-use Rattle.schedule.specs.declared.reply.Reply.TheVariants.{Begun, Done, SavedNew, SavedOver, Found, Absent, Removed, Rows, Planned, State, Total, Built, Finished, Submitted, ReadOnly, Nothing, Reported, Corrupt, Refused}
-use Rattle.schedule.specs.declared.refusal.Refusal.TheVariants.{NoSuchClient, NoSuchRole, Busy, NoTransaction, NoPlan, BadName, NameTaken, UnknownType, UnknownIndex, UnknownField, WrongKind, NullKey, BadSchema, TooMany, TooDeep, TooLarge, SortTwice, SortNotServed, AlreadyThere, NoStore, OtherSchema, IndexNotReadable, NotAggregate, NotReadable, WrongState, NotBuilt, BadLimit, FutureVersion, TooOld, VersionsExhausted, KeyOutside, KeyTooLarge, ValueTooLarge, TransactionTooLarge}
-use Rattle.schedule.specs.Contract.{IsSerialAt}
+use Rattle.schedule.specs.declared.reply.Reply.TheVariants.{Stopped}
+use Rattle.schedule.specs.Exact.{IsSerialAt}
 use Rattle.schedule.specs.Holds.{Stands}
 use Rattle.schedule.specs.Past.{Attempt, Open, Submission, is_changed}
 use Rattle.schedule.specs.Performed.{IsCommandStopped, IsPerformed, IsReadRefusal}
 use Rattle.schedule.specs.Standing.{listed}
 use Rattle.schedule.specs.Turns.{AreDone, AreSubmitted, DidAttempt, IsOpenTransaction, fresh_request}
-use Rattle.schedule.proofs.Composed.{holds_committed, serial_all, performed_right}
+use Rattle.schedule.specs.Headline.{AreRightlyAnswered}
+use Rattle.schedule.proofs.Composed.{holds_committed, open_served, performed_right, serial_all}
+use Rattle.schedule.proofs.Promised.{all_answered, exact_indexes}
 use Rattle.schedule.proofs.Submitting.{numbered_length}
 use Rattle.schedule.proofs.Turning.{done_append, open_changed, open_grown}
-use Rattle.runtime.specs.declared.entry.Entry.{Entry}
+use Rattle.runtime.specs.declared.log_entry.Entry.{Entry}
 use Rattle.runtime.specs.declared.trace.Performed.{Performed}
-use Rattle.runtime.specs.Lists.{requests_of, version_of, numbered_of, history_of, list_map, pipeline_of}
-use Rattle.runtime.specs.Lists.{logged_mutations, list_tier, attempts_of, opened, submissions_of, committed_at}
-use Rattle.runtime.specs.Lists.{IsOpenOver, IsLawfulList}
+use Rattle.runtime.specs.Logs.{requests_of, version_of, numbered_of, history_of, log_map, pipeline_of}
+use Rattle.runtime.specs.Logs.{logged_mutations, log_tier, attempts_of, opened, submissions_of, committed_at}
+use Rattle.runtime.specs.Logs.{IsHeadlineOf, IsWellFormedLog, IsOpenOver}
 use Rattle.runtime.specs.Serves.{IsAnswer, stopped}
 use Rattle.txn.specs.Refusing.{MayRefuse}
 use Rattle.txn.specs.Runs.{Ran}
 use Rattle.txn.proofs.Running.{ran_because}
 use Rattle.runtime.proofs.Entries.{map_begins, version_begins}
 
--- ---- legal, held, serial
+-- ---- legal, holds, serial
 
 reads_below : (maps : ℕ → Map) (reported last : ℕ) (subs : List Submission) (requests : List CommitRequest) → AreSubmitted maps reported last subs requests →
     AllByRecursion (λ (e : histories.Entry). e.request.read_version < e.version) (numbered last requests)
@@ -54,26 +55,48 @@ reads_below maps reported last [] (request ∷ requests) are = absurd are
 reads_below maps reported last (one ∷ subs) [] are = absurd are
 reads_below maps reported last (one ∷ subs) (request ∷ requests) are = (are.0.below, reads_below maps reported (last + 1) subs requests are.1)
 
-pub legal_of : (config : Config) (log : List Entry) → IsLawfulList config log → IsLegal (history_of config log)
+pub legal_of : (config : Config) (log : List Entry) → IsWellFormedLog config log → IsLegal (history_of config log)
 legal_of config log law =
     committed_is_legal config.resolver_splits (numbered_of config log) (rising-numbered config.start (requests_of log))
-    (All-from_recursion (λ (e : histories.Entry). e.request.read_version < e.version) (numbered_of config log) (reads_below (list_map config log) (version_of config log) config.start (submissions_of config log) (requests_of log) law.submitted))
+    (All-from_recursion (λ (e : histories.Entry). e.request.read_version < e.version) (numbered_of config log) (reads_below (log_map config log) (version_of config log) config.start (submissions_of config log) (requests_of log) law.submitted))
 
 -- the map at each version holds what the accepted commands of the committed entries up to there give
-pub holds_of : (config : Config) (log : List Entry) → IsLawfulList config log → (v : ℕ) → v ≤ version_of config log → Stands (list_map config log v) (committed_at config log v)
+pub holds_of : (config : Config) (log : List Entry) → IsWellFormedLog config log → (v : ℕ) → v ≤ version_of config log → Stands (log_map config log v) (committed_at config log v)
 holds_of config log law v below = holds_committed (pipeline_of config log) (submissions_of config log) (legal_of config log law) law.submitted v below
 
 -- version order is a serial order
-pub serial_of : (config : Config) (log : List Entry) → IsLawfulList config log →
+pub serial_of : (config : Config) (log : List Entry) → IsWellFormedLog config log →
     All (λ (one : Submission). IsSerialAt (committed_at config log (one.version - 1)) one.transaction.attempts) (listed (pipeline_of config log) (submissions_of config log))
 serial_of config log law = serial_all (pipeline_of config log) (submissions_of config log) (legal_of config log law) law.submitted
 
--- ---- what the servers that have pulled a list answer
+-- the requests were those of open transactions
+submitted_open : (maps : ℕ → Map) (reported last : ℕ) (subs : List Submission) (requests : List CommitRequest) → AreSubmitted maps reported last subs requests →
+    AllByRecursion (λ (one : Submission). (request : CommitRequest) × IsOpenTransaction maps reported one.transaction request) subs
+submitted_open maps reported last [] requests are = tt
+submitted_open maps reported last (one ∷ subs) [] are = absurd are
+submitted_open maps reported last (one ∷ subs) (request ∷ requests) are = ((request, are.0.open_as), submitted_open maps reported (last + 1) subs requests are.1)
+
+-- the headline
+pub headline_of : (config : Config) (log : List Entry) → IsWellFormedLog config log → IsHeadlineOf config log
+headline_of config log law = record {
+  rows = λ transaction (one, there, is).
+      let open_as = All-contains WasOpen (submissions_of config log) one
+      (All-from_recursion WasOpen (submissions_of config log) (submitted_open (log_map config log) (version_of config log) config.start (submissions_of config log) (requests_of log) law.submitted)) there in
+      subst (λ (t : Open). AreRightlyAnswered (committed_at config log t.read_version) t.attempts) is
+      (all_answered (committed_at config log one.transaction.read_version) one.transaction.attempts
+      (open_served (pipeline_of config log) (submissions_of config log) (legal_of config log law) law.submitted one.transaction open_as.0 open_as.1));
+  indexes = λ version from upto. exact_indexes (log_map config log version) (committed_at config log version) (holds_of config log law version upto);
+}
+  where
+    WasOpen : Submission → Type 0
+    WasOpen one = (request : CommitRequest) × IsOpenTransaction (log_map config log) (version_of config log) one.transaction request
+
+-- ---- what the servers that have pulled a log answer
 
 log_length : (config : Config) (log : List Entry) → length (logged_mutations config log) ≡ length (requests_of log)
 log_length config log = length-map (numbered_of config log) (logged (is_committed config.resolver_splits (numbered_of config log))) ∙ numbered_length config.start (requests_of log)
 
-pub tier_map : (config : Config) (log : List Entry) (v : ℕ) → config.start ≤ v → v ≤ version_of config log → version_of config log - v ≤ config.window → whole_map (list_tier config log) v ≡ list_map config log v
+pub tier_map : (config : Config) (log : List Entry) (v : ℕ) → config.start ≤ v → v ≤ version_of config log → version_of config log - v ≤ config.window → whole_map (log_tier config log) v ≡ log_map config log v
 tier_map config log v from upto near = tier_has_database config (requests_of log) v from upto near
 
 -- the servers of these owners stand at this version
@@ -118,71 +141,20 @@ none_among window n v range (owner ∷ others) (server ∷ servers) at upto near
     by_test true r here rest = ap (λ o. option_or o (first_refusal window range v others servers)) here ∙ rest
     by_test false r here rest = rest
 
--- servers that have pulled a list refuse no read at its versions within the window
-pub tier_answers : (config : Config) (log : List Entry) (range : KeyRange) (v : ℕ) → v ≤ version_of config log → version_of config log - v ≤ config.window → refusal (list_tier config log) range v ≡ None
+-- servers that have pulled a log refuse no read at its versions within the window
+pub tier_answers : (config : Config) (log : List Entry) (range : KeyRange) (v : ℕ) → v ≤ version_of config log → version_of config log - v ≤ config.window → refusal (log_tier config log) range v ≡ None
 tier_answers config log range v upto near =
-    let frame = same_frame (logged_mutations config log) (first_tier config) in
+    let log_config = same_frame (logged_mutations config log) (first_tier config) in
     let n = log_length config log in
-    (λ i. first_refusal (frame.1 i) range v (owners (frame.0 i)) (list_tier config log).servers)
-    ∙ none_among config.window (config.start + length (logged_mutations config log)) v range (owners config.storage_splits) (list_tier config log).servers
+    (λ i. first_refusal (log_config.1 i) range v (owners (log_config.0 i)) (log_tier config log).servers)
+    ∙ none_among config.window (config.start + length (logged_mutations config log)) v range (owners config.storage_splits) (log_tier config log).servers
     (pulled_log (logged_mutations config log) (first_tier config) config.start (first_at config.start (owners config.storage_splits))) (omega (arith, n, upto)) (omega (arith, n, near))
 
--- ---- a command that was performed over servers that have pulled more than the transaction's list
+-- ---- a command that was performed over servers that have pulled more than the transaction's log
 
 -- where no read is refused, no reply is that of a refused read
 unrefused : (refuses : KeyRange → ReadError → Type 0) (within : List KeyRange) (answer : Reply) → ((range : KeyRange) (error : ReadError) → refuses range error → ⊥) → IsReadRefusal refuses within answer → ⊥
-unrefused refuses within (Refused NoSuchClient) none is = absurd is
-unrefused refuses within (Refused NoSuchRole) none is = absurd is
-unrefused refuses within (Refused Busy) none is = absurd is
-unrefused refuses within (Refused NoTransaction) none is = absurd is
-unrefused refuses within (Refused NoPlan) none is = absurd is
-unrefused refuses within (Refused BadName) none is = absurd is
-unrefused refuses within (Refused NameTaken) none is = absurd is
-unrefused refuses within (Refused UnknownType) none is = absurd is
-unrefused refuses within (Refused UnknownIndex) none is = absurd is
-unrefused refuses within (Refused UnknownField) none is = absurd is
-unrefused refuses within (Refused WrongKind) none is = absurd is
-unrefused refuses within (Refused NullKey) none is = absurd is
-unrefused refuses within (Refused BadSchema) none is = absurd is
-unrefused refuses within (Refused TooMany) none is = absurd is
-unrefused refuses within (Refused TooDeep) none is = absurd is
-unrefused refuses within (Refused TooLarge) none is = absurd is
-unrefused refuses within (Refused SortTwice) none is = absurd is
-unrefused refuses within (Refused SortNotServed) none is = absurd is
-unrefused refuses within (Refused AlreadyThere) none is = absurd is
-unrefused refuses within (Refused NoStore) none is = absurd is
-unrefused refuses within (Refused OtherSchema) none is = absurd is
-unrefused refuses within (Refused IndexNotReadable) none is = absurd is
-unrefused refuses within (Refused NotAggregate) none is = absurd is
-unrefused refuses within (Refused NotReadable) none is = absurd is
-unrefused refuses within (Refused WrongState) none is = absurd is
-unrefused refuses within (Refused NotBuilt) none is = absurd is
-unrefused refuses within (Refused BadLimit) none is = absurd is
-unrefused refuses within (Refused FutureVersion) none is = none is.range reads.FutureVersion is.refused
-unrefused refuses within (Refused TooOld) none is = none is.range reads.TooOld is.refused
-unrefused refuses within (Refused VersionsExhausted) none is = absurd is
-unrefused refuses within (Refused KeyOutside) none is = absurd is
-unrefused refuses within (Refused KeyTooLarge) none is = absurd is
-unrefused refuses within (Refused ValueTooLarge) none is = absurd is
-unrefused refuses within (Refused TransactionTooLarge) none is = absurd is
-unrefused refuses within (Begun version) none is = absurd is
-unrefused refuses within Done none is = absurd is
-unrefused refuses within SavedNew none is = absurd is
-unrefused refuses within (SavedOver cells) none is = absurd is
-unrefused refuses within (Found cells) none is = absurd is
-unrefused refuses within Absent none is = absurd is
-unrefused refuses within Removed none is = absurd is
-unrefused refuses within (Rows rows) none is = absurd is
-unrefused refuses within (Planned plan) none is = absurd is
-unrefused refuses within (State state) none is = absurd is
-unrefused refuses within (Total total) none is = absurd is
-unrefused refuses within (Built records range) none is = absurd is
-unrefused refuses within Finished none is = absurd is
-unrefused refuses within (Submitted version) none is = absurd is
-unrefused refuses within ReadOnly none is = absurd is
-unrefused refuses within Nothing none is = absurd is
-unrefused refuses within (Reported reports) none is = absurd is
-unrefused refuses within (Corrupt key) none is = absurd is
+unrefused refuses within answer none is = none is.refused.range is.error is.refused.refused
 
 -- the map at the read version alone matters
 ran_elsewhere : (maps maps2 : ℕ → Map) {added : List KeyRange} {old new : CommitRequest} {wrote : List Mutation} {Fact : Map → Type 0} → maps old.read_version ≡ maps2 old.read_version →
@@ -204,8 +176,8 @@ performed_elsewhere maps maps2 refuses command answer old new same performed = r
   ran = ran_elsewhere maps maps2 same performed.ran;
 }
 
--- a command that stopped did what one does whose read was refused
-stopped_did : (maps : ℕ → Map) (command : Command) (old new : CommitRequest) → IsCommandStopped maps command old new → DidAttempt maps (record { command = command; reply = Refused TooOld }) old new
+-- a command that stopped did what one does that has not read all
+stopped_did : (maps : ℕ → Map) (command : Command) (old new : CommitRequest) → IsCommandStopped maps command old new → DidAttempt maps (record { command = command; reply = Stopped }) old new
 stopped_did maps command old new is = record {
   added = is.added;
   written = [];
@@ -227,45 +199,45 @@ none_some : (o : Option ReadError) {e : ReadError} → o ≡ None → o ≡ Some
 none_some None none some = cc
 none_some (Some x) none some = cc
 
--- the map of servers that have pulled a longer list is the list's own at a version that they tell
+-- the map of servers that have pulled a longer log is the log's own at a version that they tell
 same_map : (config : Config) (log ys : List Entry) (version : ℕ) → IsPrefix log ys → version ≤ version_of config log → config.start ≤ version → version_of config ys - version ≤ config.window →
-    whole_map (list_tier config ys) version ≡ list_map config log version
+    whole_map (log_tier config ys) version ≡ log_map config log version
 same_map config log ys version begins seen from near =
     tier_map config ys version from (let l = version_begins config log ys begins in omega (arith, seen, l)) near ∙ map_begins config log ys version begins seen
 
--- the transaction's facts stand over its own list, and the reply is the serial store's for what it sees there
-pub answers_right : (config : Config) (log ys : List Entry) (old new : CommitRequest) (done : List Performed) (command : Command) (answer : Reply) → IsLawfulList config log → IsPrefix log ys → IsOpenOver config log old done → config.start ≤ old.read_version →
-    version_of config ys - old.read_version ≤ config.window → IsPerformed (whole_map (list_tier config ys)) (λ range. MayRefuse (list_tier config ys) range old.read_version) command answer old new →
+-- the transaction's facts stand over its own log, and the reply is the serial store's for what it sees there
+pub answers_right : (config : Config) (log ys : List Entry) (old new : CommitRequest) (done : List Performed) (command : Command) (answer : Reply) → IsWellFormedLog config log → IsPrefix log ys → IsOpenOver config log old done → config.start ≤ old.read_version →
+    version_of config ys - old.read_version ≤ config.window → IsPerformed (whole_map (log_tier config ys)) (λ range. MayRefuse (log_tier config ys) range old.read_version) command answer old new →
     IsOpenOver config log new (done ++ (record { command = command; reply = answer }) ∷ []) × IsAnswer config log old done command answer × (new.read_version ≡ old.read_version)
 answers_right config log ys old new done command answer law begins over from near performed =
     let seen : old.read_version ≤ version_of config log = over.seen in
     let reached : old.read_version ≤ version_of config ys = let l = version_begins config log ys begins in omega (arith, seen, l) in
-    let same : whole_map (list_tier config ys) old.read_version ≡ list_map config log old.read_version = same_map config log ys old.read_version begins seen from near in
-    let here : IsPerformed (list_map config log) (λ range. MayRefuse (list_tier config ys) range old.read_version) command answer old new = performed_elsewhere (whole_map (list_tier config ys)) (list_map config log) _ command answer old new same performed in
-    let grown = open_grown (list_map config log) (version_of config log) (opened old done) old new (λ range. MayRefuse (list_tier config ys) range old.read_version) command answer over here in
-    let right = performed_right (pipeline_of config log) (submissions_of config log) (legal_of config log law) law.submitted (opened old done) old new (λ v range. MayRefuse (list_tier config ys) range v) command answer over here in
+    let same : whole_map (log_tier config ys) old.read_version ≡ log_map config log old.read_version = same_map config log ys old.read_version begins seen from near in
+    let here : IsPerformed (log_map config log) (λ range. MayRefuse (log_tier config ys) range old.read_version) command answer old new = performed_elsewhere (whole_map (log_tier config ys)) (log_map config log) _ command answer old new same performed in
+    let grown = open_grown (log_map config log) (version_of config log) (opened old done) old new (λ range. MayRefuse (log_tier config ys) range old.read_version) command answer over here in
+    let right = performed_right (pipeline_of config log) (submissions_of config log) (legal_of config log law) law.submitted (opened old done) old new (λ v range. MayRefuse (log_tier config ys) range v) command answer over here in
     let version : new.read_version ≡ old.read_version = performed.ran.version in (
-      subst (λ (o : Open). IsOpenTransaction (list_map config log) (version_of config log) o new) (λ i. record { read_version = sym version i; attempts = sym (attempts_more done (record { command = command; reply = answer })) i }) grown,
+      subst (λ (o : Open). IsOpenTransaction (log_map config log) (version_of config log) o new) (λ i. record { read_version = sym version i; attempts = sym (attempts_more done (record { command = command; reply = answer })) i }) grown,
       elim right [
         | inl served ↦ served
-        | inr refused ↦ absurd (unrefused (λ range. MayRefuse (list_tier config ys) range old.read_version) _ answer (λ range error is. none_some (refusal (list_tier config ys) range old.read_version) (tier_answers config ys range old.read_version reached near) is) refused.2)
+        | inr refused ↦ absurd (unrefused (λ range. MayRefuse (log_tier config ys) range old.read_version) _ answer (λ range error is. none_some (refusal (log_tier config ys) range old.read_version) (tier_answers config ys range old.read_version reached near) is) refused)
       ],
       version,
     )
 
 -- the transaction goes on where a command stopped
 pub stops_right : (config : Config) (log ys : List Entry) (old new : CommitRequest) (done : List Performed) (command : Command) → IsPrefix log ys → IsOpenOver config log old done → config.start ≤ old.read_version →
-    version_of config ys - old.read_version ≤ config.window → IsCommandStopped (whole_map (list_tier config ys)) command old new →
+    version_of config ys - old.read_version ≤ config.window → IsCommandStopped (whole_map (log_tier config ys)) command old new →
     IsOpenOver config log new (done ++ stopped command ∷ []) × (new.mutations ≡ old.mutations) × (new.read_version ≡ old.read_version)
 stops_right config log ys old new done command begins over from near is =
-    let same : whole_map (list_tier config ys) old.read_version ≡ list_map config log old.read_version = same_map config log ys old.read_version begins over.seen from near in
-    let did = did_elsewhere (whole_map (list_tier config ys)) (list_map config log) (attempt_of (stopped command)) old new same (stopped_did (whole_map (list_tier config ys)) command old new is) in
+    let same : whole_map (log_tier config ys) old.read_version ≡ log_map config log old.read_version = same_map config log ys old.read_version begins over.seen from near in
+    let did = did_elsewhere (whole_map (log_tier config ys)) (log_map config log) (attempt_of (stopped command)) old new same (stopped_did (whole_map (log_tier config ys)) command old new is) in
     let version : new.read_version ≡ old.read_version = is.ran.version in (
       record {
         at = refl;
         seen = subst (λ (v : ℕ). v ≤ version_of config log) (sym version) over.seen;
-        done = subst (λ (attempts : List Attempt). AreDone (list_map config log) attempts (fresh_request new.read_version) new) (sym (attempts_more done (stopped command)))
-            (done_append (list_map config log) (attempts_of done) (attempt_of (stopped command)) (fresh_request new.read_version) old new (subst (λ (v : ℕ). AreDone (list_map config log) (attempts_of done) (fresh_request v) old) (sym version) over.done) did);
+        done = subst (λ (attempts : List Attempt). AreDone (log_map config log) attempts (fresh_request new.read_version) new) (sym (attempts_more done (stopped command)))
+            (done_append (log_map config log) (attempts_of done) (attempt_of (stopped command)) (fresh_request new.read_version) old new (subst (λ (v : ℕ). AreDone (log_map config log) (attempts_of done) (fresh_request v) old) (sym version) over.done) did);
       },
       is.ran.wrote ∙ append-nil old.mutations,
       version,
@@ -273,7 +245,7 @@ stops_right config log ys old new done command begins over from near is =
 
 -- a transaction without mutations has changed nothing
 pub unchanged : (config : Config) (log : List Entry) (request : CommitRequest) (done : List Performed) → IsOpenOver config log request done → request.mutations ≡ [] → is_changed (attempts_of done) ≡ false
-unchanged config log request done over none = open_changed (list_map config log) (version_of config log) (opened request done) request over ∙ ap (λ (ms : List Mutation). not (length ms == 0)) none
+unchanged config log request done over none = open_changed (log_map config log) (version_of config log) (opened request done) request over ∙ ap (λ (ms : List Mutation). not (length ms == 0)) none
 
 none_of_none : (ms : List Mutation) → not (length ms == 0) ≡ false → ms ≡ []
 none_of_none [] h = refl
@@ -281,4 +253,4 @@ none_of_none (m ∷ ms) h = let some : (suc (length ms) == 0) ≡ false = grind 
 
 -- one that has changed nothing has none
 pub nothing_written : (config : Config) (log : List Entry) (request : CommitRequest) (done : List Performed) → IsOpenOver config log request done → is_changed (attempts_of done) ≡ false → request.mutations ≡ []
-nothing_written config log request done over none = none_of_none request.mutations (sym (open_changed (list_map config log) (version_of config log) (opened request done) request over) ∙ none)
+nothing_written config log request done over none = none_of_none request.mutations (sym (open_changed (log_map config log) (version_of config log) (opened request done) request over) ∙ none)

@@ -4,35 +4,36 @@ use Rattle.std.specs.Prelude.{List, [], ◌∷◌, ◌++◌, filter, count_by, s
 use Rattle.std.specs.Prelude.{Option, Some, Result, Ok, Err}
 use Rattle.std.specs.List.{list_any}
 use Rattle.std.specs.Str.{bytes_eq}
+use mathlib.Core.List.{IsPrefix}
 use Rattle.kv_core.specs.Range.{KeyRange}
 use Rattle.kv_core.specs.declared.change.CommitRequest.{CommitRequest}
 use Rattle.cluster_core.specs.declared.answers.Config.{Config}
-use Rattle.cluster_core.specs.declared.answers.Reported.{Reported}
-use Rattle.cluster_core.specs.declared.answers.Reported.TheVariants as reported
 use Rattle.schedule.specs.Past.{is_accepted}
 use Rattle.schedule.specs.declared.step.Command.{Command}
 use Rattle.schedule.specs.declared.step.Command.TheVariants.{Build, Readable}
 use Rattle.schedule.specs.declared.reply.Reply.{Reply}
 use Rattle.schedule.specs.declared.reply.Reply.TheVariants as replies
-use Rattle.runtime.specs.declared.entry.Entry.{Entry}
+use Rattle.runtime.specs.declared.log_entry.Entry.{Entry}
 use Rattle.runtime.specs.declared.trace.Performed.{Performed}
 use Rattle.runtime.specs.declared.trace.Trace.{Trace}
-use Rattle.runtime.specs.declared.work.Work.{Work}
-use Rattle.runtime.specs.declared.building.Turn.{Turn}
-use Rattle.runtime.specs.declared.building.Turn.TheVariants.{Built, Marked, Nothing}
-use Rattle.runtime.specs.declared.building.Built.{Built as Totals}
+use Rattle.runtime.specs.declared.open_transaction.OpenTransaction.{OpenTransaction}
+use Rattle.runtime.specs.declared.index_worker.Round.{Round}
+use Rattle.runtime.specs.declared.index_worker.Round.TheVariants.{Built, Marked, Nothing}
+use Rattle.runtime.specs.declared.index_worker.Built.{Built as Totals}
+use Rattle.runtime.specs.declared.outcome.Outcome.{Outcome}
+use Rattle.runtime.specs.declared.outcome.Outcome.TheVariants as outcomes
 use Rattle.runtime.specs.declared.answers.Done.{Done}
 use Rattle.runtime.specs.declared.answers.Done.TheVariants.{Committed, ReadOnly}
 use Rattle.runtime.specs.declared.answers.CommitError.{CommitError}
 use Rattle.runtime.specs.declared.answers.CommitError.TheVariants.{Conflict, TooOld, VersionsExhausted}
 use Rattle.runtime.specs.declared.answers.CommitError.TheVariants.{Unknown, Memory}
 use Rattle.runtime.specs.Clients.{Knowledge}
-use Rattle.runtime.specs.Commits.{Learnt}
-use Rattle.runtime.specs.Lists.{cause_next}
+use Rattle.runtime.specs.Logs.{cause_next}
+use Rattle.runtime.specs.Outcomes.{EndsWith, entry}
 
 -- ---- entries of one's own
 
--- the committed ones of the entries behind a list
+-- the committed ones of the entries after a log
 abbrev pub committed_behind : Config → List Entry → List Entry → List Entry
 committed_behind config log [] = []
 committed_behind config log (e ∷ es) =
@@ -42,7 +43,7 @@ committed_behind config log (e ∷ es) =
 abbrev pub is_numbered_in : ℕ → ℕ → ℕ → Entry → Bool
 is_numbered_in client above upto e = (e.client == client) && (nat_lt above e.number && nat_le e.number upto)
 
--- the committed entries of a list that are of a client's submissions between these numbers
+-- the committed entries of a log that are of a client's submissions between these numbers
 abbrev pub own_committed : Config → ℕ → ℕ → ℕ → List Entry → List Entry
 own_committed config client above upto log =
     filter (is_numbered_in client above upto) (committed_behind config [] log)
@@ -74,27 +75,27 @@ records_built index e = sum_by (λ (one : Performed). records_by index one.comma
 abbrev pub has_marked : List ℕ → Entry → Bool
 has_marked index e = list_any (λ (one : Performed). is_mark index one.command one.reply) e.trace.attempts
 
--- what a worker built: of the committed entries in its client's list at the end, those of its submissions in between.
+-- what a worker built: of the committed entries in its client's log at the end, those of its submissions in between.
 -- One marked the index readable; `steps` counts those that built a part of it, and `records` adds up what they built
 abbrev pub own_of : Knowledge → Knowledge → List Entry
-own_of old new = own_committed old.name.config old.number old.last new.last new.list
+own_of old new = own_committed old.name.config old.number old.last new.last new.log
 
 pub record IsBuilt (index : List ℕ) (old new : Knowledge) (totals : Totals) : Type 0 where
   pub marked : list_any (has_marked index) (own_of old new) ≡ true
   pub steps : totals.steps ≡ count_by (entry_has_built index) (own_of old new)
   pub records : totals.records ≡ sum_by (records_built index) (own_of old new)
 
--- ---- turns of a worker
+-- ---- rounds of a worker
 
 -- Private: the transaction has performed one command more, with this reply
-abbrev pub AddsAttempt : Option Work → Command → Reply → Option Work → Type 0
+abbrev pub AddsAttempt : Option OpenTransaction → Command → Reply → Option OpenTransaction → Type 0
 AddsAttempt old command reply new =
-    (work : Work) → old ≡ Some work →
-    (after : Work) × (new ≡ Some after)
-    × (after.trace.attempts ≡ work.trace.attempts ++ record { command = command; reply = reply } ∷ [])
+    (open_tx : OpenTransaction) → old ≡ Some open_tx →
+    (after : OpenTransaction) × (new ≡ Some after)
+    × (after.trace.attempts ≡ open_tx.trace.attempts ++ record { command = command; reply = reply } ∷ [])
 
--- Private: what a turn performed
-abbrev pub HasWorked : List ℕ → Turn → List Performed → Type 0
+-- Private: what a round performed
+abbrev pub HasWorked : List ℕ → Round → List Performed → Type 0
 HasWorked index (Built records) attempts =
     (limit : ℕ) × ((range : KeyRange)
     × (attempts ≡ record { command = Build index limit; reply = replies.Built records range } ∷ []))
@@ -104,19 +105,20 @@ HasWorked index Marked attempts =
     ∷ record { command = Readable index; reply = replies.Done } ∷ [])
 HasWorked index Nothing attempts = Unit {0}
 
--- Private: a submission was told this, and the client knows its entry; its number is the next one
-abbrev pub IsSubmission : Knowledge → Knowledge → CommitRequest → Trace → Reported → Type 0
-IsSubmission old new request trace told =
-    (log : List Entry) × Learnt old new request trace told log × (new.last ≡ old.last + 1)
+-- Private: a submission came to this, and the client knows its entry
+abbrev pub IsSubmission : Knowledge → Knowledge → CommitRequest → Trace → Outcome → Type 0
+IsSubmission old new request trace outcome =
+    (log : List Entry) × EndsWith old.name.config log (entry old.number (old.last + 1) request trace) outcome
+    × IsPrefix log new.log × (new.last ≡ old.last + 1)
 
 -- Private: a commit was told to be one, or the submission was refused, or there was none
-abbrev pub Commits : Knowledge → Knowledge → Work → Bool → Type 0
-Commits old new work true =
-    (version : ℕ) × IsSubmission old new work.transaction work.trace (reported.Committed version)
-Commits old new work false =
+abbrev pub Commits : Knowledge → Knowledge → OpenTransaction → Bool → Type 0
+Commits old new open_tx true =
+    (version : ℕ) × IsSubmission old new open_tx.transaction open_tx.trace (outcomes.Committed version)
+Commits old new open_tx false =
     (new.last ≡ old.last)
     ⊎ ((seen : ℕ) × ((range : KeyRange)
-    × IsSubmission old new work.transaction work.trace (reported.Conflict seen range)))
+    × IsSubmission old new open_tx.transaction open_tx.trace (outcomes.Conflict seen range)))
 
 -- Private: the commit was told to be one
 abbrev pub is_committed_result : Result Done CommitError → Bool
@@ -124,7 +126,7 @@ is_committed_result (Ok (Committed version seen)) = true
 is_committed_result (Ok ReadOnly) = false
 is_committed_result (Err error) = false
 
--- Private: another turn may follow a commit with this answer
+-- Private: another round may follow a commit with this answer
 abbrev pub has_ended : Result Done CommitError → Bool
 has_ended (Ok done) = true
 has_ended (Err (Conflict seen range)) = true
@@ -133,23 +135,23 @@ has_ended (Err VersionsExhausted) = false
 has_ended (Err Unknown) = false
 has_ended (Err Memory) = false
 
--- Private: a turn came to this: its entry is committed, or it has none, or a refused one
-abbrev pub IsTurn : List ℕ → Turn → Knowledge → Knowledge → Type 0
-IsTurn index Nothing old new =
-    (new.last ≡ old.last) ⊎ ((work : Work) × Commits old new work false)
-IsTurn index (Built records) old new =
-    (work : Work) × HasWorked index (Built records) work.trace.attempts × Commits old new work true
-IsTurn index Marked old new =
-    (work : Work) × HasWorked index Marked work.trace.attempts × Commits old new work true
+-- Private: a round came to this: its entry is committed, or it has none, or a refused one
+abbrev pub IsWorkerRound : List ℕ → Round → Knowledge → Knowledge → Type 0
+IsWorkerRound index Nothing old new =
+    (new.last ≡ old.last) ⊎ ((open_tx : OpenTransaction) × Commits old new open_tx false)
+IsWorkerRound index (Built records) old new =
+    (open_tx : OpenTransaction) × HasWorked index (Built records) open_tx.trace.attempts × Commits old new open_tx true
+IsWorkerRound index Marked old new =
+    (open_tx : OpenTransaction) × HasWorked index Marked open_tx.trace.attempts × Commits old new open_tx true
 
--- Private: by how many steps a turn adds to what was built
-abbrev pub steps_of : Turn → ℕ
+-- Private: by how many steps a round adds to what was built
+abbrev pub steps_of : Round → ℕ
 steps_of (Built records) = 1
 steps_of Marked = 0
 steps_of Nothing = 0
 
 -- Private: by how many records it does
-abbrev pub records_of : Turn → ℕ
+abbrev pub records_of : Round → ℕ
 records_of (Built records) = records
 records_of Marked = 0
 records_of Nothing = 0

@@ -1,31 +1,43 @@
 -- What contracts see of a client.
 use Rattle.std.specs.Prelude.{◌≡◌, ℕ, zero, suc, List, [], ◌∷◌, ◌++◌, Option, Some, None}
 use mathlib.Core.List.{IsPrefix}
-use Rattle.runtime.specs.declared.entry.Entry.{Entry}
-use Rattle.runtime.specs.declared.work.Work.{Work}
-use Rattle.runtime.specs.History.{Name, Reach}
-use Rattle.runtime.specs.Lists.{IsOpenOver, version_of}
+use Rattle.schedule.specs.Turns.{fresh_request}
+use Rattle.runtime.specs.declared.log_entry.Entry.{Entry}
+use Rattle.runtime.specs.declared.open_transaction.OpenTransaction.{OpenTransaction}
+use Rattle.runtime.specs.History.{Name, Prefix, log_prefix}
+use Rattle.runtime.specs.Logs.{IsOpenOver, version_of}
 
--- which database is the client's, the longest list that it has entered or learnt, its number, the last number of its
+-- which database is the client's, the longest log that it has entered or learnt, its number, the last number of its
 -- submissions, and its open transaction
 pub record Knowledge : Type 0 where
   pub name : Name
-  pub list : List Entry
+  pub log : List Entry
   pub number : ℕ
   pub last : ℕ
-  pub begun : Option Work
+  pub begun : Option OpenTransaction
 
-abbrev pub knows_that : Name → List Entry → ℕ → ℕ → Option Work → Knowledge
-knows_that name list number last begun =
-    record { name = name; list = list; number = number; last = last; begun = begun }
+abbrev pub knows_that : Name → List Entry → ℕ → ℕ → Option OpenTransaction → Knowledge
+knows_that name log number last begun =
+    record { name = name; log = log; number = number; last = last; begun = begun }
 
--- Private: the open transaction began at a beginning of the client's list, reads at its version, and is what its
--- commands made of it over that list
-abbrev pub IsBegun : Reach → Option Work → Type 0
-IsBegun me (Some work) =
-    (work.front.name ≡ me.name) × IsPrefix work.front.list me.list
-    × IsOpenOver work.front.name.config work.front.list work.transaction work.trace.attempts
-    × (work.transaction.read_version ≡ version_of work.front.name.config work.front.list)
+-- a transaction at the end of a log, which has done nothing yet
+pub record IsFresh (name : Name) (log : List Entry) (open_tx : OpenTransaction) : Type 0 where
+  pub over : open_tx.prefix ≡ log_prefix name log
+  pub request : open_tx.transaction ≡ fresh_request (version_of name.config log)
+  pub attempts : open_tx.trace.attempts ≡ []
+
+-- it is the same transaction: over the same log, at the same version
+pub record IsSameTransaction (old new : OpenTransaction) : Type 0 where
+  pub over : new.prefix ≡ old.prefix
+  pub version : new.transaction.read_version ≡ old.transaction.read_version
+
+-- Private: the open transaction began at a beginning of the client's log, reads at its version, and is what its
+-- commands made of it over that log
+abbrev pub IsBegun : Prefix → Option OpenTransaction → Type 0
+IsBegun me (Some open_tx) =
+    (open_tx.prefix.name ≡ me.name) × IsPrefix open_tx.prefix.log me.log
+    × IsOpenOver open_tx.prefix.name.config open_tx.prefix.log open_tx.transaction open_tx.trace.attempts
+    × (open_tx.transaction.read_version ≡ version_of open_tx.prefix.name.config open_tx.prefix.log)
 IsBegun me None = Unit {0}
 
 -- Private: a fact of the reader, where there is one
@@ -33,7 +45,7 @@ abbrev pub IfReader : {R : Type 0} → (R → Type 0) → Option R → Type 0
 IfReader Fact (Some reader) = Fact reader
 IfReader Fact None = Unit {0}
 
--- the clients of a new database: numbered from 0, each with the empty list
+-- the clients of a new database: numbered from 0, each with the empty log
 abbrev pub fresh_clients : Name → ℕ → List Knowledge
 fresh_clients name zero = []
 fresh_clients name (suc n) = fresh_clients name n ++ knows_that name [] n 0 None ∷ []

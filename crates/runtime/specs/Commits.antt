@@ -1,42 +1,61 @@
 -- What a commit answers, and what the client knows then.
-use Rattle.std.specs.Prelude.{◌≡◌, ℕ, ◌-◌, ◌<◌, false, List, Result, Ok, Err}
+use Rattle.std.specs.Prelude.{◌≡◌, ◌+◌, false, List, Option, Some, None, Result, Ok, Err, if◌then◌else◌}
 use mathlib.Core.List.{IsPrefix}
 use Rattle.kv_core.specs.declared.change.CommitRequest.{CommitRequest}
-use Rattle.cluster_core.specs.declared.answers.Reported.{Reported}
-use Rattle.cluster_core.specs.declared.answers.Reported.TheVariants as reported
 use Rattle.schedule.specs.Past.{is_changed}
-use Rattle.runtime.specs.declared.entry.Entry.{Entry}
+use Rattle.runtime.specs.declared.log_entry.Entry.{Entry}
 use Rattle.runtime.specs.declared.trace.Trace.{Trace}
+use Rattle.runtime.specs.declared.outcome.Outcome.{Outcome}
+use Rattle.runtime.specs.declared.outcome.Outcome.TheVariants as outcomes
 use Rattle.runtime.specs.declared.answers.Done.{Done}
 use Rattle.runtime.specs.declared.answers.Done.TheVariants.{Committed, ReadOnly}
 use Rattle.runtime.specs.declared.answers.CommitError.{CommitError}
 use Rattle.runtime.specs.declared.answers.CommitError.TheVariants.{Conflict, TooOld, VersionsExhausted, Unknown, Memory}
-use Rattle.runtime.specs.Lists.{IsExhausted, attempts_of, version_of}
-use Rattle.runtime.specs.Tells.{EndsWith}
+use Rattle.runtime.specs.History.{Name, Prefix}
+use Rattle.runtime.specs.Logs.{attempts_of}
+use Rattle.runtime.specs.Outcomes.{Shows, entry, gives_number, last_then}
 use Rattle.runtime.specs.Clients.{Knowledge}
 
--- the client knows a list that ends with its submission of its last number, a new one, of which this is told
-abbrev pub Learnt : Knowledge → Knowledge → CommitRequest → Trace → Reported → List Entry → Type 0
-Learnt old new request trace told log =
-    EndsWith old.name.config log old.number new.last request trace told × IsPrefix log new.list
-    × (old.last < new.last)
+-- the outcome of which an error tells
+abbrev pub told_outcome : CommitError → Outcome
+told_outcome (Conflict seen range) = outcomes.Conflict seen range
+told_outcome TooOld = outcomes.TooOld
+told_outcome VersionsExhausted = outcomes.VersionsExhausted
+told_outcome Unknown = outcomes.Unknown
+told_outcome Memory = outcomes.Memory
 
--- Committed: the list of `seen` ends at that version with this submission, committed. Conflict: the client knows a list
--- that ends with this submission, refused with that cause. TooOld: it knows a list that is more than the window above
--- the transaction. VersionsExhausted: it knows a list behind which there is no version, or no number for this client. A
--- number is given in the first two cases and with Unknown, and else none
+-- the client's request came to this: the log shows it, the client knows the log, and it has one number more where one
+-- was given
+pub record Learns (old new : Knowledge) (request : CommitRequest) (trace : Trace) (outcome : Outcome)
+    (log : List Entry) : Type 0 where
+  pub shows : Shows old.name.config log (entry old.number (old.last + 1) request trace) outcome
+  pub known : IsPrefix log new.log
+  pub last : new.last ≡ last_then old.last outcome
+
+-- the answer tells of the outcome; `Committed` with the log that shows it, and `ReadOnly` where no command changed
+-- anything, and no request was made
 abbrev pub Answers : Knowledge → Knowledge → CommitRequest → Trace → Result Done CommitError → Type 0
 Answers old new request trace (Ok (Committed version seen)) =
-    ((v : ℕ) × Learnt old new request trace (reported.Committed v) seen.front.list)
-    × (version ≡ version_of old.name.config seen.front.list) × (seen.front.name ≡ old.name)
+    Learns old new request trace (outcomes.Committed version) seen.prefix.log × (seen.prefix.name ≡ old.name)
 Answers old new request trace (Ok ReadOnly) =
     (new.last ≡ old.last) × (is_changed (attempts_of trace.attempts) ≡ false)
-Answers old new request trace (Err (Conflict seen range)) =
-    (log : List Entry) × Learnt old new request trace (reported.Conflict seen range) log
-Answers old new request trace (Err TooOld) =
-    (new.last ≡ old.last)
-    × (old.name.config.window < version_of old.name.config new.list - request.read_version)
-Answers old new request trace (Err VersionsExhausted) =
-    (new.last ≡ old.last) × IsExhausted old.name.config new.list old.number old.last
-Answers old new request trace (Err Unknown) = old.last < new.last
-Answers old new request trace (Err Memory) = new.last ≡ old.last
+Answers old new request trace (Err error) = (log : List Entry) × Learns old new request trace (told_outcome error) log
+
+-- Private: the log is of this database
+abbrev pub IsLogOf : Name → Option Prefix → Type 0
+IsLogOf name (Some prefix) = prefix.name ≡ name
+IsLogOf name None = Unit {0}
+
+-- Private: the answer where no log shows the outcome
+abbrev pub unshown_answer : Outcome → Result Done CommitError
+unshown_answer outcome = Err (if gives_number outcome then Unknown else Memory)
+
+-- Private: the answer that an outcome is, with the log that shows it, where that was published
+abbrev pub commit_answer : Outcome → Option Prefix → Result Done CommitError
+commit_answer (outcomes.Committed version) (Some prefix) = Ok (Committed version (record { prefix = prefix }))
+commit_answer (outcomes.Conflict seen range) (Some prefix) = Err (Conflict seen range)
+commit_answer outcomes.TooOld (Some prefix) = Err TooOld
+commit_answer outcomes.VersionsExhausted (Some prefix) = Err VersionsExhausted
+commit_answer outcomes.Unknown (Some prefix) = Err Unknown
+commit_answer outcomes.Memory (Some prefix) = Err Memory
+commit_answer outcome None = unshown_answer outcome

@@ -1,53 +1,53 @@
 -- What a run of transactions comes to: attempts, one after another, and how the last one ended.
-use Rattle.std.specs.Prelude.{◌≡◌, ◌⊎◌, ℕ, zero, suc, ◌<◌, max, Bool, true, false, []}
+use Rattle.std.specs.Prelude.{◌≡◌, ◌⊎◌, ℕ, zero, suc, ◌<◌, max, Bool, true, false}
 use Rattle.std.specs.Prelude.{Some, Result, Ok, Err, if◌then◌else◌}
 use mathlib.Core.List.{IsPrefix}
 use Rattle.schedule.specs.declared.refusal.Refusal.{Refusal}
 use Rattle.schedule.specs.declared.refusal.Refusal.TheVariants as refusals
 use Rattle.txn.specs.declared.retry.Ended.{Ended}
 use Rattle.txn.specs.declared.retry.Ended.TheVariants as ends
-use Rattle.runtime.specs.declared.work.Work.{Work}
-use Rattle.runtime.specs.declared.entering.EnterError.{EnterError}
-use Rattle.runtime.specs.declared.entering.EnterError.TheVariants as entries
-use Rattle.runtime.specs.declared.answers.BodyError.{BodyError}
-use Rattle.runtime.specs.declared.answers.BodyError.TheVariants.{Entry, Refused, Corrupt}
+use Rattle.runtime.specs.declared.open_transaction.OpenTransaction.{OpenTransaction}
+use Rattle.runtime.specs.declared.answers.CommandError.{CommandError}
+use Rattle.runtime.specs.declared.answers.CommandError.TheVariants.{Refused}
+use Rattle.runtime.specs.declared.answers.CommandError.TheVariants as commands
 use Rattle.runtime.specs.declared.answers.CommitError.{CommitError}
 use Rattle.runtime.specs.declared.answers.CommitError.TheVariants.{Conflict, TooOld, VersionsExhausted}
 use Rattle.runtime.specs.declared.answers.CommitError.TheVariants.{Unknown, Memory}
 use Rattle.runtime.specs.declared.answers.Done.{Done}
 use Rattle.runtime.specs.declared.answers.RunError.{RunError}
 use Rattle.runtime.specs.declared.answers.RunError.TheVariants as runs
-use Rattle.runtime.specs.declared.running.Failure.{Failure}
-use Rattle.runtime.specs.declared.running.Failure.TheVariants as failures
-use Rattle.runtime.specs.Clients.{Knowledge}
+use Rattle.runtime.specs.declared.retrying.Failure.{Failure}
+use Rattle.runtime.specs.declared.retrying.Failure.TheVariants as failures
+use Rattle.runtime.specs.Clients.{IsFresh, IsSameTransaction, Knowledge}
 use Rattle.runtime.specs.Commits.{Answers}
 
--- the client is the same, and its list begins with the one before
+-- the client is the same, and its log begins with the one before
 pub record GoesOnFrom (old new : Knowledge) : Type 0 where
   pub name : new.name ≡ old.name
   pub number : new.number ≡ old.number
-  pub list : IsPrefix old.list new.list
+  pub log : IsPrefix old.log new.log
 
--- the transaction goes on: only its client's list may have grown, and commands may have been performed
+-- the transaction goes on: only its client's log may have grown, and commands may have been performed
 pub record Continues (old new : Knowledge) : Type 0 where
   pub follows : GoesOnFrom old new
   pub last : new.last ≡ old.last
   pub begun :
-      (work : Work) → old.begun ≡ Some work →
-      (after : Work) × (new.begun ≡ Some after) × (after.front ≡ work.front)
+      (open_tx : OpenTransaction) → old.begun ≡ Some open_tx →
+      (after : OpenTransaction) × (new.begun ≡ Some after) × IsSameTransaction open_tx after
 
--- a transaction of the client begins, over a list that begins with its own, which is its own then
+-- a transaction of the client begins, over a log that begins with its own, which is its own then
 pub record Starts (old new : Knowledge) : Type 0 where
   pub follows : GoesOnFrom old new
   pub last : new.last ≡ old.last
   pub begun :
-      (work : Work) × (new.begun ≡ Some work) × (work.front.list ≡ new.list) × (work.trace.attempts ≡ [])
+      (open_tx : OpenTransaction) × (new.begun ≡ Some open_tx) × IsFresh new.name new.log open_tx
 
 -- the client's transaction is committed, or not, so
 pub record Ends (old : Knowledge) (result : Result Done CommitError) (new : Knowledge) : Type 0 where
   pub follows : GoesOnFrom old new
   pub answer :
-      (work : Work) × (old.begun ≡ Some work) × Answers old new work.transaction work.trace result
+      (open_tx : OpenTransaction) × (old.begun ≡ Some open_tx)
+      × Answers old new open_tx.transaction open_tx.trace result
 
 -- so many steps in turn
 abbrev pub InTurn : {A : Type 0} → (A → A → Type 0) → ℕ → A → A → Type 0
@@ -59,12 +59,10 @@ is_old refusals.TooOld = true
 is_old other = false
 
 -- the body gave its transaction up since it reads too long ago
-abbrev pub is_too_old : BodyError → Bool
-is_too_old (Entry entries.TooOld) = true
-is_too_old (Entry entries.NotEntered) = false
-is_too_old (Entry entries.Memory) = false
+abbrev pub is_too_old : CommandError → Bool
+is_too_old commands.TooOld = true
 is_too_old (Refused refusal) = is_old refusal
-is_too_old (Corrupt key) = false
+is_too_old error = false
 
 -- another attempt may come to more
 abbrev pub may_follow : CommitError → Bool
@@ -75,7 +73,7 @@ may_follow Unknown = false
 may_follow Memory = false
 
 -- Private: how an attempt failed that its body gave up
-abbrev pub failure_by : BodyError → Failure
+abbrev pub failure_by : CommandError → Failure
 failure_by error = if is_too_old error then failures.Ended ends.TooOld else failures.Refused error
 
 -- Private: how an attempt ended whose commit was refused
@@ -86,9 +84,9 @@ ended_by VersionsExhausted = ends.Other
 ended_by Unknown = ends.Other
 ended_by Memory = ends.Other
 
-module _ {B A : Type 0} (did : B → Knowledge → Result A BodyError → Knowledge → B → Type 0) where
+module _ {B A : Type 0} (did : B → Knowledge → Result A CommandError → Knowledge → B → Type 0) where
   -- a transaction began, and the body had this answer in it
-  abbrev pub Tries : B × Knowledge → Result A BodyError → B × Knowledge → Type 0
+  abbrev pub Tries : B × Knowledge → Result A CommandError → B × Knowledge → Type 0
   Tries old answer new = (start : Knowledge) × Starts old.1 start × did old.0 start answer new.1 new.0
 
   -- the body had this answer, and its transaction was committed, or not, so
@@ -98,13 +96,13 @@ module _ {B A : Type 0} (did : B → Knowledge → Result A BodyError → Knowle
   -- an attempt that another one may follow: it read too long ago, or was refused with a conflict
   abbrev pub AttemptFails : B × Knowledge → B × Knowledge → Type 0
   AttemptFails old new =
-      ((error : BodyError) × (is_too_old error ≡ true) × Tries old (Err error) new)
+      ((error : CommandError) × (is_too_old error ≡ true) × Tries old (Err error) new)
       ⊎ ((answer : A) × ((error : CommitError) × (may_follow error ≡ true) × TriesAndEnds old answer (Err error) new))
 
   -- the transaction wasn't begun, or its body gave it up for another reason
-  abbrev pub IsRefusal : B × Knowledge → BodyError → B × Knowledge → Type 0
+  abbrev pub IsRefusal : B × Knowledge → CommandError → B × Knowledge → Type 0
   IsRefusal old error new =
-      ((entry : EnterError) × (error ≡ Entry entry) × (new ≡ old))
+      ((error ≡ commands.NotEntered) × (new ≡ old))
       ⊎ ((is_too_old error ≡ false) × Tries old (Err error) new)
 
   -- the commit was refused for another reason

@@ -1,11 +1,12 @@
-// The answers and errors of the running database's calls. Used by `db`, `client`, `transactions`,
-// `running` and `building`, and by whoever calls these.
+// The answers and errors of the running database's calls. Used by `db`, `client`, `transaction`,
+// `retrying` and `index_worker`, and by whoever calls these.
 ghost use Rattle.std.specs.Prelude.{◌≡◌};
 ghost use Rattle.runtime.specs.declared.answers.OpenError.TheVariants.{Memory as OpenMemory};
-ghost use Rattle.runtime.specs.Errors.{config_error, run_memory};
+ghost use Rattle.runtime.specs.declared.answers.CommandError.TheVariants.{Memory as CommandMemory};
+ghost use Rattle.runtime.specs.Errors.{command_error, config_error, run_memory, run_refused};
 
-use crate::entering::EnterError;
-use crate::front::Front;
+use crate::log_prefix::LogPrefix;
+use crate::published_reads::EnterError;
 use cluster_core::ConfigError;
 use kv_core::{Bytes, KeyRange};
 use schedule::Refusal;
@@ -53,10 +54,10 @@ impl<T: Drop> From<AllocFailed<T>> for OpenError {
     }
 }
 
-/// A published list, for another client to learn.
+/// A published log, for another client to learn.
 #[derive(Drop)]
 pub struct Seen {
-    pub front: Front,
+    pub prefix: LogPrefix,
 }
 
 /// How a transaction ended well.
@@ -83,31 +84,67 @@ pub enum CommitError {
     /// It was submitted, and memory ran out before it was told what became of it.
     #[error("out of memory after the transaction was submitted")]
     Unknown,
-    /// Memory ran out before it was submitted, or there was no open transaction.
+    /// Memory ran out before it was submitted, or after it was refused and before that could be
+    /// shown; or a submission whose outcome isn't known is in flight; or there was no open
+    /// transaction.
     #[error("out of memory")]
     Memory,
 }
 
-/// Why a body gives its transaction up.
+/// Why a command of a transaction has no answer.
 #[derive(Debug, Drop, Error)]
-pub enum BodyError {
-    /// A command had no reply.
-    #[error("a command had no reply")]
-    Entry(EnterError),
-    /// A command was refused.
-    #[error("a command was refused")]
+pub enum CommandError {
+    /// It is refused.
+    #[error("the command is refused: {0:?}")]
     Refused(Refusal),
     /// The pair of this key isn't one that a store has there.
     #[error("a pair isn't one that a store has there")]
     Corrupt(Bytes),
+    /// The published state wasn't entered, in `TRIES` attempts, or there is no open transaction.
+    #[error("the published state wasn't entered")]
+    NotEntered,
+    /// The transaction reads longer ago than the window allows.
+    #[error("the transaction reads too long ago")]
+    TooOld,
+    /// Memory ran out. The transaction can go on.
+    #[error("out of memory")]
+    Memory,
+}
+
+impl From<EnterError> for CommandError {
+    ghost from_gives = { λ error made. made ≡ command_error error };
+
+    fn from(error: EnterError) -> CommandError {
+        match error {
+            EnterError::NotEntered => CommandError::NotEntered,
+            EnterError::TooOld => CommandError::TooOld,
+            EnterError::Memory => CommandError::Memory,
+        }
+    }
+}
+
+impl From<AllocError> for CommandError {
+    ghost from_gives = { λ _ made. made ≡ CommandMemory };
+
+    fn from(_error: AllocError) -> CommandError {
+        CommandError::Memory
+    }
+}
+
+impl<T: Drop> From<AllocFailed<T>> for CommandError {
+    ghost from_gives = { λ _ made. made ≡ CommandMemory };
+
+    fn from(_error: AllocFailed<T>) -> CommandError {
+        CommandError::Memory
+    }
 }
 
 /// Why a run of transactions has no answer.
 #[derive(Debug, Drop, Error)]
 pub enum RunError {
     /// A transaction wasn't begun, or its body gave it up.
-    #[error("a transaction was given up")]
-    Refused(BodyError),
+    #[error("a transaction was given up: {0}")]
+    Refused(CommandError),
     /// The last attempt that there may be wasn't committed, or another one doesn't help.
     #[error("no attempt was committed")]
     GaveUp,
@@ -117,6 +154,14 @@ impl From<AllocError> for RunError {
     ghost from_gives = { λ _ made. made ≡ run_memory };
 
     fn from(_error: AllocError) -> RunError {
-        RunError::Refused(BodyError::Entry(EnterError::Memory))
+        RunError::Refused(CommandError::Memory)
+    }
+}
+
+impl From<CommandError> for RunError {
+    ghost from_gives = { λ error made. made ≡ run_refused error };
+
+    fn from(error: CommandError) -> RunError {
+        RunError::Refused(error)
     }
 }

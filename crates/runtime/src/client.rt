@@ -1,30 +1,26 @@
 // Clients, each with a reader of its own. Made by `db` for whoever opens a database; used by
-// `transactions`, `running` and `building`.
+// `transaction`, `retrying` and `index_worker`.
 ghost use Rattle.std.specs.Prelude.{◌≡◌, ℕ, ◌++◌, ◌∷◌, [], Some, None, IfOk, IfErr, IfSome, OnOk, OnErr, Ok};
 ghost use Rattle.std.specs.Prelude.{false, Err, ◌<◌, ◌^◌};
 ghost use Rattle.std.specs.Arc.{arc_value};
 ghost use Rattle.left_right.specs.Sides.{view as knowledge};
 ghost use mathlib.Core.List.{IsPrefix};
 ghost use Rattle.schedule.specs.Past.{is_changed};
-ghost use Rattle.runtime.specs.Clients.{knows_that};
-ghost use Rattle.runtime.specs.Commits.{Answers};
-ghost use Rattle.runtime.specs.History.{Name as TheName};
-ghost use Rattle.runtime.specs.Lists.{IsLawfulList, attempts_of, version_of};
-ghost use Rattle.runtime.specs.Serves.{IsAnswer, IsUnanswered, KeepsList};
-ghost use Rattle.runtime.specs.State.{knows};
-ghost use Rattle.runtime.specs.Tells.{IsConcluded, IsListOf, TurnTells};
-ghost use Rattle.kv_core.specs.declared.change.CommitRequest.{CommitRequest as Request};
-ghost use Rattle.runtime.specs.declared.trace.Trace.{Trace as Traced};
+ghost use Rattle.runtime.specs.Clients.{IsFresh, IsSameTransaction, knows_that};
+ghost use Rattle.runtime.specs.History.{log_prefix};
+ghost use Rattle.runtime.specs.Commits.{Answers, IsLogOf, commit_answer, unshown_answer};
+ghost use Rattle.runtime.specs.Logs.{IsWellFormedLog, attempts_of};
+ghost use Rattle.runtime.specs.Serves.{IsAnswer, IsUnanswered};
+ghost use Rattle.runtime.specs.Publication.{knows};
 
 use crate::answers::{CommitError, Done, Seen};
-use crate::entering::{EnterError, look, perform_at};
-use crate::flight::{HoldError, Ruling};
-use crate::front::Front;
-use crate::law::StateReader;
-use crate::turn::{End, Owned, turn};
-use crate::vault::{Key, Vault};
-use crate::work::Work;
-use cluster_core::Reported;
+use crate::commit_lock::{CommitLock, LockKey};
+use crate::critical_section::{End, LockedState, Told, critical_section};
+use crate::log_prefix::LogPrefix;
+use crate::open_transaction::OpenTransaction;
+use crate::outcome::Outcome;
+use crate::publication::StateReader;
+use crate::published_reads::{EnterError, look, perform_at};
 use schedule::{Command, Reply};
 use std::alloc::Global;
 use std::marker::Model;
@@ -34,57 +30,60 @@ use std::sync::{Arc, Wait};
 #[derive(Drop)]
 pub struct Client<E: End> {
     alloc: Global,
-    vault: Arc<Vault<Owned<E>>>,
-    key: Key<Owned<E>>,
+    lock: Arc<CommitLock<LockedState<E>>>,
+    key: LockKey<LockedState<E>>,
     reader: Option<StateReader>,
-    me: Front,
+    me: LogPrefix,
     number: u64,
     last: u64,
-    begun: Option<Work>,
+    begun: Option<OpenTransaction>,
 }
 
 impl<E: End> Model for Client<E> {
-    ghost use Rattle.std.specs.Prelude.{◌≡◌, []};
+    ghost use Rattle.std.specs.Prelude.{◌≡◌, [], Some};
     ghost use Rattle.std.specs.Arc.{arc_value};
     ghost use Rattle.left_right.specs.Sides.{view as knowledge};
-    ghost use Rattle.runtime.specs.State.{knows};
+    ghost use Rattle.runtime.specs.Publication.{knows};
     ghost use Rattle.runtime.specs.Clients.{Knowledge, knows_that, IsBegun, IfReader};
     ghost use Rattle.std.specs.Coded.{codes};
-    ghost use Rattle.runtime.specs.contracts.entry.Entry as entries;
-    ghost use Rattle.runtime.specs.contracts.work.Work as works;
+    ghost use Rattle.runtime.specs.contracts.log_entry.Entry as entries;
+    ghost use Rattle.runtime.specs.contracts.open_transaction.OpenTransaction as works;
 
     ghost Value = { Knowledge };
 
     ghost coded = { Prim.hlevel (codes, entries.the_row.coded, works.the_row.coded) };
 
-    ghost view = { λ c. knows_that c.me.name c.me.list c.number c.last c.begun };
+    ghost view = { λ c. knows_that c.me.name c.me.log c.number c.last c.begun };
 
     ghost invariant = { λ c.
-        (c.key.table_id ≡ (arc_value c.vault).table.shared.table_id)
+        (c.key.table_id ≡ (arc_value c.lock).table.shared.table_id)
         × (c.key.me.1 ≡ [])
-        × (c.key.me.0.value.hold.name ≡ c.me.name)
+        × (c.key.me.0.about.value.state.name ≡ c.me.name)
         × IfReader (λ r. knowledge r.place ≡ knows c.me.name) c.reader
-        × IsBegun c.me c.begun };
+        × IsBegun c.me c.begun
+        × (c.key.me.0.client ≡ Some c.number)
+        × (c.key.me.0.last ≡ c.last) };
 }
 
 impl<E: End> Client<E> {
-    /// A client of a database, which has seen this list.
+    /// A client of a database, which has seen this log.
     pub(crate) fn new(
         alloc: Global,
-        vault: Arc<Vault<Owned<E>>>,
-        key: Key<Owned<E>>,
+        lock: Arc<CommitLock<LockedState<E>>>,
+        key: LockKey<LockedState<E>>,
         reader: StateReader,
-        me: Front,
+        me: LogPrefix,
         number: u64,
     ) -> Client<E>
-        requires key { (key.table_id ≡ (arc_value vault).table.shared.table_id) × (key.me.1 ≡ [])
-            × (key.me.0.value.hold.name ≡ me.name) }
+        requires key { (key.table_id ≡ (arc_value lock).table.shared.table_id) × (key.me.1 ≡ [])
+            × (key.me.0.about.value.state.name ≡ me.name) × (key.me.0.client ≡ Some number)
+            × (key.me.0.last ≡ 0) }
         requires reader { knowledge reader.place ≡ knows me.name }
-        ensures { result ≡ knows_that me.name me.list number 0 None }
+        ensures { result ≡ knows_that me.name me.log number 0 None }
     {
         Client {
             alloc,
-            vault,
+            lock,
             key,
             reader: Some(reader),
             me,
@@ -97,107 +96,119 @@ impl<E: End> Client<E> {
     /// The last number of the client's submissions, 0 before the first one.
     pub fn last_number(&self) -> u64
         ensures number { result ≡ self.now.last }
-        ensures lawful { IsLawfulList self.now.name.config self.now.list }
+        ensures well_formed { IsWellFormedLog self.now.name.config self.now.log }
     {
         let last = self.last;
         self.me.len();
         last
     }
 
-    /// Enters the published list, and begins a transaction there.
+    /// The longest log that the client has entered or learnt.
+    pub fn log(&self) -> LogPrefix
+        ensures { result ≡ log_prefix self.now.name self.now.log }
+    {
+        self.me.again()
+    }
+
+    /// Enters the published log, and begins a transaction there.
     pub(crate) fn begin_here(&mut self) -> Result<(), EnterError>
-        ensures begun { OnOk result ((work : _) × (self.new.begun ≡ Some work)
-            × (work.front.list ≡ self.new.list) × (work.trace.attempts ≡ [])) }
-        ensures list { IsPrefix self.old.list self.new.list }
+        ensures begun { OnOk result ((open_tx : _) × (self.new.begun ≡ Some open_tx)
+            × IsFresh self.new.name self.new.log open_tx) }
+        ensures log { IsPrefix self.old.log self.new.log }
         ensures same { self.new
-            ≡ knows_that self.old.name self.new.list self.old.number self.old.last self.new.begun }
+            ≡ knows_that self.old.name self.new.log self.old.number self.old.last self.new.begun }
         ensures refused { OnErr result (self.new ≡ self.old) }
+        ensures why { IfErr result (λ error. error ≡ EnterError.NotEntered) }
     {
         let Some(reader) = self.reader.take() else {
             return Err(EnterError::NotEntered);
         };
         let (reader, seen) = look(reader);
         self.reader = Some(reader);
-        let Some(front) = seen else {
+        let Some(prefix) = seen else {
             return Err(EnterError::NotEntered);
         };
-        if !self.me.begins(&front) {
+        if !self.me.begins(&prefix) {
             return Err(EnterError::NotEntered);
         }
-        self.me = front.again();
-        self.begun = Some(Work::new(self.alloc, front));
+        self.me = prefix.again();
+        self.begun = Some(OpenTransaction::new(self.alloc, prefix));
         Ok(())
     }
 
     /// Performs a command in the open transaction.
     pub(crate) fn perform_here(&mut self, command: &Command) -> Result<Reply, EnterError>
         ensures same { self.new
-            ≡ knows_that self.old.name self.new.list self.old.number self.old.last self.new.begun }
-        ensures list { KeepsList result self.old.list self.new.list }
-        ensures answer { (work : _) → self.old.begun ≡ Some work → IfOk result (λ reply.
-            IsAnswer work.front.name.config work.front.list work.transaction work.trace.attempts command.now reply) }
-        ensures grown { (work : _) → self.old.begun ≡ Some work → IfOk result (λ reply.
-            (after : _) × (self.new.begun ≡ Some after) × (after.front ≡ work.front)
-            × (after.trace.attempts ≡ work.trace.attempts ++ record { command = command.now; reply = reply } ∷ [])) }
-        ensures refused { (work : _) → self.old.begun ≡ Some work → IfErr result (λ error.
-            (after : _) × (self.new.begun ≡ Some after) × (after.front ≡ work.front)
-            × IsUnanswered work.front self.new.list error command.now work.transaction work.trace
+            ≡ knows_that self.old.name self.new.log self.old.number self.old.last self.new.begun }
+        ensures log { IsPrefix self.old.log self.new.log }
+        ensures answer { (open_tx : _) → self.old.begun ≡ Some open_tx → IfOk result (λ reply.
+            IsAnswer open_tx.prefix.name.config open_tx.prefix.log
+            open_tx.transaction open_tx.trace.attempts command.now reply) }
+        ensures open_then { OnOk result ((open_tx : _) × (self.old.begun ≡ Some open_tx)) }
+        ensures grown { (open_tx : _) → self.old.begun ≡ Some open_tx → IfOk result (λ reply.
+            (after : _) × (self.new.begun ≡ Some after) × IsSameTransaction open_tx after
+            × (after.trace.attempts
+            ≡ open_tx.trace.attempts ++ record { command = command.now; reply = reply } ∷ [])) }
+        ensures refused { (open_tx : _) → self.old.begun ≡ Some open_tx → IfErr result (λ error.
+            (after : _) × (self.new.begun ≡ Some after) × IsSameTransaction open_tx after
+            × IsUnanswered open_tx.prefix self.new.log error command.now open_tx.transaction open_tx.trace
             after.transaction after.trace) }
     {
-        let Some(work) = self.begun.take() else {
+        let Some(open_tx) = self.begun.take() else {
             return Err(EnterError::NotEntered);
         };
         let Some(reader) = self.reader.take() else {
-            self.begun = Some(work);
+            self.begun = Some(open_tx);
             return Err(EnterError::NotEntered);
         };
-        let Work {
-            front,
+        let OpenTransaction {
+            prefix,
             mut transaction,
             mut trace,
-        } = work;
+        } = open_tx;
         let (reader, answer, seen) = perform_at(
             reader,
             self.alloc,
-            &front,
+            &prefix,
             &mut transaction,
             &mut trace,
             command,
         );
         self.reader = Some(reader);
-        self.me = performed(&self.me, &seen, &answer);
-        self.begun = Some(Work {
-            front,
+        self.me = self.me.longer(&seen);
+        self.begun = Some(OpenTransaction {
+            prefix,
             transaction,
             trace,
         });
         answer
     }
 
-    /// Learns the list that another client has seen: whatever is begun from now on begins with it.
+    /// Learns the log that another client has seen: whatever is begun from now on begins with it.
     pub fn learn(&mut self, seen: Seen)
-        requires { seen.front.name ≡ self.old.name }
+        requires { seen.prefix.name ≡ self.old.name }
         ensures same { self.new
-            ≡ knows_that self.old.name self.new.list self.old.number self.old.last self.old.begun }
-        ensures old { IsPrefix self.old.list self.new.list }
-        ensures seen { IsPrefix seen.front.list self.new.list }
+            ≡ knows_that self.old.name self.new.log self.old.number self.old.last self.old.begun }
+        ensures old { IsPrefix self.old.log self.new.log }
+        ensures seen { IsPrefix seen.prefix.log self.new.log }
     {
-        self.me = self.me.longer(&seen.front);
+        self.me = self.me.longer(&seen.prefix);
     }
 
     /// Commits what was begun.
     #[tactic(auto, using(crate::proofs::Serving::unchanged))]
     pub(crate) fn commit_here<R: Wait>(&mut self, rt: &R) -> Result<Done, CommitError>
-        ensures answer { (work : _) → self.old.begun ≡ Some work →
-            Answers self.old self.new work.transaction work.trace result }
-        ensures read_only { (work : _) → self.old.begun ≡ Some work →
-            is_changed (attempts_of work.trace.attempts) ≡ false → result ≡ Ok Done.ReadOnly }
-        ensures list { IsPrefix self.old.list self.new.list }
-        ensures same { self.new ≡ knows_that self.old.name self.new.list self.old.number self.new.last None }
+        ensures answer { (open_tx : _) → self.old.begun ≡ Some open_tx →
+            Answers self.old self.new open_tx.transaction open_tx.trace result }
+        ensures read_only { (open_tx : _) → self.old.begun ≡ Some open_tx →
+            is_changed (attempts_of open_tx.trace.attempts) ≡ false → result ≡ Ok Done.ReadOnly }
+        ensures log { IsPrefix self.old.log self.new.log }
+        ensures same { self.new
+            ≡ knows_that self.old.name self.new.log self.old.number self.new.last None }
     {
         let Some(
-            Work {
-                front,
+            OpenTransaction {
+                prefix,
                 transaction,
                 trace,
             },
@@ -209,93 +220,68 @@ impl<E: End> Client<E> {
         if request.mutations.is_empty() {
             return Ok(Done::ReadOnly);
         }
-        let (answer, seen) = turn(
+        let told = critical_section(
             rt,
-            &self.vault,
+            &self.lock,
             &mut self.key,
             self.number,
-            self.last,
-            &front,
+            &prefix,
             request,
             trace,
         );
-        self.me = learnt(&self.me, &seen);
-        let (result, last) = concluded(answer, seen, self.last);
+        let Told {
+            outcome,
+            last,
+            prefix,
+        } = told;
+        self.me = learnt(&self.me, &prefix);
         self.last = last;
-        result
+        answer_to(outcome, prefix)
     }
 }
 
-/// What is known behind a command: with `TooOld` the list that was published is learnt.
-fn performed(me: &Front, seen: &Front, answer: &Result<Reply, EnterError>) -> Front
-    requires { seen.now.name ≡ me.now.name }
+/// What is known with the log that was published.
+fn learnt(me: &LogPrefix, seen: &Option<LogPrefix>) -> LogPrefix
+    requires { IsLogOf me.now.name seen.now }
     ensures name { result.name ≡ me.now.name }
-    ensures list { KeepsList answer.now me.now.list result.list }
-    ensures seen { answer.now ≡ Err EnterError.TooOld → IsPrefix seen.now.list result.list }
-{
-    match answer {
-        Err(EnterError::TooOld) => me.longer(seen),
-        _ => me.again(),
-    }
-}
-
-/// What is known with the list that was published.
-fn learnt(me: &Front, seen: &Option<Front>) -> Front
-    requires { IsListOf me.now.name seen.now }
-    ensures name { result.name ≡ me.now.name }
-    ensures list { IsPrefix me.now.list result.list }
-    ensures seen { IfSome seen.now (λ front. (front.name ≡ me.now.name)
-        × IsPrefix front.list result.list
-        × (version_of me.now.name.config result.list < 2 ^ 64)) }
+    ensures log { IsPrefix me.now.log result.log }
+    ensures seen { IfSome seen.now (λ prefix.
+        (prefix.name ≡ me.now.name) × IsPrefix prefix.log result.log) }
 {
     match seen {
-        Some(seen) => {
-            let known = me.longer(seen);
-            prove!(known.version() <= u64::MAX);
-            known
-        }
+        Some(seen) => me.longer(seen),
         None => me.again(),
     }
 }
 
-/// What a turn comes to: the answer, and the client's last number.
-#[tactic(auto, using(crate::proofs::Told::committed, crate::proofs::Told::conflicting, crate::proofs::Told::too_old))]
-fn concluded(
-    answer: Result<Ruling, HoldError>,
-    seen: Option<Front>,
-    own: u64,
-) -> (Result<Done, CommitError>, u64)
-    ensures { (name : TheName) (client : ℕ) (request : Request) (trace : Traced) →
-        IsListOf name seen → TurnTells client own request trace answer seen →
-        IsConcluded name client own request trace seen result.0 result.1 }
+/// The answer that an outcome is, with the log that shows it.
+fn answer_to(outcome: Outcome, prefix: Option<LogPrefix>) -> Result<Done, CommitError>
+    ensures { result ≡ commit_answer outcome prefix }
 {
-    match answer {
-        Ok(ruling) => {
-            let last = ruling.number;
-            let Some(front) = seen else {
-                return (Err(CommitError::Unknown), last);
-            };
-            match ruling.reported {
-                Reported::Committed(_) => {
-                    let version = front.version();
-                    let seen = Seen { front };
-                    (Ok(Done::Committed { version, seen }), last)
-                }
-                Reported::Conflict { seen, range } => {
-                    (Err(CommitError::Conflict { seen, range }), last)
-                }
-                Reported::NothingToDo => (Err(CommitError::Unknown), last),
-            }
+    let Some(prefix) = prefix else {
+        return unshown(outcome);
+    };
+    match outcome {
+        Outcome::Committed { version } => Ok(Done::Committed {
+            version,
+            seen: Seen { prefix },
+        }),
+        Outcome::Conflict { seen, range } => Err(CommitError::Conflict { seen, range }),
+        Outcome::TooOld => Err(CommitError::TooOld),
+        Outcome::VersionsExhausted => Err(CommitError::VersionsExhausted),
+        Outcome::Unknown => Err(CommitError::Unknown),
+        Outcome::Memory => Err(CommitError::Memory),
+    }
+}
+
+/// The answer where no log shows the outcome: only whether the request was submitted is told.
+fn unshown(outcome: Outcome) -> Result<Done, CommitError>
+    ensures { result ≡ unshown_answer outcome }
+{
+    match outcome {
+        Outcome::Committed { .. } | Outcome::Conflict { .. } | Outcome::Unknown => {
+            Err(CommitError::Unknown)
         }
-        Err(HoldError::Unknown(number)) => (Err(CommitError::Unknown), number),
-        Err(HoldError::TooOld) => match seen {
-            Some(_) => (Err(CommitError::TooOld), own),
-            None => (Err(CommitError::Memory), own),
-        },
-        Err(HoldError::VersionsExhausted) => match seen {
-            Some(_) => (Err(CommitError::VersionsExhausted), own),
-            None => (Err(CommitError::Memory), own),
-        },
-        Err(HoldError::Memory) => (Err(CommitError::Memory), own),
+        Outcome::TooOld | Outcome::VersionsExhausted | Outcome::Memory => Err(CommitError::Memory),
     }
 }

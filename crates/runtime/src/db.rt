@@ -1,32 +1,34 @@
-// How a running database is opened. Called by `race`, `embed_threads` and `bench`.
-ghost use Rattle.std.specs.Prelude.{◌≡◌, ◌⊎◌, [], None, Some, IfOk, IfErr, IfSome, IsNone, OnOk};
+// How a running database is opened. Called by `race`, `embed_threads`,
+// `thread_trials` and `bench_threads`.
+ghost use Rattle.std.specs.Prelude.{◌≡◌, ℕ, ◌+◌, ◌⊎◌, [], None, Some, slice_index};
+ghost use Rattle.std.specs.Prelude.{IfOk, IfErr, IfSome, IsNone, OnOk};
 ghost use Rattle.std.specs.Arc.{arc_value};
 ghost use Rattle.left_right.specs.Sides.{view as knowledge};
 ghost use Rattle.cluster_core.specs.Configuration.{config_refusal};
 ghost use Rattle.cluster_core.specs.declared.answers.ConfigError.{ConfigError as ConfigRefusal};
-ghost use Rattle.runtime.specs.State.{knows};
+ghost use Rattle.runtime.specs.Publication.{knows};
 ghost use Rattle.runtime.specs.History.{Name};
 ghost use Rattle.runtime.specs.Clients.{knows_that, fresh_clients};
 
 use crate::answers::OpenError;
 use crate::client::Client;
-use crate::entering::TRIES;
-use crate::front::Front;
-use crate::hold::Hold;
-use crate::law::StateReader;
-use crate::turn::{End, Owned};
-use crate::vault::{Key, Vault};
+use crate::commit_lock::{CommitLock, LockKey};
+use crate::commit_state::CommitState;
+use crate::critical_section::{End, LockedState};
+use crate::log_prefix::LogPrefix;
+use crate::publication::StateReader;
+use crate::published_reads::TRIES;
 use cluster_core::Config;
 use std::alloc::Global;
 use std::sync::{Arc, Wait};
 
 /// A place for a reader. None where `TRIES` attempts gave none.
-fn place(hold: &mut Hold) -> Option<StateReader>
-    ensures same { hold.new ≡ hold.old }
-    ensures reader { IfSome result (λ reader. knowledge reader.place ≡ knows hold.old.name) }
+fn place(state: &mut CommitState) -> Option<StateReader>
+    ensures same { state.new ≡ state.old }
+    ensures reader { IfSome result (λ reader. knowledge reader.place ≡ knows state.old.name) }
 {
     for _ in 0..TRIES {
-        if let Ok(reader) = hold.reader() {
+        if let Ok(reader) = state.reader() {
             return Some(reader);
         }
     }
@@ -37,32 +39,36 @@ fn place(hold: &mut Hold) -> Option<StateReader>
 fn another<E: End, R: Wait>(
     rt: &R,
     alloc: Global,
-    vault: &Arc<Vault<Owned<E>>>,
-    key: &mut Key<Owned<E>>,
-    front: &Front,
+    lock: &Arc<CommitLock<LockedState<E>>>,
+    key: &mut LockKey<LockedState<E>>,
+    prefix: &LogPrefix,
     number: u64,
 ) -> Result<Client<E>, OpenError>
-    requires key { (key.old.table_id ≡ (arc_value vault.now).table.shared.table_id) × (key.old.me.1 ≡ [])
-        × (key.old.me.0.value.hold.name ≡ front.now.name) }
-    requires front { front.now.list ≡ [] }
-    ensures key { (key.new.table_id ≡ key.old.table_id) × (key.new.me ≡ key.old.me) }
-    ensures client { IfOk result (λ client. client ≡ knows_that front.now.name [] number 0 None) }
+    requires key { (key.old.table_id ≡ (arc_value lock.now).table.shared.table_id)
+        × (key.old.me.1 ≡ [])
+        × (key.old.me.0.about.value.state.name ≡ prefix.now.name) × (key.old.me.0.client ≡ None)
+        × (key.old.me.0.next ≡ number) }
+    requires prefix { prefix.now.log ≡ [] }
+    ensures key { OnOk result ((key.new.table_id ≡ key.old.table_id) × (key.new.me.1 ≡ [])
+        × (key.new.me.0.about ≡ key.old.me.0.about) × (key.new.me.0.client ≡ None)
+        × (key.new.me.0.next ≡ number + 1)) }
+    ensures client { IfOk result (λ client. client ≡ knows_that prefix.now.name [] number 0 None) }
     ensures refused { IfErr result (λ error.
         (error ≡ OpenError.NoPlace) ⊎ (error ≡ OpenError.Memory)) }
 {
-    let mut owned = vault.take(rt, key);
-    let reader = place(&mut owned.hold);
-    vault.put(key, owned);
+    let mut owned = lock.take(rt, key);
+    let reader = place(&mut owned.state);
+    lock.put(key, owned);
     let Some(reader) = reader else {
         return Err(OpenError::NoPlace);
     };
-    let theirs = vault.another(key);
+    let theirs = lock.another(key);
     Ok(Client::new(
         alloc,
-        Arc::try_clone(vault)?,
+        Arc::try_clone(lock)?,
         theirs,
         reader,
-        front.again(),
+        prefix.again(),
         number,
     ))
 }
@@ -72,20 +78,20 @@ fn clients<E: End, R: Wait>(
     rt: &R,
     alloc: Global,
     end: E,
-    hold: Hold,
+    state: CommitState,
     places: usize,
 ) -> Result<Vec<Client<E>>, OpenError>
-    requires { hold.published ≡ [] }
-    ensures clients { IfOk result (λ clients. clients.items ≡ fresh_clients hold.name places) }
+    requires { (state.published ≡ []) × ((client : ℕ) → slice_index state.last client ≡ 0) }
+    ensures clients { IfOk result (λ clients. clients.items ≡ fresh_clients state.name places) }
     ensures refused { IfErr result (λ error.
         (error ≡ OpenError.NoPlace) ⊎ (error ≡ OpenError.Memory)) }
 {
-    let front = hold.front();
-    let (vault, mut key) = Vault::new(alloc, Owned { hold, end })?;
-    let vault = Arc::new(alloc, vault)?;
+    let prefix = state.prefix();
+    let (lock, mut key) = CommitLock::new(alloc, LockedState { state, end })?;
+    let lock = Arc::new(alloc, lock)?;
     let mut clients = Vec::new(alloc);
     for number in 0..places {
-        let client = another(rt, alloc, &vault, &mut key, &front, number as u64)?;
+        let client = another(rt, alloc, &lock, &mut key, &prefix, number as u64)?;
         clients.push(client)?;
     }
     Ok(clients)
@@ -110,6 +116,6 @@ pub fn open<E: End, R: Wait>(
         ⊎ ((why : ConfigRefusal) × (error ≡ OpenError.Config why)
         × (config_refusal config.now ≡ Some why))) }
 {
-    let hold = Hold::open(rt, alloc, config)?;
-    clients(rt, alloc, end, hold, config.places as usize)
+    let state = CommitState::open(rt, alloc, config)?;
+    clients(rt, alloc, end, state, config.places as usize)
 }

@@ -1,5 +1,5 @@
-// The commands of a transaction, for contracts. Used by `work`, `entering`, `entry`, `hold` and
-// `turn`.
+// The commands of a transaction, for contracts. Used by `open_transaction`, `published_reads`,
+// `log_entry`, `commit_state` and `critical_section`.
 ghost use Rattle.std.specs.Prelude.{◌≡◌, List, [], ◌∷◌, ◌++◌};
 ghost use base.Fml.{ftrue};
 ghost use Rattle.std.specs.Coded.{codes};
@@ -40,7 +40,8 @@ impl Trace {
     /// The commands with one more, and its reply.
     #[inline(always)]
     pub fn then(&self, _command: &Command, _reply: &Reply) -> Trace
-        ensures { result.attempts ≡ self.now.attempts ++ record { command = _command.now; reply = _reply.now } ∷ [] }
+        ensures { result.attempts
+            ≡ self.now.attempts ++ record { command = _command.now; reply = _reply.now } ∷ [] }
     {
         Trace {}
     }

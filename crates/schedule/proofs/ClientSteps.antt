@@ -16,7 +16,8 @@ use Rattle.schedule.specs.declared.database.OpenTransaction.{OpenTransaction}
 use Rattle.schedule.specs.declared.database.Unreported.{Unreported}
 use Rattle.schedule.specs.declared.transcript.CommitEntry.{CommitEntry}
 use Rattle.schedule.specs.Past.{Past, Attempt, Open, Submission, grown, open_of, submitted_in, is_accepted, submission, submitted_after}
-use Rattle.schedule.specs.Contract.{InTransaction, IsCommandReply, begin_reply, commit_reply}
+use Rattle.schedule.specs.Contract.{InTransaction, begin_reply, commit_reply}
+use Rattle.schedule.specs.Exact.{IsExactReply}
 use Rattle.schedule.specs.Standing.{cluster_stepped, commits_of}
 use Rattle.schedule.specs.Turns.{IsOpenTransaction, fresh_request}
 use Rattle.schedule.specs.Running.{ArePlaces, IsOpen, IsPlace, IsPerformedBy, IsStanding, IsStandingAt, IsStepped, IsSubmit, submitted_by}
@@ -118,7 +119,7 @@ perform_steps old new client command reply found transaction after there is open
     } in
     record {
       right = client_there client reply _ there
-          (subst (λ o. InTransaction o (λ now. IsCommandReply old.cluster (commits_of old.cluster.pipeline (submitted_in past)) now command reply) reply) (sym e)
+          (subst (λ o. InTransaction o (λ now. IsExactReply old.cluster (commits_of old.cluster.pipeline (submitted_in past)) now command reply) reply) (sym e)
           (command_right old.cluster (submitted_in past) open_now transaction.transaction after.transaction command reply legal s.submitted is_open.done performed.performed));
       moved = λ more. sym set.cluster;
       added = [];
@@ -137,7 +138,7 @@ perform_none old new client command found there is closed set past s =
     let attempt : Attempt = record { command = command; reply = Refused NoTransaction } in
     record {
       right = client_there client (Refused NoTransaction) _ there
-          (subst (λ o. InTransaction o (λ now. IsCommandReply old.cluster (commits_of old.cluster.pipeline (submitted_in past)) now command (Refused NoTransaction)) (Refused NoTransaction)) (sym e) refl);
+          (subst (λ o. InTransaction o (λ now. IsExactReply old.cluster (commits_of old.cluster.pipeline (submitted_in past)) now command (Refused NoTransaction)) (Refused NoTransaction)) (sym e) refl);
       moved = λ more. sym set.cluster;
       added = [];
       grown = same_requests old new set.cluster;

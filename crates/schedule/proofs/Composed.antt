@@ -31,8 +31,8 @@ use Rattle.schedule.specs.Reach.{opened_in, reach}
 use Rattle.schedule.specs.Performed.{IsServed, IsReadRefusal, IsPerformed}
 use Rattle.schedule.specs.Commits.{committed_store, view}
 use Rattle.schedule.specs.Standing.{is_told, is_listed, listed, commit_entry, commits_of}
-use Rattle.schedule.specs.Contract.{attempted, commands_written, AreReads, IsSerialAt, IsSerial, HoldsCommitted}
-use Rattle.schedule.specs.Contract.{AreRequestsOf, IsCommandReply, IsReadRefused}
+use Rattle.schedule.specs.Contract.{attempted, EachRequest, HoldsCommitted}
+use Rattle.schedule.specs.Exact.{commands_written, AreReads, IsExactReply, IsExactRequest, IsSerial, IsSerialAt}
 use Rattle.schedule.specs.Turns.{fresh_request, IsOpenTransaction, AreSubmitted}
 use Rattle.schedule.proofs.Turning.{after_attempts, attempts_effects, done_serve, done_writes, done_reads}
 
@@ -249,12 +249,12 @@ module _ (p : PipelineState) (subs : List Submission) where
         (replied_at Stands Replied attempted commands_of None holds_nothing (history p) rising legal replays)))
 
     -- OPEN: what an open transaction wrote and read, and what it sees
-    open_writes : (open_now : Open) (request : CommitRequest) → IsOpenTransaction maps p.reported open_now request → request.mutations ≡ commands_written (committed_store (commits_of p subs) open_now.read_version) (accepted open_now.attempts)
+    open_writes : (open_now : Open) (request : CommitRequest) → IsOpenTransaction maps p.reported open_now request → request.mutations ≡ commands_written (maps open_now.read_version) (committed_store (commits_of p subs) open_now.read_version) (accepted open_now.attempts)
     open_writes open_now request is =
         done_writes maps open_now.attempts (fresh_request open_now.read_version) request is.done (maps open_now.read_version) (committed_store (commits_of p subs) open_now.read_version)
         (λ key h. ap (λ v. Rattle.std.specs.FinMap.get (maps v) key) is.at) (holds_committed open_now.read_version is.seen)
 
-    open_reads : (open_now : Open) (request : CommitRequest) → IsOpenTransaction maps p.reported open_now request → AreReads (committed_store (commits_of p subs) open_now.read_version) open_now.attempts request.reads
+    open_reads : (open_now : Open) (request : CommitRequest) → IsOpenTransaction maps p.reported open_now request → AreReads (maps open_now.read_version) (committed_store (commits_of p subs) open_now.read_version) open_now.attempts request.reads
     open_reads open_now request is =
         let (ranges, have, are_these) = done_reads maps open_now.attempts (fresh_request open_now.read_version) request is.done (maps open_now.read_version) (committed_store (commits_of p subs) open_now.read_version)
         (λ k h. ap (λ v. Rattle.std.specs.FinMap.get (maps v) k) is.at) (holds_committed open_now.read_version is.seen) in
@@ -266,8 +266,14 @@ module _ (p : PipelineState) (subs : List Submission) where
         (done_serve maps open_now.attempts (fresh_request open_now.read_version) request is.done (maps open_now.read_version) (committed_store (commits_of p subs) open_now.read_version)
         (λ key h. ap (λ v. Rattle.std.specs.FinMap.get (maps v) key) is.at) (holds_committed open_now.read_version is.seen)).1
 
+    -- SERVED: each accepted command of an open transaction has its reply at what the transaction sees
+    pub open_served : (open_now : Open) (request : CommitRequest) → IsOpenTransaction maps p.reported open_now request → IsSerialAt (committed_store (commits_of p subs) open_now.read_version) open_now.attempts
+    open_served open_now request is =
+        (done_serve maps open_now.attempts (fresh_request open_now.read_version) request is.done (maps open_now.read_version) (committed_store (commits_of p subs) open_now.read_version)
+        (λ key h. ap (λ v. Rattle.std.specs.FinMap.get (maps v) key) is.at) (holds_committed open_now.read_version is.seen)).0
+
     -- REQUESTS: each is that of its submission
-    requests_each : (last : ℕ) (ss : List Submission) (requests : List CommitRequest) → AreSubmitted maps p.reported last ss requests → AreRequestsOf (commits_of p subs) ss requests
+    requests_each : (last : ℕ) (ss : List Submission) (requests : List CommitRequest) → AreSubmitted maps p.reported last ss requests → EachRequest (IsExactRequest maps (commits_of p subs)) ss requests
     requests_each last [] [] each = tt
     requests_each last [] (request ∷ requests) each = absurd each
     requests_each last (one ∷ ss) [] each = absurd each
@@ -280,25 +286,24 @@ module _ (p : PipelineState) (subs : List Submission) where
       requests_each (last + 1) ss requests each.1,
     )
 
-    pub requests_all : AreRequestsOf (commits_of p subs) subs p.requests
+    pub requests_all : EachRequest (IsExactRequest maps (commits_of p subs)) subs p.requests
     requests_all = requests_each p.start subs p.requests are
 
     -- a reply that was right over every map is right by what the transaction sees
     pub performed_right : (open_now : Open) (request new : CommitRequest) (refuses : ℕ → KeyRange → Rattle.cluster_core.specs.declared.answers.ReadError.ReadError → Type 0) (command : Command) (answer : Reply) →
         IsOpenTransaction maps p.reported open_now request → IsPerformed maps (refuses request.read_version) command answer request new →
-        IsServed (commands_written (committed_store (commits_of p subs) open_now.read_version) (accepted open_now.attempts)) (view (commits_of p subs) open_now) command answer
-        ⊎ IsReadRefused (refuses open_now.read_version) (view (commits_of p subs) open_now) command answer
+        IsServed (after_all (commands_written (maps open_now.read_version) (committed_store (commits_of p subs) open_now.read_version) (accepted open_now.attempts)) (maps open_now.read_version))
+        (commands_written (maps open_now.read_version) (committed_store (commits_of p subs) open_now.read_version) (accepted open_now.attempts)) (view (commits_of p subs) open_now) command answer
+        ⊎ IsReadRefusal (refuses open_now.read_version) (reach (opened_in (view (commits_of p subs) open_now)) command
+        (after_all (commands_written (maps open_now.read_version) (committed_store (commits_of p subs) open_now.read_version) (accepted open_now.attempts)) (maps open_now.read_version))) answer
     performed_right open_now request new refuses command answer is performed =
         let base : maps request.read_version ≡ maps open_now.read_version = ap maps is.at in
         let over = performed.ran.over (maps open_now.read_version) (λ key h. ap (λ m. Rattle.std.specs.FinMap.get m key) base) in
         let at = over.1 (view (commits_of p subs) open_now) (open_sees open_now request is) in
         elim at.right [
-          | inl served ↦ inl (subst (λ before. IsServed before (view (commits_of p subs) open_now) command answer) (open_writes open_now request is) served)
-          | inr refused ↦ inr (
-            seen request (maps open_now.read_version),
-            open_sees open_now request is,
-            subst (λ v. IsReadRefusal (refuses v) (reach (opened_in (view (commits_of p subs) open_now)) command (seen request (maps open_now.read_version))) answer) is.at refused,
-          )
+          | inl served ↦ inl (subst (λ before. IsServed (after_all before (maps open_now.read_version)) before (view (commits_of p subs) open_now) command answer) (open_writes open_now request is) served)
+          | inr refused ↦ inr (subst (λ before. IsReadRefusal (refuses open_now.read_version) (reach (opened_in (view (commits_of p subs) open_now)) command (after_all before (maps open_now.read_version))) answer) (open_writes open_now request is)
+              (subst (λ v. IsReadRefusal (refuses v) (reach (opened_in (view (commits_of p subs) open_now)) command (seen request (maps open_now.read_version))) answer) is.at refused))
         ]
 
 -- ---- as the clauses of a schedule say it
@@ -306,7 +311,7 @@ module _ (p : PipelineState) (subs : List Submission) where
 pub command_right : (c : ClusterState) (subs : List Submission) (open_now : Open) (request new : CommitRequest) (command : Command) (answer : Reply) →
     IsLegal (history c.pipeline) → AreSubmitted (database_at c) c.pipeline.reported c.pipeline.start subs c.pipeline.requests → IsOpenTransaction (database_at c) c.pipeline.reported open_now request →
     IsPerformed (database_at c) (λ range. MayRefuse (tier_of c) range request.read_version) command answer request new →
-    IsCommandReply c (commits_of c.pipeline subs) open_now command answer
+    IsExactReply c (commits_of c.pipeline subs) open_now command answer
 command_right c subs open_now request new command answer legal are is performed =
     performed_right c.pipeline subs legal are open_now request new (λ version range. MayRefuse (tier_of c) range version) command answer is performed
 
@@ -319,5 +324,5 @@ pub is_serial : (c : ClusterState) (subs : List Submission) → IsLegal (history
 is_serial c subs legal are = serial_all c.pipeline subs legal are
 
 pub are_requests : (c : ClusterState) (subs : List Submission) → IsLegal (history c.pipeline) → AreSubmitted (database_at c) c.pipeline.reported c.pipeline.start subs c.pipeline.requests →
-    AreRequestsOf (commits_of c.pipeline subs) subs c.pipeline.requests
+    EachRequest (IsExactRequest (database_at c) (commits_of c.pipeline subs)) subs c.pipeline.requests
 are_requests c subs legal are = requests_all c.pipeline subs legal are

@@ -45,10 +45,10 @@ abbrev fresh_at : Schema → Opened
 fresh_at schema = record { prefix = store_prefix; schema = schema; states = [] }
 
 -- REQUEST: no schema is made, and nothing was read
-refusal_replies : (request : SchemaRequest) (serial : Serial) (refusal : SchemaRefusal) → schema_asked request ≡ Err refusal → IsReply serial (Create request) (reply.Refused (of_schema refusal)) × (writes serial (Create request) ≡ [])
-refusal_replies request serial refusal is = (
+refusal_replies : (request : SchemaRequest) (m : Map) (serial : Serial) (refusal : SchemaRefusal) → schema_asked request ≡ Err refusal → IsReply serial (Create request) (reply.Refused (of_schema refusal)) × (writes m serial (Create request) ≡ [])
+refusal_replies request m serial refusal is = (
   subst (λ o. IsReplyOf (creating serial o) (reply.Refused (of_schema refusal))) (sym is) refl,
-  ap (λ o. written_with (creating serial o) (footprint_writes serial (Create request))) is,
+  ap (λ o. written_with (creating serial o) (footprint_writes m serial (Create request))) is,
 )
 
 pub refused_request : {maps : ℕ → Map} {refuses : KeyRange → ℕ → ReadError → Type 0} {old : CommitRequest} (request : SchemaRequest) (error : MetadataError) → IsRefusedAs error (schema_asked request) → IsCommandRefused maps refuses (Create request) (of_metadata error) old old
@@ -59,7 +59,7 @@ refused_request {refuses = refuses} {old = old} request (meta.Refused refusal) i
       reads = reads_nothing;
       told = λ answer same. told_refused None (Create request) (of_schema refusal) answer m same (subst (λ o. IsMadeOf o (reply.Refused (of_schema refusal)) m) (sym is) tt);
       held = λ serial stands.
-          let says = refusal_replies request serial refusal is in
+          let says = refusal_replies request m serial refusal is in
           (own_right (λ range. refuses range old.read_version) (Create request) old.mutations (Refused refusal) (of_schema refusal) m serial refl says.0 says.1, reads_nothing ∙ same_added m serial);
     }))
   where
@@ -80,8 +80,8 @@ added_there request m None = refl
 added_there request m (Some store) = refl
 
 -- what is written where there is no store
-writes_none : (request : SchemaRequest) (schema : Schema) → schema_asked request ≡ Ok schema → writes None (Create request) ≡ schema_writes store_prefix schema
-writes_none request schema is = ap (λ o. written_with (creating None o) (schema_written o)) is
+writes_none : (request : SchemaRequest) (schema : Schema) (m : Map) → schema_asked request ≡ Ok schema → writes m None (Create request) ≡ schema_writes store_prefix schema
+writes_none request schema m is = ap (λ o. written_with (creating None o) (schema_written o)) is
 
 -- NOT MADE
 uncreated_at : {maps : ℕ → Map} {refuses : KeyRange → ℕ → ReadError → Type 0} {old new : CommitRequest} (request : SchemaRequest) (schema : Schema) (error : StoreError) → schema_asked request ≡ Ok schema →
@@ -123,9 +123,9 @@ uncreated_at {refuses = refuses} {old = old} request schema error made is = refu
     right fault.AlreadyThere ranges m says None stands = absurd (says.2 None stands refl)
     right fault.AlreadyThere ranges m says (Some store) stands =
         own_right refused (Create request) old.mutations fault.AlreadyThere AlreadyThere m (Some store) refl (subst (λ o. IsReplyOf (creating (Some store) o) (reply.Refused AlreadyThere)) (sym made) refl)
-        (ap (λ o. written_with (creating (Some store) o) (footprint_writes (Some store) (Create request))) made)
+        (ap (λ o. written_with (creating (Some store) o) (footprint_writes m (Some store) (Create request))) made)
     right (Write reason) ranges m says None stands =
-        limit_right refused (Create request) old.mutations reason m None (ap (write_all_refusal old.mutations) (writes_none request schema made) ∙ says.2)
+        limit_right refused (Create request) old.mutations reason m None (ap (write_all_refusal old.mutations) (writes_none request schema m made) ∙ says.2)
     right (Write reason) ranges m says (Some store) stands = let none : ◌≡◌ {A = Option Store} (Some store) None = says.3 (Some store) stands in absurd (cc)
 
     stop : (error : StoreError) (ranges : List KeyRange) (m : Map) → IsCreateFailure refused (fresh_at schema) error old.mutations ranges m → IsStop refused None (Create request) old.mutations error ranges m
@@ -182,8 +182,8 @@ created_at {refuses = refuses} {old = old} request schema made is = record {
         IsPerformedAt refuses (Create request) reply.Done old.mutations (schema_writes store_prefix schema) (opening_reach store_prefix) m serial
     right m (Some store) stands known = let none : ◌≡◌ {A = Option Store} (Some store) None = known.0 in absurd (cc)
     right m None stands known = record {
-      right = inl (subst (λ o. IsLimited o None (Create request) reply.Done) (sym is.allowed ∙ ap (write_all_refusal old.mutations) (sym (writes_none request schema made))) (subst (λ o. IsReplyOf (creating None o) reply.Done) (sym made) refl));
-      wrote = sym (writes_none request schema made);
+      right = inl (subst (λ o. IsLimited o None (Create request) reply.Done) (sym is.allowed ∙ ap (write_all_refusal old.mutations) (sym (writes_none request schema m made))) (subst (λ o. IsReplyOf (creating None o) reply.Done) (sym made) refl));
+      wrote = sym (writes_none request schema m made);
       holds = subst (Stands (after_all (schema_writes store_prefix schema) m)) (sym (ap (λ o. left_by None (creating None o)) made)) known.1;
       reads = all ∙ added_there request m None;
     }

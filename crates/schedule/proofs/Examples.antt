@@ -192,18 +192,18 @@ too_old = refl
 abbrev there : Serial
 there = effects None (create ∷ save 1 0 ∷ [])
 
--- a save writes its record, and a removal clears what is there
-save_writes_record : writes there (save 1 1) ≡ Set one (record_value (row 1 1)) ∷ []
+-- a save writes its record, and a removal clears what is there, whatever the map has
+save_writes_record : (m : Map) → writes m there (save 1 1) ≡ Set one (record_value (row 1 1)) ∷ []
 unfolding int_spelling byte_count
-save_writes_record = refl
+save_writes_record m = refl
 
-removal_clears : (writes there (Remove t (i 1 ∷ [])) ≡ ClearRange (point one) ∷ []) × (writes there (Remove t (i 2 ∷ [])) ≡ []) × (writes None (save 1 1) ≡ [])
+removal_clears : (m : Map) → (writes m there (Remove t (i 1 ∷ [])) ≡ ClearRange (point one) ∷ []) × (writes m there (Remove t (i 2 ∷ [])) ≡ []) × (writes m None (save 1 1) ≡ [])
 unfolding int_spelling byte_count
-removal_clears = (refl, refl, refl)
+removal_clears m = (refl, refl, refl)
 
 -- a type that is added is a write of the schema, and reads no more than opening does
-type_writes_schema : (length (writes there («Type» (asked z (k ∷ []) (k ∷ [])))) ≡ 1) × (writes there («Type» (asked t (k ∷ []) (k ∷ []))) ≡ []) × ((m : Map) → (own_reading (opened_in there) («Type» (asked z (k ∷ []) (k ∷ [])))).added m ≡ [])
-type_writes_schema = (refl, refl, λ m. refl)
+type_writes_schema : (m : Map) → (length (writes m there («Type» (asked z (k ∷ []) (k ∷ [])))) ≡ 1) × (writes m there («Type» (asked t (k ∷ []) (k ∷ []))) ≡ []) × ((own_reading (opened_in there) («Type» (asked z (k ∷ []) (k ∷ [])))).added m ≡ [])
+type_writes_schema m = (refl, refl, refl)
 
 -- a load reads its record's key behind what opening reads, a refused one no more than that
 reaches : (m : Map) → ((own_reading (opened_in there) (Load t (i 2 ∷ []))).added m ≡ point two ∷ []) × ((own_reading (opened_in there) (Load t (Null ∷ []))).added m ≡ []) × ((own_reading (opened_in there) (save 2 1)).added m ≡ point two ∷ [])

@@ -1,17 +1,15 @@
 -- What executing plans comes to as commands.
-use Rattle.std.proofs.Common.{◌≡◌, ℕ, Bool, true, false, ◌&&◌, cond, List, [], ◌∷◌, ◌++◌, ◌⊎◌, inl, inr, map, refl, sym, ap, subst, ◌∙◌, Option, Some, None}
-use Rattle.std.specs.Prelude.{option_and_then, option_map}
+use Rattle.std.proofs.Common.{◌≡◌, ℕ, Bool, true, false, ◌&&◌, cond, List, [], ◌++◌, inl, inr, map, refl, sym, ap, subst, ◌∙◌, Option, Some, None}
+use Rattle.std.specs.Prelude.{option_and_then}
 use Rattle.std.specs.FinMap.{entries}
 use Rattle.std.specs.List.{list_all}
 use Rattle.std.proofs.lemmas.Bool.{and_parts}
 use Rattle.kv_core.specs.Range.{KeyRange}
 use Rattle.kv_core.specs.Map.{Map}
 use Rattle.kv_core.specs.declared.change.CommitRequest.{CommitRequest}
-use Rattle.kv_core.specs.declared.change.Mutation.{Mutation}
 use Rattle.cluster_core.specs.declared.answers.ReadError.{ReadError}
 use Rattle.txn.proofs.Running.{ran_because, ran_then}
 use Rattle.metadata.specs.declared.definition.TypeDefinition.{TypeDefinition}
-use Rattle.metadata.specs.declared.index.IndexDefinition.{IndexDefinition}
 use Rattle.metadata.specs.Record.{Record}
 use Rattle.metadata.specs.Records.{of_type}
 use Rattle.metadata.specs.Schema.{find_type}
@@ -27,11 +25,10 @@ use Rattle.record_store.proofs.Stopping.{all_begin, begin_behind}
 use Rattle.query.specs.Query.{Allows}
 use Rattle.query.specs.View.{query_of}
 use Rattle.planner.specs.Asked.{AskedPlan}
-use Rattle.planner.specs.Meaning.{rows_of}
 use Rattle.planner.specs.Plan.{Plan}
 use Rattle.planner.specs.Right.{indexes_of}
 use Rattle.planner.specs.View.{plan_of}
-use Rattle.plan_exec.specs.Accepting.{Accepts, IsNotAccepted, IsReadableAt, extends, may_read}
+use Rattle.plan_exec.specs.Accepting.{Accepts, IsNotAccepted, extends, may_read}
 use Rattle.plan_exec.specs.Executing.{HasNoRows, HasRows, IsExecuted, IsUnexecuted, asks_of, damage_of, reads_of}
 use Rattle.plan_exec.specs.declared.error.ExecError.{ExecError}
 use Rattle.plan_exec.specs.declared.error.ExecError.TheVariants as execution
@@ -45,11 +42,9 @@ use Rattle.schedule.specs.declared.reply.Reply.{Reply}
 use Rattle.schedule.specs.declared.reply.Reply.TheVariants as reply
 use Rattle.schedule.specs.Layout.{store_prefix}
 use Rattle.schedule.specs.Serve.{IsReply, effect}
-use Rattle.schedule.specs.Past.{is_reading}
 use Rattle.schedule.specs.Holds.{Stands}
 use Rattle.schedule.specs.Executed.{PlanSteps, plan_steps, steps_damage, steps_reading, steps_with}
 use Rattle.schedule.specs.Executions.{IsExecution, IsNoExecution, found, other_schema, unreadable}
-use Rattle.schedule.specs.Query.{opened_as}
 use Rattle.schedule.specs.Reach.{opened_in, added_by, open_reach, own_damage, own_reading, reach, writes}
 use Rattle.schedule.specs.Performed.{IsCommandSound, IsPerformed, IsPerformedAt, IsReadRefusedAs}
 use Rattle.schedule.specs.Calls.{IsCommandRefused}
@@ -63,8 +58,7 @@ pub record Executes (opened : Opened) (command : Command) (plan : AskedPlan) (t 
   pub opens : open_reach command ≡ opening_reach store_prefix
   pub reads : own_reading (Some opened) command ≡ steps_reading opened (Some (t, (plan_of plan).root))
   pub damage : (m : Map) → own_damage (Some opened) command m ≡ damage_of opened.prefix (entries m) t (plan_of plan).root
-  pub reading : (rows : List (List Cell)) → is_reading command (reply.Rows rows) ≡ true
-  pub idle : (store : Store) → writes (Some store) command ≡ []
+  pub idle : (m : Map) (store : Store) → writes m (Some store) command ≡ []
   pub leaves : (store : Store) → effect (Some store) command ≡ Some store
   pub replies : (store : Store) → IsOpenAs opened store → (rows : List Record) → Allows (query_of plan.query) (of_type t.number store.records) rows → IsReply (Some store) command (reply.Rows (map (λ r. r.cells) rows))
 
@@ -86,7 +80,7 @@ executed_at {refuses = refuses} {old = old} opened command plan rows executes is
   opened = Some (at opened);
   added = opening_reach store_prefix ++ is.added;
   written = [];
-  changes = sym (so.reading (map (λ r. r.cells) rows));
+  changes = refl;
   ran = ran_then is_opened.ran is.ran (λ m has fact. (
     record {
       there = (refl, has.0);
@@ -113,8 +107,8 @@ executed_at {refuses = refuses} {old = old} opened command plan rows executes is
         IsPerformedAt refuses command answer old.mutations [] (opening_reach store_prefix ++ is.added) m serial
     here m fact None stands has = absurd has
     here m fact (Some store) stands has = record {
-      right = inl (served_idle old.mutations (Some store) command answer (so.idle store) (so.replies store has rows (fact.answers store stands has)));
-      wrote = sym (so.idle store);
+      right = inl (served_idle m old.mutations (Some store) command answer (so.idle m store) (so.replies store has rows (fact.answers store stands has)));
+      wrote = sym (so.idle m store);
       holds = subst (Stands m) (sym (so.leaves store)) stands;
       reads = all_added answer (at_serial opened command m (Some store) (opening_reach store_prefix ++ is.added) stands has (all_ranges opened command plan is.type so is.added m fact.reads));
     }
@@ -236,8 +230,7 @@ module _ (opened : Opened) (plan : AskedPlan) where
     opens = refl;
     reads = ap (steps_reading (at opened)) steps;
     damage = λ m. ap (λ s. steps_damage (at opened) s m) steps;
-    reading = λ rows. refl;
-    idle = λ store. refl;
+    idle = λ m store. refl;
     leaves = λ store. refl;
     replies = λ store same rows allowed. (
       (t, subst (λ o. Accepts o (plan_of plan) t) (opened_same opened store same) accepted),
@@ -261,10 +254,10 @@ module _ (opened : Opened) (plan : AskedPlan) where
       opens = refl;
       reads = ap (steps_reading (at opened)) none;
       undamaged = λ m. ap (λ s. steps_damage (at opened) s m) none;
-      reading = refl;
+      looking = refl;
       told = λ m sound. told_refusal (Some (at opened)) (Execute plan) refusal m sound;
       replies = replies;
-      idle = λ store same. refl;
+      idle = λ m store same. refl;
       leaves = λ store same. refl;
     }
       where

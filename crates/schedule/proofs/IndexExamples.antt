@@ -17,7 +17,6 @@ use Rattle.record_store.specs.Store.{Serial}
 use Rattle.record_store.specs.Layout.{record_value, type_range}
 use Rattle.schedule.specs.declared.step.Command.{Command}
 use Rattle.schedule.specs.declared.step.Command.TheVariants.{Create, Save, Remove, Index, Drop, Disable, Readable, State, WriteOnly}
-use Rattle.schedule.specs.declared.reply.Reply.{Reply}
 use Rattle.schedule.specs.declared.reply.Reply.TheVariants as answers
 use Rattle.schedule.specs.declared.reply.Reply.TheVariants.{Done, SavedNew, SavedOver, Refused}
 use Rattle.schedule.specs.Layout.{store_prefix}
@@ -63,7 +62,7 @@ save key other = Save t (row key other)
 
 -- an index that comes with the store, or to a type without records, is readable; one that comes to a type with records is disabled
 kept_states : replies None (create ∷ State a ∷ Index (asked z t (b ∷ [])) ∷ save 1 5 ∷ Index (asked b t (b ∷ [])) ∷ State b ∷ State z ∷ Disable a ∷ State a ∷ Drop a ∷ State a ∷ Index (asked a t (a ∷ [])) ∷ [])
-    ≡ Done ∷ answers.State states.Readable ∷ answers.State states.Readable ∷ SavedNew ∷ answers.State states.Disabled ∷ answers.State states.Disabled ∷ answers.State states.Readable ∷ Done ∷ answers.State states.Disabled ∷ Done ∷ Refused UnknownIndex ∷ answers.State states.Disabled ∷ []
+    ≡ Done ∷ answers.State states.Readable ∷ answers.Indexed states.Readable ∷ SavedNew ∷ answers.Indexed states.Disabled ∷ answers.State states.Disabled ∷ answers.State states.Readable ∷ Done ∷ answers.State states.Disabled ∷ Done ∷ Refused UnknownIndex ∷ answers.Indexed states.Disabled ∷ []
 kept_states = refl
 
 -- what is refused of indexes
@@ -87,20 +86,20 @@ abbrev entry : ℕ → List ℕ
 entry value = 0x15 ∷ 0x01 ∷ 0x15 ∷ 0x02 ∷ 0x15 ∷ 0x01 ∷ 0x15 ∷ value ∷ 0x15 ∷ 0x01 ∷ 0x15 ∷ 0x01 ∷ []
 
 -- a save writes the record, then its old entry goes and its new one comes; where the columns are the same neither is touched
-saving : (writes there (save 1 6) ≡ Set one (record_value (row 1 6)) ∷ ClearRange (point (entry 5)) ∷ Set (entry 6) [] ∷ []) × (writes there (save 1 5) ≡ Set one (record_value (row 1 5)) ∷ [])
+saving : (m : Map) → (writes m there (save 1 6) ≡ Set one (record_value (row 1 6)) ∷ ClearRange (point (entry 5)) ∷ Set (entry 6) [] ∷ []) × (writes m there (save 1 5) ≡ Set one (record_value (row 1 5)) ∷ [])
 unfolding int_spelling byte_count
-saving = (refl, refl)
+saving m = (refl, refl)
 
 -- a removal takes out the record, then its entry
-removing : (writes there (Remove t (i 1 ∷ [])) ≡ ClearRange (point one) ∷ ClearRange (point (entry 5)) ∷ []) × (writes there (Remove t (i 2 ∷ [])) ≡ [])
+removing : (m : Map) → (writes m there (Remove t (i 1 ∷ [])) ≡ ClearRange (point one) ∷ ClearRange (point (entry 5)) ∷ []) × (writes m there (Remove t (i 2 ∷ [])) ≡ [])
 unfolding int_spelling byte_count
-removing = (refl, refl)
+removing m = (refl, refl)
 
 -- a disabled index isn't written, and what disabling writes is its state and the ranges of its entries and of its built ranges
-disabled : (writes (effects there (Disable a ∷ [])) (save 1 6) ≡ Set one (record_value (row 1 6)) ∷ [])
-    × (writes there (Disable a) ≡ Set (0x15 ∷ 0x01 ∷ 0x15 ∷ 0x05 ∷ 0x15 ∷ 0x01 ∷ []) (0x15 ∷ 0x02 ∷ []) ∷ ClearRange (record { begin = 0x15 ∷ 0x01 ∷ 0x15 ∷ 0x02 ∷ 0x15 ∷ 0x01 ∷ []; end = 0x15 ∷ 0x01 ∷ 0x15 ∷ 0x02 ∷ 0x15 ∷ 0x01 ∷ 0xff ∷ [] }) ∷ ClearRange (record { begin = 0x15 ∷ 0x01 ∷ 0x15 ∷ 0x06 ∷ 0x15 ∷ 0x01 ∷ 0x00 ∷ []; end = 0x15 ∷ 0x01 ∷ 0x15 ∷ 0x06 ∷ 0x15 ∷ 0x01 ∷ 0xff ∷ [] }) ∷ [])
+disabled : (m : Map) → (writes m (effects there (Disable a ∷ [])) (save 1 6) ≡ Set one (record_value (row 1 6)) ∷ [])
+    × (writes m there (Disable a) ≡ Set (0x15 ∷ 0x01 ∷ 0x15 ∷ 0x05 ∷ 0x15 ∷ 0x01 ∷ []) (0x15 ∷ 0x02 ∷ []) ∷ ClearRange (record { begin = 0x15 ∷ 0x01 ∷ 0x15 ∷ 0x02 ∷ 0x15 ∷ 0x01 ∷ []; end = 0x15 ∷ 0x01 ∷ 0x15 ∷ 0x02 ∷ 0x15 ∷ 0x01 ∷ 0xff ∷ [] }) ∷ ClearRange (record { begin = 0x15 ∷ 0x01 ∷ 0x15 ∷ 0x06 ∷ 0x15 ∷ 0x01 ∷ 0x00 ∷ []; end = 0x15 ∷ 0x01 ∷ 0x15 ∷ 0x06 ∷ 0x15 ∷ 0x01 ∷ 0xff ∷ [] }) ∷ [])
 unfolding int_spelling byte_count
-disabled = (refl, refl)
+disabled m = (refl, refl)
 
 -- a new index reads up to the first record of its type, a refused one and a dropped one read nothing
 reaches : (m : Map) (value : List ℕ) → read_of m (type_range store_prefix 1) 1 false ≡ (one, value) ∷ [] →

@@ -17,11 +17,14 @@ use Rattle.metadata.specs.declared.refusal.Refusal.TheVariants as schema
 use Rattle.metadata.specs.Group.{fits_group}
 use Rattle.metadata.specs.IndexChange.{new_index}
 use Rattle.metadata.specs.Schema.{Schema, find_index}
-use Rattle.record_store.specs.Store.{Serial, Store, state_in}
+use Rattle.record_store.specs.Holds.{has_number}
+use Rattle.record_store.specs.Store.{Serial, state_in}
+use Rattle.record_store.proofs.IndexCalls.{named_there}
+use Rattle.record_store.proofs.Listed.{state_told}
 use Rattle.record_store.specs.declared.error.StoreError.{StoreError}
 use Rattle.record_store.specs.declared.error.StoreError.TheVariants.{Refused}
 use Rattle.record_store.specs.declared.error.StoreError.TheVariants as fault
-use Rattle.record_store.specs.Call.{Call, Footprint, IsAnswered, IsOpenAs, Opened, call_on, reads_only, service_of, whole}
+use Rattle.record_store.specs.Call.{Call, Footprint, IsAnswered, Opened, call_on, reads_only, service_of, whole}
 use Rattle.record_store.specs.Opening.{IsOpened, opening_reach}
 use Rattle.record_store.specs.Calls.{aggregate_call, drop_call, drop_footprint, index_call, index_footprint, mark_call, mark_footprint, readable_call, readable_footprint, state_named, total_footprint}
 use Rattle.record_store.specs.Meaning.{by_schema, drop_meaning, in_write_only, index_meaning, index_number, mark_meaning, readable_meaning, state_meaning, total_meaning, total_refusal, totalled_index, unless, write_only_found, write_only_named}
@@ -29,19 +32,17 @@ use Rattle.online_builder.specs.declared.progress.Progress.{Progress}
 use Rattle.online_builder.specs.declared.progress.Progress.TheVariants as progress
 use Rattle.online_builder.specs.Stepping.{has_built, step_call, step_footprint, step_meaning}
 use Rattle.schedule.specs.declared.refusal.Refusal.TheVariants.{BadLimit, NoStore, NotAggregate, NotReadable, UnknownIndex, WrongKind, WrongState}
-use Rattle.schedule.specs.declared.step.Command.{Command}
 use Rattle.schedule.specs.declared.step.Command.TheVariants.{Aggregate, Build, Index, Drop, Disable, State}
 use Rattle.schedule.specs.declared.step.Command.TheVariants as commands
-use Rattle.schedule.specs.declared.reply.Reply.{Reply}
 use Rattle.schedule.specs.declared.reply.Reply.TheVariants as reply
-use Rattle.schedule.specs.Serve.{IsReply, done, serial_line, reply_to_build}
-use Rattle.schedule.specs.Past.{is_accepted, is_reading}
+use Rattle.schedule.specs.Serve.{IsReply, done, reply_to_build}
+use Rattle.schedule.specs.Past.{is_accepted, tells_change}
 use Rattle.schedule.specs.Reach.{added_by, footprint_on, open_reach, opened_in, writes}
 use Rattle.schedule.specs.Calls.{IsCommandRefused}
-use Rattle.schedule.specs.Refusals.{of_schema, reply_of}
+use Rattle.schedule.specs.Refusals.{reply_of}
 use Rattle.schedule.specs.Performed.{IsPerformed}
 use Rattle.schedule.specs.Layout.{store_prefix}
-use Rattle.schedule.proofs.Outcomes.{Meets, Refuses, located, performed, refused_own}
+use Rattle.schedule.proofs.Outcomes.{Meets, located, performed, refused_own}
 use Rattle.schedule.proofs.Serving.{IsRefusal, meets, schema_refuses}
 use Rattle.schedule.proofs.Stops.{at, served_idle}
 
@@ -64,9 +65,9 @@ write_only_refuses listed (Some index) error is = by_state (state_in listed inde
 
 -- ---- index
 
-pub index_meets : (opened : Opened) (request : IndexRequest) → Meets (at opened) (Index request) (index_call (at opened) request) reply.State
+pub index_meets : (opened : Opened) (request : IndexRequest) → Meets (at opened) (Index request) (index_call (at opened) request) reply.Indexed
 index_meets opened request =
-    meets (λ schema states. by_schema (new_index schema request)) index_meaning index_footprint reply.State opened (Index request) refl (λ m. refl) (λ store. refl) (λ o. refl)
+    meets (λ schema states. by_schema (new_index schema request)) index_meaning index_footprint reply.Indexed opened (Index request) refl (λ m. refl) (λ store. refl) (λ o. refl)
     (schema_refuses (new_index opened.schema request)) (λ state. refl) (λ index state. refl)
 
 -- ---- drop, disable and write-only
@@ -105,13 +106,13 @@ refused_limit {refuses = refuses} {old = old} name zero none same = record {
   changes = refl;
   ran = ran_still same (λ m. (
     record { there = tt; reads = refl; told = tt },
-    λ serial stands. record { right = inl (served_idle old.mutations serial (Build name zero) (reply.Refused BadLimit) (idle serial) (replies serial)); wrote = refl; holds = stands; reads = nothing serial m },
+    λ serial stands. record { right = inl (served_idle m old.mutations serial (Build name zero) (reply.Refused BadLimit) (idle m serial) (replies serial)); wrote = refl; holds = stands; reads = nothing serial m },
   ));
 }
   where
-    idle : (serial : Serial) → writes serial (Build name zero) ≡ []
-    idle None = refl
-    idle (Some store) = refl
+    idle : (m : Map) (serial : Serial) → writes m serial (Build name zero) ≡ []
+    idle m None = refl
+    idle m (Some store) = refl
 
     replies : (serial : Serial) → IsReply serial (Build name zero) (reply.Refused BadLimit)
     replies None = refl
@@ -128,23 +129,23 @@ build_opens name zero some = absurd (some refl)
 build_opens name (suc more) some = refl
 
 -- where there is no store
-pub build_unopened : (name : List ℕ) (limit : ℕ) → (limit ≡ 0 → ⊥) → IsReply None (Build name limit) (reply.Refused NoStore) × (writes None (Build name limit) ≡ [])
+pub build_unopened : (name : List ℕ) (limit : ℕ) → (limit ≡ 0 → ⊥) → IsReply None (Build name limit) (reply.Refused NoStore) × ((m : Map) → writes m None (Build name limit) ≡ [])
 build_unopened name zero some = absurd (some refl)
-build_unopened name (suc more) some = (refl, refl)
+build_unopened name (suc more) some = (refl, λ m. refl)
 
 build_accepted : (answer : Progress) → is_accepted (reply_to_build answer) ≡ true
 build_accepted (progress.Built records range) = refl
 build_accepted progress.Finished = refl
 
-build_reads : (name : List ℕ) (limit : ℕ) (answer : Progress) → not (has_built answer) ≡ is_reading (Build name limit) (reply_to_build answer)
-build_reads name limit (progress.Built records range) = refl
-build_reads name limit progress.Finished = refl
+build_tells : (answer : Progress) → has_built answer ≡ tells_change (reply_to_build answer)
+build_tells (progress.Built records range) = refl
+build_tells progress.Finished = refl
 
 pub build_meets : (opened : Opened) (name : List ℕ) (limit : ℕ) → (limit ≡ 0 → ⊥) → Meets (at opened) (Build name limit) (step_call (at opened) (record { name = name; limit = limit })) reply_to_build
 build_meets opened name zero some = absurd (some refl)
 build_meets opened name (suc more) some =
     meets (building name) (step_meaning (suc more)) (λ o. step_footprint o (suc more)) reply_to_build opened (Build name (suc more)) refl (λ m. refl) (λ store. refl) (λ o. refl)
-    (write_only_refuses opened.states (find_index opened.schema name)) build_accepted (λ index. build_reads name (suc more))
+    (write_only_refuses opened.states (find_index opened.schema name)) build_accepted (λ index. build_tells)
 
 -- ---- aggregate
 
@@ -203,13 +204,14 @@ state_unknown states_of (Some index) refusal is = absurd (cc)
 
 state_answered : {maps : ℕ → Map} {old : CommitRequest} (opened : Opened) (name : List ℕ) (state : states.State) → state_named opened name ≡ Ok state → IsAnswered maps opened (state_call opened name) state old old
 state_answered opened name state is =
-    let (number, found, same) = state_number opened.states (find_index opened.schema name) state is in record {
+    let (number, found, same) = state_number opened.states (find_index opened.schema name) state is in
+    let known = named_there opened.schema name number found in record {
       service = service_of state_meaning (state_footprint opened) number;
       accepted = ap (λ o. call_on state_meaning (state_footprint opened) (by_schema o)) found;
       added = [];
       written = [];
       changes = refl;
-      ran = ran_still refl (λ m. (refl, tt, λ store holds as_opened. record { answers = ap Ok (sym (same ∙ ap (λ ss. state_in ss number) (sym as_opened.states))); wrote = refl; allowed = refl; holds = holds }));
+      ran = ran_still refl (λ m. (refl, tt, λ store holds as_opened. record { answers = ap Ok (state_told opened store number as_opened (ap (λ (s : Schema). has_number s.indexes number) as_opened.schema ∙ known) ∙ sym same); wrote = refl; allowed = refl; holds = holds }));
     }
 
 -- STATE: the state that the opened store has of the index is the reply

@@ -24,3 +24,10 @@ pub mod Querying
 pub mod ExecuteSteps
 pub mod Examples
 pub mod IndexExamples
+pub mod Transactions
+pub mod Promised
+pub mod PlanReach
+pub mod Written
+pub mod ReachWrites
+pub mod ReachReads
+pub mod Rightly

@@ -1,43 +1,26 @@
 -- What commands come to that only look at what was opened.
-use Rattle.std.proofs.Common.{◌≡◌, ℕ, Bool, true, false, not, cond, ◌==◌, List, [], ◌∷◌, ◌++◌, inl, inr, refl, sym, ap, subst, ◌∙◌, append-nil, option_map, Some, None, Ok, Err, Result, length, arith}
-use Rattle.std.proofs.lemmas.Bool.{eqb-true}
+use Rattle.std.proofs.Common.{◌≡◌, ℕ, Bool, true, false, not, cond, [], inl, refl, sym, ap, subst, Some, None}
 use Rattle.kv_core.specs.Range.{KeyRange}
-use Rattle.kv_core.specs.Map.{Map, after_all}
-use Rattle.kv_core.specs.Limits.{write_all_refusal}
+use Rattle.kv_core.specs.Map.{Map}
 use Rattle.kv_core.specs.declared.change.CommitRequest.{CommitRequest}
-use Rattle.kv_core.specs.declared.change.Mutation.{Mutation}
 use Rattle.cluster_core.specs.declared.answers.ReadError.{ReadError}
-use Rattle.txn.specs.Runs.{Ran}
-use Rattle.txn.proofs.Running.{ran_because, ran_then}
-use Rattle.metadata.specs.declared.refusal.MetadataError.{MetadataError}
-use Rattle.metadata.specs.declared.refusal.MetadataError.TheVariants as meta
-use Rattle.metadata.specs.declared.refusal.Refusal.{Refusal as SchemaRefusal}
-use Rattle.schedule.specs.declared.refusal.Refusal.{Refusal}
-use Rattle.schedule.specs.declared.refusal.Refusal.TheVariants.{NoStore}
-use Rattle.metadata.specs.Answers.{IsRefusedAs}
-use Rattle.record_store.specs.declared.error.StoreError.{StoreError}
-use Rattle.record_store.specs.declared.error.StoreError.TheVariants.{Memory, Read, Write, Corrupt, Refused}
-use Rattle.record_store.specs.declared.error.StoreError.TheVariants as fault
+use Rattle.txn.proofs.Running.{ran_because}
+use Rattle.record_store.specs.declared.error.StoreError.TheVariants.{Memory}
 use Rattle.record_store.specs.Store.{Store, Serial}
-use Rattle.record_store.specs.Holds.{Holds, IsLawful}
-use Rattle.record_store.specs.Call.{AtStore, Call, IsOpenAs, Opened, whole}
-use Rattle.record_store.specs.Call as call
-use Rattle.record_store.specs.Opening.{AtSerials, HasSchema, IsOpenFailure, IsOpened, IsThereAs, IsUnopened, opening_reach}
-use Rattle.record_store.specs.Steps.{IsBeginning, IsNextRefused, of_metadata}
-use Rattle.record_store.proofs.Stopping.{begin_behind}
+use Rattle.record_store.specs.Call.{IsOpenAs, Opened, whole}
+use Rattle.record_store.specs.Opening.{IsOpened, IsThereAs, opening_reach}
 use Rattle.schedule.specs.declared.step.Command.{Command}
 use Rattle.schedule.specs.declared.reply.Reply.{Reply}
-use Rattle.schedule.specs.declared.reply.Reply.TheVariants as reply
 use Rattle.schedule.specs.Layout.{store_prefix}
 use Rattle.schedule.specs.Serve.{IsReply, effect}
-use Rattle.schedule.specs.Past.{is_accepted, is_reading}
+use Rattle.schedule.specs.Past.{is_accepted, tells_change}
 use Rattle.schedule.specs.Holds.{Stands}
-use Rattle.schedule.specs.Reach.{opened_in, added_by, open_reach, own_damage, own_reading, reach, writes}
-use Rattle.schedule.specs.Performed.{IsCommandSound, IsLimited, IsPerformed, IsPerformedAt, IsReadAs, IsReadRefusedAs}
+use Rattle.schedule.specs.Reach.{open_reach, own_damage, own_reading, writes}
+use Rattle.schedule.specs.Performed.{IsCommandSound, IsPerformed, IsPerformedAt}
 use Rattle.schedule.specs.Performed.{TellsOfPairs}
 use Rattle.schedule.specs.Calls.{IsCommandRefused}
 use Rattle.schedule.proofs.Reached.{all_added, opening_added, sound_by}
-use Rattle.schedule.proofs.Stops.{HasStopped, IsRight, IsStop, at, limit_right, memory_opened, own_right, read_right, refused_by, served_idle, opened_is, stop_memory, told_damage, told_limit, told_read, told_refused}
+use Rattle.schedule.proofs.Stops.{at, memory_opened, served_idle}
 use Rattle.schedule.proofs.Outcomes.{at_serial, located}
 
 -- what a command with this reply is that only looks at what was opened: it reads nothing behind the opening, writes nothing, and leaves each store that was opened so as it was
@@ -45,10 +28,10 @@ pub record Looks (opened : Opened) (command : Command) (answer : Reply) : Type 0
   pub opens : open_reach command ≡ opening_reach store_prefix
   pub reads : own_reading (Some opened) command ≡ whole []
   pub undamaged : (m : Map) → own_damage (Some opened) command m ≡ None
-  pub reading : is_reading command answer ≡ true
+  pub looking : tells_change answer ≡ false
   pub told : (m : Map) → IsCommandSound (Some opened) command answer m → TellsOfPairs (Some opened) command answer m
   pub replies : (store : Store) → IsOpenAs opened store → IsReply (Some store) command answer
-  pub idle : (store : Store) → IsOpenAs opened store → writes (Some store) command ≡ []
+  pub idle : (m : Map) (store : Store) → IsOpenAs opened store → writes m (Some store) command ≡ []
   pub leaves : (store : Store) → IsOpenAs opened store → effect (Some store) command ≡ Some store
 
 looked_at : {maps : ℕ → Map} {refuses : KeyRange → ReadError → Type 0} {old new : CommitRequest} (opened : Opened) (command : Command) (answer : Reply) →
@@ -57,7 +40,7 @@ looked_at {refuses = refuses} {old = old} opened command answer looks is = recor
   opened = Some (at opened);
   added = opening_reach store_prefix;
   written = [];
-  changes = sym looks.reading;
+  changes = ap not (sym looks.looking);
   ran = ran_because is.ran (λ m has. (
     record {
       there = (refl, has.0);
@@ -75,8 +58,8 @@ looked_at {refuses = refuses} {old = old} opened command answer looks is = recor
     here : (m : Map) (serial : Serial) → Stands m serial → IsThereAs (at opened) serial → IsPerformedAt refuses command answer old.mutations [] (opening_reach store_prefix) m serial
     here m None stands has = absurd has
     here m (Some store) stands has = record {
-      right = inl (served_idle old.mutations (Some store) command answer (looks.idle store has) (looks.replies store has));
-      wrote = same (is_accepted answer) (writes (Some store) command) [] (looks.idle store has);
+      right = inl (served_idle m old.mutations (Some store) command answer (looks.idle m store has) (looks.replies store has));
+      wrote = same (is_accepted answer) (writes m (Some store) command) [] (looks.idle m store has);
       holds = subst (Stands m) (same (is_accepted answer) (effect (Some store) command) (Some store) (looks.leaves store has)) stands;
       reads = all_added answer (at_serial opened command m (Some store) (opening_reach store_prefix) stands has (opening_added (Some (at opened)) command m looks.opens looks.reads));
     }

@@ -1,5 +1,5 @@
 -- What commands come to, from what the calls that they make on the store establish.
-use Rattle.std.proofs.Common.{◌≡◌, ℕ, Bool, true, false, not, cond, ◌==◌, List, [], ◌∷◌, ◌++◌, inl, inr, refl, sym, ap, subst, ◌∙◌, append-nil, option_map, Some, None, Ok, Err, Result, length, arith}
+use Rattle.std.proofs.Common.{◌≡◌, ℕ, true, false, not, cond, ◌==◌, List, [], ◌∷◌, ◌++◌, inl, inr, refl, sym, ap, subst, ◌∙◌, append-nil, Some, None, Ok, Err, Result, length, arith}
 use Rattle.std.proofs.lemmas.Bool.{eqb-true}
 use Rattle.kv_core.specs.Range.{KeyRange}
 use Rattle.kv_core.specs.Map.{Map, after_all}
@@ -32,25 +32,24 @@ use Rattle.schedule.specs.declared.reply.Reply.TheVariants as reply
 use Rattle.schedule.specs.Layout.{store_prefix}
 use Rattle.schedule.specs.Serve.{IsReply, IsReplyOf, answering, effect, left_by, serial_line}
 use Rattle.schedule.specs.Serve as serve
-use Rattle.schedule.specs.Past.{is_accepted, is_reading}
+use Rattle.schedule.specs.Past.{is_accepted, tells_change}
 use Rattle.schedule.specs.Holds.{Stands}
 use Rattle.schedule.specs.Reach.{opened_in, added_by, open_reach, own_damage, own_reading, reach, writes, footprint_writes, written_with}
-use Rattle.schedule.specs.Performed.{IsCommandSound, IsLimited, IsPerformed, IsPerformedAt, IsReadAs, IsReadRefusedAs}
-use Rattle.schedule.specs.Performed.{TellsOfPairs}
+use Rattle.schedule.specs.Performed.{IsLimited, IsPerformed, IsPerformedAt, IsReadAs, IsReadRefusedAs}
 use Rattle.schedule.specs.Calls.{IsCommandRefused}
 use Rattle.schedule.proofs.Reached.{added_begin, all_added, begin_open, next_within, opening_added, opening_asked, own_asked, sound_by, sound_none, told_accepted}
-use Rattle.schedule.proofs.Stops.{IsRight, IsStop, at, limit_right, memory_opened, own_right, read_right, refused_by, refused_right, served_idle, opened_is, stop_memory, stopped_all, told_damage, told_limit, told_read, told_refused}
+use Rattle.schedule.proofs.Stops.{IsRight, IsStop, at, limit_right, memory_opened, own_right, read_right, refused_by, refused_right, opened_is, stop_memory, stopped_all, told_damage, told_limit, told_read, told_refused}
 
 -- UNOPENED: no store was opened
 pub refused_unopened : {maps : ℕ → Map} {refuses : KeyRange → ℕ → ReadError → Type 0} {old new : CommitRequest} (command : Command) (error : StoreError) → open_reach command ≡ opening_reach store_prefix → IsReply None command (reply.Refused NoStore) →
-    writes None command ≡ [] → IsUnopened maps refuses store_prefix error old new → IsCommandRefused maps refuses command error old new
+    ((m : Map) → writes m None command ≡ []) → IsUnopened maps refuses store_prefix error old new → IsCommandRefused maps refuses command error old new
 refused_unopened {refuses = refuses} {old = old} command error opens is none unopened = refused_by command None error unopened.added (ran_because unopened.ran (λ m says. stop error unopened.added m says))
   where
     refused : KeyRange → ReadError → Type 0
     refused range = refuses range old.read_version
 
     nothing : (m : Map) (serial : Serial) → serial ≡ None → IsRight refused command old.mutations fault.NoStore m serial
-    nothing m serial there = subst (IsRight refused command old.mutations fault.NoStore m) (sym there) (own_right refused command old.mutations fault.NoStore NoStore m None refl is none)
+    nothing m serial there = subst (IsRight refused command old.mutations fault.NoStore m) (sym there) (own_right refused command old.mutations fault.NoStore NoStore m None refl is (none m))
 
     stop : (error : StoreError) (ranges : List KeyRange) (m : Map) → IsOpenFailure refused store_prefix error ranges m → IsStop refused None command old.mutations error ranges m
     stop Memory ranges m says =
@@ -96,9 +95,9 @@ pub record Serves {A : Type 0} (opened : Opened) (command : Command) (service : 
   pub reads : own_reading (Some opened) command ≡ service.footprint.reading
   pub undamaged : (m : Map) → own_damage (Some opened) command m ≡ None
   pub accepted : (answer : A) → is_accepted (told answer) ≡ true
-  pub reading : (answer : A) → not (service.meaning.changes answer) ≡ is_reading command (told answer)
+  pub telling : (answer : A) → service.meaning.changes answer ≡ tells_change (told answer)
   pub lines : (store : Store) → IsOpenAs opened store → serial_line (Some store) command ≡ answering store told service.meaning (service.meaning.answer store)
-  pub prints : (store : Store) → IsOpenAs opened store → footprint_writes (Some store) command ≡ service.footprint.writes store
+  pub prints : (m : Map) (store : Store) → IsOpenAs opened store → footprint_writes m (Some store) command ≡ service.footprint.writes m store
 
 -- what a command is whose call has this refusal of its own: it reads nothing behind the opening, and its line at each store that was opened so is that refusal
 pub record Refuses (opened : Opened) (command : Command) (error : StoreError) : Type 0 where
@@ -125,8 +124,8 @@ module _ {A : Type 0} (opened : Opened) (command : Command) (service : Service A
   leaves_so : effect (Some store) command ≡ Some (service.meaning.after store)
   leaves_so = ap (left_by (Some store)) lines_so
 
-  writes_so : writes (Some store) command ≡ service.footprint.writes store
-  writes_so = ap (λ l. written_with l (footprint_writes (Some store) command)) lines_so ∙ serves.prints store same
+  writes_so : (m : Map) → writes m (Some store) command ≡ service.footprint.writes m store
+  writes_so m = ap (λ l. written_with l (footprint_writes m (Some store) command)) lines_so ∙ serves.prints m store same
 
 -- nothing is written when a store is opened
 unwritten : {maps : ℕ → Map} {old new : CommitRequest} (opened : Opened) → IsOpened maps (at opened) old new → new.mutations ≡ old.mutations
@@ -175,7 +174,7 @@ performed_at {refuses = refuses} {old = old} {mid = mid} {A = A} opened command 
   opened = Some (at opened);
   added = opening_reach store_prefix ++ is.added;
   written = is.written;
-  changes = is.changes ∙ serves.reading answer;
+  changes = is.changes ∙ ap not (serves.telling answer);
   ran = ran_then is_opened.ran is.ran (λ m has fact. (
     record {
       there = (refl, has.0);
@@ -194,11 +193,11 @@ performed_at {refuses = refuses} {old = old} {mid = mid} {A = A} opened command 
     here m reads done None stands has = absurd has
     here m reads done (Some store) stands has =
         let now = done store stands has in
-        let wrote : is.written ≡ writes (Some store) command = now.wrote ∙ sym (writes_so (at opened) command is.service told serves store has answer now.answers) in record {
+        let wrote : is.written ≡ writes m (Some store) command = now.wrote ∙ sym (writes_so (at opened) command is.service told serves store has answer now.answers m) in record {
           right = inl (subst (λ o. IsLimited o (Some store) command (told answer))
               (sym now.allowed ∙ ap (λ ms. write_all_refusal ms is.written) (unwritten opened is_opened) ∙ ap (write_all_refusal old.mutations) wrote)
               (replies_so (at opened) command is.service told serves store has answer now.answers));
-          wrote = wrote ∙ ap (λ b. cond b (writes (Some store) command) []) (sym (serves.accepted answer));
+          wrote = wrote ∙ ap (λ b. cond b (writes m (Some store) command) []) (sym (serves.accepted answer));
           holds = subst (λ b. Stands (after_all is.written m) (cond b (effect (Some store) command) (Some store))) (sym (serves.accepted answer))
               (subst (Stands (after_all is.written m)) (sym (leaves_so (at opened) command is.service told serves store has answer now.answers)) now.holds);
           reads = all_added (told answer) (at_serial opened command m (Some store) (opening_reach store_prefix ++ is.added) stands has (all_ranges opened command is.service told serves is.added m reads));
@@ -279,7 +278,7 @@ refused_at {refuses = refuses} {old = old} {mid = mid} opened command (Ok servic
         limited None holds none = absurd none
         limited (Some store) holds same =
             limit_right refused command old.mutations reason m (Some store)
-            (ap (λ ms. write_all_refusal ms (writes (Some store) command)) (sym (unwritten opened is_opened)) ∙ ap (write_all_refusal mid.mutations) (writes_so (at opened) command service told serves store same (says.2 store holds same).0.answer (says.2 store holds same).0.is) ∙ (says.2 store holds same).1)
+            (ap (λ ms. write_all_refusal ms (writes m (Some store) command)) (sym (unwritten opened is_opened)) ∙ ap (write_all_refusal mid.mutations) (writes_so (at opened) command service told serves store same (says.2 store holds same).0.answer (says.2 store holds same).0.is m) ∙ (says.2 store holds same).1)
     stop (Refused refusal) ranges m has says = unanswered (Refused refusal) (of_schema refusal) refl ranges m has says
     stop fault.NoStore ranges m has says = unanswered fault.NoStore NoStore refl ranges m has says
     stop fault.AlreadyThere ranges m has says = unanswered fault.AlreadyThere AlreadyThere refl ranges m has says
@@ -319,12 +318,12 @@ refused_asked {maps = maps} {old = old} {mid = mid} opened command outcome (meta
 
 -- MEMORY: it is wanting after a call that changed nothing
 pub refused_behind : {maps : ℕ → Map} {refuses : KeyRange → ℕ → ReadError → Type 0} {old mid new : CommitRequest} {A : Type 0} (opened : Opened) (command : Command) (asked : Opened → Call A) (told : A → Reply) (answer : A) → opened.prefix ≡ store_prefix →
-    Meets (at opened) command (asked (at opened)) told → is_reading command (told answer) ≡ true → IsOpened maps opened old mid → IsAnswered maps opened (asked opened) answer mid new →
+    Meets (at opened) command (asked (at opened)) told → tells_change (told answer) ≡ false → IsOpened maps opened old mid → IsAnswered maps opened (asked opened) answer mid new →
     IsCommandRefused maps refuses command Memory old new
 refused_behind {maps = maps} {refuses = refuses} {old = old} {new = new} opened command asked told answer here meets reads is_opened is =
     refused_by command so.opened Memory so.added (ran_because
     (subst (λ ms. Ran maps so.added old new ms (λ m. IsReadAs so.opened command (told answer) so.added m × ((serial : Serial) → Stands m serial → IsPerformedAt (λ range error. ⊥) command (told answer) old.mutations so.written so.added m serial)))
-    (nothing so.written (so.changes ∙ reads)) so.ran)
+    (nothing so.written (so.changes ∙ ap not reads)) so.ran)
     (λ m fact. stop_memory (λ range. refuses range old.read_version) so.opened command old.mutations so.added m fact.0.there (added_begin (told answer) fact.0.reads) (λ serial stands. added_begin (told answer) (fact.1 serial stands).reads)))
   where
     so : IsPerformed maps (λ range error. ⊥) command (told answer) old new

@@ -1,15 +1,19 @@
 -- What the plan of a query replies, from what opening the store found.
-use Rattle.std.proofs.Common.{◌≡◌, ℕ, Bool, true, false, List, refl, sym, subst, Option, Some, None}
+use Rattle.std.proofs.Common.{◌≡◌, ℕ, Bool, true, false, List, [], ◌∷◌, map, refl, sym, ap, ◌∙◌, subst, Option, Some, None}
+use Rattle.std.specs.List.{AllByRecursion}
+use Rattle.metadata.specs.declared.index.IndexDefinition.{IndexDefinition}
 use Rattle.kv_core.specs.Range.{KeyRange}
 use Rattle.kv_core.specs.Map.{Map}
 use Rattle.kv_core.specs.declared.change.CommitRequest.{CommitRequest}
 use Rattle.cluster_core.specs.declared.answers.ReadError.{ReadError}
 use Rattle.metadata.specs.declared.index.State.{State}
 use Rattle.metadata.specs.Schema.{Schema, find_type}
-use Rattle.record_store.specs.Store.{Store}
+use Rattle.record_store.specs.Holds.{has_number}
+use Rattle.record_store.specs.Store.{Store, state_in, state_of}
 use Rattle.record_store.specs.Call.{IsOpenAs, Opened}
 use Rattle.record_store.specs.Calls.{index_states}
 use Rattle.record_store.specs.Opening.{IsOpened}
+use Rattle.record_store.proofs.Listed.{all_there, state_told}
 use Rattle.query.specs.declared.error.QueryError.{QueryError}
 use Rattle.query.specs.Checked.{query_refusal}
 use Rattle.query.specs.Query.{Query}
@@ -28,7 +32,7 @@ use Rattle.schedule.specs.Layout.{store_prefix}
 use Rattle.schedule.specs.Planning.{IsPlanReply, IsPlanned}
 use Rattle.schedule.specs.Query.{Unrefused, states_of}
 use Rattle.schedule.specs.Performed.{IsCommandSound, IsPerformed, TellsOfPairs}
-use Rattle.schedule.specs.Past.{is_reading}
+use Rattle.schedule.specs.Past.{tells_change}
 use Rattle.schedule.specs.Refusals.{of_query}
 use Rattle.schedule.proofs.Looking.{Looks, looked}
 use Rattle.schedule.proofs.Reached.{told_accepted, told_refusal}
@@ -43,14 +47,14 @@ plan_told schema states query plan none served asked typed is =
 
 -- what the reply to a plan tells, whatever is there
 record IsLook (opened : Opened) (query : Query) (answer : Reply) : Type 0 where
-  reading : is_reading (Plan query) answer ≡ true
+  looking : tells_change answer ≡ false
   told : (m : Map) → IsCommandSound (Some opened) (Plan query) answer m → TellsOfPairs (Some opened) (Plan query) answer m
 
 look_refused : (opened : Opened) (query : Query) (refusal : Refusal) (answer : Reply) → answer ≡ reply.Refused refusal → IsLook opened query answer
-look_refused opened query refusal answer is = subst (IsLook opened query) (sym is) (record { reading = refl; told = told_refusal (Some opened) (Plan query) refusal })
+look_refused opened query refusal answer is = subst (IsLook opened query) (sym is) (record { looking = refl; told = told_refusal (Some opened) (Plan query) refusal })
 
 look_planned : (opened : Opened) (query : Query) (answer : Reply) → IsPlanned opened.schema (index_states opened) query answer → IsLook opened query answer
-look_planned opened query answer is = subst (IsLook opened query) (sym is.shown) (record { reading = refl; told = λ m sound. told_accepted (Some opened) (Plan query) (reply.Planned is.plan) m refl sound })
+look_planned opened query answer is = subst (IsLook opened query) (sym is.shown) (record { looking = refl; told = λ m sound. told_accepted (Some opened) (Plan query) (reply.Planned is.plan) m refl sound })
 
 look : (opened : Opened) (query : Query) (answer : Reply) → IsPlanReply opened.schema (index_states opened) query answer → IsLook opened query answer
 look opened query answer is = by_refusal (query_refusal opened.schema query) (is_served opened.schema (index_states opened) query) is
@@ -62,7 +66,12 @@ look opened query answer is = by_refusal (query_refusal opened.schema query) (is
 
 -- each store that was opened so has the schema and the states that were found
 pub there : (opened : Opened) (store : Store) → IsOpenAs opened store → index_states opened ≡ states_of store
-there opened store same = λ i. index_states (record { prefix = opened.prefix; schema = sym same.schema i; states = sym same.states i })
+there opened store same = ap (λ (s : Schema). index_states (record { prefix = opened.prefix; schema = s; states = opened.states })) (sym same.schema) ∙ each store.schema.indexes (all_there store.schema.indexes)
+  where
+    each : (indexes : List IndexDefinition) → AllByRecursion (λ (i : IndexDefinition). has_number store.schema.indexes i.number ≡ true) indexes →
+        map {B = ℕ × State} (λ (i : IndexDefinition). (i.number, state_in opened.states i.number)) indexes ≡ map {B = ℕ × State} (λ (i : IndexDefinition). (i.number, state_of store i.number)) indexes
+    each [] known = refl
+    each (index ∷ indexes) known = λ i. (index.number, sym (state_told opened store index.number same known.0) i) ∷ each indexes known.1 i
 
 replies : (opened : Opened) (query : Query) (answer : Reply) (store : Store) → IsOpenAs opened store → IsPlanReply opened.schema (index_states opened) query answer → IsPlanReply store.schema (states_of store) query answer
 replies opened query answer store same is = subst (λ states. IsPlanReply store.schema states query answer) (there opened store same) (subst (λ schema. IsPlanReply schema (index_states opened) query answer) (sym same.schema) is)
@@ -80,9 +89,9 @@ plan_performed opened query answer here is_opened is = looked opened (Plan query
       opens = refl;
       undamaged = λ m. refl;
       reads = refl;
-      reading = tells.reading;
+      looking = tells.looking;
       told = tells.told;
       replies = λ store same. replies (at opened) query answer store same is;
-      idle = λ store same. refl;
+      idle = λ m store same. refl;
       leaves = λ store same. refl;
     }

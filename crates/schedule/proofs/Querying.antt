@@ -1,5 +1,5 @@
 -- What a query comes to: its refusal, or the execution of its plan.
-use Rattle.std.proofs.Common.{◌≡◌, ℕ, Bool, true, false, List, [], ◌∷◌, map, refl, sym, ap, subst, ◌∙◌, Option, Some, None}
+use Rattle.std.proofs.Common.{◌≡◌, ℕ, Bool, false, List, [], ◌∷◌, map, refl, sym, ap, subst, ◌∙◌, Option, Some, None}
 use Rattle.std.specs.Prelude.{option_and_then, option_map}
 use Rattle.std.specs.List.{AllByRecursion}
 use Rattle.std.proofs.lemmas.Option.{same_Some}
@@ -9,11 +9,11 @@ use Rattle.kv_core.specs.declared.change.CommitRequest.{CommitRequest}
 use Rattle.cluster_core.specs.declared.answers.ReadError.{ReadError}
 use Rattle.metadata.specs.declared.definition.TypeDefinition.{TypeDefinition}
 use Rattle.metadata.specs.declared.index.IndexDefinition.{IndexDefinition}
-use Rattle.metadata.specs.Record.{Record}
+use Rattle.metadata.specs.declared.index.State.TheVariants as states
+use Rattle.metadata.specs.Index.{listed_state}
 use Rattle.metadata.specs.Records.{of_type}
-use Rattle.metadata.specs.Schema.{Schema, find_type}
+use Rattle.metadata.specs.Schema.{find_type}
 use Rattle.record_store.specs.declared.error.StoreError.{StoreError}
-use Rattle.record_store.specs.declared.error.StoreError.TheVariants as fault
 use Rattle.record_store.specs.Call.{IsOpenAs, Opened}
 use Rattle.record_store.specs.Calls.{index_states}
 use Rattle.record_store.specs.Opening.{IsOpened}
@@ -30,8 +30,8 @@ use Rattle.planner.specs.View.{plan_of}
 use Rattle.planner.proofs.Lists.{all_each}
 use Rattle.plan_exec.specs.Accepting.{Accepts, IsReadableAt}
 use Rattle.plan_exec.proofs.Accepted.{found_name}
-use Rattle.plan_exec.proofs.Answers.{itself, scannable}
-use Rattle.plan_exec.proofs.Told.{states_told}
+use Rattle.plan_exec.proofs.Answers.{itself, readable_told}
+use Rattle.plan_exec.proofs.Told.{told_state}
 use Rattle.schedule.specs.declared.refusal.Refusal.{Refusal}
 use Rattle.schedule.specs.declared.refusal.Refusal.TheVariants.{SortNotServed}
 use Rattle.schedule.specs.declared.step.Command.TheVariants.{Query}
@@ -39,7 +39,7 @@ use Rattle.schedule.specs.declared.reply.Reply.{Reply}
 use Rattle.schedule.specs.declared.reply.Reply.TheVariants as reply
 use Rattle.schedule.specs.Layout.{store_prefix}
 use Rattle.schedule.specs.Executed.{query_steps, steps_damage, steps_for, steps_reading, unless_refused}
-use Rattle.schedule.specs.Executions.{IsExecution, IsNoExecution, IsPlanOf, IsQueried, IsUnqueried, bad, found, other_schema, planned_so, unexecuted, unplanned, unreadable, unserved}
+use Rattle.schedule.specs.Executions.{IsExecution, IsPlanOf, IsQueried, IsUnqueried, bad, found, other_schema, planned_so, unexecuted, unplanned, unreadable, unserved}
 use Rattle.schedule.specs.Performed.{IsPerformed}
 use Rattle.schedule.specs.Calls.{IsCommandRefused}
 use Rattle.schedule.specs.Query.{IsQueryReply, IsRowsReply, Unrefused, states_of}
@@ -68,10 +68,10 @@ module _ (opened : Opened) (q : Asked) where
     opens = refl;
     reads = ap (steps_reading (at opened)) none;
     undamaged = λ m. ap (λ s. steps_damage (at opened) s m) none;
-    reading = refl;
+    looking = refl;
     told = λ m sound. told_refusal (Some (at opened)) (Query q) why m sound;
     replies = replies;
-    idle = λ store same. refl;
+    idle = λ m store same. refl;
     leaves = λ store same. refl;
   }
 
@@ -93,9 +93,8 @@ module _ (opened : Opened) (q : Asked) where
 each_readable : (opened : Opened) (t : TypeDefinition) (is : List IndexDefinition) → AllByRecursion (MayBeUsed opened.schema (index_states opened) t) is → AllByRecursion (IsReadableAt opened) is
 each_readable opened t [] all = tt
 each_readable opened t (i ∷ is) all =
-    let store : Store = record { schema = opened.schema; records = []; states = opened.states; built = [] } in
-    let may = scannable store (index_states opened) t i (states_told opened store (record { schema = refl; states = refl })) all.0 in
-    (record { there = may.there; readable = may.readable }, each_readable opened t is all.1)
+    let state = readable_told (listed_state (index_states opened) i.number) all.0.readable in
+    (record { there = all.0.in_schema; readable = (told_state opened.states opened.schema.indexes i.number states.Readable state).1 }, each_readable opened t is all.1)
 
 module _ (opened : Opened) (query : declared.Query) (plan : AskedPlan) (is_plan : IsPlanOf (at opened) query plan) where
   -- the type of the plan is the one that the query names, and its name
@@ -122,8 +121,7 @@ module _ (opened : Opened) (query : declared.Query) (plan : AskedPlan) (is_plan 
     opens = refl;
     reads = ap (steps_reading (at opened)) steps;
     damage = λ m. ap (λ s. steps_damage (at opened) s m) steps;
-    reading = λ rows. refl;
-    idle = λ store. refl;
+    idle = λ m store. refl;
     leaves = λ store. refl;
     replies = λ store same rows allowed.
         subst (λ why. Unrefused why (is_served store.schema (states_of store) (query_of query)) (IsRowsReply store (query_of query)) (reply.Rows (map (λ r. r.cells) rows))) (sym (refusal_there opened (query_of query) store same is_plan.unrefused))

@@ -90,6 +90,7 @@ told_refusal opened command refusal m sound = by_test (is_unread (reply.Refused 
 pub told_accepted : (opened : Option Opened) (command : Command) (answer : Reply) (m : Map) → is_accepted answer ≡ true → IsCommandSound opened command answer m → TellsOfPairs opened command answer m
 told_accepted opened command (reply.Refused refusal) m is sound = absurd (cc)
 told_accepted opened command (reply.Corrupt key) m is sound = absurd (cc)
+told_accepted opened command reply.Stopped m is sound = absurd (cc)
 told_accepted opened command (reply.Begun version) m is sound = sound
 told_accepted opened command reply.Done m is sound = sound
 told_accepted opened command reply.SavedNew m is sound = sound
@@ -99,6 +100,7 @@ told_accepted opened command reply.Absent m is sound = sound
 told_accepted opened command reply.Removed m is sound = sound
 told_accepted opened command (reply.Rows rows) m is sound = sound
 told_accepted opened command (reply.Planned plan) m is sound = sound
+told_accepted opened command (reply.Indexed state) m is sound = sound
 told_accepted opened command (reply.State state) m is sound = sound
 told_accepted opened command (reply.Total total) m is sound = sound
 told_accepted opened command (reply.Built records range) m is sound = sound

@@ -9,13 +9,14 @@ use Rattle.schedule.specs.declared.step.Command.{Command}
 use Rattle.schedule.specs.declared.step.Step.{Step}
 use Rattle.schedule.specs.declared.step.Step.TheVariants.{Begin, Perform, Execute, Commit, Abandon, Resolve, Log, Pull, Report, Lost, Settle}
 use Rattle.schedule.specs.declared.reply.Reply.{Reply}
-use Rattle.schedule.specs.declared.reply.Reply.TheVariants.{Begun, Done, SavedNew, SavedOver, Found, Absent, Removed, Rows, Planned, State, Total, Built, Finished, Submitted, ReadOnly, Nothing, Reported, Refused, Corrupt}
+use Rattle.schedule.specs.declared.reply.Reply.TheVariants.{Begun, Done, SavedNew, SavedOver, Found, Absent, Removed, Rows, Planned, Indexed, State, Total, Built, Finished, Submitted, ReadOnly, Nothing, Reported, Refused, Corrupt, Stopped}
 use Rattle.schedule.specs.declared.reply.Report as telling
 use Rattle.planner.specs.Asked.{AskedPlan}
 use Rattle.schedule.specs.declared.step.Command.TheVariants as asks
 use Rattle.schedule.specs.Past.{Past, Attempt, Open, accepted, execution, is_accepted, grown, kept_plan, open_after, open_of}
 use Rattle.schedule.specs.Standing.{cluster_after}
-use Rattle.schedule.specs.Contract.{EachReply, HasRightReplies, IsReplyTo, IsLeft, LeavesAll, open_by_commands, reports_reply}
+use Rattle.schedule.specs.Contract.{EachReply, IsLeft, LeavesAll, open_by_commands, reports_reply}
+use Rattle.schedule.specs.Exact.{HasExactReplies, IsReplyTo}
 
 -- a refused attempt isn't among the accepted ones
 accepted_grown : (attempts : List Attempt) (command : Command) (refusal : Refusal) → accepted (attempts ++ (record { command = command; reply = Refused refusal }) ∷ []) ≡ accepted attempts
@@ -91,6 +92,7 @@ leaves config requests past Settle refusal right = absurd (not_refused _ refusal
 leaves_any : (config : Config) (requests : List CommitRequest) (past : Past) (step : Step) (reply : Reply) → IsReplyTo (cluster_after config requests past) past step reply → LeavesAll config requests past step reply
 leaves_any config requests past step (Refused refusal) right = leaves config requests past step refusal right
 leaves_any config requests past step (Corrupt key) right = tt
+leaves_any config requests past step Stopped right = tt
 leaves_any config requests past step (Begun version) right = tt
 leaves_any config requests past step Done right = tt
 leaves_any config requests past step SavedNew right = tt
@@ -100,6 +102,7 @@ leaves_any config requests past step Absent right = tt
 leaves_any config requests past step Removed right = tt
 leaves_any config requests past step (Rows rows) right = tt
 leaves_any config requests past step (Planned plan) right = tt
+leaves_any config requests past step (Indexed state) right = tt
 leaves_any config requests past step (State state) right = tt
 leaves_any config requests past step (Total total) right = tt
 leaves_any config requests past step (Built records range) right = tt
@@ -117,5 +120,5 @@ each_leaves config requests past (other ∷ steps) [] each = absurd each
 each_leaves config requests past (first ∷ steps) (one ∷ replies) each = (leaves_any config requests past first one each.0, each_leaves config requests ((first, one) ∷ past) steps replies each.1)
 
 -- REFUSALS: where each reply is right, each refused step leaves all as it was
-pub refusals_leave : (config : Config) (requests : List CommitRequest) (steps : List Step) (replies : List Reply) → HasRightReplies config requests steps replies → EachReply (LeavesAll config requests) [] steps replies
+pub refusals_leave : (config : Config) (requests : List CommitRequest) (steps : List Step) (replies : List Reply) → HasExactReplies config requests steps replies → EachReply (LeavesAll config requests) [] steps replies
 refusals_leave config requests steps replies each = each_leaves config requests [] steps replies each

@@ -1,7 +1,6 @@
 -- Steps one after another, over plain values.
 use Rattle.std.proofs.Common.{◌≡◌, ℕ, zero, suc, ◌+◌, ◌-◌, ◌<◌, ◌≤◌, List, [], ◌∷◌, ◌++◌, length, take, get_or, map, refl, sym, ap, subst, subst₂, ◌∙◌, Option, None, replicate, append-nil, append_assoc, arith}
 use Rattle.std.specs.Prelude.{All}
-use Rattle.std.specs.List.{AllByRecursion}
 use Rattle.std.proofs.Math.Seq.{drop-nil}
 use Rattle.std.proofs.lemmas.List.{take_more}
 use Rattle.kv_core.specs.declared.change.CommitRequest.{CommitRequest}
@@ -19,15 +18,22 @@ use Rattle.schedule.specs.declared.transcript.Transcript.{Transcript}
 use Rattle.schedule.specs.declared.database.Database.{Database}
 use Rattle.schedule.specs.declared.database.OpenTransaction.{OpenTransaction}
 use Rattle.planner.specs.Asked.{AskedPlan}
-use Rattle.schedule.specs.Past.{Past, submitted_in}
-use Rattle.schedule.specs.Contract.{AreRequestsOf, HasRightReplies, HoldsCommitted, IsReplyTo, IsRightRun, IsSerial, past_of}
+use Rattle.schedule.specs.Past.{Open, Past, submitted_in}
+use Rattle.schedule.specs.Contract.{EachRequest, HoldsCommitted, past_of}
+use Rattle.schedule.specs.Exact.{HasExactReplies, IsExactRequest, IsExactRun, IsReplyTo, IsSerial, IsSerialAt}
+use Rattle.schedule.specs.Headline.{IsHeadline, WasOpen}
+use Rattle.schedule.specs.Right.{IsRightRun}
+use Rattle.schedule.specs.Commits.{committed_store}
 use Rattle.schedule.specs.Standing.{cluster_after, cluster_stepped}
-use Rattle.schedule.specs.Running.{AreKept, HasRun, IsFirst, IsStandingAt, IsSteppedWith, StandsAfter, Steps, kept}
+use Rattle.schedule.specs.Running.{AreKept, HasRun, IsFirst, IsStandingAt, IsStillOpen, IsSteppedWith, StandsAfter, Steps, kept}
 use Rattle.schedule.proofs.ClientSteps.{standing_as}
-use Rattle.schedule.proofs.Composed.{are_requests, holds_all, is_serial}
+use Rattle.schedule.proofs.Composed.{are_requests, holds_all, is_serial, open_served}
+use Rattle.schedule.proofs.Promised.{all_answered, exact_indexes}
+use Rattle.schedule.proofs.Transactions.{opened_next}
 use Rattle.schedule.proofs.Growing.{each_reply_append, past_of_append}
 use Rattle.schedule.proofs.Places.{places_first}
 use Rattle.schedule.proofs.Refusing.{refusals_leave}
+use Rattle.schedule.proofs.Rightly.{replies_right, requests_right, serial_right}
 
 -- ---- the start
 
@@ -52,6 +58,7 @@ pub first_run : (config : Config) (database : Database) → IsFirst config datab
 first_run config database first = record {
   right = λ more. tt;
   cluster = λ more. sym first.cluster;
+  opened = λ transaction was. absurd was;
   stands = standing_as (λ client. None) [] database (first_cluster config) database.transactions.items [] [] first.cluster refl first.unreported first.commits (first_standing config database.transactions.items first.places);
 }
 
@@ -67,7 +74,7 @@ pub next_run : (config : Config) (steps : List Step) (replies : List Reply) (ste
     HasRun config (steps ++ step ∷ []) (replies ++ reply ∷ []) new
 next_run config steps replies step reply old new run next = record {
   right = λ more.
-      subst (λ full. HasRightReplies config full (steps ++ step ∷ []) (replies ++ reply ∷ [])) (sym (longer more))
+      subst (λ full. HasExactReplies config full (steps ++ step ∷ []) (replies ++ reply ∷ [])) (sym (longer more))
       (each_reply_append (λ past one answer. IsReplyTo (cluster_after config (old.cluster.pipeline.requests ++ (next.added ++ more)) past) past one answer) [] steps replies step reply (run.right (next.added ++ more))
       (subst (λ c. IsReplyTo c (past_of [] steps replies) step reply) (sym (run.cluster (next.added ++ more))) next.right));
   cluster = λ more.
@@ -75,6 +82,9 @@ next_run config steps replies step reply old new run next = record {
       ∙ ap (cluster_stepped (new.cluster.pipeline.requests ++ more) step reply) (ap (λ full. cluster_after config full (past_of [] steps replies)) (longer more) ∙ run.cluster (next.added ++ more))
       ∙ next.moved more;
   stands = subst (λ past. StandsAfter past new) (sym (one_more_past config steps replies step reply old run)) next.after;
+  opened =
+      subst (λ past. (transaction : Open) → WasOpen past transaction → IsStillOpen new.cluster transaction) (sym (one_more_past config steps replies step reply old run))
+      (opened_next (past_of [] steps replies) step reply old new run.stands next run.opened);
 }
   where
     longer : (more : List CommitRequest) → new.cluster.pipeline.requests ++ more ≡ old.cluster.pipeline.requests ++ (next.added ++ more)
@@ -100,26 +110,65 @@ turn config steps i step before after reply old new plans kept within is pushed 
 abbrev pub handed_out : List Reply → List CommitEntry → ClusterState → Transcript
 handed_out answers entries c = record { replies = answers; commits = entries; cluster = c }
 
+-- EXACT
+exact_ends : (config : Config) (steps : List Step) (answers : List Reply) (database : Database) → HasRun config steps answers database → IsLegal (history database.cluster.pipeline) →
+    IsExactRun config steps (handed_out answers database.commits.items database.cluster)
+exact_ends config steps answers database run legal =
+    let c = database.cluster in
+    let subs = submitted_in (past_of [] steps answers) in
+    let s = run.stands in
+    record {
+      replies = subst (λ full. HasExactReplies config full steps answers) (append-nil c.pipeline.requests) (run.right []);
+      serial = subst (λ commits. IsSerial c commits subs) (sym s.commits) (is_serial c subs legal s.submitted);
+      requests = subst (λ commits. EachRequest (IsExactRequest (database_at c) commits) subs c.pipeline.requests) (sym s.commits) (are_requests c subs legal s.submitted);
+    }
+
+-- HEADLINE
+headline_ends : (config : Config) (steps : List Step) (answers : List Reply) (database : Database) → HasRun config steps answers database → IsLegal (history database.cluster.pipeline) →
+    IsHeadline steps (handed_out answers database.commits.items database.cluster)
+headline_ends config steps answers database run legal =
+    let c = database.cluster in
+    let subs = submitted_in (past_of [] steps answers) in
+    let s = run.stands in
+    let holds = subst (HoldsCommitted c) (sym s.commits) (holds_all c subs legal s.submitted) in
+    record {
+      rows = λ transaction was.
+          let still = run.opened transaction was in
+          all_answered (committed_store database.commits.items transaction.read_version) transaction.attempts
+          (subst (λ commits. IsSerialAt (committed_store commits transaction.read_version) transaction.attempts) (sym s.commits) (open_served c.pipeline subs legal s.submitted transaction still.request still.is));
+      indexes = λ version from upto. exact_indexes (database_at c version) (committed_store database.commits.items version) (holds version from upto);
+    }
+
+-- RIGHT, but for what follows from what is exact
+pub record IsEnded (config : Config) (steps : List Step) (run : Transcript) : Type 0 where
+  pub exact : IsExactRun config steps run
+  pub headline : IsHeadline steps run
+  pub right : IsRightRun config steps run
+
 pub run_ends : (config : Config) (steps : List Step) (answers : List Reply) (database : Database) → HasRun config steps answers database → IsLegal (history database.cluster.pipeline) →
-    IsRightRun config steps (handed_out answers database.commits.items database.cluster)
+    IsEnded config steps (handed_out answers database.commits.items database.cluster)
 run_ends config steps answers database run legal =
     let c = database.cluster in
     let subs = submitted_in (past_of [] steps answers) in
     let s = run.stands in
-    let right : HasRightReplies config c.pipeline.requests steps answers = subst (λ full. HasRightReplies config full steps answers) (append-nil c.pipeline.requests) (run.right []) in
+    let exact = exact_ends config steps answers database run legal in
     record {
-      replies = right;
-      cluster = sym (ap (λ full. cluster_after config full (past_of [] steps answers)) (sym (append-nil c.pipeline.requests)) ∙ run.cluster []);
-      commits = s.commits;
-      legal = legal;
-      holds = subst (HoldsCommitted c) (sym s.commits) (holds_all c subs legal s.submitted);
-      serial = subst (λ commits. IsSerial c commits subs) (sym s.commits) (is_serial c subs legal s.submitted);
-      requests = subst (λ commits. AreRequestsOf commits subs c.pipeline.requests) (sym s.commits) (are_requests c subs legal s.submitted);
-      refusals = refusals_leave config c.pipeline.requests steps answers right;
+      exact = exact;
+      headline = headline_ends config steps answers database run legal;
+      right = record {
+        replies = replies_right config c.pipeline.requests steps answers exact.replies;
+        cluster = sym (ap (λ full. cluster_after config full (past_of [] steps answers)) (sym (append-nil c.pipeline.requests)) ∙ run.cluster []);
+        commits = s.commits;
+        legal = legal;
+        holds = subst (HoldsCommitted c) (sym s.commits) (holds_all c subs legal s.submitted);
+        serial = serial_right c database.commits.items subs exact.serial;
+        requests = requests_right (database_at c) database.commits.items subs c.pipeline.requests exact.requests;
+        refusals = refusals_leave config c.pipeline.requests steps answers exact.replies;
+      };
     }
 
 -- the same, with the replies and the commits as they are handed out
 pub ended : (config : Config) (steps : List Step) (given answers : List Reply) (handed : List CommitEntry) (database : Database) → answers ≡ given → handed ≡ database.commits.items → HasRun config steps given database →
-    IsLegal (history database.cluster.pipeline) → IsRightRun config steps (handed_out answers handed database.cluster)
+    IsLegal (history database.cluster.pipeline) → IsEnded config steps (handed_out answers handed database.cluster)
 ended config steps given answers handed database is_answers is_handed run legal =
-    subst₂ (λ rs es. IsRightRun config steps (handed_out rs es database.cluster)) (sym is_answers) (sym is_handed) (run_ends config steps given database run legal)
+    subst₂ (λ rs es. IsEnded config steps (handed_out rs es database.cluster)) (sym is_answers) (sym is_handed) (run_ends config steps given database run legal)

@@ -16,8 +16,8 @@ use Rattle.metadata.specs.Change.{add_type}
 use Rattle.metadata.specs.Record.{Record, key_of, record_of}
 use Rattle.metadata.specs.Schema.{Schema, field_kinds, find_type}
 use Rattle.metadata.proofs.SameTypes.{same_type-Decides}
-use Rattle.record_store.specs.Store.{Store}
-use Rattle.record_store.specs.Call.{Footprint, IsOpenAs, Opened, call_on, whole}
+use Rattle.record_store.specs.Store.{Store, listed_states}
+use Rattle.record_store.specs.Call.{Footprint, IsOpenAs, Opened, call_on}
 use Rattle.record_store.specs.declared.error.StoreError.{StoreError}
 use Rattle.record_store.specs.declared.error.StoreError.TheVariants.{OtherSchema, Refused}
 use Rattle.record_store.specs.Calls.{load_call, load_footprint, remove_call, remove_footprint, save_call, save_footprint, type_call, type_footprint}
@@ -30,10 +30,10 @@ use Rattle.schedule.specs.declared.reply.Reply.{Reply}
 use Rattle.schedule.specs.declared.reply.Reply.TheVariants as reply
 use Rattle.schedule.specs.Refusals.{of_schema, reply_of}
 use Rattle.schedule.specs.Serve.{calling, done, serial_line, reply_to_load, reply_to_remove, reply_to_save}
-use Rattle.schedule.specs.Past.{is_accepted, is_reading}
+use Rattle.schedule.specs.Past.{is_accepted, tells_change}
 use Rattle.schedule.specs.Layout.{store_prefix}
 use Rattle.schedule.specs.Reach.{footprint_in, footprint_on, open_reach, own_damage}
-use Rattle.schedule.proofs.Outcomes.{Meets, Refuses, Serves}
+use Rattle.schedule.proofs.Outcomes.{Meets, Refuses}
 use Rattle.schedule.proofs.Stops.{at, opened_same}
 
 -- an error is a refusal
@@ -43,11 +43,11 @@ IsRefusal error = (refusal : Refusal) × (reply_of error ≡ Some (reply.Refused
 -- MEETS: a command is what its call is where its line and its footprint are those of what the call asks for, which it is refused for only with a refusal, and where what it replies to an answer is accepted, and tells that something was changed where the answer does
 module _ {K A : Type 0} (asked : Schema → List (ℕ × State) → Result K StoreError) (meaning : K → Meaning A) (footprint : Opened → K → Footprint) (told : A → Reply) (opened : Opened) (command : Command) where
   pub meets : open_reach command ≡ opening_reach store_prefix → ((m : Map) → own_damage (Some (at opened)) command m ≡ None) →
-      ((store : Store) → serial_line (Some store) command ≡ calling store told meaning (asked store.schema store.states)) → ((o : Opened) → footprint_in o command ≡ footprint_on (footprint o) (asked o.schema o.states)) →
+      ((store : Store) → serial_line (Some store) command ≡ calling store told meaning (asked store.schema (listed_states store))) → ((o : Opened) → footprint_in o command ≡ footprint_on (footprint o) (asked o.schema o.states)) →
       ((error : StoreError) → asked opened.schema opened.states ≡ Err error → IsRefusal error) → ((answer : A) → is_accepted (told answer) ≡ true) →
-      ((value : K) (answer : A) → not ((meaning value).changes answer) ≡ is_reading command (told answer)) →
+      ((value : K) (answer : A) → (meaning value).changes answer ≡ tells_change (told answer)) →
       Meets (at opened) command (call_on meaning (footprint (at opened)) (asked opened.schema opened.states)) told
-  meets opens undamaged lines prints own accepted reading = by_outcome (asked opened.schema opened.states) refl
+  meets opens undamaged lines prints own accepted telling = by_outcome (asked opened.schema opened.states) refl
     where
       lines_so : {o : Result K StoreError} (store : Store) → IsOpenAs (at opened) store → asked opened.schema opened.states ≡ o → serial_line (Some store) command ≡ calling store told meaning o
       lines_so store same is = lines store ∙ (λ i. calling store told meaning (asked (same.schema i) (same.states i))) ∙ ap (calling store told meaning) is
@@ -61,9 +61,9 @@ module _ {K A : Type 0} (asked : Schema → List (ℕ × State) → Result K Sto
         reads = ap (λ (f : Footprint). f.reading) (print_so is);
         undamaged = undamaged;
         accepted = accepted;
-        reading = reading value;
+        telling = telling value;
         lines = λ store same. lines_so store same is;
-        prints = λ store same. ap (λ (o : Opened). (footprint_in o command).writes store) (sym (opened_same opened store same)) ∙ ap (λ (f : Footprint). f.writes store) (print_so is);
+        prints = λ m store same. ap (λ (o : Opened). (footprint_in o command).writes m store) (sym (opened_same opened store same)) ∙ ap (λ (f : Footprint). f.writes m store) (print_so is);
       }
       by_outcome (Err error) is =
           let refused = own error is in record {
@@ -86,14 +86,14 @@ load_accepted : (found : Option Record) → is_accepted (reply_to_load found) �
 load_accepted None = refl
 load_accepted (Some r) = refl
 
-load_reads : (name : List ℕ) (cells : List Cell) (found : Option Record) → true ≡ is_reading (Load name cells) (reply_to_load found)
-load_reads name cells None = refl
-load_reads name cells (Some r) = refl
+load_tells : (found : Option Record) → false ≡ tells_change (reply_to_load found)
+load_tells None = refl
+load_tells (Some r) = refl
 
 pub load_meets : (opened : Opened) (name : List ℕ) (cells : List Cell) → Meets (at opened) (Load name cells) (load_call (at opened) name cells) reply_to_load
 load_meets opened name cells =
     meets (λ schema states. by_schema (key_of schema name cells)) load_meaning load_footprint reply_to_load opened (Load name cells) refl (λ m. refl) (λ store. refl) (λ o. refl)
-    (schema_refuses (key_of opened.schema name cells)) load_accepted (λ key. load_reads name cells)
+    (schema_refuses (key_of opened.schema name cells)) load_accepted (λ key. load_tells)
 
 -- ---- remove
 
@@ -101,14 +101,14 @@ remove_accepted : (was_there : Bool) → is_accepted (reply_to_remove was_there)
 remove_accepted true = refl
 remove_accepted false = refl
 
-remove_reads : (name : List ℕ) (cells : List Cell) (was_there : Bool) → not was_there ≡ is_reading (Remove name cells) (reply_to_remove was_there)
-remove_reads name cells true = refl
-remove_reads name cells false = refl
+remove_tells : (was_there : Bool) → was_there ≡ tells_change (reply_to_remove was_there)
+remove_tells true = refl
+remove_tells false = refl
 
 pub remove_meets : (opened : Opened) (name : List ℕ) (cells : List Cell) → Meets (at opened) (Remove name cells) (remove_call (at opened) name cells) reply_to_remove
 remove_meets opened name cells =
     meets (λ schema states. by_schema (key_of schema name cells)) remove_meaning remove_footprint reply_to_remove opened (Remove name cells) refl (λ m. refl) (λ store. refl) (λ o. refl)
-    (schema_refuses (key_of opened.schema name cells)) remove_accepted (λ key. remove_reads name cells)
+    (schema_refuses (key_of opened.schema name cells)) remove_accepted (λ key. remove_tells)
 
 -- ---- save
 
@@ -116,9 +116,9 @@ save_accepted : (found : Option Record) → is_accepted (reply_to_save found) �
 save_accepted None = refl
 save_accepted (Some r) = refl
 
-save_changes : (name : List ℕ) (cells : List Cell) (found : Option Record) → false ≡ is_reading (Save name cells) (reply_to_save found)
-save_changes name cells None = refl
-save_changes name cells (Some r) = refl
+save_tells : (found : Option Record) → true ≡ tells_change (reply_to_save found)
+save_tells None = refl
+save_tells (Some r) = refl
 
 -- a record that a schema makes has the definition of the type that was asked for
 abbrev keyed : List Cell → TypeDefinition → Bool → Result Record SchemaRefusal
@@ -166,7 +166,7 @@ own schema name cells r is =
 save_asked : (opened : Opened) (name : List ℕ) (cells : List Cell) → Meets (at opened) (Save name cells) (call_on save_meaning (save_footprint (at opened)) (by_schema (record_of opened.schema name cells))) reply_to_save
 save_asked opened name cells =
     meets (λ schema states. by_schema (record_of schema name cells)) save_meaning save_footprint reply_to_save opened (Save name cells) refl (λ m. refl) (λ store. refl) (λ o. refl)
-    (schema_refuses (record_of opened.schema name cells)) save_accepted (λ r. save_changes name cells)
+    (schema_refuses (record_of opened.schema name cells)) save_accepted (λ r. save_tells)
 
 pub save_refuses : (opened : Opened) (name : List ℕ) (cells : List Cell) (refusal : SchemaRefusal) → record_of opened.schema name cells ≡ Err refusal → Refuses (at opened) (Save name cells) (Refused refusal)
 save_refuses opened name cells refusal is =

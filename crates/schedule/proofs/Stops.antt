@@ -1,5 +1,5 @@
 -- What is so where a command stops with an error.
-use Rattle.std.proofs.Common.{◌≡◌, ℕ, true, false, cond, List, [], ◌⊎◌, inl, refl, sym, ap, subst, Option, Some, None}
+use Rattle.std.proofs.Common.{◌≡◌, ℕ, true, false, not, cond, List, [], ◌⊎◌, inl, refl, sym, ap, subst, Option, Some, None}
 use Rattle.kv_core.specs.Range.{KeyRange}
 use Rattle.kv_core.specs.Map.{Map}
 use Rattle.kv_core.specs.Limits.{write_all_refusal}
@@ -22,13 +22,12 @@ use Rattle.record_store.specs.Opening.{IsOpened, IsThereAs, opening_reach}
 use Rattle.record_store.specs.Steps.{IsBeginning}
 use Rattle.record_store.proofs.Stopping.{all_begin, none_begin}
 use Rattle.schedule.specs.declared.step.Command.{Command}
-use Rattle.schedule.specs.declared.step.Command.TheVariants.{Create, «Type», Save, Load, Remove, Query, Plan, Execute, Index, Drop, Disable, WriteOnly, Readable, Build, State, Aggregate}
 use Rattle.schedule.specs.declared.reply.Reply.{Reply}
 use Rattle.schedule.specs.declared.reply.Reply.TheVariants as reply
 use Rattle.schedule.specs.Layout.{store_prefix}
 use Rattle.schedule.specs.Serve.{IsReply, IsReplyOf, effect, serial_line}
 use Rattle.schedule.specs.Serve as serve
-use Rattle.schedule.specs.Past.{is_accepted, is_reading}
+use Rattle.schedule.specs.Past.{is_accepted, tells_change}
 use Rattle.schedule.specs.Holds.{Stands}
 use Rattle.schedule.specs.Reach.{opened_in, added_by, open_reach, own_reading, reach, writes, footprint_writes, written_with}
 use Rattle.schedule.specs.Performed.{HasAdded, HasOpened, IsCommandSound, IsDamaged, IsLimit, IsLimited, IsReadRefusal}
@@ -44,69 +43,33 @@ at opened = record opened { prefix = store_prefix }
 
 -- ---- refusals
 
--- the reply that an error is accepts nothing, and changes nothing
-refuses_all : (command : Command) (refusal : Refusal) → is_reading command (reply.Refused refusal) ≡ true
-refuses_all (Create request) refusal = refl
-refuses_all («Type» request) refusal = refl
-refuses_all (Save name cells) refusal = refl
-refuses_all (Load name cells) refusal = refl
-refuses_all (Remove name cells) refusal = refl
-refuses_all (Query query) refusal = refl
-refuses_all (Execute plan) refusal = refl
-refuses_all (Plan query) refusal = refl
-refuses_all (Index request) refusal = refl
-refuses_all (Drop name) refusal = refl
-refuses_all (Disable name) refusal = refl
-refuses_all (WriteOnly name) refusal = refl
-refuses_all (Readable name) refusal = refl
-refuses_all (Build name limit) refusal = refl
-refuses_all (State name) refusal = refl
-refuses_all (Aggregate name group) refusal = refl
-
-corrupts_all : (command : Command) (key : List ℕ) → is_reading command (reply.Corrupt key) ≡ true
-corrupts_all (Create request) key = refl
-corrupts_all («Type» request) key = refl
-corrupts_all (Save name cells) key = refl
-corrupts_all (Load name cells) key = refl
-corrupts_all (Remove name cells) key = refl
-corrupts_all (Query query) key = refl
-corrupts_all (Execute plan) key = refl
-corrupts_all (Plan query) key = refl
-corrupts_all (Index request) key = refl
-corrupts_all (Drop name) key = refl
-corrupts_all (Disable name) key = refl
-corrupts_all (WriteOnly name) key = refl
-corrupts_all (Readable name) key = refl
-corrupts_all (Build name limit) key = refl
-corrupts_all (State name) key = refl
-corrupts_all (Aggregate name group) key = refl
-
-refusing : (command : Command) (refusal : Refusal) (answer : Reply) → ◌≡◌ {A = Option Reply} (Some (reply.Refused refusal)) (Some answer) → (is_accepted answer ≡ false) × (is_reading command answer ≡ true)
-refusing command refusal answer is =
+-- the reply that an error is accepts nothing, and tells of no change
+refusing : (refusal : Refusal) (answer : Reply) → ◌≡◌ {A = Option Reply} (Some (reply.Refused refusal)) (Some answer) → (is_accepted answer ≡ false) × (tells_change answer ≡ false)
+refusing refusal answer is =
     let same : reply.Refused refusal ≡ answer = cc in
-    subst (λ a. (is_accepted a ≡ false) × (is_reading command a ≡ true)) same (refl, refuses_all command refusal)
+    subst (λ a. (is_accepted a ≡ false) × (tells_change a ≡ false)) same (refl, refl)
 
-error_refuses : (command : Command) (error : StoreError) (answer : Reply) → reply_of error ≡ Some answer → (is_accepted answer ≡ false) × (is_reading command answer ≡ true)
-error_refuses command Memory answer is = absurd (cc)
-error_refuses command (Read read.FutureVersion) answer is = refusing command FutureVersion answer is
-error_refuses command (Read read.TooOld) answer is = refusing command TooOld answer is
-error_refuses command (Read read.Memory) answer is = absurd (cc)
-error_refuses command (Write write.KeyOutside) answer is = refusing command _ answer is
-error_refuses command (Write write.KeyTooLarge) answer is = refusing command _ answer is
-error_refuses command (Write write.ValueTooLarge) answer is = refusing command _ answer is
-error_refuses command (Write write.TransactionTooLarge) answer is = refusing command _ answer is
-error_refuses command (Write write.Memory) answer is = absurd (cc)
-error_refuses command (Corrupt key) answer is =
+pub error_refuses : (error : StoreError) (answer : Reply) → reply_of error ≡ Some answer → (is_accepted answer ≡ false) × (tells_change answer ≡ false)
+error_refuses Memory answer is = absurd (cc)
+error_refuses (Read read.FutureVersion) answer is = refusing FutureVersion answer is
+error_refuses (Read read.TooOld) answer is = refusing TooOld answer is
+error_refuses (Read read.Memory) answer is = absurd (cc)
+error_refuses (Write write.KeyOutside) answer is = refusing _ answer is
+error_refuses (Write write.KeyTooLarge) answer is = refusing _ answer is
+error_refuses (Write write.ValueTooLarge) answer is = refusing _ answer is
+error_refuses (Write write.TransactionTooLarge) answer is = refusing _ answer is
+error_refuses (Write write.Memory) answer is = absurd (cc)
+error_refuses (Corrupt key) answer is =
     let same : reply.Corrupt key ≡ answer = cc in
-    subst (λ a. (is_accepted a ≡ false) × (is_reading command a ≡ true)) same (refl, corrupts_all command key)
-error_refuses command (Refused refusal) answer is = refusing command (of_schema refusal) answer is
-error_refuses command fault.NoStore answer is = refusing command NoStore answer is
-error_refuses command fault.AlreadyThere answer is = refusing command AlreadyThere answer is
-error_refuses command fault.OtherSchema answer is = refusing command OtherSchema answer is
-error_refuses command fault.NotAggregate answer is = refusing command NotAggregate answer is
-error_refuses command fault.NotReadable answer is = refusing command NotReadable answer is
-error_refuses command fault.WrongState answer is = refusing command WrongState answer is
-error_refuses command fault.NotBuilt answer is = refusing command NotBuilt answer is
+    subst (λ a. (is_accepted a ≡ false) × (tells_change a ≡ false)) same (refl, refl)
+error_refuses (Refused refusal) answer is = refusing (of_schema refusal) answer is
+error_refuses fault.NoStore answer is = refusing NoStore answer is
+error_refuses fault.AlreadyThere answer is = refusing AlreadyThere answer is
+error_refuses fault.OtherSchema answer is = refusing OtherSchema answer is
+error_refuses fault.NotAggregate answer is = refusing NotAggregate answer is
+error_refuses fault.NotReadable answer is = refusing NotReadable answer is
+error_refuses fault.WrongState answer is = refusing WrongState answer is
+error_refuses fault.NotBuilt answer is = refusing NotBuilt answer is
 
 -- what is there, by what was opened
 pub opened_is : (opened : Opened) (serial : Serial) → opened.prefix ≡ store_prefix → IsThereAs opened serial → opened_in serial ≡ Some opened
@@ -169,7 +132,7 @@ stopped_added fault.NotBuilt answer all ranges is has = all_added answer has
 
 -- why the reply of an error is right at what is there
 abbrev pub IsRight : (KeyRange → ReadError → Type 0) → Command → List Mutation → StoreError → Map → Serial → Type 0
-IsRight refuses command before error m serial = (answer : Reply) → reply_of error ≡ Some answer → IsServed before serial command answer ⊎ IsReadRefusal refuses (reach (opened_in serial) command m) answer
+IsRight refuses command before error m serial = (answer : Reply) → reply_of error ≡ Some answer → IsServed m before serial command answer ⊎ IsReadRefusal refuses (reach (opened_in serial) command m) answer
 
 -- what is so of a map, and of all that it holds, where a command stopped with an error
 pub record IsStop (refuses : KeyRange → ReadError → Type 0) (opened : Option Opened) (command : Command) (before : List Mutation) (error : StoreError) (ranges : List KeyRange) (m : Map) : Type 0 where
@@ -188,17 +151,17 @@ refused_by {refuses = refuses} {old = old} {new = new} command opened error rang
     ran = ran_because ran (λ m stop. record { there = stop.there; reads = stopped_begin error stop.reads; held = λ serial stands. stopped_begin error (stop.held serial stands).1 });
   };
   replied = λ answer is.
-      let no_effect = error_refuses command error answer is in record {
+      let no_effect = error_refuses error answer is in record {
         opened = opened;
         added = ranges;
         written = [];
-        changes = sym no_effect.1;
+        changes = ap not (sym no_effect.1);
         ran =
             ran_because ran (λ m stop. (
               record { there = stop.there; reads = stopped_added error answer (added_by opened command m) ranges is stop.reads; told = stop.told answer is },
               λ serial stands. record {
                 right = (stop.held serial stands).0 answer is;
-                wrote = ap (λ b. cond b (writes serial command) []) (sym no_effect.0);
+                wrote = ap (λ b. cond b (writes m serial command) []) (sym no_effect.0);
                 holds = subst (λ b. Stands m (cond b (effect serial command) serial)) (sym no_effect.0) stands;
                 reads = stopped_added error answer (added_by (opened_in serial) command m) ranges is (stop.held serial stands).1;
               },
@@ -227,9 +190,7 @@ memory_opened {refuses = refuses} {old = old} opened command opens is =
 
 -- a refused read within the reach
 pub read_right : (refuses : KeyRange → ReadError → Type 0) (within : List KeyRange) (error : ReadError) (answer : Reply) → reply_of (Read error) ≡ Some answer → IsReadRefusedAs refuses within error → IsReadRefusal refuses within answer
-read_right refuses within read.FutureVersion answer is says = let same : reply.Refused FutureVersion ≡ answer = cc in subst (IsReadRefusal refuses within) same says
-read_right refuses within read.TooOld answer is says = let same : reply.Refused TooOld ≡ answer = cc in subst (IsReadRefusal refuses within) same says
-read_right refuses within read.Memory answer is says = absurd (cc)
+read_right refuses within error answer is says = record { error = error; told = is; refused = says }
 
 -- such a reply tells nothing of what was read
 pub told_read : (opened : Option Opened) (command : Command) (error : ReadError) (answer : Reply) (m : Map) → reply_of (Read error) ≡ Some answer → TellsOfPairs opened command answer m
@@ -254,19 +215,19 @@ told_limit opened command write.TransactionTooLarge answer m is sound = let same
 told_limit opened command write.Memory answer m is sound = absurd (cc)
 
 -- a reply by which the command writes nothing
-pub served_idle : (before : List Mutation) (serial : Serial) (command : Command) (answer : Reply) → writes serial command ≡ [] → IsReply serial command answer → IsServed before serial command answer
-served_idle before serial command answer none is = subst (λ ms. IsLimited (write_all_refusal before ms) serial command answer) (sym none) is
+pub served_idle : (m : Map) (before : List Mutation) (serial : Serial) (command : Command) (answer : Reply) → writes m serial command ≡ [] → IsReply serial command answer → IsServed m before serial command answer
+served_idle m before serial command answer none is = subst (λ ms. IsLimited (write_all_refusal before ms) serial command answer) (sym none) is
 
 -- a refusal of the command's own, where it writes nothing
 pub own_right : (refuses : KeyRange → ReadError → Type 0) (command : Command) (before : List Mutation) (error : StoreError) (refusal : Refusal) (m : Map) (serial : Serial) → reply_of error ≡ Some (reply.Refused refusal) → IsReply serial command (reply.Refused refusal) →
-    writes serial command ≡ [] → IsRight refuses command before error m serial
+    writes m serial command ≡ [] → IsRight refuses command before error m serial
 own_right refuses command before error refusal m serial replied is none =
-    λ answer same. let that : reply.Refused refusal ≡ answer = cc in inl (subst (IsServed before serial command) that (served_idle before serial command (reply.Refused refusal) none is))
+    λ answer same. let that : reply.Refused refusal ≡ answer = cc in inl (subst (IsServed m before serial command) that (served_idle m before serial command (reply.Refused refusal) none is))
 
 -- a refusal of the command by this error
 pub refused_right : (refuses : KeyRange → ReadError → Type 0) (command : Command) (before : List Mutation) (error : StoreError) (m : Map) (serial : Serial) → serial_line serial command ≡ serve.Refuses (reply_of error) → IsRight refuses command before error m serial
 refused_right refuses command before error m serial is =
-    λ answer same. inl (served_idle before serial command answer (ap (λ l. written_with l (footprint_writes serial command)) is) (subst (λ l. IsReplyOf l answer) (sym is) same))
+    λ answer same. inl (served_idle m before serial command answer (ap (λ l. written_with l (footprint_writes m serial command)) is) (subst (λ l. IsReplyOf l answer) (sym is) same))
 
 -- a limit is the reply that it is
 limit_is : (error : WriteError) (answer : Reply) → reply_of (Write error) ≡ Some answer → IsLimit error answer
@@ -277,6 +238,6 @@ limit_is write.TransactionTooLarge answer is = let same : reply.Refused _ ≡ an
 limit_is write.Memory answer is = absurd (cc)
 
 -- a limit that what the command writes meets
-pub limit_right : (refuses : KeyRange → ReadError → Type 0) (command : Command) (before : List Mutation) (error : WriteError) (m : Map) (serial : Serial) → write_all_refusal before (writes serial command) ≡ Some error →
+pub limit_right : (refuses : KeyRange → ReadError → Type 0) (command : Command) (before : List Mutation) (error : WriteError) (m : Map) (serial : Serial) → write_all_refusal before (writes m serial command) ≡ Some error →
     IsRight refuses command before (Write error) m serial
 limit_right refuses command before error m serial meets = λ answer is. inl (subst (λ o. IsLimited o serial command answer) (sym meets) (limit_is error answer is))

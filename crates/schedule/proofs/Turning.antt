@@ -11,19 +11,23 @@ use Rattle.kv_core.specs.declared.change.WriteError.{WriteError}
 use Rattle.kv_core.specs.declared.change.WriteError.TheVariants as limits
 use Rattle.kv_core.proofs.Changes.{after_all-append}
 use Rattle.cluster_core.specs.declared.answers.ReadError.{ReadError}
+use Rattle.cluster_core.specs.declared.answers.ReadError.TheVariants as reads
+use Rattle.schedule.specs.Refusals.{read_reply}
+use Rattle.schedule.specs.declared.refusal.Refusal.TheVariants.{FutureVersion, TooOld}
 use Rattle.txn.specs.Reads.{seen}
 use Rattle.txn.specs.Runs.{with_ranges}
 use Rattle.txn.proofs.Running.{ran_because, ran_keeps, with_ranges_append}
 use Rattle.schedule.specs.declared.step.Command.{Command}
 use Rattle.schedule.specs.declared.reply.Reply.{Reply}
-use Rattle.schedule.specs.declared.reply.Reply.TheVariants.{Begun, Done, SavedNew, SavedOver, Found, Absent, Removed, Rows, Planned, State, Total, Built, Finished, Submitted, ReadOnly, Nothing, Reported, Refused, Corrupt}
+use Rattle.schedule.specs.declared.reply.Reply.TheVariants.{Refused}
 use Rattle.record_store.specs.Store.{Serial}
 use Rattle.schedule.specs.Serve.{IsReply, effect, effects}
-use Rattle.schedule.specs.Past.{Attempt, Open, accepted, is_accepted, is_reading, is_changed}
+use Rattle.schedule.specs.Past.{Attempt, Open, accepted, is_accepted, is_changed, tells_change}
 use Rattle.schedule.specs.Holds.{Stands}
 use Rattle.schedule.specs.Reach.{opened_in, reach, writes}
 use Rattle.schedule.specs.Performed.{IsLimit, IsLimited, IsReadRefusal, IsPerformedAt, IsPerformed}
-use Rattle.schedule.specs.Contract.{attempted, commands_written, HaveAdded, IsSerialAt}
+use Rattle.schedule.specs.Contract.{attempted}
+use Rattle.schedule.specs.Exact.{attempt_writes, commands_written, HaveAdded, IsSerialAt}
 use Rattle.schedule.specs.Turns.{fresh_request, DidAt, DidAttempt, AreDone, IsOpenTransaction}
 
 -- ---- one attempt
@@ -37,25 +41,12 @@ limit_refuses limits.TransactionTooLarge answer is = ap is_accepted is
 limit_refuses limits.Memory answer is = absurd is
 
 read_refuses : (refuses : KeyRange → ReadError → Type 0) (within : List KeyRange) (answer : Reply) → IsReadRefusal refuses within answer → is_accepted answer ≡ false
-read_refuses refuses within (Refused refusal) is = refl
-read_refuses refuses within (Corrupt key) is = refl
-read_refuses refuses within (Begun version) is = absurd is
-read_refuses refuses within Done is = absurd is
-read_refuses refuses within SavedNew is = absurd is
-read_refuses refuses within (SavedOver cells) is = absurd is
-read_refuses refuses within (Found cells) is = absurd is
-read_refuses refuses within Absent is = absurd is
-read_refuses refuses within Removed is = absurd is
-read_refuses refuses within (Rows rows) is = absurd is
-read_refuses refuses within (Planned plan) is = absurd is
-read_refuses refuses within (State state) is = absurd is
-read_refuses refuses within (Total total) is = absurd is
-read_refuses refuses within (Built records range) is = absurd is
-read_refuses refuses within Finished is = absurd is
-read_refuses refuses within (Submitted version) is = absurd is
-read_refuses refuses within ReadOnly is = absurd is
-read_refuses refuses within Nothing is = absurd is
-read_refuses refuses within (Reported reports) is = absurd is
+read_refuses refuses within answer is = by_error is.error is.told
+  where
+    by_error : (error : ReadError) → read_reply error ≡ Some answer → is_accepted answer ≡ false
+    by_error reads.FutureVersion told = let same : Refused FutureVersion ≡ answer = cc in ap is_accepted (sym same)
+    by_error reads.TooOld told = let same : Refused TooOld ≡ answer = cc in ap is_accepted (sym same)
+    by_error reads.Memory told = absurd (cc)
 
 -- an accepted reply is the serial store's
 replied_of : (limit : Option WriteError) (serial : Serial) (command : Command) (answer : Reply) → IsLimited limit serial command answer → is_accepted answer ≡ true → IsReply serial command answer
@@ -66,7 +57,7 @@ did_at : {refuses : KeyRange → ReadError → Type 0} {before : List Mutation} 
     IsPerformedAt refuses command answer before wrote ranges m serial → DidAt (record { command = command; reply = answer }) wrote ranges m serial
 did_at {refuses = refuses} {before = before} command answer wrote ranges m serial performed = record {
   replied = λ yes_accepted. elim performed.right [
-    | inl served ↦ replied_of (write_all_refusal before (writes serial command)) serial command answer served yes_accepted
+    | inl served ↦ replied_of (write_all_refusal before (writes m serial command)) serial command answer served yes_accepted
     | inr refused ↦ absurd (true≢false (sym yes_accepted ∙ read_refuses refuses (reach (opened_in serial) command m) answer refused))
   ];
   wrote = performed.wrote;
@@ -159,6 +150,10 @@ or_assoc : (a b c : Bool) → ((a || b) || c) ≡ (a || (b || c))
 or_assoc true b c = refl
 or_assoc false b c = refl
 
+twice : (b : Bool) → not (not b) ≡ b
+twice true = refl
+twice false = refl
+
 or_nothing : (a : Bool) → a ≡ (a || false)
 or_nothing true = refl
 or_nothing false = refl
@@ -168,8 +163,8 @@ done_changed : (maps : ℕ → Map) (attempts : List Attempt) (old new : CommitR
 done_changed maps [] old new same = ap (λ (t : CommitRequest). has_some t.mutations) (sym same) ∙ or_nothing (has_some old.mutations)
 done_changed maps (attempt ∷ attempts) old new (mid, did, rest) =
     done_changed maps attempts mid new rest
-    ∙ ap (λ b. b || is_changed attempts) (ap has_some did.ran.wrote ∙ has_some-append old.mutations did.written ∙ ap (λ b. has_some old.mutations || not b) did.changes)
-    ∙ or_assoc (has_some old.mutations) (not (is_reading attempt.command attempt.reply)) (is_changed attempts)
+    ∙ ap (λ b. b || is_changed attempts) (ap has_some did.ran.wrote ∙ has_some-append old.mutations did.written ∙ ap (λ b. has_some old.mutations || b) (ap not did.changes ∙ twice (tells_change attempt.reply)))
+    ∙ or_assoc (has_some old.mutations) (tells_change attempt.reply) (is_changed attempts)
 
 -- what is there after attempts is what the accepted commands make
 pub attempts_effects : (serial : Serial) (attempts : List Attempt) → after_attempts serial attempts ≡ effects serial (accepted attempts)
@@ -184,34 +179,36 @@ attempts_effects serial (attempt ∷ attempts) = by_test (is_accepted attempt.re
 
 -- what was written is what the accepted commands write, over each map that agrees with what was read
 pub done_writes : (maps : ℕ → Map) (attempts : List Attempt) (old new : CommitRequest) → AreDone maps attempts old new →
-    (m : Map) (serial : Serial) → Agree new.reads (maps new.read_version) m → Stands (seen old m) serial → new.mutations ≡ old.mutations ++ commands_written serial (accepted attempts)
+    (m : Map) (serial : Serial) → Agree new.reads (maps new.read_version) m → Stands (seen old m) serial → new.mutations ≡ old.mutations ++ commands_written (seen old m) serial (accepted attempts)
 done_writes maps [] old new same m serial agree holds = ap (λ (t : CommitRequest). t.mutations) (sym same) ∙ sym (append-nil old.mutations)
 done_writes maps (attempt ∷ attempts) old new (mid, did, rest) m serial agree holds =
     let later = keeps_all maps attempts mid new rest m agree in
     let at = did.ran.over m (subst (λ v. Agree mid.reads (maps v) m) did.ran.version later) serial holds in
     let is_seen : after_all did.written (seen old m) ≡ seen mid m = sym (ap (λ ms. after_all ms m) did.ran.wrote ∙ after_all-append old.mutations did.written m) in
     done_writes maps attempts mid new rest m (attempted serial attempt) agree (subst (λ (n : Map). Stands n (attempted serial attempt)) is_seen at.holds)
-    ∙ ap (λ ms. ms ++ commands_written (attempted serial attempt) (accepted attempts)) (did.ran.wrote ∙ ap (λ ms. old.mutations ++ ms) at.wrote)
-    ∙ append_assoc old.mutations (cond (is_accepted attempt.reply) (writes serial attempt.command) []) (commands_written (attempted serial attempt) (accepted attempts))
+    ∙ ap (λ n. mid.mutations ++ commands_written n (attempted serial attempt) (accepted attempts)) (sym is_seen ∙ ap (λ ms. after_all ms (seen old m)) at.wrote)
+    ∙ ap (λ ms. ms ++ commands_written (after_all (cond (is_accepted attempt.reply) (writes (seen old m) serial attempt.command) []) (seen old m)) (attempted serial attempt) (accepted attempts)) (did.ran.wrote ∙ ap (λ ms. old.mutations ++ ms) at.wrote)
+    ∙ append_assoc old.mutations (cond (is_accepted attempt.reply) (writes (seen old m) serial attempt.command) []) (commands_written (after_all (cond (is_accepted attempt.reply) (writes (seen old m) serial attempt.command) []) (seen old m)) (attempted serial attempt) (accepted attempts))
     ∙ ap (λ ms. old.mutations ++ ms) (by_test (is_accepted attempt.reply))
   where
-    by_test : (b : Bool) → cond b (writes serial attempt.command) [] ++ commands_written (cond b (effect serial attempt.command) serial) (accepted attempts)
-        ≡ commands_written serial (map (λ (a : Attempt). a.command) (cond b (attempt ∷ filter (λ (a : Attempt). is_accepted a.reply) attempts) (filter (λ (a : Attempt). is_accepted a.reply) attempts)))
+    by_test : (b : Bool) → cond b (writes (seen old m) serial attempt.command) [] ++ commands_written (after_all (cond b (writes (seen old m) serial attempt.command) []) (seen old m)) (cond b (effect serial attempt.command) serial) (accepted attempts)
+        ≡ commands_written (seen old m) serial (map (λ (a : Attempt). a.command) (cond b (attempt ∷ filter (λ (a : Attempt). is_accepted a.reply) attempts) (filter (λ (a : Attempt). is_accepted a.reply) attempts)))
     by_test true = refl
     by_test false = refl
 
 -- the ranges read are those before and those that the attempts added, over each map that agrees with what was read
 pub done_reads : (maps : ℕ → Map) (attempts : List Attempt) (old new : CommitRequest) → AreDone maps attempts old new →
     (m : Map) (serial : Serial) → Agree new.reads (maps new.read_version) m → Stands (seen old m) serial →
-    (ranges : List KeyRange) × HaveAdded serial attempts ranges × (new.reads ≡ with_ranges ranges old.reads)
+    (ranges : List KeyRange) × HaveAdded (seen old m) serial attempts ranges × (new.reads ≡ with_ranges ranges old.reads)
 done_reads maps [] old new same m serial agree holds = ([], refl, ap (λ (t : CommitRequest). t.reads) (sym same))
 done_reads maps (attempt ∷ attempts) old new (mid, did, rest) m serial agree holds =
     let later = keeps_all maps attempts mid new rest m agree in
     let at = did.ran.over m (subst (λ v. Agree mid.reads (maps v) m) did.ran.version later) serial holds in
     let is_seen : after_all did.written (seen old m) ≡ seen mid m = sym (ap (λ ms. after_all ms m) did.ran.wrote ∙ after_all-append old.mutations did.written m) in
+    let next : seen mid m ≡ after_all (attempt_writes (seen old m) serial attempt) (seen old m) = sym is_seen ∙ ap (λ ms. after_all ms (seen old m)) at.wrote in
     let (others, have, are) = done_reads maps attempts mid new rest m (attempted serial attempt) agree (subst (λ (n : Map). Stands n (attempted serial attempt)) is_seen at.holds) in (
       did.added ++ others,
-      (did.added, others, refl, (seen old m, holds, at.reads), have),
+      (did.added, others, refl, at.reads, subst (λ n. HaveAdded n (attempted serial attempt) attempts others) next have),
       are ∙ ap (with_ranges others) did.ran.reads ∙ sym (with_ranges_append did.added others old.reads),
     )
 

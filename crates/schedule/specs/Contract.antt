@@ -1,23 +1,18 @@
--- What a schedule of many clients and of the database's roles replies, and what it leaves.
-use Rattle.std.specs.Prelude.{◌≡◌, ◌≤◌, ◌⊎◌, ℕ, ◌+◌, ◌-◌, Bool, true, List, [], ◌∷◌, ◌++◌}
+-- What a schedule of many clients and of the database's roles replies, and what it leaves, by what the reply to a
+-- command is.
+use Rattle.std.specs.Prelude.{◌≡◌, ◌≤◌, ℕ, ◌+◌, ◌-◌, Bool, true, List, [], ◌∷◌, ◌++◌}
 use Rattle.std.specs.Prelude.{Option, Some, None, if◌then◌else◌, ◌==◌, length, nat_lt, All}
 use Rattle.std.specs.List.{find, range_with_len}
 use Rattle.std.specs.Option.{option_map, option_map_or}
-use Rattle.kv_core.specs.Map.{Map}
-use Rattle.kv_core.specs.Range.{KeyRange}
 use Rattle.kv_core.specs.declared.change.CommitRequest.{CommitRequest}
-use Rattle.kv_core.specs.declared.change.Mutation.{Mutation}
 use Rattle.cluster_core.specs.declared.answers.Config.{Config}
-use Rattle.cluster_core.specs.declared.answers.ReadError.{ReadError}
 use Rattle.cluster_core.specs.declared.answers.Reported.{Reported}
 use Rattle.cluster_core.specs.declared.answers.Reported.TheVariants as reported
 use Rattle.cluster_core.specs.declared.answers.SubmitError.{SubmitError}
 use Rattle.cluster_core.specs.declared.answers.SubmitError.TheVariants as submitting
-use Rattle.cluster_core.specs.Cluster.{ClusterState, database_at, may_pull, tier_of}
-use Rattle.cluster_core.specs.History.{IsLegal}
-use Rattle.cluster_core.specs.Roles.{PipelineState, history, may_append, may_report}
+use Rattle.cluster_core.specs.Cluster.{ClusterState, database_at, may_pull}
+use Rattle.cluster_core.specs.Roles.{PipelineState, may_append, may_report}
 use Rattle.cluster_core.specs.Roles.{may_resolve, outcome, submit_refusal, submitted}
-use Rattle.txn.specs.Refusing.{MayRefuse}
 use Rattle.schedule.specs.declared.refusal.Refusal.TheVariants.{NoSuchClient, NoSuchRole, Busy}
 use Rattle.schedule.specs.declared.refusal.Refusal.TheVariants.{NoPlan, NoTransaction, TooOld, VersionsExhausted}
 use Rattle.schedule.specs.declared.step.Command.{Command}
@@ -32,16 +27,12 @@ use Rattle.schedule.specs.declared.reply.Reply.TheVariants as answers
 use Rattle.schedule.specs.declared.reply.Report as telling
 use Rattle.schedule.specs.declared.reply.Report.TheVariants as tells
 use Rattle.schedule.specs.declared.transcript.CommitEntry.{CommitEntry}
-use Rattle.schedule.specs.declared.transcript.Transcript.{Transcript}
 use Rattle.record_store.specs.Store.{Serial}
-use Rattle.schedule.specs.Serve.{IsReply, effect}
+use Rattle.schedule.specs.Serve.{effect}
 use Rattle.schedule.specs.Past.{Past, Attempt, Open, Submission, accepted}
 use Rattle.schedule.specs.Past.{is_accepted, is_changed, kept_plan, open_of, submitted_in}
 use Rattle.schedule.specs.Holds.{Stands}
-use Rattle.schedule.specs.Reach.{opened_in, added_by, reach, writes}
-use Rattle.schedule.specs.Performed.{HasAdded, IsServed, IsReadRefusal}
-use Rattle.txn.specs.Runs.{with_ranges}
-use Rattle.schedule.specs.Commits.{committed_store, view}
+use Rattle.schedule.specs.Commits.{committed_store}
 use Rattle.schedule.specs.Standing.{cluster_after, commits_of, listed}
 
 -- ---- replies
@@ -77,26 +68,6 @@ WithPlan (Some plan) IsRight reply = IsRight plan
 abbrev pub begin_reply : ClusterState → Option Open → Reply
 begin_reply c (Some open_now) = Refused Busy
 begin_reply c None = Begun c.pipeline.reported
-
--- what commands write one after another
-abbrev pub commands_written : Serial → List Command → List Mutation
-commands_written serial [] = []
-commands_written serial (command ∷ commands) =
-    writes serial command ++ commands_written (effect serial command) commands
-
--- the reply tells that a read is refused, one of those that the command asks for of a map that holds what it sees
-abbrev pub IsReadRefused : (KeyRange → ReadError → Type 0) → Serial → Command → Reply → Type 0
-IsReadRefused refuses seen command reply =
-    (m : Map) × Stands m seen × IsReadRefusal refuses (reach (opened_in seen) command m) reply
-
--- the reply to a command: the serial store's for what the transaction sees, or the limit that its writes meet, or that
--- a read is refused by a server
-abbrev pub IsCommandReply : ClusterState → List CommitEntry → Open → Command → Reply → Type 0
-IsCommandReply c commits open_now command reply =
-    let seen = view commits open_now in
-    IsServed (commands_written (committed_store commits open_now.read_version) (accepted open_now.attempts)) seen
-    command reply
-    ⊎ IsReadRefused (λ range. MayRefuse (tier_of c) range open_now.read_version) seen command reply
 
 -- the reply to `commit`: there was nothing to submit, or no version was left, or the transaction read too long ago, or
 -- the next version
@@ -150,31 +121,37 @@ abbrev pub settle_reply : PipelineState → List Submission → Reply
 settle_reply p submissions =
     reports_reply (reports_of p submissions (range_with_len (p.reported + 1) (submitted p - p.reported)))
 
--- the reply is right for a step, where the cluster and what was submitted stand so
-abbrev pub IsReplyTo : ClusterState → Past → Step → Reply → Type 0
-IsReplyTo c past (Begin client) reply = OfClient client reply (reply ≡ begin_reply c (open_of client past))
-IsReplyTo c past (Perform client command) reply =
+-- what the reply to a command is, by the cluster, the transactions committed so far, and the open transaction
+abbrev pub CommandRelation : Type 1
+CommandRelation = ClusterState → List CommitEntry → Open → Command → Reply → Type 0
+
+-- the reply is right for a step, where the cluster and what was submitted stand so, and that to a command is as stated
+abbrev pub IsReplyBy : CommandRelation → ClusterState → Past → Step → Reply → Type 0
+IsReplyBy IsOfCommand c past (Begin client) reply = OfClient client reply (reply ≡ begin_reply c (open_of client past))
+IsReplyBy IsOfCommand c past (Perform client command) reply =
     OfClient client reply (InTransaction (open_of client past)
-    (λ open_now. IsCommandReply c (commits_of c.pipeline (submitted_in past)) open_now command reply) reply)
-IsReplyTo c past (Execute client) reply =
+    (λ open_now. IsOfCommand c (commits_of c.pipeline (submitted_in past)) open_now command reply) reply)
+IsReplyBy IsOfCommand c past (Execute client) reply =
     OfClient client reply (InTransaction (open_of client past) (λ open_now. WithPlan (kept_plan client past)
-    (λ plan. IsCommandReply c (commits_of c.pipeline (submitted_in past)) open_now (asks.Execute plan) reply) reply)
+    (λ plan. IsOfCommand c (commits_of c.pipeline (submitted_in past)) open_now (asks.Execute plan) reply) reply)
     reply)
-IsReplyTo c past (Commit client) reply =
+IsReplyBy IsOfCommand c past (Commit client) reply =
     OfClient client reply (InTransaction (open_of client past) (λ open_now. reply ≡ commit_reply c open_now) reply)
-IsReplyTo c past (Abandon client) reply =
+IsReplyBy IsOfCommand c past (Abandon client) reply =
     OfClient client reply (InTransaction (open_of client past) (λ open_now. reply ≡ Done) reply)
-IsReplyTo c past (Resolve r) reply = reply ≡ role_reply (length c.pipeline.resolved) r (may_resolve c.pipeline r)
-IsReplyTo c past (Log l) reply = reply ≡ role_reply (length c.pipeline.logged) l (may_append c.pipeline l)
-IsReplyTo c past (Pull s) reply = reply ≡ role_reply (length c.pulled) s (may_pull c s)
-IsReplyTo c past Report reply = reply ≡ report_reply c.pipeline (submitted_in past)
-IsReplyTo c past Lost reply = reply ≡ lost_reply c.pipeline (submitted_in past)
-IsReplyTo c past Settle reply = reply ≡ settle_reply c.pipeline (submitted_in past)
+IsReplyBy IsOfCommand c past (Resolve r) reply =
+    reply ≡ role_reply (length c.pipeline.resolved) r (may_resolve c.pipeline r)
+IsReplyBy IsOfCommand c past (Log l) reply = reply ≡ role_reply (length c.pipeline.logged) l (may_append c.pipeline l)
+IsReplyBy IsOfCommand c past (Pull s) reply = reply ≡ role_reply (length c.pulled) s (may_pull c s)
+IsReplyBy IsOfCommand c past Report reply = reply ≡ report_reply c.pipeline (submitted_in past)
+IsReplyBy IsOfCommand c past Lost reply = reply ≡ lost_reply c.pipeline (submitted_in past)
+IsReplyBy IsOfCommand c past Settle reply = reply ≡ settle_reply c.pipeline (submitted_in past)
 
 -- REPLIES: each reply is right as the cluster stands after the steps before it
-abbrev pub HasRightReplies : Config → List CommitRequest → List Step → List Reply → Type 0
-HasRightReplies config requests steps replies =
-    EachReply (λ past step reply. IsReplyTo (cluster_after config requests past) past step reply) [] steps replies
+abbrev pub HasReplies : CommandRelation → Config → List CommitRequest → List Step → List Reply → Type 0
+HasReplies IsOfCommand config requests steps replies =
+    EachReply (λ past step reply. IsReplyBy IsOfCommand (cluster_after config requests past) past step reply) [] steps
+    replies
 
 -- the open transaction of a client, by its read version and its accepted commands
 abbrev pub open_by_commands : ℕ → Past → Option (ℕ × List Command)
@@ -212,65 +189,23 @@ HoldsCommitted c commits =
 abbrev pub attempted : Serial → Attempt → Serial
 attempted serial attempt = if is_accepted attempt.reply then effect serial attempt.command else serial
 
--- SERIAL: each accepted command of a listed transaction has the same reply just before the transaction's version, after
--- its earlier ones
-abbrev pub IsSerialAt : Serial → List Attempt → Type 0
-IsSerialAt serial [] = Unit {0}
-IsSerialAt serial (attempt ∷ attempts) =
-    (is_accepted attempt.reply ≡ true → IsReply serial attempt.command attempt.reply)
-    × IsSerialAt (attempted serial attempt) attempts
+-- SERIAL: each accepted command of a listed transaction has just before the transaction's version, after its earlier
+-- ones, a reply as stated that is the one it had
+abbrev pub IsSerialBy : (Serial → Command → Reply → Type 0) → Serial → List Attempt → Type 0
+IsSerialBy IsOfCommand serial [] = Unit {0}
+IsSerialBy IsOfCommand serial (attempt ∷ attempts) =
+    (is_accepted attempt.reply ≡ true → IsOfCommand serial attempt.command attempt.reply)
+    × IsSerialBy IsOfCommand (attempted serial attempt) attempts
 
-abbrev pub IsSerial : ClusterState → List CommitEntry → List Submission → Type 0
-IsSerial c commits submissions =
-    All (λ one. IsSerialAt (committed_store commits (one.version - 1)) one.transaction.attempts)
+abbrev pub AreSerialBy :
+    (Serial → Command → Reply → Type 0) → ClusterState → List CommitEntry → List Submission → Type 0
+AreSerialBy IsOfCommand c commits submissions =
+    All (λ one. IsSerialBy IsOfCommand (committed_store commits (one.version - 1)) one.transaction.attempts)
     (listed c.pipeline submissions)
 
--- what attempts add to the ranges read, one after another, over maps that hold what is there
-abbrev pub HaveAdded : Serial → List Attempt → List KeyRange → Type 0
-HaveAdded serial [] added = added ≡ []
-HaveAdded serial (attempt ∷ attempts) added =
-    (first : List KeyRange) × (rest : List KeyRange) × (added ≡ first ++ rest)
-    × ((m : Map) × Stands m serial × HasAdded attempt.reply (added_by (opened_in serial) attempt.command m) first)
-    × HaveAdded (attempted serial attempt) attempts rest
-
--- the ranges read are those that attempts added, in their order, each once
-pub record AreReads (serial : Serial) (attempts : List Attempt) (reads : List KeyRange) : Type 0 where
-  pub added : List KeyRange
-  pub each : HaveAdded serial attempts added
-  pub are : reads ≡ with_ranges added []
-
--- REQUESTS: there is one for each submission, with its read version; its reads are what the commands read, in order,
--- and it writes just what the accepted commands write
-pub record IsRequestOf (commits : List CommitEntry) (one : Submission) (request : CommitRequest) : Type 0 where
-  pub read_version : request.read_version ≡ one.transaction.read_version
-  pub reads : AreReads (committed_store commits one.transaction.read_version) one.transaction.attempts request.reads
-  pub mutations :
-      request.mutations
-      ≡ commands_written (committed_store commits one.transaction.read_version) (accepted one.transaction.attempts)
-
-abbrev pub AreRequestsOf : List CommitEntry → List Submission → List CommitRequest → Type 0
-AreRequestsOf commits [] [] = Unit {0}
-AreRequestsOf commits (one ∷ submissions) (request ∷ requests) =
-    IsRequestOf commits one request × AreRequestsOf commits submissions requests
-AreRequestsOf commits submissions requests = ⊥
-
--- ---- the whole
-
--- RUN: what a run of a schedule is
-pub record IsRightRun (config : Config) (steps : List Step) (run : Transcript) : Type 0 where
-  -- there is one reply for each step, and each is right as the cluster stands after the steps before it
-  pub replies : HasRightReplies config run.cluster.pipeline.requests steps run.replies
-  -- the cluster that is left is the one that the steps and their replies define
-  pub cluster : run.cluster ≡ cluster_after config run.cluster.pipeline.requests (past_of [] steps run.replies)
-  -- the transactions listed are those that were reported and committed, with their accepted commands
-  pub commits : run.commits ≡ commits_of run.cluster.pipeline (submitted_in (past_of [] steps run.replies))
-  -- the committed requests are a legal history: each would have read the same just before its own version
-  pub legal : IsLegal (history run.cluster.pipeline)
-  -- at each version up to the last reported one the database holds just the store that the committed transactions make
-  pub holds : HoldsCommitted run.cluster run.commits
-  -- version order is a serial order: each listed transaction has the same replies just before its version
-  pub serial : IsSerial run.cluster run.commits (submitted_in (past_of [] steps run.replies))
-  -- each request's reads are what its commands read, in order, and its writes just those of the accepted ones
-  pub requests : AreRequestsOf run.commits (submitted_in (past_of [] steps run.replies)) run.cluster.pipeline.requests
-  -- a refused step leaves all as it was, which follows from the first two
-  pub refusals : EachReply (LeavesAll config run.cluster.pipeline.requests) [] steps run.replies
+-- REQUESTS: there is one for each submission, which is as stated
+abbrev pub EachRequest : (Submission → CommitRequest → Type 0) → List Submission → List CommitRequest → Type 0
+EachRequest IsRequest [] [] = Unit {0}
+EachRequest IsRequest (one ∷ submissions) (request ∷ requests) =
+    IsRequest one request × EachRequest IsRequest submissions requests
+EachRequest IsRequest submissions requests = ⊥

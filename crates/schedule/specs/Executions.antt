@@ -78,7 +78,7 @@ pub data IsQueried (maps : ℕ → Map) (opened : Opened) (query : declared.Quer
       (plan : AskedPlan) → IsPlanOf opened query plan → IsExecution maps opened plan answer old new →
       IsQueried maps opened query answer old new
 
--- memory was wanting for the plan, without a read; or the plan wasn't executed
+-- memory ran out for the plan, without a read; or the plan wasn't executed
 pub data IsUnqueried (maps : ℕ → Map) (refuses : KeyRange → ℕ → ReadError → Type 0) (opened : Opened)
     (query : declared.Query) (error : StoreError) (old new : CommitRequest) : Type 0 where
   unplanned : error ≡ fault.Memory → new ≡ old → IsUnqueried maps refuses opened query error old new

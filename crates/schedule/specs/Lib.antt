@@ -14,6 +14,10 @@ pub mod Executions
 pub mod Commits
 pub mod Standing
 pub mod Contract
+pub mod Exact
+pub mod Keys
+pub mod Right
+pub mod Headline
 pub mod Turns
 pub mod Running
 pub mod Settling

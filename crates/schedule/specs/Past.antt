@@ -1,17 +1,16 @@
 -- What the steps so far and their replies say of each client: its open transaction, and what it submitted.
-use Rattle.std.specs.Prelude.{ℕ, Bool, true, false, not, List, [], ◌∷◌, ◌++◌}
+use Rattle.std.specs.Prelude.{ℕ, Bool, true, false, List, [], ◌∷◌, ◌++◌}
 use Rattle.std.specs.Prelude.{Option, Some, None, ◌==◌, if◌then◌else◌, map, filter}
 use Rattle.std.specs.List.{list_any}
 use Rattle.std.specs.Option.{option_map}
 use Rattle.schedule.specs.declared.step.Command.{Command}
-use Rattle.schedule.specs.declared.step.Command.TheVariants.{Aggregate, Build, Execute, Load, Plan, Query}
-use Rattle.schedule.specs.declared.step.Command.TheVariants.{Remove, State}
 use Rattle.schedule.specs.declared.step.Step.{Step}
 use Rattle.schedule.specs.declared.step.Step.TheVariants.{Begin, Perform, Commit, Abandon}
+use Rattle.schedule.specs.declared.step.Command.TheVariants.{Execute}
 use Rattle.schedule.specs.declared.step.Step.TheVariants as steps
 use Rattle.schedule.specs.declared.reply.Reply.{Reply}
-use Rattle.schedule.specs.declared.reply.Reply.TheVariants.{Begun, Done, Planned, Submitted, Refused, Corrupt}
-use Rattle.schedule.specs.declared.reply.Reply.TheVariants.{Absent, Finished}
+use Rattle.schedule.specs.declared.reply.Reply.TheVariants.{Begun, Built, Corrupt, Done, Indexed, Planned, Refused}
+use Rattle.schedule.specs.declared.reply.Reply.TheVariants.{Removed, SavedNew, SavedOver, Stopped, Submitted}
 use Rattle.planner.specs.Asked.{AskedPlan}
 
 -- the steps so far with their replies, the newest first
@@ -32,29 +31,26 @@ pub record Open : Type 0 where
 abbrev pub is_accepted : Reply → Bool
 is_accepted (Refused refusal) = false
 is_accepted (Corrupt key) = false
+is_accepted Stopped = false
 is_accepted reply = true
 
 -- the commands that were accepted, in order
 abbrev pub accepted : List Attempt → List Command
 accepted attempts = map (λ attempt. attempt.command) (filter (λ attempt. is_accepted attempt.reply) attempts)
 
--- a command with this reply changes nothing
-abbrev pub is_reading : Command → Reply → Bool
-is_reading command (Refused refusal) = true
-is_reading command (Corrupt key) = true
-is_reading (Load type cells) reply = true
-is_reading (Query query) reply = true
-is_reading (Plan query) reply = true
-is_reading (Execute plan) reply = true
-is_reading (State name) reply = true
-is_reading (Aggregate name group) reply = true
-is_reading (Remove type cells) Absent = true
-is_reading (Build name limit) Finished = true
-is_reading command reply = false
+-- the reply to a command tells that it changed something
+abbrev pub tells_change : Reply → Bool
+tells_change Done = true
+tells_change SavedNew = true
+tells_change (SavedOver cells) = true
+tells_change Removed = true
+tells_change (Indexed state) = true
+tells_change (Built records range) = true
+tells_change reply = false
 
 -- a command changed something
 abbrev pub is_changed : List Attempt → Bool
-is_changed attempts = list_any (λ attempt. not (is_reading attempt.command attempt.reply)) attempts
+is_changed attempts = list_any (λ attempt. tells_change attempt.reply) attempts
 
 -- an open transaction with one more command performed
 abbrev pub grown : Attempt → Option Open → Option Open

@@ -1,6 +1,6 @@
 -- What a command establishes that was performed on a transaction, whatever map the snapshot turns out to have.
 use Rattle.std.specs.Prelude.{◌≡◌, ◌⊎◌, ℕ, zero, Bool, true, false, List, [], Option, Some}
-use Rattle.std.specs.Prelude.{None, Result, Ok, Err, IsTrue, length, ◌==◌, if◌then◌else◌}
+use Rattle.std.specs.Prelude.{None, Result, Ok, Err, IsTrue, length, not, ◌==◌, if◌then◌else◌}
 use Rattle.std.specs.FinMap.{get}
 use Rattle.kv_core.specs.Range.{KeyRange, contains, covers}
 use Rattle.kv_core.specs.Map.{Map, after_all}
@@ -10,9 +10,9 @@ use Rattle.kv_core.specs.declared.change.Mutation.{Mutation}
 use Rattle.kv_core.specs.declared.change.WriteError.{WriteError}
 use Rattle.kv_core.specs.declared.change.WriteError.TheVariants as limits
 use Rattle.cluster_core.specs.declared.answers.ReadError.{ReadError}
-use Rattle.cluster_core.specs.declared.answers.ReadError.TheVariants as reads
 use Rattle.txn.specs.Runs.{Ran}
 use Rattle.metadata.specs.declared.refusal.Refusal.{Refusal}
+use Rattle.schedule.specs.Refusals.{read_reply}
 use Rattle.schedule.specs.declared.refusal.Refusal.TheVariants.{AlreadyThere, FutureVersion, TooOld, KeyOutside}
 use Rattle.schedule.specs.declared.refusal.Refusal.TheVariants.{KeyTooLarge, ValueTooLarge, TransactionTooLarge}
 use Rattle.metadata.specs.Asked.{schema_asked}
@@ -20,7 +20,7 @@ use Rattle.metadata.specs.Schema.{Schema}
 use Rattle.schedule.specs.declared.step.Command.{Command}
 use Rattle.schedule.specs.declared.reply.Reply.{Reply}
 use Rattle.schedule.specs.declared.step.Command.TheVariants.{Build, Create}
-use Rattle.schedule.specs.declared.reply.Reply.TheVariants.{Refused, Corrupt}
+use Rattle.schedule.specs.declared.reply.Reply.TheVariants.{Refused, Corrupt, Stopped}
 use Rattle.record_store.specs.Call.{IsDamagedAt, Opened}
 use Rattle.record_store.specs.Call as call
 use Rattle.record_store.specs.Store.{Serial}
@@ -29,7 +29,7 @@ use Rattle.record_store.specs.Layout.{schema_key}
 use Rattle.record_store.specs.Opening.{HasSchema, opening_reach}
 use Rattle.record_store.specs.Steps.{IsBeginning}
 use Rattle.schedule.specs.Serve.{IsReply, effect}
-use Rattle.schedule.specs.Past.{is_accepted, is_reading}
+use Rattle.schedule.specs.Past.{is_accepted, tells_change}
 use Rattle.schedule.specs.Holds.{Stands}
 use Rattle.schedule.specs.Layout.{store_prefix}
 use Rattle.schedule.specs.Reach.{added_by, opened_in, own_damage, own_reading, reach, writes}
@@ -47,31 +47,42 @@ abbrev pub IsLimited : Option WriteError → Serial → Command → Reply → Ty
 IsLimited None serial command answer = IsReply serial command answer
 IsLimited (Some error) serial command answer = IsLimit error answer
 
--- the reply is the one that the serial store gives to the command in a transaction that wrote these mutations before
-abbrev pub IsServed : List Mutation → Serial → Command → Reply → Type 0
-IsServed before serial command answer =
-    IsLimited (write_all_refusal before (writes serial command)) serial command answer
+-- the reply is the one that the serial store gives to the command in a transaction that sees this map, and wrote these
+-- mutations before
+abbrev pub IsServed : Map → List Mutation → Serial → Command → Reply → Type 0
+IsServed m before serial command answer =
+    IsLimited (write_all_refusal before (writes m serial command)) serial command answer
 
--- a read of a range within these is refused so
-pub record IsReadRefusedAs (refuses : KeyRange → ReadError → Type 0) (within : List KeyRange) (error : ReadError) :
+-- a read of a range, all of whose keys are such, is refused so
+pub record IsReadRefusedAmong (refuses : KeyRange → ReadError → Type 0) (Is : List ℕ → Type 0) (error : ReadError) :
     Type 0 where
   pub range : KeyRange
-  pub inside : (key : List ℕ) → IsTrue (contains range key) → IsTrue (covers within key)
+  pub inside : (key : List ℕ) → IsTrue (contains range key) → Is key
   pub refused : refuses range error
 
--- the reply is that of a refused read within the reach
-abbrev pub IsReadRefusal : (KeyRange → ReadError → Type 0) → List KeyRange → Reply → Type 0
-IsReadRefusal refuses within (Refused FutureVersion) = IsReadRefusedAs refuses within reads.FutureVersion
-IsReadRefusal refuses within (Refused TooOld) = IsReadRefusedAs refuses within reads.TooOld
-IsReadRefusal refuses within answer = ⊥
+-- the reply is that of such a refused read
+pub record IsRefusalAmong (refuses : KeyRange → ReadError → Type 0) (Is : List ℕ → Type 0) (answer : Reply) :
+    Type 0 where
+  pub error : ReadError
+  pub told : read_reply error ≡ Some answer
+  pub refused : IsReadRefusedAmong refuses Is error
 
--- the reply tells that a read was refused
+-- Private: so for the keys of some ranges
+abbrev pub IsReadRefusedAs : (KeyRange → ReadError → Type 0) → List KeyRange → ReadError → Type 0
+IsReadRefusedAs refuses within error = IsReadRefusedAmong refuses (λ key. IsTrue (covers within key)) error
+
+-- so for the keys of the reach
+abbrev pub IsReadRefusal : (KeyRange → ReadError → Type 0) → List KeyRange → Reply → Type 0
+IsReadRefusal refuses within answer = IsRefusalAmong refuses (λ key. IsTrue (covers within key)) answer
+
+-- the reply tells that not all was read: a read was refused, or memory ran out
 abbrev pub is_unread : Reply → Bool
 is_unread (Refused FutureVersion) = true
 is_unread (Refused TooOld) = true
+is_unread Stopped = true
 is_unread answer = false
 
--- the ranges that were added are all of these, or the first ones where a read was refused
+-- the ranges that were added are all of these, or the first ones where not all was read
 abbrev pub HasAddedSo : Bool → List KeyRange → List KeyRange → Type 0
 HasAddedSo true all added = IsBeginning added all
 HasAddedSo false all added = added ≡ all
@@ -84,8 +95,10 @@ HasAdded answer all added = HasAddedSo (is_unread answer) all added
 -- writes there, and leads to a map that holds what is there after it; and these are the ranges that it reads there
 pub record IsPerformedAt (refuses : KeyRange → ReadError → Type 0) (command : Command) (answer : Reply)
     (before written : List Mutation) (added : List KeyRange) (m : Map) (serial : Serial) : Type 0 where
-  pub right : IsServed before serial command answer ⊎ IsReadRefusal refuses (reach (opened_in serial) command m) answer
-  pub wrote : written ≡ (if is_accepted answer then writes serial command else [])
+  pub right :
+      IsServed m before serial command answer
+      ⊎ IsReadRefusal refuses (reach (opened_in serial) command m) answer
+  pub wrote : written ≡ (if is_accepted answer then writes m serial command else [])
   pub holds : Stands (after_all written m) (if is_accepted answer then effect serial command else serial)
   pub reads : HasAdded answer (added_by (opened_in serial) command m) added
 
@@ -116,7 +129,7 @@ IsCommandSound None (Build name zero) answer m = Unit {0}
 IsCommandSound None command answer m = get m (schema_key store_prefix) ≡ None
 
 -- the first pair read that isn't of the written form has this key: one that opening the store reads, where a pair
--- stands at the schema's key, or behind it one of the command's own, or the first damaged one that its plan met
+-- stands at the schema's key, or after it one of the command's own, or the first damaged one that its plan met
 abbrev pub IsDamaged : Option Opened → Command → List ℕ → Map → Type 0
 IsDamaged None command key m =
     (get m (schema_key store_prefix) ≡ None → ⊥)
@@ -125,7 +138,7 @@ IsDamaged (Some opened) command key m =
     IsDamagedAt opened (own_reading (Some opened) command) key m
     ⊎ (own_damage (Some opened) command m ≡ Some key)
 
--- the pairs are sound, unless a read was refused
+-- the pairs are sound, unless not all was read
 abbrev pub IsSoundSo : Bool → Option Opened → Command → Reply → Map → Type 0
 IsSoundSo true opened command answer m = Unit {0}
 IsSoundSo false opened command answer m = IsCommandSound opened command answer m
@@ -151,7 +164,7 @@ pub record IsPerformed (maps : ℕ → Map) (refuses : KeyRange → ReadError �
   pub opened : Option Opened
   pub added : List KeyRange
   pub written : List Mutation
-  pub changes : (length written == 0) ≡ is_reading command answer
+  pub changes : (length written == 0) ≡ not (tells_change answer)
   pub ran : Ran maps added old new written (λ m. IsReadAs opened command answer added m
       × ((serial : Serial) → Stands m serial →
       IsPerformedAt refuses command answer old.mutations written added m serial))

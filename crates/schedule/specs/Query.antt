@@ -7,7 +7,7 @@ use Rattle.metadata.specs.Record.{Record}
 use Rattle.metadata.specs.Records.{of_type}
 use Rattle.metadata.specs.Schema.{find_type}
 use Rattle.record_store.specs.Call.{Opened}
-use Rattle.record_store.specs.Store.{Store, state_of}
+use Rattle.record_store.specs.Store.{Store, listed_states, state_of}
 use Rattle.query.specs.declared.error.QueryError.{QueryError}
 use Rattle.query.specs.Checked.{query_refusal}
 use Rattle.query.specs.Query.{Query, Allows}
@@ -54,7 +54,7 @@ IsQueryReply store query answer =
 
 -- the store as it is opened
 abbrev pub opened_as : Store → Opened
-opened_as store = record { prefix = store_prefix; schema = store.schema; states = store.states }
+opened_as store = record { prefix = store_prefix; schema = store.schema; states = listed_states store }
 
 -- EXECUTE: the reply is that the store hasn't the plan's type, or may not read one of its indexes; or it is rows that
 -- answer the plan's query

@@ -38,7 +38,7 @@ abbrev pub footprint_on : {K : Type 0} → (K → Footprint) → Result K StoreE
 footprint_on footprint (Ok value) = footprint value
 footprint_on footprint (Err error) = reads_only (whole [])
 
--- the footprint of a command behind the opening of the store: that of its call, or of the steps of its plan
+-- the footprint of a command after the opening of the store: that of its call, or of the steps of its plan
 abbrev pub footprint_in : Opened → Command → Footprint
 footprint_in opened («Type» request) =
     footprint_on (type_footprint opened) (by_schema (add_type opened.schema request))
@@ -68,7 +68,7 @@ footprint_in opened (Aggregate name group) =
     (totalled_index opened.schema opened.states group (find_index opened.schema name))
 footprint_in opened command = reads_only (whole [])
 
--- what a command reads behind the opening of the store
+-- what a command reads after the opening of the store
 abbrev pub own_reading : Option Opened → Command → Reading
 own_reading None command = whole []
 own_reading (Some opened) command = (footprint_in opened command).reading
@@ -104,16 +104,16 @@ schema_written (Ok schema) = schema_writes store_prefix schema
 schema_written (Err refusal) = []
 
 -- what a command writes by its footprint where it isn't refused
-abbrev pub footprint_writes : Serial → Command → List Mutation
-footprint_writes None (Create request) = schema_written (schema_asked request)
-footprint_writes None command = []
-footprint_writes (Some store) command = (footprint_in (opened_as store) command).writes store
+abbrev pub footprint_writes : Map → Serial → Command → List Mutation
+footprint_writes m None (Create request) = schema_written (schema_asked request)
+footprint_writes m None command = []
+footprint_writes m (Some store) command = (footprint_in (opened_as store) command).writes m store
 
 -- what is written with a line: nothing where it refuses, or looks at what is there
 abbrev pub written_with : Line → List Mutation → List Mutation
 written_with (Replies told after) mutations = mutations
 written_with other mutations = []
 
--- what a command writes, in order
-abbrev pub writes : Serial → Command → List Mutation
-writes serial command = written_with (serial_line serial command) (footprint_writes serial command)
+-- what a command writes, in order, by the map and what is there
+abbrev pub writes : Map → Serial → Command → List Mutation
+writes m serial command = written_with (serial_line serial command) (footprint_writes m serial command)

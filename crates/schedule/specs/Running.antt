@@ -28,8 +28,9 @@ use Rattle.schedule.specs.Past.{Past, Open, Submission, accepted, is_accepted, k
 use Rattle.planner.specs.Asked.{AskedPlan}
 use Rattle.schedule.specs.Performed.{IsPerformed}
 use Rattle.schedule.specs.Standing.{cluster_after, cluster_stepped, commits_of}
-use Rattle.schedule.specs.Contract.{HasRightReplies, InTransaction, IsReplyTo, OfClient, client_of, commit_reply}
-use Rattle.schedule.specs.Contract.{past_of, report_to}
+use Rattle.schedule.specs.Contract.{InTransaction, OfClient, client_of, commit_reply, past_of, report_to}
+use Rattle.schedule.specs.Exact.{HasExactReplies, IsReplyTo}
+use Rattle.schedule.specs.Headline.{WasOpen}
 use Rattle.schedule.specs.Turns.{AreSubmitted, IsOpenTransaction}
 
 -- what is kept of a submission until it is reported
@@ -96,7 +97,7 @@ pub record Steps (past : Past) (step : Step) (reply : Reply) (old new : Database
   pub grown : new.cluster.pipeline.requests ≡ old.cluster.pipeline.requests ++ added
   pub after : StandsAfter ((step, reply) ∷ past) new
 
--- a step was done, whatever steps the database had behind it
+-- a step was done, whatever steps it had done before
 abbrev pub IsStepped : Step → Reply → Database → Database → Type 0
 IsStepped step reply old new = (past : Past) → StandsAfter past old → Steps past step reply old new
 
@@ -203,12 +204,20 @@ abbrev pub unreported_entry : ℕ → Unreported → CommitEntry
 unreported_entry version next =
     record { version = version; client = next.client; read_version = next.read_version; commands = next.commands }
 
+-- a transaction is what its attempts made of a fresh one, by the maps that the cluster has now
+pub record IsStillOpen (c : ClusterState) (transaction : Open) : Type 0 where
+  pub request : CommitRequest
+  pub is : IsOpenTransaction (database_at c) c.pipeline.reported transaction request
+
 -- the steps were done one after another from the start: each reply is right however many requests come later, and the
--- cluster is the one after the steps
+-- cluster is the one after the steps; and each transaction that there was is what its attempts made
 pub record HasRun (config : Config) (steps : List Step) (replies : List Reply) (database : Database) : Type 0 where
   pub right :
-      (more : List CommitRequest) → HasRightReplies config (database.cluster.pipeline.requests ++ more) steps replies
+      (more : List CommitRequest) → HasExactReplies config (database.cluster.pipeline.requests ++ more) steps replies
   pub cluster :
       (more : List CommitRequest) → cluster_after config (database.cluster.pipeline.requests ++ more)
       (past_of [] steps replies) ≡ database.cluster
   pub stands : StandsAfter (past_of [] steps replies) database
+  pub opened :
+      (transaction : Open) → WasOpen (past_of [] steps replies) transaction →
+      IsStillOpen database.cluster transaction

@@ -1,5 +1,5 @@
 -- What the serial store replies to a command, and the store after it. No key of a database and no packed byte occurs.
-use Rattle.std.specs.Prelude.{◌≡◌, ℕ, zero, Bool, true, false, List, [], ◌∷◌, Option, Some, None, Result, Ok, Err}
+use Rattle.std.specs.Prelude.{◌≡◌, zero, Bool, true, false, List, [], ◌∷◌, Option, Some, None, Result, Ok, Err}
 use Rattle.metadata.specs.declared.index.State.TheVariants.{Disabled, WriteOnly}
 use Rattle.metadata.specs.declared.refusal.Refusal.{Refusal as SchemaRefusal}
 use Rattle.schedule.specs.declared.refusal.Refusal.{Refusal}
@@ -18,7 +18,7 @@ use Rattle.schedule.specs.declared.step.Command.TheVariants as commands
 use Rattle.schedule.specs.declared.reply.Reply.{Reply}
 use Rattle.schedule.specs.declared.reply.Reply.TheVariants as reply
 use Rattle.record_store.specs.declared.error.StoreError.{StoreError}
-use Rattle.record_store.specs.Store.{Store, Serial, created}
+use Rattle.record_store.specs.Store.{Store, Serial, created, listed_states}
 use Rattle.record_store.specs.Meaning.{Meaning, by_schema, drop_meaning, index_meaning, index_number, load_meaning}
 use Rattle.record_store.specs.Meaning.{mark_meaning, readable_meaning, remove_meaning, save_meaning, state_meaning}
 use Rattle.record_store.specs.Meaning.{total_meaning, totalled_index, type_meaning, write_only_named}
@@ -28,7 +28,7 @@ use Rattle.online_builder.specs.Stepping.{step_meaning}
 use Rattle.planner.specs.Asked.{AskedPlan}
 use Rattle.query.specs.Query.{Query}
 use Rattle.schedule.specs.Query.{IsExecuteReply, IsQueryReply, states_of}
-use Rattle.schedule.specs.Planning.{IsPlanReply}
+use Rattle.schedule.specs.Planning.{IsPlanned, IsPlanReplyWith, IsSomePlan, PlanRelation}
 
 -- what the serial store makes of a command: it is refused, with this reply; it has this reply, and this is there after
 -- it; or it replies to a query, to its plan or to an execution, all of which leave what is there
@@ -84,7 +84,7 @@ line_in store (Remove type cells) =
 line_in store (commands.Query query) = Queries store query
 line_in store (Plan query) = Plans store query
 line_in store (Execute plan) = Executes store plan
-line_in store (Index request) = calling store reply.State index_meaning (by_schema (new_index store.schema request))
+line_in store (Index request) = calling store reply.Indexed index_meaning (by_schema (new_index store.schema request))
 line_in store (Drop name) =
     calling store done drop_meaning (by_schema (index_number (find_index store.schema name)))
 line_in store (Disable name) =
@@ -92,14 +92,15 @@ line_in store (Disable name) =
 line_in store (commands.WriteOnly name) =
     calling store done (mark_meaning WriteOnly) (by_schema (index_number (find_index store.schema name)))
 line_in store (Readable name) =
-    calling store done (λ index. readable_meaning index.number) (write_only_named store.schema store.states name)
+    calling store done (λ index. readable_meaning index.number)
+    (write_only_named store.schema (listed_states store) name)
 line_in store (Build name limit) =
-    calling store reply_to_build (step_meaning limit) (write_only_named store.schema store.states name)
+    calling store reply_to_build (step_meaning limit) (write_only_named store.schema (listed_states store) name)
 line_in store (State name) =
     calling store reply.State state_meaning (by_schema (index_number (find_index store.schema name)))
 line_in store (Aggregate name group) =
     calling store reply.Total (total_meaning group)
-    (totalled_index store.schema store.states group (find_index store.schema name))
+    (totalled_index store.schema (listed_states store) group (find_index store.schema name))
 
 -- a store is made where there is none, once its schema is accepted
 abbrev pub creating : Serial → Result Schema SchemaRefusal → Line
@@ -114,18 +115,27 @@ serial_line serial (Build name zero) = refuses BadLimit
 serial_line None command = refuses NoStore
 serial_line (Some store) command = line_in store command
 
--- the reply is the line's, or one of them
+-- the reply is the line's, or one of them; a plan that is shown is as stated
+abbrev pub IsReplyWith : PlanRelation → Line → Reply → Type 0
+IsReplyWith IsShown (Refuses refusal) answer = refusal ≡ Some answer
+IsReplyWith IsShown (Replies told after) answer = answer ≡ told
+IsReplyWith IsShown (Queries store query) answer = IsQueryReply store query answer
+IsReplyWith IsShown (Plans store query) answer =
+    IsPlanReplyWith IsShown store.schema (states_of store) query answer
+IsReplyWith IsShown (Executes store plan) answer = IsExecuteReply store plan answer
+
+-- so with the planner's plan
 abbrev pub IsReplyOf : Line → Reply → Type 0
-IsReplyOf (Refuses refusal) answer = refusal ≡ Some answer
-IsReplyOf (Replies told after) answer = answer ≡ told
-IsReplyOf (Queries store query) answer = IsQueryReply store query answer
-IsReplyOf (Plans store query) answer = IsPlanReply store.schema (states_of store) query answer
-IsReplyOf (Executes store plan) answer = IsExecuteReply store plan answer
+IsReplyOf line answer = IsReplyWith IsPlanned line answer
 
 -- what the line leaves there
 abbrev pub left_by : Serial → Line → Serial
 left_by serial (Replies told after) = after
 left_by serial other = serial
+
+-- the reply is one that the serial store may give to the command: to a plan, any plan for the query
+abbrev pub IsMeant : Serial → Command → Reply → Type 0
+IsMeant serial command answer = IsReplyWith IsSomePlan (serial_line serial command) answer
 
 -- the reply is one that the serial store gives to the command
 abbrev pub IsReply : Serial → Command → Reply → Type 0

@@ -1,5 +1,5 @@
 -- Commands that were performed in turn, in open transactions and in those that were submitted.
-use Rattle.std.specs.Prelude.{◌≡◌, ℕ, ◌+◌, ◌<◌, ◌≤◌, ◌==◌, true, List, [], ◌∷◌, if◌then◌else◌, length}
+use Rattle.std.specs.Prelude.{◌≡◌, ℕ, ◌+◌, ◌<◌, ◌≤◌, ◌==◌, true, not, List, [], ◌∷◌, length}
 use Rattle.kv_core.specs.Range.{KeyRange}
 use Rattle.kv_core.specs.Map.{Map, after_all}
 use Rattle.kv_core.specs.declared.change.CommitRequest.{CommitRequest}
@@ -7,11 +7,12 @@ use Rattle.kv_core.specs.declared.change.Mutation.{Mutation}
 use Rattle.txn.specs.Runs.{Ran}
 use Rattle.record_store.specs.Store.{Serial}
 use Rattle.schedule.specs.Serve.{IsReply}
-use Rattle.schedule.specs.Past.{Attempt, Open, Submission, is_accepted, is_reading}
+use Rattle.schedule.specs.Past.{Attempt, Open, Submission, is_accepted, tells_change}
 use Rattle.schedule.specs.Holds.{Stands}
 use Rattle.schedule.specs.Performed.{HasAdded}
-use Rattle.schedule.specs.Reach.{opened_in, added_by, writes}
+use Rattle.schedule.specs.Reach.{added_by, opened_in}
 use Rattle.schedule.specs.Contract.{attempted}
+use Rattle.schedule.specs.Exact.{attempt_writes}
 
 -- a transaction that has done nothing yet
 abbrev pub fresh_request : ℕ → CommitRequest
@@ -22,7 +23,7 @@ fresh_request read_version = record { read_version = read_version; reads = []; m
 pub record DidAt (attempt : Attempt) (written : List Mutation) (added : List KeyRange) (m : Map) (serial : Serial) :
     Type 0 where
   pub replied : is_accepted attempt.reply ≡ true → IsReply serial attempt.command attempt.reply
-  pub wrote : written ≡ (if is_accepted attempt.reply then writes serial attempt.command else [])
+  pub wrote : written ≡ attempt_writes m serial attempt
   pub holds : Stands (after_all written m) (attempted serial attempt)
   pub reads : HasAdded attempt.reply (added_by (opened_in serial) attempt.command m) added
 
@@ -30,7 +31,7 @@ pub record DidAt (attempt : Attempt) (written : List Mutation) (added : List Key
 pub record DidAttempt (maps : ℕ → Map) (attempt : Attempt) (old new : CommitRequest) : Type 0 where
   pub added : List KeyRange
   pub written : List Mutation
-  pub changes : (length written == 0) ≡ is_reading attempt.command attempt.reply
+  pub changes : (length written == 0) ≡ not (tells_change attempt.reply)
   pub ran :
       Ran maps added old new written (λ m. (serial : Serial) → Stands m serial → DidAt attempt written added m serial)
 

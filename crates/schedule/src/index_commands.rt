@@ -28,7 +28,7 @@ pub(crate) fn add_index<S: Snapshot>(
 {
     let mut store = open(alloc, tx, db, known)?;
     let state = store.add_index(tx, db, request)?;
-    Ok(Reply::State(state))
+    Ok(Reply::Indexed(state))
 }
 
 /// Drops the index of this name.

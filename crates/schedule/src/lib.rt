@@ -4,7 +4,9 @@
 ghost use Rattle.std.specs.Prelude.{◌≡◌, ◌⊎◌, Some, IfOk, IfErr, OnOk, IsNone};
 ghost use Rattle.cluster_core.specs.Configuration.{config_refusal};
 ghost use Rattle.cluster_core.specs.declared.answers.ConfigError.{ConfigError as ConfigRefusal};
-ghost use Rattle.schedule.specs.Contract.{IsRightRun};
+ghost use Rattle.schedule.specs.Exact.{IsExactRun};
+ghost use Rattle.schedule.specs.Headline.{IsHeadline};
+ghost use Rattle.schedule.specs.Right.{IsRightRun};
 
 mod asked_query;
 mod building;
@@ -50,6 +52,8 @@ pub fn run_schedule(
     steps: &[Step],
 ) -> Result<Transcript, ScheduleError>
     ensures right { IfOk result (IsRightRun config.now steps.now) }
+    ensures exact { IfOk result (IsExactRun config.now steps.now) }
+    ensures headline { IfOk result (IsHeadline steps.now) }
     ensures allowed { OnOk result (IsNone (config_refusal config.now)) }
     ensures refused { IfErr result (λ error. (error ≡ ScheduleError.Memory)
         ⊎ ((why : ConfigRefusal) × (error ≡ ScheduleError.Config why) × (config_refusal config.now ≡ Some why))) }

@@ -36,7 +36,7 @@ pub enum Refusal {
     /// A key field is null.
     NullKey,
     /// A type has no key field, or one twice; an index has a column twice, a VALUE has none, or a
-    /// summed field stands where there is none to be, or is wanting.
+    /// summed field stands where there is none to be, or is lacking.
     BadSchema,
     /// More types, fields, key fields, indexes or columns than there may be, or no index number is
     /// left.

@@ -112,6 +112,8 @@ pub enum Reply {
     Rows(Rows),
     /// The plan of the query.
     Planned(SharedPlan),
+    /// The index is added, in this state.
+    Indexed(State),
     /// The state of the index.
     State(State),
     /// The total of the group.
@@ -132,4 +134,7 @@ pub enum Reply {
     Refused(Refusal),
     /// The command is refused: the pair of this key isn't one that a store has there.
     Corrupt(Bytes),
+    /// The command stopped for want of memory, and changed nothing. A schedule ends there; in a
+    /// running database the transaction goes on, and has it among its commands.
+    Stopped,
 }

@@ -143,7 +143,7 @@ pub enum ScheduleError {
     /// There is no cluster of this configuration.
     #[error("{0}")]
     Config(ConfigError),
-    /// Memory is wanting.
+    /// Memory runs out.
     #[error("out of memory")]
     Memory,
 }

@@ -109,7 +109,7 @@ pub fn push_reply(alloc: Global, line: &mut String, reply: &Reply) -> Result<(),
         Reply::Removed => line.push_str("removed"),
         Reply::Rows(rows) => push_rows(alloc, line, rows),
         Reply::Planned(plan) => push_plan(alloc, line, plan),
-        Reply::State(state) => line.push_str(state_name(*state)),
+        Reply::Indexed(state) | Reply::State(state) => line.push_str(state_name(*state)),
         Reply::Total(total) => write!(line, "total {total}"),
         Reply::Built { records, range } => push_built(alloc, line, *records, range),
         Reply::Finished => line.push_str("finished"),
@@ -122,6 +122,7 @@ pub fn push_reply(alloc: Global, line: &mut String, reply: &Reply) -> Result<(),
             write!(line, "refused {name}")
         }
         Reply::Corrupt(key) => push_corrupt(alloc, line, key),
+        Reply::Stopped => line.push_str("out of memory"),
     }
 }
 

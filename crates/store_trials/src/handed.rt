@@ -57,7 +57,7 @@ fn planned(
 ) -> Result<(Store, Plan), Fail> {
     let store = Store::open(alloc, &PREFIX, tx, db)?;
     query.check(store.schema())?;
-    let plan = plan_for_store(alloc, &store, query)?;
+    let plan = plan_for_store(alloc, &store, query)?.copy(alloc)?;
     Ok((store, plan))
 }
 

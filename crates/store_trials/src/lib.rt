@@ -4,6 +4,8 @@
 #[cfg(test)]
 mod handed;
 #[cfg(test)]
+mod joining;
+#[cfg(test)]
 mod lines;
 #[cfg(test)]
 mod queries;

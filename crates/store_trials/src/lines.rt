@@ -19,7 +19,9 @@ enum Told {
 enum Plain {
     Reported(usize, usize),
     Refused(Refusal),
+    Indexed(State),
     State(State),
+    Stopped,
 }
 
 static TOLD: [Told; 4] = [
@@ -30,7 +32,7 @@ static TOLD: [Told; 4] = [
 ];
 
 // The number of a step, what it replied, and the line that is printed.
-static LINES: [(usize, Plain, &str); 14] = [
+static LINES: [(usize, Plain, &str); 16] = [
     (
         12,
         Plain::Reported(0, 3),
@@ -78,6 +80,8 @@ static LINES: [(usize, Plain, &str); 14] = [
         Plain::Refused(Refusal::TransactionTooLarge),
         "1 refused TransactionTooLarge\n",
     ),
+    (7, Plain::Indexed(State::Disabled), "7 disabled\n"),
+    (7, Plain::Stopped, "7 out of memory\n"),
     (7, Plain::State(State::Readable), "7 readable\n"),
     (7, Plain::State(State::WriteOnly), "7 write-only\n"),
     (7, Plain::State(State::Disabled), "7 disabled\n"),
@@ -110,7 +114,9 @@ fn reply_of(alloc: Global, plain: Plain) -> Result<Reply, Fail> {
     match plain {
         Plain::Reported(from, to) => Ok(Reply::Reported(reports_of(alloc, from, to)?)),
         Plain::Refused(refusal) => Ok(Reply::Refused(refusal)),
+        Plain::Indexed(state) => Ok(Reply::Indexed(state)),
         Plain::State(state) => Ok(Reply::State(state)),
+        Plain::Stopped => Ok(Reply::Stopped),
     }
 }
 

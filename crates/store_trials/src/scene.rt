@@ -1,5 +1,5 @@
 // A map and a transaction over it, in which commands are performed and a store is used. Called by
-// `stores` and `queries`.
+// `stores`, `joining` and `queries`.
 use json_forms::rows_text;
 use kv_core::{Bytes, CommitRequest, KvMap, WriteError};
 use metadata::Record;

@@ -43,6 +43,24 @@ const DISABLED: &str = r#"{"steps":[
     ["settle"]
 ]}"#;
 
+/// A COUNT index over seven records is built in steps of three. Between two of them a record at a
+/// built position is removed, and one is saved behind all others.
+const BUILT: &str = r#"{"steps":[
+    ["begin",0],
+    ["create",0,{"types":[{"name":"t","fields":[["k","int"]],"key":["k"]}]}],
+    ["save",0,"t",[1]],["save",0,"t",[2]],["save",0,"t",[3]],["save",0,"t",[4]],["save",0,"t",[5]],
+    ["save",0,"t",[6]],["save",0,"t",[7]],
+    ["index",0,{"name":"cnt","kind":"count","type":"t","columns":[]}],["write_only",0,"cnt"],
+    ["commit",0],["settle"],
+    ["begin",1],["build",1,"cnt",3],["commit",1],["settle"],
+    ["begin",0],["remove",0,"t",[2]],["save",0,"t",[8]],["commit",0],["settle"],
+    ["begin",1],["build",1,"cnt",3],["commit",1],["settle"],
+    ["begin",1],["build",1,"cnt",3],["commit",1],["settle"]
+]}"#;
+
+/// The keys of its built ranges.
+const RANGES: &str = "15011506150100-150115061501ff";
+
 /// Two clients change what both have read, and the second one commits first.
 const TWO_CLIENTS: &str = r#"{"steps":[
     ["begin",0],
@@ -77,8 +95,8 @@ static LISTED: [(&str, &str); 3] = [
 type Row = (&'static str, &'static str, u64, usize, bool, &'static str);
 
 /// A script, a range of the cluster that it leaves, a version, a limit, reverse or not, and the pairs there. Disabled
-/// and dropped indexes have none.
-static ENTRIES: [Row; 9] = [
+/// and dropped indexes have none. What steps of a builder have built is one range.
+static ENTRIES: [Row; 12] = [
     (
         THREE_SAVES,
         "150115021501-150115021501ff",
@@ -102,6 +120,9 @@ static ENTRIES: [Row; 9] = [
     (DISABLED, "150115021502-150115021502ff", 3, 10, false, ""),
     (DISABLED, "150115021503-150115021503ff", 2, 10, false, ""),
     (DISABLED, "150115021503-150115021503ff", 3, 10, false, ""),
+    (BUILT, RANGES, 2, 10, false, "1501150615010100=150300"),
+    (BUILT, RANGES, 4, 10, false, "1501150615010100=150600"),
+    (BUILT, RANGES, 5, 10, false, "1501150615010100=ff"),
 ];
 
 fn run(alloc: Global, text: &str) -> Result<Transcript, Fail> {

@@ -30,7 +30,7 @@ popped old new taken told of is = All-pop (λ (it : Knowledge). it.name ≡ of.n
 
 -- what was seen is of the client that is taken out
 pub teaches : (old new : List Knowledge) (taken : Option Knowledge) (client : Knowledge) (told : Option Seen) → AreOf old told →
-    old ≡ new ++ option_to_list taken → taken ≡ Some client → IfSome told (λ it. it.front.name ≡ client.name)
+    old ≡ new ++ option_to_list taken → taken ≡ Some client → IfSome told (λ it. it.prefix.name ≡ client.name)
 teaches old new taken client told of is some =
     let p = popped old new taken told of is in
     let same = subst (λ (o : Option Knowledge). IfSome o (λ (it : Knowledge). it.name ≡ of.name)) some p.1 in
@@ -38,7 +38,7 @@ teaches old new taken client told of is some =
 
 pub next_of : (old new : List Knowledge) (taken : Option Knowledge) (client : Knowledge) (told seen : Option Seen) →
     AreOf old told → old ≡ new ++ option_to_list taken → taken ≡ Some client →
-    IfSome seen (λ it. it.front.name ≡ client.name) → AreOf new seen
+    IfSome seen (λ it. it.prefix.name ≡ client.name) → AreOf new seen
 next_of old new taken client told seen of is some by =
     let p = popped old new taken told of is in
     let same = subst (λ (o : Option Knowledge). IfSome o (λ (it : Knowledge). it.name ≡ of.name)) some p.1 in

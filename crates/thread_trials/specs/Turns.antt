@@ -9,4 +9,4 @@ use Rattle.runtime.specs.History.{Name}
 pub record AreOf (clients : List Knowledge) (seen : Option Seen) : Type 0 where
   pub name : Name
   pub named : All (λ (it : Knowledge). it.name ≡ name) clients
-  pub learnt : IfSome seen (λ it. it.front.name ≡ name)
+  pub learnt : IfSome seen (λ it. it.prefix.name ≡ name)

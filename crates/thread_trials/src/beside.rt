@@ -1,6 +1,6 @@
 // A transaction on one thread beside a commit on another. Run as tests.
 use crate::transactions::{alone, over, two_clients};
-use runtime::{Built, Client, End, Gate, Place, begin, build_worker};
+use runtime::{Built, Client, End, Gate, GatePoint, begin, build_worker};
 use std::alloc::Global;
 use std::sync::Wait;
 use std::sync::atomic::{AtomicBool, Ordering};
@@ -142,8 +142,8 @@ struct Held<'a> {
 }
 
 impl Gate for Held<'_> {
-    fn pass(&mut self, place: Place) {
-        if place == Place::BeforeCommit {
+    fn pass(&mut self, place: GatePoint) {
+        if place == GatePoint::BeforeCommit {
             self.begun.store(true, Ordering::SeqCst);
             let _ = wait_for(self.written);
         }

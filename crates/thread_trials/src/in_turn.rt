@@ -60,8 +60,8 @@ fn taught<E: End, R: Wait>(
     seen: Option<Seen>,
     script: &str,
 ) -> Told
-    requires { IfSome seen (λ it. it.front.name ≡ client.old.name) }
-    ensures seen { IfSome result.seen (λ it. it.front.name ≡ client.old.name) }
+    requires { IfSome seen (λ it. it.prefix.name ≡ client.old.name) }
+    ensures seen { IfSome result.seen (λ it. it.prefix.name ≡ client.old.name) }
 {
     if let Some(seen) = seen {
         client.learn(seen);

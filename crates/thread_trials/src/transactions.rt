@@ -4,7 +4,8 @@ ghost use Rattle.std.specs.Prelude.{◌≡◌, IfSome, Ok, Some};
 ghost use Rattle.runtime.specs.Runs.{Continues};
 
 use cluster_core::Config;
-use runtime::{Client, CommitError, Done, End, EnterError, Seen, Txn, Waits, begin, open};
+use metadata::Cells;
+use runtime::{Client, CommandError, CommitError, Done, End, Seen, Txn, Waits, begin, open};
 use schedule::{Command, Reply, SharedPlan, Step};
 use script::{make_line, script_of};
 use std::alloc::Global;
@@ -38,19 +39,39 @@ fn command_of(step: Step, plan: &Option<SharedPlan>) -> Option<Command> {
     }
 }
 
+/// The reply that tells of the record that was there before a save.
+fn saved(old: Option<Cells>) -> Reply {
+    match old {
+        Some(cells) => Reply::SavedOver(cells),
+        None => Reply::SavedNew,
+    }
+}
+
+/// The reply that tells of a record that was found, or not.
+fn found(found: Option<Cells>) -> Reply {
+    match found {
+        Some(cells) => Reply::Found(cells),
+        None => Reply::Absent,
+    }
+}
+
 /// Performs a command by the call of its name, where there is one.
-fn ask<E: End>(tx: &mut Txn<'_, E>, command: Command) -> Result<Reply, EnterError>
+fn ask<E: End>(tx: &mut Txn<'_, E>, command: Command) -> Result<Reply, CommandError>
     ensures same_reference { tx.new.client.ghost_name ≡ tx.old.client.ghost_name }
     ensures continues { Continues tx.old.client.now tx.new.client.now }
 {
     match command {
-        Command::Save(type_name, cells) => tx.save(type_name, cells),
-        Command::Load(type_name, key) => tx.load(type_name, key),
-        Command::Remove(type_name, key) => tx.remove(type_name, key),
-        Command::Plan(query) => tx.plan(query),
-        Command::Execute(plan) => tx.execute(plan),
-        Command::Aggregate(index, group) => tx.aggregate(index, group),
-        other => tx.perform(&other),
+        Command::Save(type_name, cells) => Ok(saved(tx.save(type_name, cells)?)),
+        Command::Load(type_name, key) => Ok(found(tx.load(type_name, key)?)),
+        Command::Remove(type_name, key) => Ok(if tx.remove(type_name, key)? {
+            Reply::Removed
+        } else {
+            Reply::Absent
+        }),
+        Command::Plan(query) => Ok(Reply::Planned(tx.plan(query)?)),
+        Command::Execute(plan) => Ok(Reply::Rows(tx.execute(plan)?)),
+        Command::Aggregate(index, group) => Ok(Reply::Total(tx.aggregate(index, group)?)),
+        other => tx.call(&other),
     }
 }
 
@@ -178,7 +199,7 @@ pub(crate) fn joined(lines: Option<String>, more: Option<String>) -> Option<Stri
 /// behind them, and what another client may learn of it.
 pub(crate) fn over<E: End, R: Wait>(rt: &R, alloc: Global, tx: Txn<'_, E>, script: &str) -> Told
     ensures seen { (work : _) → tx.entry.client.now.begun ≡ Some work →
-        IfSome result.seen (λ it. it.front.name ≡ tx.entry.client.now.name) }
+        IfSome result.seen (λ it. it.prefix.name ≡ tx.entry.client.now.name) }
 {
     let mut tx = tx;
     let lines = performed(alloc, &mut tx, script);
@@ -195,7 +216,7 @@ pub(crate) fn alone<E: End, R: Wait>(
     client: &mut Client<E>,
     script: &str,
 ) -> Told
-    ensures seen { IfSome result.seen (λ it. it.front.name ≡ client.old.name) }
+    ensures seen { IfSome result.seen (λ it. it.prefix.name ≡ client.old.name) }
 {
     match begin(client) {
         Ok(tx) => over(rt, alloc, tx, script),

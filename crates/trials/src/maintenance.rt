@@ -29,7 +29,7 @@ static WRITTEN: [(&str, &str, &str); 2] = [
 fn record_asked(alloc: Global, schema: &Schema, cells: &str) -> Result<Record, Fail> {
     let name = text_of(alloc, "t")?;
     let cells = cells_asked(alloc, cells)?;
-    Ok(Record::new(alloc, schema, &name, cells)?)
+    Ok(Record::new(alloc, schema, &name, cells)?.copy()?)
 }
 
 /// What a maintainer writes where a record gives way to another one.

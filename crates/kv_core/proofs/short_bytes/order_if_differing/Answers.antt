@@ -10,51 +10,71 @@ module _ (own other : List ℕ) (p : length own ≡ 30) (q : length other ≡ 30
   abbrev Decides : ℕ → Type 0
   Decides at = key_cmp own other ≡ key_cmp (drop at own) (drop at other)
 
-  pass : (at n a b : ℕ) → at + 8 ≤ 30 → n ≤ 8 → a ≡ word own at → b ≡ word other at → a ≡ b → Decides at → Decides (at + n)
-  pass at n a b l few is js e before = word_passes own other at (nat_cmp a b) (omega (arith, p, l)) (omega (arith, q, l)) g h (λ i. nat_cmp (is i) (js i)) before n few (eq_isnt_ne a b e)
+  pass : (width at a b : ℕ) → at + width ≤ 30 → a ≡ word width own at → b ≡ word width other at → a ≡ b → Decides at → Decides (at + width)
+  pass width at a b l is js e before = word_passes width own other at (nat_cmp a b) (omega (arith, p, l)) (omega (arith, q, l)) g h (λ i. nat_cmp (is i) (js i)) before (eq_isnt_ne a b e)
 
-  decide : (at a b : ℕ) → at + 8 ≤ 30 → a ≡ word own at → b ≡ word other at → (a ≡ b → ⊥) → Decides at → nat_cmp a b ≡ key_cmp own other
-  decide at a b l is js e before = word_decides own other at (nat_cmp a b) (omega (arith, p, l)) (omega (arith, q, l)) g h (λ i. nat_cmp (is i) (js i)) before (ne_is_ne a b e)
+  decide : (width at a b : ℕ) → at + width ≤ 30 → a ≡ word width own at → b ≡ word width other at → (a ≡ b → ⊥) → Decides at → nat_cmp a b ≡ key_cmp own other
+  decide width at a b l is js e before = word_decides width own other at (nat_cmp a b) (omega (arith, p, l)) (omega (arith, q, l)) g h (λ i. nat_cmp (is i) (js i)) before (ne_is_ne a b e)
 
-  last : (a b : ℕ) → a ≡ word own 22 → b ≡ word other 22 → Decides 22 → nat_cmp a b ≡ key_cmp own other
-  last a b is js before = word_is_last own other 22 (nat_cmp a b) (omega (arith, p)) (omega (arith, q)) g h (λ i. nat_cmp (is i) (js i)) before p q
+  last : (a b : ℕ) → a ≡ word 2 own 28 → b ≡ word 2 other 28 → Decides 28 → nat_cmp a b ≡ key_cmp own other
+  last a b is js before = word_is_last 2 own other 28 (nat_cmp a b) (omega (arith, p)) (omega (arith, q)) g h (λ i. nat_cmp (is i) (js i)) before p q
 
   same : (a b : ℕ) → a ≡ b → nat_cmp a b ≡ key_cmp own other → own ≡ other
   same a b e order = tied_keys own other (ap is_eq (sym order ∙ ap (nat_cmp a) (sym e) ∙ level a))
 
 pub returns-then-word-other-clause-order : goal.returns-then-word-other-clause-order
-returns-then-word-other-clause-order c = c.cmp.ensures ∙ decide c.args.bytes.now c.args.others.now c.told-bytes c.told-others c.fits-bytes c.fits-others 0 _ _ (omega arith) c.word_at-word.ensures c.word_at-other.ensures c.if-word-other.true refl
+returns-then-word-other-clause-order c =
+    let own = c.args.bytes.now in
+    let other = c.args.others.now in
+    c.cmp.ensures ∙ decide own other c.told-bytes c.told-others c.fits-bytes c.fits-others 8 0 _ _ (omega arith) c.word_at-word.ensures c.word_at-other.ensures c.if-word-other.true
+    refl
 
 pub returns-then-word-other-2-clause-order : goal.returns-then-word-other-2-clause-order
 returns-then-word-other-2-clause-order c =
     let own = c.args.bytes.now in
     let other = c.args.others.now in
-    c.cmp-then-word-other-2.ensures ∙ decide own other c.told-bytes c.told-others c.fits-bytes c.fits-others 8 _ _ (omega arith) c.word_at-word-2.ensures c.word_at-other-2.ensures c.if-word-other-2.true
-    (pass own other c.told-bytes c.told-others c.fits-bytes c.fits-others 0 8 _ _ (omega arith) (omega arith) c.word_at-word.ensures c.word_at-other.ensures c.if-word-other.false refl)
+    c.cmp-then-word-other-2.ensures ∙ decide own other c.told-bytes c.told-others c.fits-bytes c.fits-others 8 8 _ _ (omega arith) c.word_at-word-2.ensures c.word_at-other-2.ensures c.if-word-other-2.true
+    (pass own other c.told-bytes c.told-others c.fits-bytes c.fits-others 8 0 _ _ (omega arith) c.word_at-word.ensures c.word_at-other.ensures c.if-word-other.false
+    refl)
 
 pub returns-then-word-other-3-clause-order : goal.returns-then-word-other-3-clause-order
 returns-then-word-other-3-clause-order c =
     let own = c.args.bytes.now in
     let other = c.args.others.now in
-    c.cmp-then-word-other-3.ensures ∙ decide own other c.told-bytes c.told-others c.fits-bytes c.fits-others 16 _ _ (omega arith) c.word_at-word-3.ensures c.word_at-other-3.ensures c.if-word-other-3.true
-    (pass own other c.told-bytes c.told-others c.fits-bytes c.fits-others 8 8 _ _ (omega arith) (omega arith) c.word_at-word-2.ensures c.word_at-other-2.ensures c.if-word-other-2.false
-    (pass own other c.told-bytes c.told-others c.fits-bytes c.fits-others 0 8 _ _ (omega arith) (omega arith) c.word_at-word.ensures c.word_at-other.ensures c.if-word-other.false refl))
+    c.cmp-then-word-other-3.ensures ∙ decide own other c.told-bytes c.told-others c.fits-bytes c.fits-others 8 16 _ _ (omega arith) c.word_at-word-3.ensures c.word_at-other-3.ensures c.if-word-other-3.true
+    (pass own other c.told-bytes c.told-others c.fits-bytes c.fits-others 8 8 _ _ (omega arith) c.word_at-word-2.ensures c.word_at-other-2.ensures c.if-word-other-2.false
+    (pass own other c.told-bytes c.told-others c.fits-bytes c.fits-others 8 0 _ _ (omega arith) c.word_at-word.ensures c.word_at-other.ensures c.if-word-other.false
+    refl))
 
-pub returns-then-word-other-4-clause-order : goal.returns-then-word-other-4-clause-order
-returns-then-word-other-4-clause-order c =
+pub returns-then-half-other-clause-order : goal.returns-then-half-other-clause-order
+returns-then-half-other-clause-order c =
     let own = c.args.bytes.now in
     let other = c.args.others.now in
-    c.cmp-then-word-other-4.ensures ∙ last own other c.told-bytes c.told-others c.fits-bytes c.fits-others _ _ c.word_at-word-4.ensures c.word_at-other-4.ensures
-    (pass own other c.told-bytes c.told-others c.fits-bytes c.fits-others 16 6 _ _ (omega arith) (omega arith) c.word_at-word-3.ensures c.word_at-other-3.ensures c.if-word-other-3.false
-    (pass own other c.told-bytes c.told-others c.fits-bytes c.fits-others 8 8 _ _ (omega arith) (omega arith) c.word_at-word-2.ensures c.word_at-other-2.ensures c.if-word-other-2.false
-    (pass own other c.told-bytes c.told-others c.fits-bytes c.fits-others 0 8 _ _ (omega arith) (omega arith) c.word_at-word.ensures c.word_at-other.ensures c.if-word-other.false refl)))
+    c.cmp-then-half-other.ensures ∙ decide own other c.told-bytes c.told-others c.fits-bytes c.fits-others 4 24 _ _ (omega arith) c.half_at-half.ensures c.half_at-other.ensures c.if-half-other.true
+    (pass own other c.told-bytes c.told-others c.fits-bytes c.fits-others 8 16 _ _ (omega arith) c.word_at-word-3.ensures c.word_at-other-3.ensures c.if-word-other-3.false
+    (pass own other c.told-bytes c.told-others c.fits-bytes c.fits-others 8 8 _ _ (omega arith) c.word_at-word-2.ensures c.word_at-other-2.ensures c.if-word-other-2.false
+    (pass own other c.told-bytes c.told-others c.fits-bytes c.fits-others 8 0 _ _ (omega arith) c.word_at-word.ensures c.word_at-other.ensures c.if-word-other.false
+    refl)))
+
+pub returns-then-quarter-other-clause-order : goal.returns-then-quarter-other-clause-order
+returns-then-quarter-other-clause-order c =
+    let own = c.args.bytes.now in
+    let other = c.args.others.now in
+    c.cmp-then-quarter-other.ensures ∙ last own other c.told-bytes c.told-others c.fits-bytes c.fits-others _ _ c.quarter_at-quarter.ensures c.quarter_at-other.ensures
+    (pass own other c.told-bytes c.told-others c.fits-bytes c.fits-others 4 24 _ _ (omega arith) c.half_at-half.ensures c.half_at-other.ensures c.if-half-other.false
+    (pass own other c.told-bytes c.told-others c.fits-bytes c.fits-others 8 16 _ _ (omega arith) c.word_at-word-3.ensures c.word_at-other-3.ensures c.if-word-other-3.false
+    (pass own other c.told-bytes c.told-others c.fits-bytes c.fits-others 8 8 _ _ (omega arith) c.word_at-word-2.ensures c.word_at-other-2.ensures c.if-word-other-2.false
+    (pass own other c.told-bytes c.told-others c.fits-bytes c.fits-others 8 0 _ _ (omega arith) c.word_at-word.ensures c.word_at-other.ensures c.if-word-other.false
+    refl))))
 
 pub returns-clause-same : goal.returns-clause-same
 returns-clause-same c =
     let own = c.args.bytes.now in
     let other = c.args.others.now in
-    same own other c.told-bytes c.told-others c.fits-bytes c.fits-others _ _ c.if-word-other-4.false
-    (last own other c.told-bytes c.told-others c.fits-bytes c.fits-others _ _ c.word_at-word-4.ensures c.word_at-other-4.ensures
-    (pass own other c.told-bytes c.told-others c.fits-bytes c.fits-others 16 6 _ _ (omega arith) (omega arith) c.word_at-word-3.ensures c.word_at-other-3.ensures c.if-word-other-3.false
-    (pass own other c.told-bytes c.told-others c.fits-bytes c.fits-others 8 8 _ _ (omega arith) (omega arith) c.word_at-word-2.ensures c.word_at-other-2.ensures c.if-word-other-2.false
-    (pass own other c.told-bytes c.told-others c.fits-bytes c.fits-others 0 8 _ _ (omega arith) (omega arith) c.word_at-word.ensures c.word_at-other.ensures c.if-word-other.false refl))))
+    same own other c.told-bytes c.told-others c.fits-bytes c.fits-others _ _ c.if-quarter-other.false
+    (last own other c.told-bytes c.told-others c.fits-bytes c.fits-others _ _ c.quarter_at-quarter.ensures c.quarter_at-other.ensures
+    (pass own other c.told-bytes c.told-others c.fits-bytes c.fits-others 4 24 _ _ (omega arith) c.half_at-half.ensures c.half_at-other.ensures c.if-half-other.false
+    (pass own other c.told-bytes c.told-others c.fits-bytes c.fits-others 8 16 _ _ (omega arith) c.word_at-word-3.ensures c.word_at-other-3.ensures c.if-word-other-3.false
+    (pass own other c.told-bytes c.told-others c.fits-bytes c.fits-others 8 8 _ _ (omega arith) c.word_at-word-2.ensures c.word_at-other-2.ensures c.if-word-other-2.false
+    (pass own other c.told-bytes c.told-others c.fits-bytes c.fits-others 8 0 _ _ (omega arith) c.word_at-word.ensures c.word_at-other.ensures c.if-word-other.false
+    refl)))))

@@ -1,4 +1,4 @@
-use Rattle.std.proofs.Common.{◌≡◌, ◌∙◌, ap, arith, refl, subst, sym}
+use Rattle.std.proofs.Common.{◌≡◌, ◌∙◌, arith, refl, subst}
 use Rattle.online_builder.specs.Stepping.{BuildTask, step_call}
 use Rattle.record_store.specs.Call.{IsAnswered, IsRefused}
 use Rattle.record_store.specs.Steps.{no_memory}

@@ -10,7 +10,7 @@ use Rattle.schedule.proofs.commands.remove.Goals as goal
 pub returns-in_err-store-clause-refused : goal.returns-in_err-store-clause-refused
 returns-in_err-store-clause-refused g c =
     exit_with c.from_residual.result c.in_err-store.field-0.0 _ c.from_residual.ensures
-    (refused_unopened (Remove c.args.type_name.now c.args.cells.now) c.in_err-store.field-0.0 refl refl refl c.in_err-store.ensures.refused)
+    (refused_unopened (Remove c.args.type_name.now c.args.cells.now) c.in_err-store.field-0.0 refl refl (λ m. refl) c.in_err-store.ensures.refused)
 
 pub returns-in_err-was_there-clause-refused : goal.returns-in_err-was_there-clause-refused
 returns-in_err-was_there-clause-refused g c =

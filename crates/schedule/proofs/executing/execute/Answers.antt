@@ -1,6 +1,5 @@
-use Rattle.std.proofs.Common.{refl, subst, sym, ap, ◌∙◌}
+use Rattle.std.proofs.Common.{refl, subst, ap, ◌∙◌}
 use Rattle.query.specs.View.{query_of}
-use Rattle.planner.specs.View.{plan_of}
 use Rattle.txn.proofs.Exits.{exit_with}
 use Rattle.schedule.specs.declared.step.Command.TheVariants.{Execute}
 use Rattle.schedule.specs.Calls.{IsCommandRefused}
@@ -12,7 +11,7 @@ use Rattle.schedule.proofs.executing.execute.Goals as goal
 pub returns-in_err-store-clause-refused : goal.returns-in_err-store-clause-refused
 returns-in_err-store-clause-refused g c =
     exit_with c.from_residual.result c.in_err-store.field-0.0 _ c.from_residual.ensures
-    (refused_unopened (Execute c.args.plan.now) c.in_err-store.field-0.0 refl refl refl c.in_err-store.ensures.refused)
+    (refused_unopened (Execute c.args.plan.now) c.in_err-store.field-0.0 refl refl (λ m. refl) c.in_err-store.ensures.refused)
 
 pub returns-in_err-reply-clause-refused : goal.returns-in_err-reply-clause-refused
 returns-in_err-reply-clause-refused g c =

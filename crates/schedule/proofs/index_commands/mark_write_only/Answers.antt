@@ -11,7 +11,7 @@ use Rattle.schedule.proofs.index_commands.mark_write_only.Goals as goal
 pub returns-in_err-store-clause-refused : goal.returns-in_err-store-clause-refused
 returns-in_err-store-clause-refused g c =
     exit_with c.from_residual.result c.in_err-store.field-0.0 _ c.from_residual.ensures
-    (refused_unopened (WriteOnly c.args.name.now) c.in_err-store.field-0.0 refl refl refl c.in_err-store.ensures.refused)
+    (refused_unopened (WriteOnly c.args.name.now) c.in_err-store.field-0.0 refl refl (λ m. refl) c.in_err-store.ensures.refused)
 
 pub returns-in_err-mark_write_only-clause-refused : goal.returns-in_err-mark_write_only-clause-refused
 returns-in_err-mark_write_only-clause-refused g c =

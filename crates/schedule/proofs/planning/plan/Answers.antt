@@ -10,7 +10,7 @@ use Rattle.schedule.proofs.planning.plan.Goals as goal
 pub returns-in_err-store-clause-refused : goal.returns-in_err-store-clause-refused
 returns-in_err-store-clause-refused g c =
     exit_with c.from_residual.result c.in_err-store.field-0.0 _ c.from_residual.ensures
-    (refused_unopened (Plan c.args.asked.now) c.in_err-store.field-0.0 refl refl refl c.in_err-store.ensures.refused)
+    (refused_unopened (Plan c.args.asked.now) c.in_err-store.field-0.0 refl refl (λ m. refl) c.in_err-store.ensures.refused)
 
 pub returns-in_err-reply-clause-refused : goal.returns-in_err-reply-clause-refused
 returns-in_err-reply-clause-refused g c =

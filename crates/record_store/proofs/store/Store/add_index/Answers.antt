@@ -4,7 +4,8 @@ use Rattle.metadata.specs.Answers.{IsRefusedAs}
 use Rattle.metadata.specs.IndexChange.{new_index}
 use Rattle.txn.proofs.Exits.{exit_with}
 use Rattle.record_store.specs.Call.{Opened}
-use Rattle.record_store.specs.Store.{listed_as}
+use Rattle.metadata.specs.Schema.{Schema}
+use Rattle.record_store.specs.Store.{listed_by, altered_at, state_in}
 use Rattle.record_store.specs.Calls.{index_footprint}
 use Rattle.record_store.specs.Meaning.{index_meaning}
 use Rattle.record_store.specs.Steps.{no_memory, of_metadata, of_write}
@@ -53,7 +54,7 @@ pub returns-clause-opened : goal.returns-clause-opened
 returns-clause-opened g c =
     indexed_as c.args.self.now c.args.request.now c.in_ok-index.index c.in_ok-state.state _ _ c.in_ok-states.states.items
     (ap (λ s. new_index s c.args.request.now) (sym c.schema.ensures) ∙ c.in_ok-index.ensures.made) (c.in_ok-next.ensures.added ∙ ap (λ made. Ok made) (sym c.in_ok-shared.ensures)) (ap (λ (o : Opened). o.prefix) c.self.view_is)
-    (c.in_ok-states.ensures ∙ ap (listed_as c.in_ok-index.index.number c.in_ok-state.state) (c.as_slice.ensures.value ∙ ap (λ (o : Opened). o.states) c.self.view_is))
+    (c.in_ok-states.ensures ∙ ap (λ is. listed_by is (altered_at c.in_ok-index.index.number c.in_ok-state.state (state_in c.args.self.now.states))) (c.indexes.ensures ∙ ap (λ (s : Schema). s.indexes) (sym c.in_ok-shared.ensures)))
 
 pub returns-in_err-shared-clause-refused : goal.returns-in_err-shared-clause-refused
 returns-in_err-shared-clause-refused g c =

@@ -1,16 +1,17 @@
-use Rattle.std.proofs.Common.{rules, ◌∙◌, ◌==◌, ap, length, not, refl, subst, sym}
-use Rattle.std.proofs.lemmas.Fn.{filter_same}
-use Rattle.metadata.specs.Schema.{find_index}
+use Rattle.std.proofs.Common.{◌∙◌, ◌==◌, ap, length, refl, subst, sym}
+use Rattle.metadata.specs.declared.index.State.TheVariants.{Readable}
+use Rattle.metadata.specs.IndexChange.{without_index}
+use Rattle.metadata.specs.Schema.{Schema, find_index}
 use Rattle.txn.proofs.Exits.{exit_with}
 use Rattle.record_store.specs.Call.{IsAnswered, Opened, service_of}
-use Rattle.record_store.specs.Store.{without_state}
+use Rattle.record_store.specs.Store.{listed_by, altered_at, state_in}
 use Rattle.txn.specs.Refusing.{NeverRefuses}
-use Rattle.record_store.specs.Calls.{drop_call, drop_footprint}
+use Rattle.record_store.specs.Calls.{drop_call, drop_footprint, opened_without}
 use Rattle.record_store.specs.Meaning.{drop_meaning, index_number}
 use Rattle.record_store.specs.Steps.{no_memory, of_metadata, of_write}
 use Rattle.record_store.proofs.Answered.{answered, done_with, memory_still, refused_limit, refused_own}
 use Rattle.record_store.proofs.RecordCalls.{nothing_read}
-use Rattle.record_store.proofs.IndexCalls.{left_is, drop_served, drop_wrote, named_there}
+use Rattle.record_store.proofs.IndexCalls.{drop_served, drop_wrote, named_there, one_number, opened_so}
 use Rattle.record_store.proofs.store.Store.drop_index.Goals as goal
 
 pub returns-in_err-write_all-clause-refused : goal.returns-in_err-write_all-clause-refused
@@ -32,10 +33,15 @@ returns-clause-dropped c = λ maps.
 
 pub returns-clause-opened : goal.returns-clause-opened
 returns-clause-opened c = λ number is.
-    left_is c.args.self.now c.self.inside.prefix.items c.in_ok-shared.shared.value c.retain.new.self.items c.in_ok-number.number number (index_number (find_index c.args.self.now.schema c.args.name.now))
+    opened_so c.args.self.now _ _ (without_index c.args.self.now.schema c.in_ok-number.number) c.in_ok-states.states.items c.in_ok-number.number Readable
     (ap (λ (o : Opened). o.prefix) c.self.view_is) (c.in_ok-shared.ensures ∙ c.in_ok-next.ensures.next)
-    (filter_same _ (λ listed. not (listed.0 == c.in_ok-number.number)) _ (λ x b f' k. search rules) _ _ c.retain.ensures.filtered ∙ ap (without_state c.in_ok-number.number) (ap (λ (o : Opened). o.states) c.self.view_is))
-    c.in_ok-number.ensures.found is
+    (c.in_ok-states.ensures ∙ ap (λ is. listed_by is (altered_at c.in_ok-number.number Readable (state_in c.args.self.now.states))) (c.indexes.ensures ∙ ap (λ (s : Schema). s.indexes) c.in_ok-next.ensures.next))
+    ∙ ap (opened_without c.args.self.now) (one_number c.in_ok-number.number number (index_number (find_index c.args.self.now.schema c.args.name.now)) c.in_ok-number.ensures.found is)
+
+pub returns-in_err-states-clause-refused : goal.returns-in_err-states-clause-refused
+returns-in_err-states-clause-refused c =
+    exit_with c.from_residual-in_err-states.result no_memory _ c.from_residual-in_err-states.ensures (λ maps.
+    memory_still maps NeverRefuses c.args.self.now (drop_call c.args.self.now c.args.name.now) refl)
 
 pub returns-in_err-next-clause-refused : goal.returns-in_err-next-clause-refused
 returns-in_err-next-clause-refused c =

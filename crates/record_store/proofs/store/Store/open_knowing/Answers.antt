@@ -1,8 +1,9 @@
-use Rattle.std.proofs.Common.{◌∙◌, ap, subst, sym}
+use Rattle.std.proofs.Common.{subst, sym}
 use Rattle.metadata.specs.Schema.{Schema}
 use Rattle.txn.proofs.Exits.{exit_with}
 use Rattle.record_store.specs.Opening.{IsOpened}
-use Rattle.record_store.proofs.Openings.{first_failed, opened_now, states_by, then_failed, unopened, unopened_schema, unopened_states, unstated_by}
+use Rattle.record_store.specs.Reading.{AreStates, HaveNoStates}
+use Rattle.record_store.proofs.Openings.{first_failed, opened_now, then_failed, unopened, unopened_schema, unopened_states}
 use Rattle.record_store.specs.Steps.{no_memory}
 use Rattle.record_store.proofs.Openings.{opened_memory}
 use Rattle.record_store.proofs.store.Store.open_knowing.Goals as goal
@@ -25,13 +26,13 @@ pub returns-in_err-states-clause-refused : goal.returns-in_err-states-clause-ref
 returns-in_err-states-clause-refused g c =
     exit_with c.from_residual-in_err-states.result c.in_err-states.field-0.0 _ c.from_residual-in_err-states.ensures
     (unopened_states c.args.prefix.now c.in_ok-written.written c.in_ok-pairs.pairs.items c.in_ok-written.ensures.read c.in_ok-pairs.ensures.read c.in_ok-schema.schema.value c.in_err-states.field-0.0 c.in_ok-schema.ensures.found
-    (unstated_by c.args.prefix.now c.indexes.result.now c.in_ok-schema.schema.value.indexes c.as_slice.result.now c.in_ok-pairs.pairs.items c.in_err-states.field-0.0 (c.indexes.ensures ∙ ap (λ (s : Schema). s.indexes) c.deref.ensures) c.as_slice.ensures.value c.in_err-states.ensures.refused))
+    (subst (λ (s : Schema). HaveNoStates c.args.prefix.now s.indexes c.in_ok-pairs.pairs.items c.in_err-states.field-0.0) c.deref.ensures c.in_err-states.ensures.refused))
 
 pub returns-clause-opened : goal.returns-clause-opened
 returns-clause-opened g c =
     subst (λ p. IsOpened (g.S.Snapshot.map_at c.args.db.now) (record { prefix = p; schema = c.in_ok-schema.schema.value; states = c.in_ok-states.states.items }) c.args.tx.now c.read_states.new.tx) (sym c.in_ok-prefix.ensures.items)
     (opened_now c.args.prefix.now c.in_ok-written.written c.in_ok-pairs.pairs.items c.in_ok-schema.schema.value c.in_ok-states.states.items c.in_ok-written.ensures.read c.in_ok-pairs.ensures.read c.in_ok-schema.ensures.found
-    (states_by c.args.prefix.now c.indexes.result.now c.in_ok-schema.schema.value.indexes c.as_slice.result.now c.in_ok-pairs.pairs.items c.in_ok-states.states.items (c.indexes.ensures ∙ ap (λ (s : Schema). s.indexes) c.deref.ensures) c.as_slice.ensures.value c.in_ok-states.ensures.found))
+    (subst (λ (s : Schema). AreStates c.args.prefix.now s.indexes c.in_ok-pairs.pairs.items c.in_ok-states.states.items) c.deref.ensures c.in_ok-states.ensures.found))
 
 pub returns-in_err-prefix-clause-refused : goal.returns-in_err-prefix-clause-refused
 returns-in_err-prefix-clause-refused g c =

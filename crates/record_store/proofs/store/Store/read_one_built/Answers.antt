@@ -1,5 +1,5 @@
 use Rattle.std.proofs.Common.{◌≡◌, ◌∙◌, ap, refl, sym, ◌∷◌, []}
-use Rattle.range_set.specs.Calls.{upto_range}
+use Rattle.range_set.specs.Stored.{upto_range}
 use Rattle.index_maint.specs.Layout.{built_place}
 use Rattle.txn.proofs.Exits.{exit_with}
 use Rattle.record_store.specs.BuiltReading.{built_reading}

@@ -1,5 +1,5 @@
 use Rattle.std.proofs.Common.{arith, ◌+◌, ◌-◌, ◌≡◌, ℕ, subst, sym}
-use Rattle.runtime.specs.declared.running.Failure.{Failure}
+use Rattle.runtime.specs.declared.retrying.Failure.{Failure}
 use Rattle.runtime.specs.Runs.{AttemptFails, FailsSo, InTurn}
 use Rattle.runtime.proofs.Attempts.{fails_of, follows_trans, gives_up, one_more}
 use Rattle.runtime.proofs.client.Client.run.Goals as goal

@@ -1,5 +1,4 @@
-use Rattle.std.proofs.Common.{sym, ap, subst, ◌∙◌, Option, Some, None, get_or}
-use Rattle.std.specs.Prelude.{option_map}
+use Rattle.std.proofs.Common.{sym, subst}
 use Rattle.schedule.specs.Running.{IsStepped}
 use Rattle.schedule.specs.declared.step.Command.TheVariants.{Execute}
 use Rattle.schedule.specs.declared.step.Step.TheVariants.{Perform}

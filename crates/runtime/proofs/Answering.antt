@@ -1,0 +1,50 @@
+-- What a client answers to a commit, by what it is told at the commit lock.
+use Rattle.std.proofs.Common.{◌≡◌, ◌+◌, Option, Some, None, [], refl, ◌∙◌, subst}
+use Rattle.std.specs.Prelude.{IfSome}
+use mathlib.Core.List.{IsPrefix}
+use Rattle.kv_core.specs.declared.change.CommitRequest.{CommitRequest}
+use Rattle.runtime.specs.declared.trace.Trace.{Trace}
+use Rattle.runtime.specs.declared.outcome.Outcome.{Outcome}
+use Rattle.runtime.specs.declared.outcome.Outcome.TheVariants.{Committed, Conflict, TooOld, VersionsExhausted, Unknown, Memory}
+use Rattle.runtime.specs.History.{Name, Prefix}
+use Rattle.runtime.specs.Outcomes.{Shows, entry, last_then}
+use Rattle.runtime.specs.Clients.{Knowledge}
+use Rattle.runtime.specs.Commits.{Answers, Learns, commit_answer}
+
+-- what the lock told: the log that shows the outcome is one of the client's database, which the client knows then
+abbrev pub IsTold : Knowledge → Knowledge → CommitRequest → Trace → Outcome → Option Prefix → Type 0
+IsTold a b r t outcome None = Unit {0}
+IsTold a b r t outcome (Some f) = (f.name ≡ a.name) × Shows a.name.config f.log (entry a.number (a.last + 1) r t) outcome × IsPrefix f.log b.log
+
+-- the log that shows it is the client's own
+learns : (a b : Knowledge) (r : CommitRequest) (t : Trace) (outcome : Outcome) (f : Prefix) → IsTold a b r t outcome (Some f) → b.last ≡ last_then a.last outcome → Learns a b r t outcome f.log
+learns a b r t outcome f told last = record { shows = told.1; known = told.2; last = last }
+
+-- nothing is shown
+silent : (a b : Knowledge) (r : CommitRequest) (t : Trace) → b.last ≡ a.last + 1 → Learns a b r t Unknown []
+silent a b r t last = record { shows = tt; known = (b.log, refl); last = last }
+
+stayed : (a b : Knowledge) (r : CommitRequest) (t : Trace) → b.last ≡ a.last → Learns a b r t Memory []
+stayed a b r t last = record { shows = tt; known = (b.log, refl); last = last }
+
+pub answers_by : (a b : Knowledge) (r : CommitRequest) (t : Trace) (outcome : Outcome) (seen : Option Prefix) → IsTold a b r t outcome seen → b.last ≡ last_then a.last outcome → Answers a b r t (commit_answer outcome seen)
+answers_by a b r t (Committed version) (Some f) told last = (learns a b r t (Committed version) f told last, told.0)
+answers_by a b r t (Conflict at range) (Some f) told last = (f.log, learns a b r t (Conflict at range) f told last)
+answers_by a b r t TooOld (Some f) told last = (f.log, learns a b r t TooOld f told last)
+answers_by a b r t VersionsExhausted (Some f) told last = (f.log, learns a b r t VersionsExhausted f told last)
+answers_by a b r t Unknown (Some f) told last = ([], silent a b r t last)
+answers_by a b r t Memory (Some f) told last = ([], stayed a b r t last)
+answers_by a b r t (Committed version) None told last = ([], silent a b r t last)
+answers_by a b r t (Conflict at range) None told last = ([], silent a b r t last)
+answers_by a b r t TooOld None told last = ([], stayed a b r t last)
+answers_by a b r t VersionsExhausted None told last = ([], stayed a b r t last)
+answers_by a b r t Unknown None told last = ([], silent a b r t last)
+answers_by a b r t Memory None told last = ([], stayed a b r t last)
+
+-- the same by the clauses of the lock
+pub told_by : (a b : Knowledge) (name : Name) (r : CommitRequest) (t : Trace) (outcome : Outcome) (seen : Option Prefix) → name ≡ a.name → IfSome seen (λ f. (f.name ≡ name) × IsPrefix f.log b.log) →
+    IfSome seen (λ f. Shows f.name.config f.log (entry a.number (a.last + 1) r t) outcome) → IsTold a b r t outcome seen
+told_by a b name r t outcome None same known shows = tt
+told_by a b name r t outcome (Some f) same known shows =
+    let of : f.name ≡ a.name = known.0 ∙ same in
+    (of, subst (λ (n : Name). Shows n.config f.log (entry a.number (a.last + 1) r t) outcome) of shows, known.1)

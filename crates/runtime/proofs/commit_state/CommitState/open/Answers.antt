@@ -1,0 +1,22 @@
+use Rattle.std.proofs.Common.{◌≡◌, ◌++◌, [], sym, ap, ◌∙◌, subst, rules}
+use Rattle.runtime.specs.History.{log_prefix}
+use Rattle.runtime.specs.Logs.{AreLast, pipeline_of, is_numbered}
+use Rattle.runtime.proofs.Numbers.{last_first}
+use Rattle.runtime.specs.Publication.{PublisherView}
+use Rattle.runtime.proofs.WellFormed.{pipeline_first}
+use Rattle.runtime.proofs.Places.{places_counted}
+use Rattle.runtime.proofs.commit_state.CommitState.open.Goals as goal
+
+pub open-requires : goal.open-requires
+open-requires g c = places_counted c.args.config.now c.in_ok-pipeline.ensures.allowed
+
+pub invariant_of-result : goal.invariant_of-result
+invariant_of-result g c =
+    let e = c.in_ok-publisher.ensures.made in
+    let log : c.in_ok-publisher.publisher.published ++ c.in_ok-publisher.publisher.pending ≡ [] = ap (λ (s : PublisherView). s.published ++ s.pending) e in (
+      sym (ap (λ (s : PublisherView). s.name.book) e),
+      c.prefix-prefix.ensures ∙ ap (log_prefix c.in_ok-publisher.publisher.name) (ap (λ (s : PublisherView). s.published) e ∙ sym log),
+      c.in_ok-pipeline.ensures.made ∙ sym (pipeline_first c.args.config.now) ∙ sym (ap (λ (s : PublisherView). pipeline_of s.name.config (s.published ++ s.pending)) e),
+      ap (is_numbered c.in_ok-last.last.items) log,
+      subst (AreLast c.in_ok-last.last.items) (sym log) (last_first c.in_ok-last.last.items c.args.config.now.places (search rules)),
+    )

@@ -1,4 +1,0 @@
-use Rattle.runtime.proofs.transactions.Txn.save.Goals as goal
-
-pub returns-clause-performed : goal.returns-clause-performed
-returns-clause-performed g c = c.perform.ensures.performed

@@ -1,0 +1,86 @@
+-- What becomes of a request: the one table of its outcomes. By it the commit side, the lock, the client and the worker
+-- say what they tell.
+use Rattle.std.specs.Prelude.{◌≡◌, ℕ, ◌+◌, ◌-◌, ◌<◌, Bool, true, false, List, [], ◌∷◌, ◌++◌}
+use Rattle.std.specs.Prelude.{Option, Some, None, length, slice_index, slice_set, if◌then◌else◌}
+use Rattle.kv_core.specs.declared.change.CommitRequest.{CommitRequest}
+use Rattle.cluster_core.specs.declared.answers.Config.{Config}
+use Rattle.cluster_core.specs.declared.answers.Reported.{Reported}
+use Rattle.cluster_core.specs.declared.answers.Reported.TheVariants as reported
+use Rattle.cluster_core.specs.Decision.{Cause}
+use Rattle.runtime.specs.declared.log_entry.Entry.{Entry}
+use Rattle.runtime.specs.declared.outcome.Outcome.{Outcome}
+use Rattle.runtime.specs.declared.outcome.Outcome.TheVariants.{Committed, Conflict, TooOld, VersionsExhausted}
+use Rattle.runtime.specs.declared.outcome.Outcome.TheVariants.{Unknown, Memory}
+use Rattle.runtime.specs.declared.trace.Trace.{Trace}
+use Rattle.runtime.specs.Logs.{IsExhausted, cause_next, version_of}
+
+-- the entry of a client's submission
+abbrev pub entry : ℕ → ℕ → CommitRequest → Trace → Entry
+entry client number request trace =
+    record { client = client; number = number; request = request; trace = trace }
+
+-- the entry that the client's next submission has, by the last number of each client
+abbrev pub next_entry : List ℕ → ℕ → CommitRequest → Trace → Entry
+next_entry last client request trace = entry client (slice_index last client + 1) request trace
+
+-- a submission with this cause of a conflict, if any, whose version this is, comes to this
+abbrev pub decided : Option Cause → ℕ → Outcome
+decided None version = Committed version
+decided (Some why) version = Conflict why.seen why.range
+
+-- the same by what is reported
+abbrev pub outcome_by : Reported → Outcome
+outcome_by (reported.Committed version) = Committed version
+outcome_by (reported.Conflict seen range) = Conflict seen range
+outcome_by reported.NothingToDo = Unknown
+
+-- a number is given to the submission
+abbrev pub gives_number : Outcome → Bool
+gives_number (Committed version) = true
+gives_number (Conflict seen range) = true
+gives_number TooOld = false
+gives_number VersionsExhausted = false
+gives_number Unknown = true
+gives_number Memory = false
+
+-- a client's last number then
+abbrev pub last_then : ℕ → Outcome → ℕ
+last_then last outcome = if gives_number outcome then last + 1 else last
+
+-- why: by the log to which its entry comes next. Nothing is said of `Unknown` and `Memory`
+abbrev pub IsReason : Config → List Entry → Entry → Outcome → Type 0
+IsReason config log e (Committed version) =
+    decided (cause_next config log e.request) (version_of config log + 1) ≡ Committed version
+IsReason config log e (Conflict seen range) =
+    decided (cause_next config log e.request) (version_of config log + 1) ≡ Conflict seen range
+IsReason config log e TooOld = config.window < version_of config log - e.request.read_version
+IsReason config log e VersionsExhausted = IsExhausted config log e
+IsReason config log e Unknown = Unit {0}
+IsReason config log e Memory = Unit {0}
+
+-- the log ends with the entry, which came to this
+abbrev pub EndsWith : Config → List Entry → Entry → Outcome → Type 0
+EndsWith config log e outcome =
+    (before : List Entry) × (log ≡ before ++ e ∷ []) × IsReason config before e outcome
+
+-- the log shows the outcome: it ends with the entry where that was decided, and else it is the reason
+abbrev pub Shows : Config → List Entry → Entry → Outcome → Type 0
+Shows config log e (Committed version) = EndsWith config log e (Committed version)
+Shows config log e (Conflict seen range) = EndsWith config log e (Conflict seen range)
+Shows config log e TooOld = IsReason config log e TooOld
+Shows config log e VersionsExhausted = IsReason config log e VersionsExhausted
+Shows config log e Unknown = Unit {0}
+Shows config log e Memory = Unit {0}
+
+-- the entry's number is given to its client, whose next one it is
+abbrev pub GivesNext : List ℕ → List ℕ → Entry → Type 0
+GivesNext old new e = (new ≡ slice_set old e.client e.number) × (e.client < length old)
+
+-- so where a number is given, and else no client is given any
+abbrev pub GivesOne : List ℕ → List ℕ → Entry → Outcome → Type 0
+GivesOne old new e (Committed version) = GivesNext old new e
+GivesOne old new e (Conflict seen range) = GivesNext old new e
+GivesOne old new e TooOld = new ≡ old
+GivesOne old new e VersionsExhausted = new ≡ old
+GivesOne old new e Unknown = GivesNext old new e
+GivesOne old new e Memory = new ≡ old

@@ -1,0 +1,69 @@
+-- The rule of the published state, and what its steps tell. A view is the database that its thread has seen the state
+-- to be of.
+use Rattle.std.specs.Prelude.{◌≡◌, ℕ, true, false, List, [], ◌∷◌, ◌++◌, map}
+use mathlib.Core.Option.{some}
+use lib.ListN.{get_elem?}
+use Rattle.cluster_core.specs.Tier.{TierState, absorb_all}
+use Rattle.runtime.specs.declared.log_entry.Entry.{Entry}
+use Rattle.runtime.specs.declared.published.Published.{Published}
+use Rattle.runtime.specs.declared.published.Step.{Step}
+use Rattle.runtime.specs.declared.published.View.{View}
+use Rattle.runtime.specs.LogConfigs.{no_config}
+use Rattle.runtime.specs.Logs.{log_tier, logged_next}
+use Rattle.runtime.specs.History.{Name, Prefix, database_name, log_prefix, submitted_entry}
+
+-- Private: a name in the place of one that isn't known yet
+abbrev pub no_name : Name
+no_name = database_name (record { number = 0; log_name = 0; cells_name = 0 }) no_config
+
+-- Private: the view of a thread that hasn't seen the state
+abbrev pub newcomer : View
+newcomer = record { named = false; prefix = log_prefix no_name [] }
+
+-- the view of a thread that has seen that the state is of this database
+abbrev pub knows : Name → View
+knows name = record { named = true; prefix = log_prefix name [] }
+
+-- Private: the servers have pulled just the published log
+abbrev pub IsFold : Published → Type 0
+IsFold x = x.tier ≡ log_tier x.prefix.name.config x.prefix.log
+
+-- Private: the servers have pulled just the log, and the state is of the database that each thread has seen it to be
+-- of
+abbrev pub Kept : Published → List View → Type 0
+Kept x views =
+    IsFold x
+    × ((seat : ℕ) (v : View) → get_elem? views seat ≡ some v → v.named ≡ true → v.prefix.name ≡ x.prefix.name)
+
+-- Private: the state y was seen, which is of the database that was known
+abbrev pub Sees : View → Published → Published → View → Type 0
+Sees v x y w = (w ≡ knows y.prefix.name) × IsFold y × (v.named ≡ true → v.prefix.name ≡ y.prefix.name)
+
+-- Private: the step leads from a log to the next: it has the entry's mutations where that is committed, and else none
+abbrev pub Leads : Name → List Entry → Step → Type 0
+Leads name log step =
+    (step.prefix ≡ log_prefix name (log ++ submitted_entry step.submitted ∷ []))
+    × (step.mutations ≡ logged_next name.config log step.submitted.request.value)
+
+-- Private: the steps after a log lead on from it, one after another
+abbrev pub LeadOn : Name → List Entry → List Step → Type 0
+LeadOn name log [] = Unit {0}
+LeadOn name log (step ∷ steps) = Leads name log step × LeadOn name (log ++ submitted_entry step.submitted ∷ []) steps
+
+-- Private: the entries of steps
+abbrev pub entries_of : List Step → List Entry
+entries_of steps = map (λ step. submitted_entry step.submitted) steps
+
+-- Private: the servers and the log after a step
+abbrev pub applied : TierState × Prefix → Step → TierState × Prefix
+applied s step = (absorb_all step.mutations s.0, step.prefix)
+
+-- Private: the writer's side: the log that readers take, and the entries that they don't see yet
+pub record PublisherView : Type 0 where
+  pub name : Name
+  pub published : List Entry
+  pub pending : List Entry
+
+-- Private: the writer's side of a database of this name
+abbrev pub publisher_view : Name → List Entry → List Entry → PublisherView
+publisher_view name published pending = record { name = name; published = published; pending = pending }

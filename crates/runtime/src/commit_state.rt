@@ -1,0 +1,358 @@
+// The commit side, under the commit lock: one request at a time, which the pipeline orders, the
+// history records and the publisher shows. Made by `db`, used by `critical_section`.
+ghost use Rattle.std.specs.Prelude.{◌≡◌, ℕ, if◌then◌else◌, ◌+◌, ◌-◌, ◌^◌, ◌<◌, true, [], ◌∷◌, ◌++◌};
+ghost use Rattle.std.specs.Prelude.{length, slice_index};
+ghost use Rattle.std.specs.Prelude.{IfOk, IfErr, IsNone, MatchResult, OnOk, Some, Err, ◌⊎◌};
+ghost use Rattle.std.specs.Bool.{OnTrue};
+ghost use Rattle.left_right.specs.Sides.{view as knowledge};
+ghost use Rattle.cluster_core.specs.Configuration.{config_refusal};
+ghost use Rattle.cluster_core.specs.Roles.{told};
+ghost use Rattle.schedule.specs.Standing.{is_told};
+ghost use Rattle.runtime.specs.CommitStates.{commit_view, IsHandled};
+ghost use Rattle.runtime.specs.History.{log_prefix};
+ghost use Rattle.runtime.specs.Logs.{IsOpenOver, cause_next, has_submission, version_of};
+ghost use Rattle.runtime.specs.Outcomes.{GivesNext, next_entry};
+ghost use Rattle.runtime.specs.Publication.{knows};
+
+use crate::in_flight::{Decided, InFlight};
+use crate::log_entry::{RequestView, Submitted};
+use crate::log_prefix::{LogHead, LogPrefix};
+use crate::outcome::Outcome;
+use crate::publication::StateReader;
+use crate::published::Step;
+use crate::publisher::Publisher;
+use crate::trace::Trace;
+use cluster_core::{Config, ConfigError, Pipeline, Reported, SubmitError};
+use kv_core::{CommitRequest, Mutations};
+use std::alloc::{AllocError, Global};
+use std::marker::Model;
+use std::mem::replace;
+use std::sync::Wait;
+use txn::{Commit, HoldError as TxnError};
+
+/// The history has room for so many entries.
+const MOST: u64 = 1 << 60;
+
+/// The locked state: the pipeline, and the writer's side of what it reported.
+///
+/// It isn't `Drop`: `close` ends it.
+pub struct CommitState {
+    alloc: Global,
+    pipeline: Pipeline,
+    publisher: Publisher,
+    head: LogHead,
+    prefix: LogPrefix,
+    in_flight: InFlight,
+    last: Vec<u64>,
+}
+
+impl Model for CommitState {
+    ghost use Rattle.std.specs.Prelude.{◌≡◌, ◌++◌, true};
+    ghost use Rattle.runtime.specs.History.{log_prefix};
+    ghost use Rattle.runtime.specs.Logs.{is_numbered};
+    ghost use Rattle.runtime.specs.CommitStates.{CommitView, commit_view, due_of, is_idle, IsBacked, IsInFlight};
+    ghost use Rattle.std.specs.Coded.{codes};
+    ghost use Rattle.runtime.specs.contracts.log_entry.Entry as entries;
+
+    ghost Value = { CommitView };
+
+    ghost coded = { Prim.hlevel (codes, entries.the_row.coded) };
+
+    ghost view = { λ h.
+        commit_view h.publisher.name h.publisher.published
+        (h.publisher.published ++ h.publisher.pending)
+        (due_of h.in_flight (h.publisher.published ++ h.publisher.pending))
+        (is_idle h.in_flight) h.last.items };
+
+    ghost invariant = { λ h.
+        (h.head ≡ h.publisher.name.book)
+        × (h.prefix ≡ log_prefix h.publisher.name (h.publisher.published ++ h.publisher.pending))
+        × IsInFlight h.publisher.name (h.publisher.published ++ h.publisher.pending)
+        h.pipeline h.in_flight
+        × (is_numbered h.last.items
+        (due_of h.in_flight (h.publisher.published ++ h.publisher.pending)) ≡ true)
+        × IsBacked h.last.items (h.publisher.published ++ h.publisher.pending) h.in_flight };
+}
+
+/// What the logs have of a request of which this was reported.
+fn logged(alloc: Global, reported: &Reported, mutations: Mutations) -> Mutations
+    ensures { result ≡ (if is_told reported.now then mutations else []) }
+{
+    match reported {
+        Reported::Committed(_) => mutations,
+        _ => Mutations::new(Vec::new(alloc)),
+    }
+}
+
+impl CommitState {
+    /// Adds to the history what was reported.
+    fn record(&mut self)
+        ensures { self.new ≡ self.old }
+    {
+        match replace(&mut self.in_flight, InFlight::Lost) {
+            InFlight::Decided(decided) => {
+                let mut prefix = self.prefix.again();
+                if prefix.len() < MOST && prefix.add(&self.head, &decided.submitted) {
+                    let Decided {
+                        submitted,
+                        mutations,
+                    } = decided;
+                    self.in_flight = InFlight::Added(Step {
+                        submitted,
+                        mutations,
+                        prefix,
+                    });
+                } else {
+                    self.in_flight = InFlight::Decided(decided);
+                }
+            }
+            other => self.in_flight = other,
+        }
+    }
+
+    /// Hands to the writer what was added.
+    fn append(&mut self)
+        ensures name { self.new.name ≡ self.old.name }
+        ensures published { self.new.published ≡ self.old.published }
+        ensures due { self.new.due ≡ self.old.due }
+        ensures last { self.new.last ≡ self.old.last }
+        ensures idle { self.old.idle ≡ true → self.new.idle ≡ true }
+        ensures done { (self.new.log ≡ self.old.log) ⊎ (self.new.log ≡ self.old.due) }
+    {
+        match replace(&mut self.in_flight, InFlight::Lost) {
+            InFlight::Added(step) => {
+                let prefix = step.prefix.again();
+                match self.publisher.append(step) {
+                    Ok(()) => {
+                        self.prefix = prefix;
+                        self.in_flight = InFlight::Idle;
+                    }
+                    Err(step) => self.in_flight = InFlight::Added(step),
+                }
+            }
+            other => self.in_flight = other,
+        }
+    }
+
+    /// Adds what was reported, and says whether nothing is in flight then.
+    fn finish(&mut self) -> bool
+        ensures name { self.new.name ≡ self.old.name }
+        ensures published { self.new.published ≡ self.old.published }
+        ensures due { self.new.due ≡ self.old.due }
+        ensures last { self.new.last ≡ self.old.last }
+        ensures done { OnTrue result ((self.new.idle ≡ true) × (self.new.log ≡ self.old.due)) }
+    {
+        self.record();
+        self.append();
+        matches!(self.in_flight, InFlight::Idle)
+    }
+
+    /// The last number of a client's submissions, 0 where there is no such client.
+    pub fn last_number(&self, client: u64) -> u64
+        ensures { result ≡ slice_index self.now.last client }
+    {
+        match self.last.get(client as usize) {
+            Some(last) => *last,
+            None => 0,
+        }
+    }
+
+    /// The number of a client's next submission.
+    fn next_number(&self, client: u64) -> Result<u64, Outcome>
+        ensures next { IfOk result (λ number. number ≡ slice_index self.now.last client + 1) }
+        ensures client { IfOk result (λ number. client < length self.now.last) }
+        ensures backed { self.now.idle ≡ true → 0 < slice_index self.now.last client
+            → has_submission client (slice_index self.now.last client) self.now.log ≡ true }
+        ensures refused { IfErr result (λ outcome. (outcome ≡ Outcome.Memory)
+            ⊎ ((outcome ≡ Outcome.VersionsExhausted)
+            × (slice_index self.now.last client ≡ 2 ^ 64 - 1))) }
+    {
+        let Some(last) = self.last.get(client as usize) else {
+            return Err(Outcome::Memory);
+        };
+        if *last == u64::MAX {
+            return Err(Outcome::VersionsExhausted);
+        }
+        Ok(*last + 1)
+    }
+
+    /// Has every role handle a request, where nothing is in flight, and tells what is reported of
+    /// it, or else what became of it.
+    fn submit(
+        &mut self,
+        client: u64,
+        prefix: &LogPrefix,
+        request: CommitRequest,
+        trace: Trace,
+    ) -> Result<Reported, Outcome>
+        requires name { prefix.now.name ≡ self.old.name }
+        requires open { IsOpenOver self.old.name.config prefix.now.log request trace.attempts }
+        ensures told { IfOk result (λ reported.
+            reported ≡ told (cause_next self.old.name.config self.old.log request)
+            (version_of self.old.name.config self.old.log + 1)) }
+        ensures numbers { OnOk result (GivesNext self.old.last self.new.last
+            (next_entry self.old.last client request trace)) }
+        ensures taken { OnOk result (
+            (self.new.name ≡ self.old.name) × (self.new.published ≡ self.old.published)
+            × (self.new.log ≡ self.old.log)
+            × (self.new.due
+            ≡ self.old.log ++ next_entry self.old.last client request trace ∷ [])) }
+        ensures refused { IfErr result (λ outcome.
+            IsHandled self.old self.new (next_entry self.old.last client request trace) outcome) }
+    {
+        let InFlight::Idle = &self.in_flight else {
+            return Err(Outcome::Memory);
+        };
+        if !prefix.begins(&self.prefix) {
+            return Err(Outcome::Memory);
+        }
+        let number = self.next_number(client)?;
+        let mutations = request.mutations.copy()?;
+        let submitted = Submitted {
+            client,
+            number,
+            request: RequestView::of(&request),
+            trace,
+        };
+        prove!(self.prefix.len() <= u64::MAX);
+        match self.pipeline.commit(request) {
+            Ok(reported) => {
+                let mutations = logged(self.alloc, &reported, mutations);
+                self.in_flight = InFlight::Decided(Decided {
+                    submitted,
+                    mutations,
+                });
+                self.last[client as usize] = number;
+                Ok(reported)
+            }
+            Err(TxnError::Submit(SubmitError::TooOld)) => Err(Outcome::TooOld),
+            Err(TxnError::Submit(SubmitError::VersionsExhausted)) => {
+                Err(Outcome::VersionsExhausted)
+            }
+            Err(TxnError::Submit(SubmitError::Memory)) => Err(Outcome::Memory),
+            Err(TxnError::Behind(_)) => unreachable!(),
+            Err(TxnError::Unknown) => {
+                self.in_flight = InFlight::Lost;
+                self.last[client as usize] = number;
+                Err(Outcome::Unknown)
+            }
+        }
+    }
+
+    /// Has every role handle the request of a transaction over this log, adds its entry after the
+    /// last one, and tells what became of it.
+    ///
+    /// The request gets the client's next number. It is refused with `TooOld` or
+    /// `VersionsExhausted` as the pipeline refuses it, and with `Memory` where memory runs out
+    /// before, where there is no such client, where the transaction's log isn't a beginning of the
+    /// one here, or while a submission whose outcome isn't known is in flight. All is as before
+    /// then. After `Unknown` nothing but this entry is due, and each later request is refused.
+    pub fn request(
+        &mut self,
+        client: u64,
+        prefix: &LogPrefix,
+        request: CommitRequest,
+        trace: Trace,
+    ) -> Outcome
+        requires name { prefix.now.name ≡ self.old.name }
+        requires open { IsOpenOver self.old.name.config prefix.now.log request trace.attempts }
+        ensures handled { IsHandled self.old self.new
+            (next_entry self.old.last client request trace) result }
+    {
+        match self.submit(client, prefix, request, trace) {
+            Ok(reported) => {
+                if self.finish() {
+                    Outcome::of(reported)
+                } else {
+                    Outcome::Unknown
+                }
+            }
+            Err(outcome) => outcome,
+        }
+    }
+
+    /// Shows readers all entries that were added. Where memory runs out they see what they saw.
+    pub fn publish<R: Wait>(self, rt: &R) -> (CommitState, Result<(), AllocError>)
+        ensures shown { MatchResult result.1
+            (λ _. result.0 ≡ commit_view self.name self.log self.log self.due self.idle self.last)
+            (λ _. result.0 ≡ self) }
+    {
+        let CommitState {
+            alloc,
+            pipeline,
+            publisher,
+            head,
+            prefix,
+            in_flight,
+            last,
+        } = self;
+        let (publisher, result) = publisher.publish(rt);
+        let state = CommitState {
+            alloc,
+            pipeline,
+            publisher,
+            head,
+            prefix,
+            in_flight,
+            last,
+        };
+        (state, result)
+    }
+
+    /// The published log.
+    pub fn prefix(&self) -> LogPrefix
+        ensures { result ≡ log_prefix self.now.name self.now.published }
+    {
+        self.publisher.prefix()
+    }
+
+    /// A new reader, which knows of which database the state is, unless each place is in use.
+    pub fn reader(&mut self) -> Result<StateReader, AllocError>
+        ensures same { self.new ≡ self.old }
+        ensures reader { IfOk result (λ reader. knowledge reader.place ≡ knows self.old.name) }
+    {
+        self.publisher.reader()
+    }
+
+    /// Waits for the readers, and ends.
+    pub fn close<R: Wait>(self, rt: &R) {
+        let CommitState {
+            alloc: _,
+            pipeline: _,
+            publisher,
+            head: _,
+            prefix: _,
+            in_flight: _,
+            last: _,
+        } = self;
+        publisher.close(rt);
+    }
+
+    /// The state of a new database, without entries, for as many clients as the configuration has
+    /// places. It is refused as `Pipeline::new` refuses the configuration.
+    pub fn open<R: Wait>(rt: &R, alloc: Global, config: &Config) -> Result<CommitState, ConfigError>
+        ensures allowed { OnOk result (IsNone (config_refusal config.now)) }
+        ensures refused { IfErr result (λ error.
+            (error ≡ ConfigError.Memory) ⊎ (config_refusal config.now ≡ Some error)) }
+        ensures config { IfOk result (λ state. state.name.config ≡ config.now) }
+        ensures empty { IfOk result (λ state.
+            (state.published ≡ []) × (state.log ≡ []) × (state.idle ≡ true)) }
+        ensures clients { IfOk result (λ state. length state.last ≡ config.now.places) }
+        ensures none { IfOk result (λ state. (client : ℕ) → slice_index state.last client ≡ 0) }
+    {
+        let pipeline = Pipeline::new(alloc, config)?;
+        let places = config.places as usize;
+        let last = Vec::from_elem(alloc, 0u64, places)?;
+        let (publisher, head) = Publisher::open(rt, alloc, config, places)?;
+        let prefix = publisher.prefix();
+        Ok(CommitState {
+            alloc,
+            pipeline,
+            publisher,
+            head,
+            prefix,
+            in_flight: InFlight::Idle,
+            last,
+        })
+    }
+}

@@ -1,0 +1,36 @@
+// The state of an open transaction. Used by `client`.
+ghost use Rattle.std.specs.Prelude.{◌≡◌};
+ghost use Rattle.runtime.specs.Clients.{IsFresh};
+ghost use Rattle.runtime.specs.Logs.{IsOpenOver, version_of};
+
+use crate::log_prefix::LogPrefix;
+use crate::trace::Trace;
+use std::alloc::Global;
+use txn::Transaction;
+
+/// An open transaction, and the log over which it was begun.
+#[derive(Drop)]
+pub struct OpenTransaction {
+    pub prefix: LogPrefix,
+    pub transaction: Transaction,
+    pub trace: Trace,
+}
+
+impl OpenTransaction {
+    /// A transaction at the version of a log, which has done nothing yet.
+    #[tactic(auto, using(crate::proofs::WellFormed::open_first))]
+    pub fn new(alloc: Global, prefix: LogPrefix) -> OpenTransaction
+        ensures prefix { result.prefix ≡ prefix }
+        ensures fresh { IsFresh prefix.name prefix.log result }
+        ensures over { IsOpenOver prefix.name.config prefix.log
+            result.transaction result.trace.attempts }
+        ensures at { result.transaction.read_version ≡ version_of prefix.name.config prefix.log }
+    {
+        let transaction = Transaction::begin(alloc, prefix.version());
+        OpenTransaction {
+            prefix,
+            transaction,
+            trace: Trace::new(),
+        }
+    }
+}

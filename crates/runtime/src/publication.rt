@@ -1,0 +1,77 @@
+// The invariant of the published state under `left_right`, and the types of its reader and writer.
+// Used by `publisher`, `commit_state`, `db`, `client` and `published_reads`.
+use crate::log_prefix::LogPrefix;
+use crate::published::{Published, Step, View};
+use atomic_table::{Join, Split};
+use cluster_core::Tier;
+use crossbeam_utils::rule::{Outcome, Protocol};
+use left_right::Absorb;
+use left_right::reader::{Reader, Reading};
+use left_right::writer::Writer;
+use std::alloc::AllocError;
+
+/// The rule: the servers have pulled just the log, and the state is of the database that each thread
+/// has seen it to be of.
+pub struct PublishedRule;
+
+impl Protocol<Published, View> for PublishedRule {
+    ghost use Rattle.runtime.specs.Publication.{Kept, newcomer};
+
+    ghost holds = { Kept };
+
+    ghost first = { newcomer };
+}
+
+/// What an entry and a publish tell: the state is seen.
+pub struct See;
+
+impl Outcome<Published, View> for See {
+    ghost use Rattle.runtime.specs.Publication.{Sees};
+
+    ghost then = { Sees };
+}
+
+/// What the writer knows, told to a new reader.
+pub struct Tell;
+
+impl Split<View> for Tell {
+    ghost left = { λ v. v };
+
+    ghost right = { λ v. v };
+}
+
+impl Join<View> for Tell {
+    ghost use Rattle.runtime.specs.Publication.{newcomer};
+
+    ghost both = { λ v w. w };
+
+    ghost spent = { newcomer };
+}
+
+impl Absorb<Step> for Published {
+    ghost use Rattle.runtime.specs.Publication.{applied};
+
+    type State = (Tier, LogPrefix);
+
+    ghost state = { λ s. (s.tier, s.prefix) };
+
+    ghost applied = { applied };
+
+    fn absorb_first(&mut self, operation: &Step, _other: &Published) -> Result<(), AllocError> {
+        if !self.tier.has_next() {
+            return Err(AllocError);
+        }
+        self.tier.pull_entry(operation.mutations.as_slice())?;
+        self.prefix = operation.prefix.again();
+        Ok(())
+    }
+}
+
+/// A reader of the published state.
+pub type StateReader = Reader<Published, View, PublishedRule>;
+
+/// The published state, which a reader has entered.
+pub type StateReading = Reading<Published, View, PublishedRule>;
+
+/// The writer of the published state.
+pub type StateWriter = Writer<Published, Step, View, PublishedRule>;

@@ -1,0 +1,161 @@
+// Reads of the published state, without locks. Called by `client`.
+ghost use Rattle.std.specs.Prelude.{◌≡◌, ◌++◌, ◌∷◌, [], Err, IfSome, IfOk, IfErr, MatchResult};
+ghost use mathlib.Core.List.{IsPrefix};
+ghost use Rattle.left_right.specs.Sides.{view as knowledge};
+ghost use Rattle.runtime.specs.Logs.{IsOpenOver, version_of};
+ghost use Rattle.runtime.specs.Serves.{IsAnswer, IsUnanswered};
+ghost use Rattle.runtime.specs.Publication.{knows, IsFold};
+
+use crate::log_prefix::LogPrefix;
+use crate::publication::{See, StateReader, StateReading};
+use crate::published::Published;
+use crate::trace::Trace;
+use schedule::{Command, Reply, perform};
+use std::alloc::{AllocError, Global};
+use thiserror::Error;
+use txn::Transaction;
+
+/// So many attempts are made to enter the published state, or to have a place for a reader.
+pub const TRIES: u32 = 1_000;
+
+/// Why an entry of the published state has no answer.
+#[derive(Clone, Copy, Debug, PartialEq, Eq, Error)]
+pub enum EnterError {
+    /// The state wasn't entered, in `TRIES` attempts; or what is published doesn't begin with the
+    /// log at hand; or there is no open transaction.
+    #[error("the published state wasn't entered")]
+    NotEntered,
+    /// The transaction reads longer ago than the window allows.
+    #[error("the transaction reads too long ago")]
+    TooOld,
+    /// Memory ran out.
+    #[error("out of memory")]
+    Memory,
+}
+
+/// Enters the published state. The reader comes back where `TRIES` attempts failed.
+fn enter(reader: StateReader) -> Result<StateReading, StateReader>
+    requires { knowledge reader.place ≡ knows (knowledge reader.place).prefix.name }
+    ensures { MatchResult result
+        (λ reading. IsFold reading.part.value
+        × (reading.part.value.prefix.name ≡ (knowledge reader.place).prefix.name)
+        × (knowledge reading.place ≡ knowledge reader.place))
+        (λ back. knowledge back.place ≡ knowledge reader.place) }
+{
+    let mut reader = reader;
+    for _ in 0..TRIES {
+        match reader.enter_as::<See>() {
+            Ok(reading) => return Ok(reading),
+            Err(back) => reader = back,
+        }
+    }
+    Err(reader)
+}
+
+/// The log that is published, and the reader again. None where the state wasn't entered.
+///
+/// It waits for nobody.
+pub fn look(reader: StateReader) -> (StateReader, Option<LogPrefix>)
+    requires { knowledge reader.place ≡ knows (knowledge reader.place).prefix.name }
+    ensures reader { knowledge result.0.place ≡ knowledge reader.place }
+    ensures prefix { IfSome result.1 (λ prefix. prefix.name ≡ (knowledge reader.place).prefix.name) }
+{
+    match enter(reader) {
+        Ok(reading) => {
+            let prefix = reading.get().prefix.again();
+            (reading.leave(), Some(prefix))
+        }
+        Err(reader) => (reader, None),
+    }
+}
+
+/// Performs a command over the servers, where these have pulled a log that begins with the
+/// transaction's.
+fn perform_over(
+    state: &Published,
+    alloc: Global,
+    prefix: &LogPrefix,
+    tx: &mut Transaction,
+    trace: &mut Trace,
+    command: &Command,
+) -> Result<Reply, EnterError>
+    requires state { IsFold state.now × (state.now.prefix.name ≡ prefix.now.name) }
+    requires over { IsOpenOver prefix.now.name.config prefix.now.log tx.old trace.old.attempts }
+    requires at { tx.old.read_version ≡ version_of prefix.now.name.config prefix.now.log }
+    ensures answer { IfOk result (λ reply.
+        IsAnswer prefix.now.name.config prefix.now.log
+        tx.old trace.old.attempts command.now reply) }
+    ensures done { IfOk result (λ reply.
+        trace.new.attempts
+        ≡ trace.old.attempts ++ record { command = command.now; reply = reply } ∷ []) }
+    ensures over { IsOpenOver prefix.now.name.config prefix.now.log tx.new trace.new.attempts }
+    ensures version { tx.new.read_version ≡ tx.old.read_version }
+    ensures refused { IfErr result (λ error.
+        IsUnanswered prefix.now state.now.prefix.log error command.now tx.old trace.old
+        tx.new trace.new) }
+    ensures unentered { result ≡ Err EnterError.NotEntered
+        → IsPrefix state.now.prefix.log prefix.now.log }
+{
+    if !prefix.begins(&state.prefix) {
+        return Err(EnterError::NotEntered);
+    }
+    if !prefix.is_near(&state.prefix) {
+        return Err(EnterError::TooOld);
+    }
+    prove!(prefix.version() <= u64::MAX);
+    match perform(alloc, command, tx, &state.tier) {
+        Ok(reply) => {
+            *trace = trace.then(command, &reply);
+            Ok(reply)
+        }
+        Err(AllocError) => {
+            *trace = trace.then(command, &Reply::Stopped);
+            Err(EnterError::Memory)
+        }
+    }
+}
+
+/// Performs a command in a transaction over this log, and gives the reader back, with the log
+/// that was published.
+///
+/// The reply is the serial store's for what is committed in the log, as the transaction's own
+/// accepted commands change it, or a write limit. It waits for nobody. Where memory runs out the
+/// transaction has read the first of the command's ranges, and can go on. Where the state wasn't
+/// entered, the log that comes back is the transaction's.
+pub fn perform_at(
+    reader: StateReader,
+    alloc: Global,
+    prefix: &LogPrefix,
+    tx: &mut Transaction,
+    trace: &mut Trace,
+    command: &Command,
+) -> (StateReader, Result<Reply, EnterError>, LogPrefix)
+    requires reader { knowledge reader.place ≡ knows (knowledge reader.place).prefix.name }
+    requires prefix { prefix.now.name ≡ (knowledge reader.place).prefix.name }
+    requires over { IsOpenOver prefix.now.name.config prefix.now.log tx.old trace.old.attempts }
+    requires at { tx.old.read_version ≡ version_of prefix.now.name.config prefix.now.log }
+    ensures reader { knowledge result.0.place ≡ knowledge reader.place }
+    ensures seen { result.2.name ≡ prefix.now.name }
+    ensures answer { IfOk result.1 (λ reply.
+        IsAnswer prefix.now.name.config prefix.now.log
+        tx.old trace.old.attempts command.now reply) }
+    ensures done { IfOk result.1 (λ reply.
+        trace.new.attempts
+        ≡ trace.old.attempts ++ record { command = command.now; reply = reply } ∷ []) }
+    ensures over { IsOpenOver prefix.now.name.config prefix.now.log tx.new trace.new.attempts }
+    ensures version { tx.new.read_version ≡ tx.old.read_version }
+    ensures refused { IfErr result.1 (λ error.
+        IsUnanswered prefix.now result.2.log error command.now tx.old trace.old tx.new trace.new) }
+    ensures unentered { result.1 ≡ Err EnterError.NotEntered
+        → IsPrefix result.2.log prefix.now.log }
+{
+    match enter(reader) {
+        Ok(reading) => {
+            let state = reading.get();
+            let answer = perform_over(state, alloc, prefix, tx, trace, command);
+            let seen = state.prefix.again();
+            (reading.leave(), answer, seen)
+        }
+        Err(reader) => (reader, Err(EnterError::NotEntered), prefix.again()),
+    }
+}

@@ -1,0 +1,92 @@
+// What replies tell: the answers of the calls that perform a command. Used by `transaction`.
+ghost use Rattle.std.specs.Prelude.{◌≡◌, ℤ, Bool, List, Option, IfOk};
+ghost use Rattle.metadata.specs.declared.cells.Cell.{Cell};
+ghost use Rattle.planner.specs.Asked.{AskedPlan};
+ghost use Rattle.runtime.specs.Calls.{found_reply, removed_reply, saved_reply, told_result};
+ghost use Rattle.runtime.specs.Errors.{accepted_reply};
+
+use crate::answers::CommandError;
+use crate::published_reads::EnterError;
+use metadata::Cells;
+use schedule::{Reply, Rows, SharedPlan};
+
+/// The reply, where it accepts its command.
+pub(crate) fn accepted(reply: Result<Reply, EnterError>) -> Result<Reply, CommandError>
+    ensures { result ≡ accepted_reply reply }
+{
+    match reply? {
+        Reply::Refused(refusal) => Err(CommandError::Refused(refusal)),
+        Reply::Corrupt(key) => Err(CommandError::Corrupt(key)),
+        Reply::Stopped => Err(CommandError::Memory),
+        reply => Ok(reply),
+    }
+}
+
+/// By the reply the record that was there before a save.
+pub(crate) fn saved(reply: Result<Reply, CommandError>) -> Result<Option<Cells>, CommandError>
+    requires { IfOk reply (λ told. (answer : Option (List Cell)) × (told ≡ saved_reply answer)) }
+    ensures { reply ≡ told_result saved_reply result }
+{
+    match reply? {
+        Reply::SavedNew => Ok(None),
+        Reply::SavedOver(cells) => Ok(Some(cells)),
+        _ => unreachable!(),
+    }
+}
+
+/// By the reply the record that was found.
+pub(crate) fn found(reply: Result<Reply, CommandError>) -> Result<Option<Cells>, CommandError>
+    requires { IfOk reply (λ told. (answer : Option (List Cell)) × (told ≡ found_reply answer)) }
+    ensures { reply ≡ told_result found_reply result }
+{
+    match reply? {
+        Reply::Absent => Ok(None),
+        Reply::Found(cells) => Ok(Some(cells)),
+        _ => unreachable!(),
+    }
+}
+
+/// By the reply whether a record was taken out.
+pub(crate) fn removed(reply: Result<Reply, CommandError>) -> Result<bool, CommandError>
+    requires { IfOk reply (λ told. (answer : Bool) × (told ≡ removed_reply answer)) }
+    ensures { reply ≡ told_result removed_reply result }
+{
+    match reply? {
+        Reply::Removed => Ok(true),
+        Reply::Absent => Ok(false),
+        _ => unreachable!(),
+    }
+}
+
+/// By the reply the plan of a query.
+pub(crate) fn planned(reply: Result<Reply, CommandError>) -> Result<SharedPlan, CommandError>
+    requires { IfOk reply (λ told. (answer : AskedPlan) × (told ≡ Reply.Planned answer)) }
+    ensures { reply ≡ told_result Reply.Planned result }
+{
+    match reply? {
+        Reply::Planned(plan) => Ok(plan),
+        _ => unreachable!(),
+    }
+}
+
+/// By the reply the rows of a plan.
+pub(crate) fn rows(reply: Result<Reply, CommandError>) -> Result<Rows, CommandError>
+    requires { IfOk reply (λ told. (answer : List (List Cell)) × (told ≡ Reply.Rows answer)) }
+    ensures { reply ≡ told_result Reply.Rows result }
+{
+    match reply? {
+        Reply::Rows(rows) => Ok(rows),
+        _ => unreachable!(),
+    }
+}
+
+/// By the reply the total of a group.
+pub(crate) fn total(reply: Result<Reply, CommandError>) -> Result<i64, CommandError>
+    requires { IfOk reply (λ told. (answer : ℤ) × (told ≡ Reply.Total answer)) }
+    ensures { reply ≡ told_result Reply.Total result }
+{
+    match reply? {
+        Reply::Total(total) => Ok(total),
+        _ => unreachable!(),
+    }
+}

@@ -1,0 +1,130 @@
+// Transactions that are tried again. Called by `race` and `embed_threads`.
+ghost use Rattle.std.specs.Prelude.{◌≡◌, IfOk, IfErr};
+ghost use Rattle.runtime.specs.Runs.{Continues, FailsSo, GoesOnFrom, IsRun, TriesAndEnds, ended_by};
+ghost use Rattle.runtime.specs.Runs.{failure_by};
+
+use crate::answers::{CommandError, CommitError, Done, RunError};
+use crate::client::Client;
+use crate::critical_section::End;
+use crate::transaction::Txn;
+use schedule::Refusal;
+use std::sync::Wait;
+use txn::{Ended, Next, Retry};
+
+/// What a transaction does, which may be tried again.
+pub trait Body<E: End> {
+    ghost use Rattle.std.specs.Prelude.{◌≡◌, Result};
+    ghost use Rattle.runtime.specs.Clients.{Knowledge};
+    ghost use Rattle.runtime.specs.Runs.{Continues};
+    ghost use Rattle.runtime.specs.declared.answers.CommandError.{CommandError};
+
+    /// What it answers.
+    type Answer: Drop;
+
+    /// What an attempt does, by the body and its client before and after it.
+    ghost did: { Self → Knowledge → Result Self.Answer CommandError → Knowledge → Self → Type 0 };
+
+    /// Performs the commands of one attempt. The transaction is left to the caller, who commits it.
+    fn attempt(&mut self, tx: &mut Txn<'_, E>) -> Result<Self::Answer, CommandError>
+        ensures same_reference { tx.new.client.ghost_name ≡ tx.old.client.ghost_name }
+        ensures continues { Continues tx.old.client.now tx.new.client.now }
+        ensures did { did self.old tx.old.client.now result tx.new.client.now self.new };
+}
+
+/// How an attempt failed.
+enum Failure {
+    /// It wasn't begun, or its body gave it up, but not for its age.
+    Refused(CommandError),
+    /// It ended so.
+    Ended(Ended),
+}
+
+/// How an attempt failed that its body gave up.
+fn failure_of(error: CommandError) -> Failure
+    ensures { result ≡ failure_by error }
+{
+    match error {
+        CommandError::TooOld | CommandError::Refused(Refusal::TooOld) => {
+            Failure::Ended(Ended::TooOld)
+        }
+        other => Failure::Refused(other),
+    }
+}
+
+/// How an attempt ended that wasn't committed. While lost submissions aren't finished, another
+/// attempt after one doesn't help.
+fn ended_of(error: &CommitError) -> Ended
+    ensures { result ≡ ended_by error.now }
+{
+    match error {
+        CommitError::Conflict { .. } => Ended::Conflict,
+        CommitError::TooOld => Ended::TooOld,
+        CommitError::VersionsExhausted | CommitError::Unknown | CommitError::Memory => Ended::Other,
+    }
+}
+
+/// The body's answer in the open transaction of a client.
+fn answer_of<E: End, B: Body<E>>(
+    client: &mut Client<E>,
+    body: &mut B,
+) -> Result<B::Answer, CommandError>
+    ensures continues { Continues client.old client.new }
+    ensures did { B.did body.old client.old result client.new body.new }
+{
+    let mut tx = Txn { client };
+    body.attempt(&mut tx)
+}
+
+/// One attempt.
+fn attempt<E: End, R: Wait, B: Body<E>>(
+    rt: &R,
+    client: &mut Client<E>,
+    body: &mut B,
+) -> Result<(B::Answer, Done), Failure>
+    ensures follows { GoesOnFrom client.old client.new }
+    ensures done { IfOk result (λ both.
+        TriesAndEnds B.did (body.old, client.old) both.0 (Ok both.1) (body.new, client.new)) }
+    ensures failed { IfErr result (λ failure.
+        FailsSo B.did (body.old, client.old) failure (body.new, client.new)) }
+{
+    if let Err(error) = client.begin_here() {
+        return Err(Failure::Refused(CommandError::from(error)));
+    }
+    let answer = match answer_of(client, body) {
+        Ok(answer) => answer,
+        Err(error) => return Err(failure_of(error)),
+    };
+    match client.commit_here(rt) {
+        Ok(done) => Ok((answer, done)),
+        Err(error) => Err(Failure::Ended(ended_of(&error))),
+    }
+}
+
+impl<E: End> Client<E> {
+    /// Runs the body in a transaction and commits it, until it is committed, or changed nothing.
+    /// Another attempt follows one that read too long ago or was refused with a conflict, up to the
+    /// limit of `retry`.
+    pub fn run<R: Wait, B: Body<E>>(
+        &mut self,
+        rt: &R,
+        retry: Retry,
+        repeatable: bool,
+        body: &mut B,
+    ) -> Result<(B::Answer, Done), RunError>
+        ensures follows { GoesOnFrom self.old self.new }
+        ensures run { IsRun B.did retry.limit (body.old, self.old) result (body.new, self.new) }
+    {
+        let mut number = 1u64;
+        loop {
+            let ended = match attempt(rt, self, body) {
+                Ok(both) => return Ok(both),
+                Err(Failure::Refused(error)) => return Err(RunError::Refused(error)),
+                Err(Failure::Ended(ended)) => ended,
+            };
+            match retry.next(ended, number, repeatable) {
+                Next::Again => number += 1,
+                _ => return Err(RunError::GaveUp),
+            }
+        }
+    }
+}

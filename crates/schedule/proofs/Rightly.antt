@@ -1,0 +1,287 @@
+-- What is right of a run, from what is exact of it.
+use Rattle.std.proofs.Common.{◌≡◌, ◌⊎◌, inl, inr, ℕ, ◌-◌, Bool, true, false, cond, ◌||◌, List, [], ◌∷◌, ◌++◌, map, Option, Some, None, refl, sym, ap, subst, ◌∙◌}
+use Rattle.std.specs.Prelude.{IsTrue, filter}
+use Rattle.std.specs.List.{AllByRecursion, list_any}
+use Rattle.std.proofs.lemmas.Bool.{or_left, or_right}
+use Rattle.std.proofs.lemmas.List.{map-append}
+use Rattle.std.proofs.lemmas.List.Elements.{All-from_recursion, recursion_from_All}
+use Rattle.std.proofs.lemmas.List.Folds.{list_any-append}
+use Rattle.kv_core.specs.Change.{write_range, write_ranges}
+use Rattle.kv_core.specs.Limits.{write_all_refusal}
+use Rattle.kv_core.specs.Map.{Map, after_all}
+use Rattle.kv_core.specs.Range.{KeyRange, contains, covers, is_same_range, with_range}
+use Rattle.kv_core.specs.declared.change.CommitRequest.{CommitRequest}
+use Rattle.kv_core.specs.declared.change.Mutation.{Mutation}
+use Rattle.kv_core.specs.declared.change.WriteError.{WriteError}
+use Rattle.cluster_core.specs.declared.answers.Config.{Config}
+use Rattle.cluster_core.specs.declared.answers.ReadError.{ReadError}
+use Rattle.cluster_core.specs.Cluster.{ClusterState, database_at, tier_of}
+use Rattle.txn.specs.Refusing.{MayRefuse}
+use Rattle.txn.specs.Runs.{with_ranges}
+use Rattle.metadata.specs.declared.index.State.{State}
+use Rattle.metadata.specs.Schema.{Schema}
+use Rattle.query.specs.declared.error.QueryError.{QueryError}
+use Rattle.query.specs.Checked.{query_refusal}
+use Rattle.query.specs.Query.{Query}
+use Rattle.planner.specs.Asked.{AskedPlan}
+use Rattle.planner.specs.Right.{indexes_of, is_served}
+use Rattle.planner.specs.Rules.{MayBeUsed}
+use Rattle.planner.specs.View.{plan_of}
+use Rattle.planner.proofs.Lists.{each_all}
+use Rattle.planner.proofs.Theorem.{planned_usable}
+use Rattle.record_store.specs.Store.{Serial}
+use Rattle.schedule.specs.declared.step.Command.{Command}
+use Rattle.schedule.specs.declared.step.Command.TheVariants as asks
+use Rattle.schedule.specs.declared.step.Step.{Step}
+use Rattle.schedule.specs.declared.step.Step.TheVariants.{Begin, Perform, Execute, Commit, Abandon, Resolve, Log, Pull, Report, Lost, Settle}
+use Rattle.schedule.specs.declared.reply.Reply.{Reply}
+use Rattle.schedule.specs.declared.transcript.CommitEntry.{CommitEntry}
+use Rattle.schedule.specs.Query.{Unrefused, states_of}
+use Rattle.schedule.specs.Planning.{IsPlanReplyWith, IsPlanned, IsSomePlan}
+use Rattle.schedule.specs.Serve as serve
+use Rattle.schedule.specs.Serve.{IsMeant, IsReply, IsReplyWith, effect, serial_line}
+use Rattle.schedule.specs.Past.{Attempt, Open, Past, Submission, accepted, is_accepted, kept_plan, open_of, submitted_in}
+use Rattle.schedule.specs.Performed.{IsLimited, IsRefusalAmong, IsServed}
+use Rattle.schedule.specs.Commits.{committed_store, view}
+use Rattle.schedule.specs.Standing.{cluster_after, commits_of, listed}
+use Rattle.schedule.specs.Keys.{MayReadKey, MayWriteKey}
+use Rattle.schedule.specs.Reach.{added_by, opened_in, reach, writes}
+use Rattle.schedule.specs.Contract.{AreSerialBy, EachReply, EachRequest, HasReplies, InTransaction, IsReplyBy, IsSerialBy, WithPlan, attempted}
+use Rattle.schedule.specs.Exact.{HasExactReplies, HaveAdded, IsExactReply, IsExactRequest, IsSerial, attempt_writes, commands_written}
+use Rattle.schedule.specs.Right.{IsOverLimit, IsRightReply, IsRightRequest, MayHaveRead, MayHaveWritten}
+use Rattle.schedule.proofs.Reached.{added_begin}
+use Rattle.schedule.proofs.ReachReads.{reach_added, reach_reads}
+use Rattle.schedule.proofs.ReachWrites.{reach_writes}
+use Rattle.schedule.proofs.Written.{limit_met, or_cases, writes_such}
+
+-- ---- a reply to a command
+
+-- the planner's plan is a plan for the query
+planned_meant : (schema : Schema) (states : List (ℕ × State)) (query : Query) (answer : Reply) → IsPlanned schema states query answer → IsSomePlan schema states query answer
+planned_meant schema states query answer is = record {
+  plan = is.plan;
+  shown = is.shown;
+  asked = is.asked;
+  typed = is.typed;
+  uses =
+      each_all (MayBeUsed schema states is.plan.definition) (indexes_of (plan_of is.plan).root)
+      (planned_usable schema states is.plan.definition query (plan_of is.plan).root is.is);
+}
+
+plan_meant : (schema : Schema) (states : List (ℕ × State)) (query : Query) (answer : Reply) → IsPlanReplyWith IsPlanned schema states query answer → IsPlanReplyWith IsSomePlan schema states query answer
+plan_meant schema states query answer is = by_refusal (query_refusal schema query) (is_served schema states query) is
+  where
+    by_refusal : (why : Option QueryError) (served : Bool) → Unrefused why served (IsPlanned schema states query) answer → Unrefused why served (IsSomePlan schema states query) answer
+    by_refusal (Some error) served says = says
+    by_refusal None false says = says
+    by_refusal None true says = planned_meant schema states query answer says
+
+line_meant : (line : serve.Line) (answer : Reply) → IsReplyWith IsPlanned line answer → IsReplyWith IsSomePlan line answer
+line_meant (serve.Refuses refusal) answer is = is
+line_meant (serve.Replies told after) answer is = is
+line_meant (serve.Queries store query) answer is = is
+line_meant (serve.Plans store query) answer is = plan_meant store.schema (states_of store) query answer is
+line_meant (serve.Executes store plan) answer is = is
+
+meant : (serial : Serial) (command : Command) (answer : Reply) → IsReply serial command answer → IsMeant serial command answer
+meant serial command answer is = line_meant (serial_line serial command) answer is
+
+-- a refused read of such keys is one of others among which they are
+refusal_among : (refuses : KeyRange → ReadError → Type 0) (Is Wide : List ℕ → Type 0) (answer : Reply) → ((key : List ℕ) → Is key → Wide key) → IsRefusalAmong refuses Is answer → IsRefusalAmong refuses Wide answer
+refusal_among refuses Is Wide answer so is = record {
+  error = is.error;
+  told = is.told;
+  refused = record { range = is.refused.range; inside = λ key inside. so key (is.refused.inside key inside); refused = is.refused.refused };
+}
+
+served_right : (m : Map) (before : List Mutation) (seen : Serial) (command : Command) (answer : Reply) → IsServed m before seen command answer → IsMeant seen command answer ⊎ IsOverLimit seen command answer
+served_right m before seen command answer is = by_limit (write_all_refusal before (writes m seen command)) refl is
+  where
+    by_limit : (limit : Option WriteError) → write_all_refusal before (writes m seen command) ≡ limit → IsLimited limit seen command answer → IsMeant seen command answer ⊎ IsOverLimit seen command answer
+    by_limit None is_limit says = inl (meant seen command answer says)
+    by_limit (Some error) is_limit says =
+        let met = limit_met (MayWriteKey seen command) before (writes m seen command) error (reach_writes m seen command) is_limit in
+        inr (record { limit = error; told = says; key = met.0; written = met.1; met = met.2 })
+
+reply_right : (c : ClusterState) (commits : List CommitEntry) (open_now : Open) (command : Command) (answer : Reply) → IsExactReply c commits open_now command answer → IsRightReply c commits open_now command answer
+reply_right c commits open_now command answer is = elim is [
+  | inl served ↦ elim (served_right (after_all before base) before seen command answer served) [
+    | inl says ↦ inl says
+    | inr limit ↦ inr (inr limit)
+  ]
+  | inr refused ↦ inr (inl (refusal_among (λ range. MayRefuse (tier_of c) range open_now.read_version) (λ key. IsTrue (covers (reach (opened_in seen) command (after_all before base)) key)) (MayReadKey seen command) answer
+      (reach_reads seen command (after_all before base)) refused))
+]
+  where
+    seen : Serial
+    seen = view commits open_now
+
+    base : Map
+    base = database_at c open_now.read_version
+
+    before : List Mutation
+    before = commands_written base (committed_store commits open_now.read_version) (accepted open_now.attempts)
+
+-- ---- replies to steps
+
+in_transaction : (o : Option Open) (reply : Reply) (A B : Open → Type 0) → ((open_now : Open) → A open_now → B open_now) → InTransaction o A reply → InTransaction o B reply
+in_transaction None reply A B so is = is
+in_transaction (Some open_now) reply A B so is = so open_now is
+
+with_plan : (o : Option AskedPlan) (reply : Reply) (A B : AskedPlan → Type 0) → ((plan : AskedPlan) → A plan → B plan) → WithPlan o A reply → WithPlan o B reply
+with_plan None reply A B so is = is
+with_plan (Some plan) reply A B so is = so plan is
+
+abbrev CommitsThen : ClusterState → Past → List CommitEntry
+CommitsThen c past = commits_of c.pipeline (submitted_in past)
+
+step_right : (c : ClusterState) (past : Past) (step : Step) (reply : Reply) → IsReplyBy IsExactReply c past step reply → IsReplyBy IsRightReply c past step reply
+step_right c past (Begin client) reply is = is
+step_right c past (Perform client command) reply is = (
+  λ below. in_transaction (open_of client past) reply (λ open_now. IsExactReply c (CommitsThen c past) open_now command reply) (λ open_now. IsRightReply c (CommitsThen c past) open_now command reply)
+      (λ open_now. reply_right c (CommitsThen c past) open_now command reply) (is.0 below),
+  is.1,
+)
+step_right c past (Execute client) reply is = (
+  λ below. in_transaction (open_of client past) reply
+      (λ open_now. WithPlan (kept_plan client past) (λ plan. IsExactReply c (CommitsThen c past) open_now (asks.Execute plan) reply) reply)
+      (λ open_now. WithPlan (kept_plan client past) (λ plan. IsRightReply c (CommitsThen c past) open_now (asks.Execute plan) reply) reply)
+      (λ open_now. with_plan (kept_plan client past) reply (λ plan. IsExactReply c (CommitsThen c past) open_now (asks.Execute plan) reply)
+      (λ plan. IsRightReply c (CommitsThen c past) open_now (asks.Execute plan) reply)
+      (λ plan. reply_right c (CommitsThen c past) open_now (asks.Execute plan) reply)) (is.0 below),
+  is.1,
+)
+step_right c past (Commit client) reply is = is
+step_right c past (Abandon client) reply is = is
+step_right c past (Resolve r) reply is = is
+step_right c past (Log l) reply is = is
+step_right c past (Pull s) reply is = is
+step_right c past Report reply is = is
+step_right c past Lost reply is = is
+step_right c past Settle reply is = is
+
+replies_each : (config : Config) (requests : List CommitRequest) (past : Past) (steps : List Step) (replies : List Reply) →
+    EachReply (λ past step reply. IsReplyBy IsExactReply (cluster_after config requests past) past step reply) past steps replies →
+    EachReply (λ past step reply. IsReplyBy IsRightReply (cluster_after config requests past) past step reply) past steps replies
+replies_each config requests past [] [] each = tt
+replies_each config requests past [] (reply ∷ replies) each = absurd each
+replies_each config requests past (step ∷ steps) [] each = absurd each
+replies_each config requests past (step ∷ steps) (reply ∷ replies) each =
+    (step_right (cluster_after config requests past) past step reply each.0, replies_each config requests ((step, reply) ∷ past) steps replies each.1)
+
+pub replies_right : (config : Config) (requests : List CommitRequest) (steps : List Step) (replies : List Reply) → HasExactReplies config requests steps replies → HasReplies IsRightReply config requests steps replies
+replies_right config requests steps replies each = replies_each config requests [] steps replies each
+
+-- ---- version order
+
+serial_meant : (serial : Serial) (attempts : List Attempt) → IsSerialBy IsReply serial attempts → IsSerialBy IsMeant serial attempts
+serial_meant serial [] is = tt
+serial_meant serial (attempt ∷ attempts) is = (λ yes_accepted. meant serial attempt.command attempt.reply (is.0 yes_accepted), serial_meant (attempted serial attempt) attempts is.1)
+
+pub serial_right : (c : ClusterState) (commits : List CommitEntry) (submissions : List Submission) → IsSerial c commits submissions → AreSerialBy IsMeant c commits submissions
+serial_right c commits submissions is =
+    All-from_recursion Meant (listed c.pipeline submissions) (each (listed c.pipeline submissions) (recursion_from_All Exact (listed c.pipeline submissions) is))
+  where
+    Exact : Submission → Type 0
+    Exact s = IsSerialBy IsReply (committed_store commits (s.version - 1)) s.transaction.attempts
+
+    Meant : Submission → Type 0
+    Meant s = IsSerialBy IsMeant (committed_store commits (s.version - 1)) s.transaction.attempts
+
+    each : (ss : List Submission) → AllByRecursion Exact ss → AllByRecursion Meant ss
+    each [] all = tt
+    each (s ∷ ss) all = (serial_meant (committed_store commits (s.version - 1)) s.transaction.attempts all.0, each ss all.1)
+
+-- ---- requests
+
+-- the ranges that begin a list cover no other keys
+begin_covers : (all ranges rest : List KeyRange) (key : List ℕ) → all ≡ ranges ++ rest → covers ranges key ≡ true → covers all key ≡ true
+begin_covers all ranges rest key is inside =
+    ap (λ rs. covers rs key) is ∙ list_any-append (λ range. contains range key) ranges rest ∙ or_left (covers ranges key) (covers rest key) inside
+
+added_read : (serial : Serial) (m : Map) (attempts : List Attempt) (added : List KeyRange) → HaveAdded m serial attempts added → (key : List ℕ) → covers added key ≡ true → MayHaveRead serial attempts key
+added_read serial m [] added have key inside = absurd (none (ap (λ rs. covers rs key) (sym have) ∙ inside))
+  where
+    none : false ≡ true → ⊥
+    none bad = cc
+added_read serial m (attempt ∷ attempts) added (first, rest, is, has, have) key inside =
+    elim (or_cases (covers first key) (covers rest key) (sym (list_any-append (λ range. contains range key) first rest) ∙ ap (λ rs. covers rs key) (sym is) ∙ inside)) [
+      | inl here ↦ let begin = added_begin attempt.reply has in inl (reach_added serial attempt.command m key (begin_covers (added_by (opened_in serial) attempt.command m) first begin.rest key begin.is here))
+      | inr later ↦ inr (added_read (attempted serial attempt) (after_all (attempt_writes m serial attempt) m) attempts rest have key later)
+    ]
+
+-- a range that is kept once is one of those that were added
+one_kept : (range : KeyRange) (ranges : List KeyRange) (key : List ℕ) → covers (with_range range ranges) key ≡ true → (contains range key ≡ true) ⊎ (covers ranges key ≡ true)
+one_kept range ranges key is = by_test (list_any (is_same_range range) ranges) is
+  where
+    by_test : (b : Bool) → covers (cond b ranges (ranges ++ range ∷ [])) key ≡ true → (contains range key ≡ true) ⊎ (covers ranges key ≡ true)
+    by_test true says = inr says
+    by_test false says = elim (or_cases (covers ranges key) (covers (range ∷ []) key) (sym (list_any-append (λ r. contains r key) ranges (range ∷ [])) ∙ says)) [
+      | inl there ↦ inr there
+      | inr here ↦ elim (or_cases (contains range key) false here) [ inl own ↦ inl own | inr bad ↦ absurd (cc) ]
+    ]
+
+kept_covers : (added ranges : List KeyRange) (key : List ℕ) → covers (with_ranges added ranges) key ≡ true → (covers added key ≡ true) ⊎ (covers ranges key ≡ true)
+kept_covers [] ranges key is = inr is
+kept_covers (range ∷ added) ranges key is = elim (kept_covers added (with_range range ranges) key is) [
+  | inl later ↦ inl (or_right (contains range key) (covers added key) later)
+  | inr kept ↦ elim (one_kept range ranges key kept) [
+    | inl here ↦ inl (or_left (contains range key) (covers added key) here)
+    | inr there ↦ inr there
+  ]
+]
+
+-- what is written by a command and then by others
+split_writes : (a b : List Mutation) (key : List ℕ) → covers (write_ranges (a ++ b)) key ≡ true → (covers (write_ranges a) key || covers (write_ranges b) key) ≡ true
+split_writes a b key is = sym (list_any-append (λ range. contains range key) (write_ranges a) (write_ranges b)) ∙ ap (λ rs. covers rs key) (sym (map-append write_range a b)) ∙ is
+
+written_by : (serial : Serial) (m : Map) (attempts : List Attempt) (key : List ℕ) → covers (write_ranges (commands_written m serial (accepted attempts))) key ≡ true → MayHaveWritten serial attempts key
+written_by serial m [] key inside = absurd (cc)
+written_by serial m (attempt ∷ attempts) key inside =
+    by_test (is_accepted attempt.reply) refl (written_by (effect serial attempt.command) (after_all (writes m serial attempt.command) m) attempts key) (written_by serial m attempts key) inside
+  where
+    own : List Mutation
+    own = writes m serial attempt.command
+
+    after : Serial
+    after = effect serial attempt.command
+
+    kept : List Attempt
+    kept = filter (λ (a : Attempt). is_accepted a.reply) attempts
+
+    by_test : (b : Bool) → is_accepted attempt.reply ≡ b →
+        (covers (write_ranges (commands_written (after_all own m) after (accepted attempts))) key ≡ true → MayHaveWritten after attempts key) →
+        (covers (write_ranges (commands_written m serial (accepted attempts))) key ≡ true → MayHaveWritten serial attempts key) →
+        covers (write_ranges (commands_written m serial (map (λ (a : Attempt). a.command) (cond b (attempt ∷ kept) kept)))) key ≡ true → MayHaveWritten serial (attempt ∷ attempts) key
+    by_test true yes_accepted behind beside says =
+        elim (or_cases (covers (write_ranges own) key) (covers (write_ranges (commands_written (after_all own m) after (accepted attempts))) key) (split_writes own (commands_written (after_all own m) after (accepted attempts)) key says)) [
+          | inl here ↦ inl (yes_accepted, writes_such (MayWriteKey serial attempt.command) own (reach_writes m serial attempt.command) key here)
+          | inr later ↦ inr (subst (λ s. MayHaveWritten s attempts key) (ap (λ b. cond b after serial) (sym yes_accepted)) (behind later))
+        ]
+    by_test false not_accepted behind beside says = inr (subst (λ s. MayHaveWritten s attempts key) (ap (λ b. cond b after serial) (sym not_accepted)) (beside says))
+
+request_right : (maps : ℕ → Map) (commits : List CommitEntry) (one : Submission) (request : CommitRequest) → IsExactRequest maps commits one request → IsRightRequest commits one request
+request_right maps commits one request is = record {
+  read_version = is.read_version;
+  reads = λ key inside.
+      elim (kept_covers is.reads.added [] key (ap (λ rs. covers rs key) (sym is.reads.are) ∙ inside)) [
+        | inl added ↦ added_read seen base one.transaction.attempts is.reads.added is.reads.each key added
+        | inr none ↦ absurd (nothing none)
+      ];
+  writes = λ key inside. written_by seen base one.transaction.attempts key (ap (λ ms. covers (write_ranges ms) key) (sym is.mutations) ∙ inside);
+}
+  where
+    seen : Serial
+    seen = committed_store commits one.transaction.read_version
+
+    base : Map
+    base = maps one.transaction.read_version
+
+    nothing : false ≡ true → ⊥
+    nothing bad = cc
+
+pub requests_right : (maps : ℕ → Map) (commits : List CommitEntry) (submissions : List Submission) (requests : List CommitRequest) → EachRequest (IsExactRequest maps commits) submissions requests → EachRequest (IsRightRequest commits) submissions requests
+requests_right maps commits [] [] each = tt
+requests_right maps commits [] (request ∷ requests) each = absurd each
+requests_right maps commits (one ∷ submissions) [] each = absurd each
+requests_right maps commits (one ∷ submissions) (request ∷ requests) each = (request_right maps commits one request each.0, requests_right maps commits submissions requests each.1)

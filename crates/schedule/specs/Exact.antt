@@ -1,0 +1,99 @@
+-- What a run of a schedule is to the last byte: which ranges are read, in which order, which mutations are written,
+-- which limit is met, and which plan is given.
+use Rattle.std.specs.Prelude.{◌≡◌, ◌⊎◌, ℕ, List, [], ◌∷◌, ◌++◌, if◌then◌else◌}
+use Rattle.kv_core.specs.Map.{Map, after_all}
+use Rattle.kv_core.specs.Range.{KeyRange}
+use Rattle.kv_core.specs.declared.change.CommitRequest.{CommitRequest}
+use Rattle.kv_core.specs.declared.change.Mutation.{Mutation}
+use Rattle.cluster_core.specs.declared.answers.Config.{Config}
+use Rattle.cluster_core.specs.Cluster.{ClusterState, database_at, tier_of}
+use Rattle.txn.specs.Refusing.{MayRefuse}
+use Rattle.txn.specs.Runs.{with_ranges}
+use Rattle.record_store.specs.Store.{Serial}
+use Rattle.schedule.specs.declared.step.Command.{Command}
+use Rattle.schedule.specs.declared.step.Step.{Step}
+use Rattle.schedule.specs.declared.reply.Reply.{Reply}
+use Rattle.schedule.specs.declared.transcript.CommitEntry.{CommitEntry}
+use Rattle.schedule.specs.declared.transcript.Transcript.{Transcript}
+use Rattle.schedule.specs.Serve.{IsReply, effect}
+use Rattle.schedule.specs.Past.{Past, Attempt, Open, Submission, accepted, is_accepted, submitted_in}
+use Rattle.schedule.specs.Reach.{added_by, opened_in, reach, writes}
+use Rattle.schedule.specs.Performed.{HasAdded, IsReadRefusal, IsServed}
+use Rattle.schedule.specs.Commits.{committed_store, view}
+use Rattle.schedule.specs.Contract.{AreSerialBy, EachRequest, HasReplies, IsReplyBy, IsSerialBy, attempted, past_of}
+
+-- what commands write one after another, in a transaction that sees this map at first
+abbrev pub commands_written : Map → Serial → List Command → List Mutation
+commands_written m serial [] = []
+commands_written m serial (command ∷ commands) =
+    writes m serial command
+    ++ commands_written (after_all (writes m serial command) m) (effect serial command) commands
+
+-- the reply to a command is the serial store's for what the transaction sees, with the planner's plan, or the very
+-- limit that its writes meet in this transaction; or servers refuse one of the ranges that it asks for
+abbrev pub IsExactReply : ClusterState → List CommitEntry → Open → Command → Reply → Type 0
+IsExactReply c commits open_now command reply =
+    let seen = view commits open_now in
+    let base = database_at c open_now.read_version in
+    let before =
+    commands_written base (committed_store commits open_now.read_version) (accepted open_now.attempts) in
+    IsServed (after_all before base) before seen command reply
+    ⊎ IsReadRefusal (λ range. MayRefuse (tier_of c) range open_now.read_version)
+    (reach (opened_in seen) command (after_all before base)) reply
+
+-- Private: the reply to a step, with the exact one to a command
+abbrev pub IsReplyTo : ClusterState → Past → Step → Reply → Type 0
+IsReplyTo c past step reply = IsReplyBy IsExactReply c past step reply
+
+-- REPLIES: each reply, with the exact one to each command
+abbrev pub HasExactReplies : Config → List CommitRequest → List Step → List Reply → Type 0
+HasExactReplies config requests steps replies = HasReplies IsExactReply config requests steps replies
+
+-- SERIAL: so it is with each accepted command of a listed transaction just before the transaction's version
+abbrev pub IsSerialAt : Serial → List Attempt → Type 0
+IsSerialAt serial attempts = IsSerialBy IsReply serial attempts
+
+abbrev pub IsSerial : ClusterState → List CommitEntry → List Submission → Type 0
+IsSerial c commits submissions = AreSerialBy IsReply c commits submissions
+
+-- what an attempt at a command writes, in a transaction that sees this map
+abbrev pub attempt_writes : Map → Serial → Attempt → List Mutation
+attempt_writes m serial attempt = if is_accepted attempt.reply then writes m serial attempt.command else []
+
+-- what attempts add to the ranges read, one after another, in a transaction that sees this map at first
+abbrev pub HaveAdded : Map → Serial → List Attempt → List KeyRange → Type 0
+HaveAdded m serial [] added = added ≡ []
+HaveAdded m serial (attempt ∷ attempts) added =
+    (first : List KeyRange) × (rest : List KeyRange) × (added ≡ first ++ rest)
+    × HasAdded attempt.reply (added_by (opened_in serial) attempt.command m) first
+    × HaveAdded (after_all (attempt_writes m serial attempt) m) (attempted serial attempt) attempts rest
+
+-- the ranges read are those that attempts added, in their order, each once
+pub record AreReads (m : Map) (serial : Serial) (attempts : List Attempt) (reads : List KeyRange) : Type 0 where
+  pub added : List KeyRange
+  pub each : HaveAdded m serial attempts added
+  pub are : reads ≡ with_ranges added []
+
+-- REQUESTS: a submission's request has its read version; its reads are what the commands read of the map that the
+-- transaction saw, in order, and it writes just what the accepted commands write
+pub record IsExactRequest (maps : ℕ → Map) (commits : List CommitEntry) (one : Submission)
+    (request : CommitRequest) : Type 0 where
+  pub read_version : request.read_version ≡ one.transaction.read_version
+  pub reads :
+      AreReads (maps one.transaction.read_version) (committed_store commits one.transaction.read_version)
+      one.transaction.attempts request.reads
+  pub mutations :
+      request.mutations
+      ≡ commands_written (maps one.transaction.read_version)
+      (committed_store commits one.transaction.read_version) (accepted one.transaction.attempts)
+
+-- EXACT: what a run of a schedule is to the last byte
+pub record IsExactRun (config : Config) (steps : List Step) (run : Transcript) : Type 0 where
+  -- each reply is exact as the cluster stands after the steps before it
+  pub replies : HasExactReplies config run.cluster.pipeline.requests steps run.replies
+  -- each listed transaction has the same replies just before its version, with the same plans
+  pub serial : IsSerial run.cluster run.commits (submitted_in (past_of [] steps run.replies))
+  -- each request's reads are what its commands read, in order, and its writes just those of the accepted ones
+  pub requests :
+      EachRequest (IsExactRequest (database_at run.cluster) run.commits)
+      (submitted_in (past_of [] steps run.replies)) run.cluster.pipeline.requests

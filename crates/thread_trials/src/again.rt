@@ -1,0 +1,39 @@
+// One client that commits again and again. Run as a test.
+use crate::transactions::{alone, two_clients};
+use runtime::{Client, End};
+use std::alloc::Global;
+use std::sync::Wait;
+use std::test::Fail;
+
+/// How often the client commits.
+const COMMITS: u32 = 2_000;
+
+/// Makes the store, with a record.
+const MADE: &str = r#"{"steps":[
+    ["create",0,{"types":[{"name":"t","fields":[["k","int"],["a","int"],["b","int"]],"key":["k"]}]}],
+    ["save",0,"t",[1,0,0]]
+]}"#;
+
+const SAVED: &str = r#"{"steps":[["save",0,"t",[1,2,0]]]}"#;
+
+const LOADED: &str = r#"{"steps":[["load",0,"t",[1]]]}"#;
+
+/// What the last of many commits of a client is told.
+fn last_of_many<E: End, R: Wait>(rt: &R, alloc: Global, client: &mut Client<E>) -> Option<String> {
+    let mut last = None;
+    for _ in 0..COMMITS {
+        last = alone(rt, alloc, client, SAVED).lines;
+    }
+    last
+}
+
+#[test]
+fn a_client_commits_again_and_again(rt: HostRuntime) -> Result<(), Fail> {
+    let (mut one, mut other) = two_clients(&rt, rt.alloc()).ok_or("there are no clients")?;
+    assert!(&rt; alone(&rt, rt.alloc(), &mut one, MADE).lines.is_some());
+    let last = last_of_many(&rt, rt.alloc(), &mut one);
+    assert_eq!(&rt; last.as_deref(), Some("0 saved over [1,2,0]\ncommitted 2001"));
+    let seen = alone(&rt, rt.alloc(), &mut other, LOADED).lines;
+    assert_eq!(&rt; seen.as_deref(), Some("0 found [1,2,0]\nread only"));
+    Ok(())
+}
