@@ -7,7 +7,7 @@ use crate::error::{Fault, RaceError, ended, first_fault};
 use crate::telling::lines;
 use cluster_core::{Config, ConfigError};
 use metadata::Cells;
-use runtime::{Client, End, Gate, OpenError, GatePoint, Waits, build_worker, open};
+use runtime::{Client, End, Gate, GatePoint, OpenError, Waits, build_worker, open};
 use schedule::Command;
 use script::Race;
 use std::alloc::Global;

@@ -21,7 +21,10 @@ use txn::Transaction;
 fn is_accepted(reply: &Reply) -> bool
     ensures { result ≡ is_accepted reply.now }
 {
-    !matches!(reply, Reply::Refused(_) | Reply::Corrupt(_) | Reply::Stopped)
+    !matches!(
+        reply,
+        Reply::Refused(_) | Reply::Corrupt(_) | Reply::Stopped
+    )
 }
 
 impl OpenTransaction {

@@ -32,7 +32,10 @@ fn a_client_commits_again_and_again(rt: HostRuntime) -> Result<(), Fail> {
     let (mut one, mut other) = two_clients(&rt, rt.alloc()).ok_or("there are no clients")?;
     assert!(&rt; alone(&rt, rt.alloc(), &mut one, MADE).lines.is_some());
     let last = last_of_many(&rt, rt.alloc(), &mut one);
-    assert_eq!(&rt; last.as_deref(), Some("0 saved over [1,2,0]\ncommitted 2001"));
+    assert_eq!(&rt;
+        last.as_deref(),
+        Some("0 saved over [1,2,0]\ncommitted 2001")
+    );
     let seen = alone(&rt, rt.alloc(), &mut other, LOADED).lines;
     assert_eq!(&rt; seen.as_deref(), Some("0 found [1,2,0]\nread only"));
     Ok(())
