@@ -1,6 +1,7 @@
 """The house's rules: each answers how many things it was held against, and the place and the kind of each fault."""
 import os
 import re
+import subprocess
 import sys
 from counts import repeats, wide_clause_lines, words_with_two_homes
 from documents import links, wide_text, wrong_of_link
@@ -13,6 +14,7 @@ from edits import BadEdit, texts_of
 from promises import Promises
 from reading_lists import faults_in
 from records import all_edits
+from toolchain import rtlib
 
 README, README_LINES, DOCUMENT_COLUMNS = "README.md", 80, 100
 FILE_LINES, BODY_LINES, COLUMNS = 400, 40, 120
@@ -30,6 +32,9 @@ KNOWN = "tools/house_rules/known.txt"
 
 # a block of code in a document
 CODE = re.compile(r"^```rust\n(.*?)^```$", re.M | re.S)
+
+# what the formatter says of a file, and why
+NOT_LAID_OUT = re.compile(r"(.+?)(?: is (not in the layout)|: (it does not parse: .*))")
 
 # what leans on a text outside, wherever it stands
 CITED = re.compile(
@@ -194,6 +199,16 @@ def links_lead_somewhere(root):
     return len(found), [(place, what) for place, what in wrong if what]
 
 
+def sources_are_laid_out(root):
+    """Each file of Rattle, of a specification or a proof is laid out as `rt fmt` does it, as `rt ci` wants it."""
+    paths = files(root, RATTLE, SPECS, PROOFS)
+    said = subprocess.run([rtlib().RATTLE, "fmt", "--check", *paths], cwd=root, stdin=subprocess.DEVNULL,
+                          capture_output=True, text=True, check=False)
+    found = [it for line in lines_of(said.stdout + said.stderr) if (it := NOT_LAID_OUT.fullmatch(line))]
+    faults = [(it[1], it[2] or it[3]) for it in found]
+    return len(paths), faults or [("rt fmt", said.stderr)] * (said.returncode != 0)
+
+
 RULES = {
     "README.md is short": readme_is_short,
     "the code of README.md stands": readme_code_stands,
@@ -211,4 +226,5 @@ RULES = {
     "lists have what is needed": lists_have_what_is_needed,
     "documents are narrow": documents_are_narrow,
     "links lead somewhere": links_lead_somewhere,
+    "sources are laid out": sources_are_laid_out,
 }

@@ -10,8 +10,9 @@ from rules import DRAWING, RULES, SPECS, drawing, used_by
 from reading_lists import NAMES as NAMING, is_about
 from samples import write
 from seen import Needs
-from sources import bodies, data, files, is_documented, public_items, wide_lines
+from sources import files
 from tests_of_documents import Documents
+from tests_of_sources import Reading
 
 __all__ = ["Command", "Documents", "Drawing", "Lists", "Promises", "Reading", "Rules"]
 
@@ -20,6 +21,7 @@ SOURCE, SPEC, PROOF = "crates/low/src/lib.rt", "crates/low/specs/Low.antt", "cra
 SHOWN, EDITED = "crates/low/src/shown.rt", "crates/low/src/edited.rt"
 LOW, GUIDE, EXAMPLES = "crates/low/README.md", "docs/guide/GUIDE.md", "examples/README.md"
 HIGH, SERVING = "crates/high/specs/High.antt", "definitions say whom they serve"
+LAYOUT = "sources are laid out"
 CONTRACT, HEADLINE = "crates/schedule/specs/Headline.antt", "docs/proof/HEADLINE.md"
 RIGHTLY, EXACTLY = "crates/schedule/specs/Right.antt", "crates/schedule/specs/Exact.antt"
 # in two parts, so that these tests break no rule themselves
@@ -76,7 +78,7 @@ RIGHT = {
     EXACTLY: EXACT_RUN,
     HEADLINE: LISTED,
     NAMING: "| run | what a run is | `schedule/Headline`, `schedule/Right`, `schedule/Exact` |\n",
-    PROOF: f"-- {'a wide line of a proof ' * 10}\n",
+    PROOF: f"-- {'a wide line of a proof, ' * 10}as it is\n",
     "tools/one.py": '"""A tool."""\n',
     EDITED: "// Edited.\nfn edited(n: u64) -> u64 {\n    n + 3\n}\n",
     EDIT: "name: one\nold: n + 3\nnew: n\n",
@@ -152,6 +154,10 @@ WRONG = {
         ("README.md", "[a](docs)\n[b](b.md)\n"), (LOW, "[low](../low/README.md#lower)\n# low\n"),
         (GUIDE, "[`low`](../crates/low/README.md)\n"), (EXAMPLES, "# a\n\n[a\n](#A)\n"), (GUIDE, "[low]: low.md\n"),
     ],
+    LAYOUT: [
+        (SHOWN, "// Shown.\nfn shown( ) {}\n"), (SHOWN, "// Shown.\nfn shown( {\n"), (PROOF, "-- low \n"),
+        (SPEC, "-- Private: the next number\nabbrev pub next : ℕ  → ℕ\nnext n = n + 1\n"),
+    ],
 }
 
 # Texts that break none, in the same manner.
@@ -180,6 +186,10 @@ ALSO_RIGHT = [
 ]
 
 
+# the texts that break a rule, or just don't, aren't laid out
+OF_TEXT = [it for it in RULES if it != LAYOUT]
+
+
 def introduced(path, text):
     """A text with a comment at its begin, where it is one of Rattle that has other lines than comments."""
     if path != SOURCE or text is None or text.startswith("//"):
@@ -187,30 +197,30 @@ def introduced(path, text):
     return f"//{text}" if text.startswith("\n") else f"// Low.\n{text}"
 
 
-def broken(changes=()):
-    """The rules that a repository breaks that has these texts in the place of the right ones."""
+def broken(changes=(), rules=tuple(RULES)):
+    """Which of these rules a repository breaks that has these texts in the place of the right ones."""
     changes = [(path, introduced(path, text)) for path, text in changes]
     with tempfile.TemporaryDirectory() as root:
         for path, text in {**RIGHT, **dict(changes)}.items():
             if text is not None:
                 write(root, path, text)
-        return [name for name, rule in RULES.items() if rule(root)[1]]
+        return [name for name in rules if RULES[name](root)[1]]
 
 
 class Rules(unittest.TestCase):
     def test_each_passes(self):
         self.assertEqual(broken(), [])
         for change in ALSO_RIGHT:
-            self.assertEqual(broken([change]), [], change)
+            self.assertEqual(broken([change], OF_TEXT), [], change)
 
     def test_each_fails(self):
         self.assertEqual(list(WRONG), list(RULES))
         for name, changes in WRONG.items():
             for change in changes:
-                self.assertEqual(broken([change]), [name], change)
+                self.assertEqual(broken([change], RULES if name == LAYOUT else OF_TEXT), [name], change)
 
     def test_what_is_built_is_left_out(self):
-        self.assertEqual(broken([("crates/low/src/out/all.rt", "\n" * 401)]), [])
+        self.assertEqual(broken([("crates/low/src/out/all.rt", "\n" * 401)], OF_TEXT), [])
 
 
 # a definition for each kind of clause that names one
@@ -372,27 +382,6 @@ class Drawing(unittest.TestCase):
         drawn = drawing("low:\nother:\nmiddle: low\nhigh: middle\ntop: high other\nbeside: middle other\n")
         self.assertIn("v28", drawn)
         self.assertEqual(drawing(""), drawing("# nothing\n"))
-
-
-class Reading(unittest.TestCase):
-    def test_bodies(self):
-        text = 'fn one() { say("}"); }\ntrait Of {\n    fn none(&self);\n'
-        text += "    fn two()\n        where A: B\n    {\n    }\n}\n"
-        text += "fn three()\n    requires { a } ensures b { c {\n} };\nfn four()\n    ensures { a }\n{ '{' }\n"
-        self.assertEqual(list(bodies(text)), [("one", 1, 1), ("two", 4, 2), ("four", 12, 1)])
-
-    def test_data(self):
-        text = 'static ROWS: [u8; 2] = [\n    1,\n];\nlet x = r#"a;"b"#; // "c"\n'
-        self.assertEqual([text[begin:end] for begin, end in data(text)],
-                         ["static ROWS: [u8; 2] = [\n    1,\n]", 'r#"a;"b"#'])
-        self.assertEqual(list(wide_lines("aa\naaa\naaaa", 2)), [2, 3])
-        self.assertEqual(list(wide_lines("aa\naaa\naaaa", 2, [(5, 6)])), [3])
-
-    def test_items(self):
-        text = "/// One.\npub enum One {}\n// pub fn no() {}\nimpl A for B {\n    pub fn of() {}\n}\npub use a::b;\n"
-        self.assertEqual(list(public_items(text)), [("enum", "One", 2, True)])
-        self.assertFalse(is_documented(["/// One.", "", "#[derive(Clone)]", ""], 3))
-        self.assertTrue(is_documented(["/// One.", "#[derive(Clone)]", "#[other]", ""], 3))
 
 
 if __name__ == "__main__":
