@@ -1,0 +1,55 @@
+-- What commands come to that a host has performed over what it read of a database of its own.
+use Rattle.std.specs.Prelude.{◌≡◌, ℕ, Bool, true, false, List, [], ◌∷◌, IsTrue}
+use Rattle.std.specs.List.{AllByRecursion}
+use Rattle.kv_core.specs.Range.{KeyRange, covers, has_keys}
+use Rattle.kv_core.specs.Coverage.{BeginsAt}
+use Rattle.kv_core.specs.Map.{Map, Agree}
+use Rattle.kv_core.specs.declared.change.CommitRequest.{CommitRequest}
+use Rattle.kv_core.specs.declared.change.Mutation.{Mutation}
+use Rattle.schedule.specs.declared.step.Command.{Command}
+use Rattle.schedule.specs.declared.reply.Reply.{Reply}
+use Rattle.schedule.specs.Past.{Attempt}
+use Rattle.schedule.specs.Turns.{AreDone}
+use Rattle.drive.specs.declared.wanted.Want.{Want}
+use Rattle.drive.specs.declared.given.Given.{Given}
+use Rattle.drive.specs.declared.answering.Driven.{Driven}
+use Rattle.drive.specs.declared.answering.Driven.TheVariants.{Wants, Done}
+
+-- each of these commands with its reply
+abbrev pub attempts_at : List Command → List Reply → List Attempt
+attempts_at (command ∷ commands) (reply ∷ replies) =
+    record { command = command; reply = reply } ∷ attempts_at commands replies
+attempts_at commands replies = []
+
+-- a transaction at this version that has written this, and has read nothing since
+abbrev pub resumed : ℕ → List Mutation → CommitRequest
+resumed version written = record { read_version = version; reads = []; mutations = written }
+
+-- each key of the one list of ranges is one of the other's
+abbrev pub AreWithin : List KeyRange → List KeyRange → Type 0
+AreWithin whole parts = (key : List ℕ) → IsTrue (covers parts key) → IsTrue (covers whole key)
+
+-- the commands have these replies, and make this of a transaction that has written what is given, over every database
+-- that has just the given pairs in what is covered at the version; and what they read lies in what is covered
+pub record IsAnswered (version : ℕ) (covered : List KeyRange) (pairs : Map) (written : List Mutation)
+    (commands : List Command) (replies : List Reply) (request : CommitRequest) : Type 0 where
+  pub within : AreWithin covered request.reads
+  pub over :
+      (maps : ℕ → Map) → Agree covered pairs (maps version) →
+      AreDone maps (attempts_at commands replies) (resumed version written) request
+
+-- the keys before a place that are nearest to it aren't covered, nor is the place where it is read on from there
+abbrev pub StartsUncovered : List KeyRange → Bool → KeyRange → Type 0
+StartsUncovered covered true range = BeginsAt covered range.end
+StartsUncovered covered false range = covers covered range.begin ≡ false
+
+-- a range is wanted that has keys, of which the first ones in the order of the read aren't covered
+abbrev pub IsUncovered : List KeyRange → Want → Type 0
+IsUncovered covered want = IsTrue (has_keys want.range) × StartsUncovered covered want.reverse want.range
+
+-- a call is answered, or wants ranges that aren't covered, one at least
+abbrev pub IsDriven : Given → Driven → Type 0
+IsDriven given (Wants wants) = (wants.items ≡ [] → ⊥) × AllByRecursion (IsUncovered given.covered) wants.items
+IsDriven given (Done answer) =
+    IsAnswered given.version given.covered given.pairs given.written.items given.commands.items answer.replies.items
+    answer.request

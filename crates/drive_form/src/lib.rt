@@ -1,0 +1,23 @@
+//! The bytes in which a host tells what it has read, and is told what to read next, or what to reply
+//! and to commit. They are described in `docs/guide/DRIVE.md`.
+#![tactic(auto)]
+
+mod answer_bytes;
+mod error;
+mod given_bytes;
+mod reading;
+
+pub use answer_bytes::answer_of;
+pub use error::FormError;
+pub use given_bytes::given_of;
+
+use drive::drive;
+use std::alloc::Global;
+
+/// Reads what a host tells, performs its commands, and makes the bytes of the answer.
+pub fn drive_bytes(alloc: Global, given: &[u8]) -> Result<Vec<u8>, FormError> {
+    let given = given_of(alloc, given)?;
+    let driven = drive(alloc, &given)?;
+    let bytes = answer_of(alloc, &driven)?;
+    Ok(bytes)
+}
