@@ -3,7 +3,11 @@
 **Rule of a commit.** One transaction of etcd, which compares what was read. For each range: no key of it was written
 after the revision that was read. That alone misses deletions, since a key that is gone has no revision to compare: so
 for each pair that was found in a range, its key is there. For the range of one key where nothing was found: it isn't
-there. ADD is a compare and a put, so that two transactions that add to one total conflict here.
+there.
+
+etcd has no ADD. So where something is added to a key, what stands there now is read, and the sum put with a compare
+that it stands there still; where that alone fails it is done again. So two transactions that add to one total don't
+conflict, but take turns.
 
 etcd refuses a transaction of more operations than `--max-txn-ops` (128 where it isn't given): reads and writes of many
 records in one transaction need it higher. A read of a compacted revision is refused as too old.
@@ -22,6 +26,8 @@ from ..errors import Conflict, RecordError, TooLarge, TooOld, Unknown
 from ..form import ADD, CLEAR, Mutation, Read, Want, added
 
 ROUNDS = 20
+ADD_ROUNDS = 200
+INVALID = 3
 Range = tuple[bytes, bytes]
 
 
@@ -118,6 +124,36 @@ class Etcd:
         return key, base64.b64decode(item.get("value", ""))
 
 
+class Writes:
+    """Writes in their order, as what they come to: etcd takes no two writes of one key."""
+
+    def __init__(self, mutations: Sequence[Mutation]) -> None:
+        self.mutations, self.clears, self.added_to = mutations, [], []
+        own: set[bytes] = set()
+        for kind, first, second in mutations:
+            if kind == CLEAR:
+                self.clears.append((first, second))
+            elif kind == ADD and first not in own and not any(begin <= first < end for begin, end in self.clears):
+                self.added_to.append(first)
+            if kind != CLEAR:
+                own.add(first)
+
+    def puts(self, stored: dict[bytes, bytes | None]) -> dict[bytes, bytes]:
+        """The pairs that are put, where this stands at the keys to which something is added."""
+        puts: dict[bytes, bytes] = {}
+        cleared: list[Range] = []
+        for kind, first, second in self.mutations:
+            if kind == CLEAR:
+                puts = {key: value for key, value in puts.items() if not first <= key < second}
+                cleared.append((first, second))
+            elif kind == ADD:
+                gone = any(begin <= first < end for begin, end in cleared)
+                puts[first] = added(puts.get(first, None if gone else stored.get(first)), second)
+            else:
+                puts[first] = second
+        return puts
+
+
 class EtcdSnapshot:
     """A revision of an etcd cluster."""
 
@@ -128,56 +164,62 @@ class EtcdSnapshot:
         return self.engine.ranges(wants, self.version)[1]
 
     def commit(self, reads: Sequence[Range], mutations: Sequence[Mutation], known: dict[bytes, bytes]) -> int:
-        puts, clears, more = self.writes(mutations, reads, known)
-        body = {"compare": self.compares([*reads, *more], known), "success": self.operations(puts, clears)}
+        compares = self.compares(reads, known)
+        writes = Writes(mutations)
+        for _ in range(ADD_ROUNDS):
+            stored = self.stored(compares, writes.added_to) if writes.added_to else {}
+            more = [{"key": self.key(key), "target": "MOD", "result": "EQUAL", "mod_revision": revision}
+                    for key, (revision, _) in stored.items()]
+            puts = writes.puts({key: value for key, (_, value) in stored.items()})
+            reply = self.send({"compare": compares + more, "success": self.operations(puts, writes.clears)})
+            if reply.get("succeeded"):
+                return int(reply["header"]["revision"])
+            if not more:
+                break
+        raise Conflict("another transaction wrote what was read")
+
+    def send(self, body: dict[str, Any]) -> dict[str, Any]:
+        """Has a transaction of etcd carried out once."""
         try:
             reply = self.engine.post(body)
         except (OSError, http.client.HTTPException, ValueError) as why:
             raise Unknown(f"etcd didn't answer the commit: {why}") from why
-        if "too many operations" in reply.get("error", ""):
+        if "too many operations" in reply.get("error", "") or "too large" in reply.get("error", ""):
             raise TooLarge(reply["error"])
+        if reply.get("code") == INVALID:
+            raise RecordError(reply["error"])
         if "error" in reply:
             raise Unknown(reply["error"])
+        return reply
+
+    def stored(self, compares: list[dict[str, str]], keys: Sequence[bytes]) -> dict[bytes, tuple[str, bytes | None]]:
+        """What stands now at keys to which something is added, each with its revision, while what was read stands."""
+        asked = [{"requestRange": {"key": self.key(key)}} for key in keys]
+        reply = self.engine.read_txn({"compare": compares, "success": asked})
         if not reply.get("succeeded"):
             raise Conflict("another transaction wrote what was read")
-        return int(reply["header"]["revision"])
+        found: dict[bytes, tuple[str, bytes | None]] = {}
+        for key, response in zip(keys, reply["responses"]):
+            items = response["response_range"].get("kvs", [])
+            found[key] = (items[0]["mod_revision"], self.engine.pair_of(items[0])[1]) if items else ("0", None)
+        return found
 
-    def writes(self, mutations: Sequence[Mutation], reads: Sequence[Range],
-               known: dict[bytes, bytes]) -> tuple[dict[bytes, bytes], list[Range], list[Range]]:
-        """What the writes come to: pairs that are put, ranges that are cleared, and what they had to read for ADD."""
-        puts: dict[bytes, bytes] = {}
-        clears: list[Range] = []
-        more: list[Range] = []
-        for kind, first, second in mutations:
-            if kind == CLEAR:
-                puts = {key: value for key, value in puts.items() if not first <= key < second}
-                clears.append((first, second))
-            elif kind == ADD and first not in puts:
-                cleared = any(begin <= first < end for begin, end in clears)
-                puts[first] = added(None if cleared else self.value(first, more, known), second)
-            else:
-                puts[first] = added(puts[first], second) if kind == ADD else second
-        return puts, clears, more
-
-    def value(self, key: bytes, more: list[Range], known: dict[bytes, bytes]) -> bytes | None:
-        """The value at a key to which something is added, which is read for it."""
-        want = Want(key, key + b"\0", 1)
-        more.append((want.begin, want.end))
-        known.update(self.read([want])[0].pairs)
-        return known.get(key)
+    def key(self, key: bytes) -> str:
+        """A key below the prefix."""
+        return text(self.engine.prefix + key)
 
     def compares(self, reads: Iterable[Range], known: dict[bytes, bytes]) -> list[dict[str, str]]:
         """What is compared: that what was read stands just as it was read."""
         compares = []
-        for begin, end in dict.fromkeys(reads):
-            found = [begin] if end == begin + b"\0" else [key for key in known if begin <= key < end]
-            at = self.engine.at(begin, end)
+        for begin, end in reads:
             if end == begin + b"\0" and begin not in known:
-                compares.append({"key": at["key"], "target": "CREATE", "result": "EQUAL", "create_revision": "0"})
+                compares.append({"key": self.key(begin), "target": "CREATE", "result": "EQUAL", "create_revision": "0"})
                 continue
-            compares.append(at | {"target": "MOD", "result": "LESS", "mod_revision": str(self.version + 1)})
-            compares += [{"key": text(self.engine.prefix + key), "target": "CREATE", "result": "GREATER",
-                          "create_revision": "0"} for key in found]
+            found = [begin] if end == begin + b"\0" else [key for key in known if begin <= key < end]
+            compares.append(self.engine.at(begin, end) | {"target": "MOD", "result": "LESS",
+                                                          "mod_revision": str(self.version + 1)})
+            compares += [{"key": self.key(key), "target": "CREATE", "result": "GREATER", "create_revision": "0"}
+                         for key in found]
         return compares
 
     def operations(self, puts: dict[bytes, bytes], clears: Sequence[Range]) -> list[dict[str, Any]]:
@@ -189,8 +231,7 @@ class EtcdSnapshot:
                 begin = key + b"\0"
             gaps.append((begin, end))
         made: list[dict[str, Any]] = [{"requestDeleteRange": self.engine.at(*it)} for it in gaps if it[0] < it[1]]
-        return made + [{"requestPut": {"key": text(self.engine.prefix + key), "value": text(value)}}
-                       for key, value in puts.items()]
+        return made + [{"requestPut": {"key": self.key(key), "value": text(value)}} for key, value in puts.items()]
 
     def close(self) -> None:
         pass
