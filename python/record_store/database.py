@@ -7,7 +7,7 @@ from collections.abc import Callable
 from typing import TypeVar
 
 from .engine import Engine
-from .errors import AlreadyThere, Conflict
+from .errors import AlreadyThere, Conflict, Unknown
 from .schema import Index, Schema
 from .transaction import OPENING, Transaction
 
@@ -28,11 +28,11 @@ class Database:
         """A transaction over the newest version. It is to be committed or closed."""
         return Transaction(*self.engine.begin(OPENING))
 
-    def transact(self, body: Callable[[Transaction], T], attempts: int = ATTEMPTS) -> T:
+    def transact(self, body: Callable[[Transaction], T], attempts: int = ATTEMPTS, repeatable: bool = False) -> T:
         """Runs a function in a transaction and commits it. After a conflict it is run again in a new one.
 
-        The last conflict is raised where there were as many as `attempts`. `Unknown` is raised at once: the
-        transaction may be committed, so it isn't run again.
+        The last conflict is raised where there were as many as `attempts`. `Unknown` is raised at once, since the
+        transaction may be committed, unless it is said to be `repeatable`: that it may be made twice.
         """
         for attempt in range(1, attempts + 1):
             tx = self.begin()
@@ -40,8 +40,8 @@ class Database:
                 result = body(tx)
                 tx.commit()
                 return result
-            except Conflict:
-                if attempt == attempts:
+            except (Conflict, Unknown) as why:
+                if attempt == attempts or isinstance(why, Unknown) and not repeatable:
                     raise
                 time.sleep(random.uniform(0, min(LONGEST_WAIT, FIRST_WAIT * 2 ** min(attempt, 16))))
             finally:
@@ -57,20 +57,16 @@ class Database:
         return True
 
     def build(self, index: Index | str, limit: int = 100) -> None:
-        """Builds an index in steps, each a transaction, while others write; then marks it readable.
+        """Builds an index in steps, each a transaction, while others write; then it is readable.
 
-        An index that is given whole is added first.
+        An index that is given whole is added first, unless there is one of its name.
         """
         name = index if isinstance(index, str) else index.name
         if not isinstance(index, str):
-            self.transact(lambda tx: tx.add_index(index))
-        if self.transact(lambda tx: tx.state(name)) == "disabled":
-            self.transact(lambda tx: tx.make_write_only(name))
-        if self.transact(lambda tx: tx.state(name)) == "readable":
-            return
-        while not self.transact(lambda tx: tx.build_step(name, limit)).finished:
+            self.transact(lambda tx: index.name in tx.schema.indexes or tx.add_index(index), repeatable=True)
+        self.transact(lambda tx: tx.state(name) == "disabled" and tx.make_write_only(name), repeatable=True)
+        while not self.transact(lambda tx: is_built(tx, name, limit), repeatable=True):
             pass
-        self.transact(lambda tx: tx.make_readable(name))
 
     def close(self) -> None:
         """Lets go of the engine."""
@@ -81,3 +77,13 @@ class Database:
 
     def __exit__(self, *_: object) -> None:
         self.close()
+
+
+def is_built(tx: Transaction, index: str, limit: int) -> bool:
+    """Builds a part of an index, or makes it readable where there is none left; whether it is readable now."""
+    if tx.state(index) == "readable":
+        return True
+    if not tx.build_step(index, limit).finished:
+        return False
+    tx.make_readable(index)
+    return True

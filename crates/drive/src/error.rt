@@ -1,6 +1,7 @@
 // The errors of a call. Used by `answering`, and by the crate `drive_form`.
 ghost use Rattle.std.specs.Prelude.{◌≡◌};
-ghost use Rattle.drive.specs.declared.error.DriveError.TheVariants.{Memory, Write};
+ghost use Rattle.drive.specs.declared.error.DriveError.TheVariants.{Memory};
+ghost use Rattle.drive.specs.Errors.{error_of};
 
 use kv_core::WriteError;
 use std::alloc::{AllocError, AllocFailed};
@@ -34,9 +35,15 @@ impl<T: Drop> From<AllocFailed<T>> for DriveError {
 }
 
 impl From<WriteError> for DriveError {
-    ghost from_gives = { λ why error. error ≡ Write why };
+    ghost from_gives = { λ why error. error ≡ error_of why };
 
     fn from(error: WriteError) -> DriveError {
-        DriveError::Write(error)
+        match error {
+            WriteError::Memory => DriveError::Memory,
+            WriteError::KeyOutside
+            | WriteError::KeyTooLarge
+            | WriteError::ValueTooLarge
+            | WriteError::TransactionTooLarge => DriveError::Write(error),
+        }
     }
 }
