@@ -4,7 +4,8 @@
     from record_store.engines.sqlite import Sqlite
 
     books = Schema([RecordType("book", {"title": str, "author": str, "copies": int}, key="title")],
-                   [value_index("by_author", "book", "author"), sum_index("copies_of", "book", "author", summed="copies")])
+                   [value_index("by_author", "book", "author"),
+                    sum_index("copies_of", "book", "author", summed="copies")])
     db = Database(Sqlite("books.db"), books)
     db.transact(lambda tx: tx.save("book", {"title": "Emma", "author": "Austen", "copies": 3}))
     print(db.transact(lambda tx: list(tx.query("book", field("author") == "Austen"))))

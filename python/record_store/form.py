@@ -1,4 +1,4 @@
-"""The bytes in which the record layer is told what was read, and tells what to read next, or what to reply and commit."""
+"""The bytes in which the record layer is told what was read, and tells what to read next, or to reply and commit."""
 from __future__ import annotations
 
 from dataclasses import dataclass

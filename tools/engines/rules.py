@@ -1,9 +1,9 @@
-"""The rule of a commit, tried on an engine: what was read may be written by others only where the commit is refused then.
+"""The rule of a commit, tried on an engine: where others wrote what was read, the commit is refused.
 
 Each row has the pairs that there are, what a transaction reads, what another one commits after that, and whether the
-first one may commit then. The ones that an engine is likely to get wrong: a deletion in a range that was read, a new key
-in one where nothing was found, two transactions of which each writes what the other reads, and one that overwrites what
-the other read and commits first.
+first one may commit then. The ones that an engine is likely to get wrong: a deletion in a range that was read, a new
+key in one where nothing was found, two transactions of which each writes what the other reads, and one that overwrites
+what the other read and commits first.
 """
 from record_store.errors import Conflict
 from record_store.form import ADD, CLEAR, SET, Mutation, Want

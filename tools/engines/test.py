@@ -139,7 +139,8 @@ class Tests:
         """The record layer called from C: threads, little room, failing allocations, bytes that are cut off."""
         import calls
         status, lines = calls.called(self.folder)
-        self.note("calls from C", lines[:-1] + ([] if status == 0 else [f"status {status}"]), lines[-1] if lines else "")
+        faults = lines[:-1] + ([] if status == 0 else [f"status {status}"])
+        self.note("calls from C", faults, lines[-1] if lines else "nothing is printed")
 
     def run(self):
         """Runs the tests, and answers the status."""

@@ -44,7 +44,8 @@ def maker_of(root, name):
 def options_given(root):
     """What the command line says, and the folder of the kit."""
     parser = argparse.ArgumentParser(description=__doc__, formatter_class=argparse.RawDescriptionHelpFormatter)
-    parser.add_argument("program", nargs="?", default="recordctl", help="a program or a static library of crates.txt; else recordctl")
+    parser.add_argument("program", nargs="?", default="recordctl",
+                        help="a program or a static library of crates.txt; else recordctl")
     parser.add_argument("--to", metavar="FOLDER", default=os.path.join("out", "quick"),
                         help="where the program is put; else out/quick, which is never committed")
     options = parser.parse_args()

@@ -31,7 +31,7 @@ AreWithin whole parts = (key : List ℕ) → IsTrue (covers parts key) → IsTru
 
 -- the commands have these replies, and make this of a transaction that has written what is given, over every database
 -- that has just the given pairs in what is covered at the version; and what they read lies in what is covered
-pub record IsAnswered (version : ℕ) (covered : List KeyRange) (pairs : Map) (written : List Mutation)
+pub record IsHostAnswered (version : ℕ) (covered : List KeyRange) (pairs : Map) (written : List Mutation)
     (commands : List Command) (replies : List Reply) (request : CommitRequest) : Type 0 where
   pub within : AreWithin covered request.reads
   pub over :
@@ -43,13 +43,21 @@ abbrev pub StartsUncovered : List KeyRange → Bool → KeyRange → Type 0
 StartsUncovered covered true range = BeginsAt covered range.end
 StartsUncovered covered false range = covers covered range.begin ≡ false
 
+-- Private: so it is where the range has keys
+abbrev pub StartsWhereUncovered : List KeyRange → Bool → KeyRange → Type 0
+StartsWhereUncovered covered reverse range = IsTrue (has_keys range) → StartsUncovered covered reverse range
+
 -- a range is wanted that has keys, of which the first ones in the order of the read aren't covered
 abbrev pub IsUncovered : List KeyRange → Want → Type 0
 IsUncovered covered want = IsTrue (has_keys want.range) × StartsUncovered covered want.reverse want.range
 
--- a call is answered, or wants ranges that aren't covered, one at least
+-- these are wanted, one at least
+abbrev pub AreWanted : List KeyRange → List Want → Type 0
+AreWanted covered wants = (wants ≡ [] → ⊥) × AllByRecursion (IsUncovered covered) wants
+
+-- a call is answered, or wants ranges that aren't covered
 abbrev pub IsDriven : Given → Driven → Type 0
-IsDriven given (Wants wants) = (wants.items ≡ [] → ⊥) × AllByRecursion (IsUncovered given.covered) wants.items
+IsDriven given (Wants wants) = AreWanted given.covered wants.items
 IsDriven given (Done answer) =
-    IsAnswered given.version given.covered given.pairs given.written.items given.commands.items answer.replies.items
+    IsHostAnswered given.version given.covered given.pairs given.written.items given.commands.items answer.replies.items
     answer.request

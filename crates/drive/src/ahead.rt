@@ -1,6 +1,6 @@
 // Records that are asked for before their turn: those of the index entries that come next, so that
-// a query by an index takes a few rounds and not one for each record. Called by `answering`. Nothing
-// rests on it but how many rounds there are.
+// a query by an index takes a few rounds and not one for each record. Called by `answering`.
+// Nothing rests on it but how many rounds there are.
 use crate::given::Given;
 use crate::partial::Asked;
 use crate::wanted::Want;
@@ -8,7 +8,7 @@ use kv_core::{Bytes, KeyRange, Pair};
 use std::alloc::{AllocError, Global};
 use tuple_codec::{Element, Tuple, TupleInt, pack_element, pack_int, unpack};
 
-/// How many records are asked for ahead in a round, and how many of a range's entries are looked at.
+/// How many records are asked for ahead in a round, and how many entries of a range are looked at.
 const AHEAD: usize = 128;
 
 /// Of how many wants it is looked whether they are of such a record.

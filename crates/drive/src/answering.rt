@@ -1,14 +1,13 @@
 // A call: the commands performed over what is given, and the test that it covers what they read.
-ghost use Rattle.std.specs.Prelude.{◌≡◌, IfOk, OnOk, IsTrue, [], ◌++◌};
-ghost use Rattle.std.specs.List.{AllByRecursion};
-ghost use Rattle.drive.specs.Driving.{AreWithin, IsAnswered, IsDriven, IsUncovered, attempts_at};
+ghost use Rattle.std.specs.Prelude.{◌≡◌, IfOk, IfSome, IfNone};
+ghost use Rattle.drive.specs.Driving.{AreWanted, AreWithin, IsDriven, IsUncovered, attempts_at};
 ghost use Rattle.schedule.specs.Turns.{AreDone};
 
 use crate::ahead::add_records;
 use crate::error::DriveError;
 use crate::given::Given;
-use crate::partial::{Asked, Partial};
-use crate::wanted::{Want, wanted};
+use crate::partial::Partial;
+use crate::wanted::{Want, rest_of};
 use kv_core::{CommitRequest, Coverage, KeyRange};
 use record_store::KnownSchema;
 use schedule::{Command, Reply, perform_knowing};
@@ -53,38 +52,49 @@ fn perform_each(
     Ok(replies)
 }
 
-/// The parts of ranges that aren't covered, the first one of each.
-fn uncovered(
-    alloc: Global,
-    covered: &Coverage,
-    ranges: &[KeyRange],
-) -> Result<Vec<Want>, AllocError>
-    ensures wanted { IfOk result (λ wants. AllByRecursion (IsUncovered covered.now) wants.items) }
-    ensures whole { IfOk result (λ wants. wants.items ≡ [] → AreWithin covered.now ranges.now) }
+/// The first part of these ranges that isn't covered, or None where all of them are.
+fn first_uncovered(covered: &Coverage, ranges: &[KeyRange]) -> Result<Option<Want>, AllocError>
+    ensures wanted { IfOk result (λ found. IfSome found (IsUncovered covered.now)) }
+    ensures whole { IfOk result (λ found. IfNone found (AreWithin covered.now ranges.now)) }
 {
-    let mut wants = Vec::new(alloc);
     for range in ranges {
-        if let Some(want) = wanted(covered, range, usize::MAX, false, &[])? {
-            wants.push(want)?;
+        let rest = rest_of(covered, range, false)?;
+        if !rest.is_empty() {
+            return Ok(Some(Want {
+                range: rest,
+                limit: usize::MAX,
+                reverse: false,
+            }));
         }
     }
-    Ok(wants)
+    Ok(None)
 }
 
-/// What is to be read next: what was asked for, or else what is uncovered.
+/// Of what was asked for all that isn't covered, or else this.
 fn next_wants(
     alloc: Global,
-    given: &Given,
-    request: &CommitRequest,
-    asked: Asked,
-    uncovered: Vec<Want>,
-) -> Result<Vec<Want>, AllocError> {
-    if asked.wants.is_empty() {
-        return Ok(uncovered);
+    covered: &Coverage,
+    asked: &[Want],
+    first: Want,
+) -> Result<Vec<Want>, AllocError>
+    requires { IsUncovered covered.now first }
+    ensures { IfOk result (λ wants. AreWanted covered.now wants.items) }
+{
+    let mut wants = Vec::new(alloc);
+    for want in asked {
+        let rest = rest_of(covered, &want.range, want.reverse)?;
+        if !rest.is_empty() {
+            wants.push(Want {
+                range: rest,
+                limit: want.limit,
+                reverse: want.reverse,
+            })?;
+        }
     }
-    let mut asked = asked;
-    add_records(alloc, given, request.reads.as_slice(), &mut asked)?;
-    Ok(asked.wants)
+    if wants.is_empty() {
+        wants.push(first)?;
+    }
+    Ok(wants)
 }
 
 /// Performs the commands of a transaction over what a host has read, or tells what it is to read.
@@ -102,10 +112,11 @@ pub fn drive(alloc: Global, given: &Given) -> Result<Driven, DriveError>
     tx.write_all(written)?;
     let replies = perform_each(alloc, given.commands.as_slice(), &mut tx, &partial)?;
     let request = tx.into_request();
-    let uncovered = uncovered(alloc, &given.covered, request.reads.as_slice())?;
-    if uncovered.is_empty() {
+    let Some(first) = first_uncovered(&given.covered, request.reads.as_slice())? else {
         return Ok(Driven::Done(Answer { replies, request }));
-    }
-    let asked = partial.asked.into_inner();
-    Ok(Driven::Wants(next_wants(alloc, given, &request, asked, uncovered)?))
+    };
+    let mut asked = partial.asked.into_inner();
+    add_records(alloc, given, request.reads.as_slice(), &mut asked)?;
+    let wants = next_wants(alloc, &given.covered, asked.wants.as_slice(), first)?;
+    Ok(Driven::Wants(wants))
 }

@@ -1,7 +1,8 @@
 // What a host is to read next: the first part of a read that isn't covered. Used by `partial`,
 // `ahead` and `answering`.
-ghost use Rattle.std.specs.Prelude.{◌≡◌, ◌≤◌, IfOk, IfSome, OnOk};
-ghost use Rattle.drive.specs.Driving.{IsUncovered};
+ghost use Rattle.std.specs.Prelude.{◌≡◌, List, ℕ, IfOk, IsTrue, false};
+ghost use Rattle.kv_core.specs.Range.{contains, covers, has_keys};
+ghost use Rattle.drive.specs.Driving.{StartsWhereUncovered};
 
 use kv_core::{Coverage, KeyRange, Pair};
 use std::alloc::AllocError;
@@ -18,54 +19,24 @@ pub struct Want {
     pub reverse: bool,
 }
 
-/// The part of a range from its first key on that isn't covered, where this read needs it.
-fn wanted_forward(
+/// What is left of a range behind its first keys, or with `reverse` before its last ones, that are
+/// covered.
+pub(crate) fn rest_of(
     covered: &Coverage,
     range: &KeyRange,
-    limit: usize,
-    found: &[Pair],
-) -> Result<Option<Want>, AllocError>
-    ensures { IfOk result (λ want. IfSome want (IsUncovered covered.now)) }
+    reverse: bool,
+) -> Result<KeyRange, AllocError>
+    ensures starts { IfOk result (StartsWhereUncovered covered.now reverse) }
+    ensures whole { IfOk result (λ rest. has_keys rest ≡ false → (key : List ℕ) →
+        IsTrue (contains range.now key) → IsTrue (covers covered.now key)) }
 {
-    let place = covered.past(range.begin())?;
-    let rest = range.starting_at(&place)?;
-    let had = found
-        .iter()
-        .take_while(|(key, _)| key.is_before(&place))
-        .count();
-    if rest.is_empty() || had >= limit {
-        return Ok(None);
+    if reverse {
+        let place = covered.before(range.end())?;
+        range.upto(&place)
+    } else {
+        let place = covered.past(range.begin())?;
+        range.starting_at(&place)
     }
-    Ok(Some(Want {
-        range: rest,
-        limit: limit - had,
-        reverse: false,
-    }))
-}
-
-/// The part of a range up to its last key that isn't covered, where this read needs it.
-fn wanted_reverse(
-    covered: &Coverage,
-    range: &KeyRange,
-    limit: usize,
-    found: &[Pair],
-) -> Result<Option<Want>, AllocError>
-    ensures { IfOk result (λ want. IfSome want (IsUncovered covered.now)) }
-{
-    let place = covered.before(range.end())?;
-    let rest = range.upto(&place)?;
-    let had = found
-        .iter()
-        .take_while(|(key, _)| place.is_upto(key))
-        .count();
-    if rest.is_empty() || had >= limit {
-        return Ok(None);
-    }
-    Ok(Some(Want {
-        range: rest,
-        limit: limit - had,
-        reverse: true,
-    }))
 }
 
 /// What of a read isn't covered and is needed, where it found these pairs in what is given.
@@ -75,12 +46,29 @@ pub(crate) fn wanted(
     limit: usize,
     reverse: bool,
     found: &[Pair],
-) -> Result<Option<Want>, AllocError>
-    ensures { IfOk result (λ want. IfSome want (IsUncovered covered.now)) }
-{
-    if reverse {
-        wanted_reverse(covered, range, limit, found)
-    } else {
-        wanted_forward(covered, range, limit, found)
+) -> Result<Option<Want>, AllocError> {
+    let rest = rest_of(covered, range, reverse)?;
+    if rest.is_empty() {
+        return Ok(None);
     }
+    let mut left = limit;
+    for (key, _) in found {
+        let is_before = if reverse {
+            rest.end().is_upto(key)
+        } else {
+            key.is_before(rest.begin())
+        };
+        if !is_before {
+            break;
+        }
+        left = left.saturating_sub(1);
+    }
+    if left == 0 {
+        return Ok(None);
+    }
+    Ok(Some(Want {
+        range: rest,
+        limit: left,
+        reverse,
+    }))
 }

@@ -1,6 +1,6 @@
 // Why bytes aren't taken. Used by the other modules here, and by the crate `record_c`.
 ghost use Rattle.std.specs.Prelude.{◌≡◌};
-ghost use Rattle.drive_form.specs.declared.error.FormError.TheVariants.{BadForm, BadCommand, OutOfMemory};
+ghost use Rattle.drive_form.specs.declared.error.FormError.TheVariants.{OutOfMemory};
 
 use drive::DriveError;
 use script::ScriptError;

@@ -1,5 +1,5 @@
-//! The bytes in which a host tells what it has read, and is told what to read next, or what to reply
-//! and to commit. They are described in `docs/guide/DRIVE.md`.
+//! The bytes in which a host tells what it has read, and is told what to read next, or what to
+//! reply and to commit. `docs/guide/DRIVE.md` describes them.
 #![tactic(auto)]
 
 mod answer_bytes;
@@ -8,10 +8,9 @@ mod given_bytes;
 mod reading;
 
 pub use answer_bytes::answer_of;
+use drive::drive;
 pub use error::FormError;
 pub use given_bytes::given_of;
-
-use drive::drive;
 use std::alloc::Global;
 
 /// Reads what a host tells, performs its commands, and makes the bytes of the answer.

@@ -1,4 +1,4 @@
-"""A FoundationDB cluster, by its Python binding `fdb`. **Written by FoundationDB's documented API, and never run here.**
+"""A FoundationDB cluster, by its Python binding `fdb`. **Written by its documented interface, and never run.**
 
 **Rule of a commit.** FoundationDB's own: a transaction is refused where a range among its read conflict ranges was
 written after its read version. Reads are made as snapshot reads, which add no conflict range, and what the record layer

@@ -25,7 +25,8 @@ KEPT, SWEEP_EACH = 10_000, 1000
 
 TABLES = """
 create table if not exists record_pairs(key bytea primary key, value bytea, version bigint not null);
-create table if not exists record_clock(one int primary key check (one = 1), version bigint not null, swept bigint not null);
+create table if not exists record_clock(one int primary key check (one = 1), version bigint not null,
+    swept bigint not null);
 insert into record_clock values (1, 0, 0) on conflict do nothing;
 
 create or replace function record_added(value bytea, operand bytea) returns bytea language plpgsql immutable as $$

@@ -20,7 +20,8 @@ from ..form import ADD, CLEAR, Mutation, Read, Want, added
 
 TABLES = """
 create table if not exists pairs(key blob primary key, value blob, version integer not null) without rowid;
-create table if not exists clock(one integer primary key check (one = 1), version integer not null, swept integer not null);
+create table if not exists clock(one integer primary key check (one = 1), version integer not null,
+    swept integer not null);
 insert or ignore into clock values (1, 0, 0);
 """
 READ = "select key, value from pairs where key >= ? and key < ? and value is not null order by key {} limit ?"
