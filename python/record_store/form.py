@@ -68,10 +68,6 @@ class Given:
                 self.values[key] = value
                 self.pairs += packed(key, value)
 
-    def covers(self, key: bytes) -> bool:
-        """Whether the key lies in what was read."""
-        return any(begin <= key < end for begin, end in self.ranges)
-
     def bytes(self, written: bytes, commands: bytes) -> bytes:
         """The whole, with what was written so far and a script of commands."""
         counts = pack("<I", len(self.ranges)), pack("<I", len(self.values))

@@ -23,6 +23,7 @@ HERE = os.path.dirname(os.path.abspath(__file__))
 ROOT = os.path.dirname(os.path.dirname(HERE))
 PYTHON, PACKAGES = "/usr/bin/python3", ["etcd-server", "postgresql", "python3-psycopg", "python3-pip"]
 SECONDS = 900
+NAMES = ("scripts", "interface", "rules", "races", "kills", "calls")
 
 
 def prepare(folder):
@@ -97,6 +98,13 @@ class Tests:
         for name, counts in tried.items():
             self.note(f"scripts over {name}", faults[name], f"{counts['scripts']} scripts of {counts['steps']} steps")
 
+    def test_interface(self):
+        """The calls of the package answer and raise what they are said to."""
+        import interface
+        for name, opened in self.engines("interface").items():
+            self.note(f"the calls of the package over {name}", list(interface.wrong_calls(opened())),
+                      f"{len(interface.ROWS)} rows")
+
     def test_rules(self):
         """Each engine keeps the rule of a commit, and engines that don't are found out."""
         import rules
@@ -146,7 +154,7 @@ class Tests:
         """Runs the tests, and answers the status."""
         try:
             self.start()
-            for name in ("scripts", "rules", "races", "kills", "calls"):
+            for name in NAMES:
                 if not self.options.only or self.options.only in name:
                     getattr(self, f"test_{name}")()
         finally:
@@ -156,15 +164,18 @@ class Tests:
         return 0 if self.counts["passed"] and not self.counts["failed"] else 1
 
 
-def main():
-    parser = argparse.ArgumentParser(description=__doc__, formatter_class=argparse.RawDescriptionHelpFormatter)
-    parser.add_argument("--only", default="", help="a part of the names of the tests: scripts rules races kills calls")
-    parser.add_argument("--program", help="a recordctl whose output is compared too")
+def run_over(folder, options):
+    """Runs the tests."""
+    return Tests(folder, options).run()
+
+
+def main(parser, body):
+    """Runs a body with a folder and options: in Debian's Python, with the package installed in a folder of its own."""
     options = parser.parse_args()
     if folder := os.environ.get("ENGINES_FOLDER"):
         sys.path.insert(0, HERE)
         signal.signal(signal.SIGTERM, lambda *_: sys.exit(1))
-        return Tests(folder, options).run()
+        return body(folder, options)
     folder = tempfile.mkdtemp(prefix="engines-")
     os.chmod(folder, 0o755)
     try:
@@ -180,4 +191,7 @@ def main():
 
 
 if __name__ == "__main__":
-    sys.exit(main())
+    PARSER = argparse.ArgumentParser(description=__doc__, formatter_class=argparse.RawDescriptionHelpFormatter)
+    PARSER.add_argument("--only", default="", help=f"a part of the names of the tests: {' '.join(NAMES)}")
+    PARSER.add_argument("--program", help="a recordctl whose output is compared too")
+    sys.exit(main(PARSER, run_over))

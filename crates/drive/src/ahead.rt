@@ -6,7 +6,7 @@ use crate::partial::Asked;
 use crate::wanted::Want;
 use kv_core::{Bytes, KeyRange, Pair};
 use std::alloc::{AllocError, Global};
-use tuple_codec::{Element, Tuple, TupleInt, pack_element, pack_int, unpack};
+use tuple_codec::{Element, TupleInt, UnpackFailure, pack_element, pack_int, unpack};
 
 /// How many records are asked for ahead in a round, and how many entries of a range are looked at.
 const AHEAD: usize = 128;
@@ -20,8 +20,12 @@ const RECORDS: u64 = 1;
 const ENTRIES: u64 = 2;
 
 /// The elements of a key, where it is a tuple.
-fn elements_of(alloc: Global, key: &Bytes) -> Option<Vec<Element>> {
-    unpack(alloc, key.as_slice()).ok().map(Tuple::into_elements)
+fn elements_of(alloc: Global, key: &Bytes) -> Result<Option<Vec<Element>>, AllocError> {
+    match unpack(alloc, key.as_slice()) {
+        Ok(tuple) => Ok(Some(tuple.into_elements())),
+        Err(UnpackFailure::Memory) => Err(AllocError),
+        Err(UnpackFailure::Refused(_)) => Ok(None),
+    }
 }
 
 /// Whether a tuple is that of a key under this number behind the prefix.
@@ -43,7 +47,7 @@ fn pack_each(elements: &[Element], out: &mut Vec<u8>) -> Result<(), AllocError> 
 /// The key of the record whose entry has this key, where the type's number and the key cells are
 /// so many of its last elements.
 fn record_of(alloc: Global, entry: &Bytes, count: usize) -> Result<Option<Bytes>, AllocError> {
-    let Some(elements) = elements_of(alloc, entry) else {
+    let Some(elements) = elements_of(alloc, entry)? else {
         return Ok(None);
     };
     let Some(from) = elements.len().checked_sub(count) else {
@@ -81,7 +85,7 @@ fn entry_with(
 
 /// All entries of the index that has this one.
 fn entries_beside(alloc: Global, entry: &Bytes) -> Result<Option<KeyRange>, AllocError> {
-    let Some(elements) = elements_of(alloc, entry) else {
+    let Some(elements) = elements_of(alloc, entry)? else {
         return Ok(None);
     };
     let Some(front) = elements.as_slice().get(..3) else {
@@ -143,7 +147,7 @@ fn add_after(
     record: &Bytes,
     asked: &mut Asked,
 ) -> Result<(), AllocError> {
-    let Some(elements) = elements_of(alloc, record) else {
+    let Some(elements) = elements_of(alloc, record)? else {
         return Ok(());
     };
     if !stands_under(elements.as_slice(), RECORDS) {

@@ -109,7 +109,7 @@ class Postgres:
         with self.lock:
             connection = self.free.pop() if self.free else None
         snapshot = PostgresSnapshot(self, connection or self.connected())
-        return snapshot, snapshot.read(wants)
+        return snapshot, snapshot.begin(wants)
 
     def give_back(self, connection: psycopg.Connection) -> None:
         """Takes back a connection that no transaction uses any more."""
@@ -128,25 +128,37 @@ class PostgresSnapshot:
     """A version of a PostgreSQL database: a read transaction of PostgreSQL's own."""
 
     def __init__(self, engine: Postgres, connection: psycopg.Connection) -> None:
-        self.engine, self.connection = engine, connection
-        connection.execute("begin isolation level repeatable read read only")
-        self.version = connection.execute("select version from record_clock").fetchone()[0]
+        self.engine, self.connection, self.version = engine, connection, -1
+
+    def begin(self, wants: Sequence[Want]) -> list[Read]:
+        """Begins to read, in one round trip with the first reads."""
+        with self.connection.pipeline():
+            self.connection.execute("begin isolation level repeatable read read only")
+            clock = self.connection.execute("select version from record_clock")
+            asked = self.asked(wants)
+        self.version = clock.fetchone()[0]
+        return [read_of(want, page_of(want), cursor.fetchall()) for want, cursor in zip(wants, asked)]
+
+    def asked(self, wants: Sequence[Want]) -> list[psycopg.Cursor]:
+        """Sends a read of a beginning of each range."""
+        return [self.connection.execute(READ.format("desc" if want.reverse else "asc"),
+                                        (want.begin, want.end, page_of(want)), binary=True) for want in wants]
 
     def read(self, wants: Sequence[Want]) -> list[Read]:
         with self.connection.pipeline():
-            asked = [(want, self.connection.execute(READ.format("desc" if want.reverse else "asc"),
-                                                    (want.begin, want.end, page_of(want)), binary=True))
-                     for want in wants]
-        return [read_of(want, page_of(want), cursor.fetchall()) for want, cursor in asked]
+            asked = self.asked(wants)
+        return [read_of(want, page_of(want), cursor.fetchall()) for want, cursor in zip(wants, asked)]
 
     def commit(self, reads: Sequence[tuple[bytes, bytes]], mutations: Sequence[Mutation],
                known: dict[bytes, bytes]) -> int:
-        self.connection.execute("rollback")
         columns = [list(it) for it in zip(*mutations)] or [[], [], []]
         ranges = [[begin for begin, _ in reads], [end for _, end in reads]]
+        given = (self.version, *ranges, *columns, self.engine.sweep_each, self.engine.kept)
         try:
-            told, version = self.connection.execute(COMMIT, (self.version, *ranges, *columns, self.engine.sweep_each,
-                                                             self.engine.kept)).fetchone()
+            with self.connection.pipeline():
+                self.connection.execute("rollback")  # ends the reads
+                cursor = self.connection.execute(COMMIT, given)
+            told, version = cursor.fetchone()
         except psycopg.OperationalError as why:
             raise Unknown(str(why)) from why
         if told == NEWER:
