@@ -121,7 +121,8 @@ def figures(folder, _):
             stop()
     print("| What | " + " | ".join(f"{name}: trips, ms" for name in found) + " |\n|" + "---|" * (1 + len(found)))
     for row in next(iter(found.values())):
-        print(f"| {row} | " + " | ".join(f"{trips}, {ms:.2f}" for trips, ms in (it[row] for it in found.values())) + " |")
+        cells = [f"{it[row][0]}, {it[row][1]:.2f}" for it in found.values()]
+        print(f"| {row} | {' | '.join(cells)} |")
     print("\n| Hosts, keys | Refused |\n|---|---|")
     for hosts, keys in RACES:
         print(f"| {hosts}, {keys} | {100 * conflicts(hosts, keys):.0f}% |")

@@ -7,6 +7,7 @@ from record_store.transaction import SCHEMA_KEY
 
 BOOK = RecordType("book", {"title": str, "author": str, "copies": int, "cover": bytes}, "title")
 LOAN = RecordType("loan", {"title": str, "day": int, "who": str}, ("title", "day"))
+TAG = RecordType("tag", {"word": str}, "word")
 BOOKS = Schema([BOOK, LOAN], [value_index("by_author", "book", "author"), count_index("books", "book"),
                               sum_index("copies_of", "book", "author", summed="copies")])
 EMMA = {"title": "Emma", "author": "Austen", "copies": 3, "cover": b"\x00\xff"}
@@ -54,8 +55,8 @@ ROWS = [
     (lambda tx: [tx.disable_index("by_copies"), tx.state("by_copies"), tx.drop_index("by_copies")],
      [None, "disabled", None]),
     (lambda tx: tx.state("by_copies"), errors.UnknownIndex),
-    (lambda tx: [tx.add_type(RecordType("tag", {"word": str}, "word")), tx.save("tag", {"word": "new"}),
-                 tx.load("tag", "new"), sorted(tx.schema.types)], [None, None, {"word": "new"}, ["book", "loan", "tag"]]),
+    (lambda tx: [tx.add_type(TAG), tx.save("tag", {"word": "new"}), tx.load("tag", "new"), sorted(tx.schema.types)],
+     [None, None, {"word": "new"}, ["book", "loan", "tag"]]),
     (lambda tx: tx.create(BOOKS), errors.AlreadyThere),
     (lambda tx: tx.save("film", {}), errors.UnknownType),
     (lambda tx: tx.save("book", {"title": None}), errors.NullKey),
