@@ -1,7 +1,7 @@
 -- What commands come to that a host has performed over what it read of a database of its own.
-use Rattle.std.specs.Prelude.{◌≡◌, ℕ, Bool, true, false, List, [], ◌∷◌, IsTrue}
+use Rattle.std.specs.Prelude.{◌≡◌, ◌×◌, ℕ, Bool, true, false, List, [], ◌∷◌, length, IsTrue}
 use Rattle.std.specs.List.{AllByRecursion}
-use Rattle.kv_core.specs.Range.{KeyRange, covers, has_keys}
+use Rattle.kv_core.specs.Range.{KeyRange, contains, covers, has_keys}
 use Rattle.kv_core.specs.Coverage.{BeginsAt}
 use Rattle.kv_core.specs.Map.{Map, Agree}
 use Rattle.kv_core.specs.declared.change.CommitRequest.{CommitRequest}
@@ -33,23 +33,24 @@ AreWithin whole parts = (key : List ℕ) → IsTrue (covers parts key) → IsTru
 -- that has just the given pairs in what is covered at the version; and what they read lies in what is covered
 pub record IsHostAnswered (version : ℕ) (covered : List KeyRange) (pairs : Map) (written : List Mutation)
     (commands : List Command) (replies : List Reply) (request : CommitRequest) : Type 0 where
+  pub each : length replies ≡ length commands
   pub within : AreWithin covered request.reads
   pub over :
       (maps : ℕ → Map) → Agree covered pairs (maps version) →
       AreDone maps (attempts_at commands replies) (resumed version written) request
 
--- the keys before a place that are nearest to it aren't covered, nor is the place where it is read on from there
-abbrev pub StartsUncovered : List KeyRange → Bool → KeyRange → Type 0
-StartsUncovered covered true range = BeginsAt covered range.end
-StartsUncovered covered false range = covers covered range.begin ≡ false
+-- a range is to be read from its begin on, which isn't covered, or from its end back, just before which not all is
+abbrev pub IsUncoveredFrom : List KeyRange → Bool → KeyRange → Type 0
+IsUncoveredFrom covered true range = IsTrue (has_keys range) × BeginsAt covered range.end
+IsUncoveredFrom covered false range = IsTrue (has_keys range) × (covers covered range.begin ≡ false)
 
--- Private: so it is where the range has keys
-abbrev pub StartsWhereUncovered : List KeyRange → Bool → KeyRange → Type 0
-StartsWhereUncovered covered reverse range = IsTrue (has_keys range) → StartsUncovered covered reverse range
+-- Private: each key of the range is covered
+abbrev pub IsAllCovered : List KeyRange → KeyRange → Type 0
+IsAllCovered covered range = (key : List ℕ) → IsTrue (contains range key) → IsTrue (covers covered key)
 
--- a range is wanted that has keys, of which the first ones in the order of the read aren't covered
+-- what is wanted isn't covered where it is to be read from
 abbrev pub IsUncovered : List KeyRange → Want → Type 0
-IsUncovered covered want = IsTrue (has_keys want.range) × StartsUncovered covered want.reverse want.range
+IsUncovered covered want = IsUncoveredFrom covered want.reverse want.range
 
 -- these are wanted, one at least
 abbrev pub AreWanted : List KeyRange → List Want → Type 0

@@ -1,5 +1,5 @@
 // A call: the commands performed over what is given, and the test that it covers what they read.
-ghost use Rattle.std.specs.Prelude.{◌≡◌, IfOk, IfSome, IfNone};
+ghost use Rattle.std.specs.Prelude.{◌≡◌, length, IfOk, IfSome, IfNone};
 ghost use Rattle.drive.specs.Driving.{AreWanted, AreWithin, IsDriven, IsUncovered, attempts_at};
 ghost use Rattle.schedule.specs.Turns.{AreDone};
 
@@ -40,7 +40,8 @@ fn perform_each(
     tx: &mut Transaction,
     partial: &Partial<'_>,
 ) -> Result<Vec<Reply>, AllocError>
-    ensures { IfOk result (λ replies. AreDone (λ version. partial.now.pairs.now)
+    ensures each { IfOk result (λ replies. length replies.items ≡ length commands.now) }
+    ensures done { IfOk result (λ replies. AreDone (λ version. partial.now.pairs.now)
         (attempts_at commands.now replies.items) tx.old tx.new) }
 {
     let mut known = KnownSchema::new();
@@ -58,8 +59,7 @@ fn first_uncovered(covered: &Coverage, ranges: &[KeyRange]) -> Result<Option<Wan
     ensures whole { IfOk result (λ found. IfNone found (AreWithin covered.now ranges.now)) }
 {
     for range in ranges {
-        let rest = rest_of(covered, range, false)?;
-        if !rest.is_empty() {
+        if let Some(rest) = rest_of(covered, range, false)? {
             return Ok(Some(Want {
                 range: rest,
                 limit: usize::MAX,
@@ -82,8 +82,7 @@ fn next_wants(
 {
     let mut wants = Vec::new(alloc);
     for want in asked {
-        let rest = rest_of(covered, &want.range, want.reverse)?;
-        if !rest.is_empty() {
+        if let Some(rest) = rest_of(covered, &want.range, want.reverse)? {
             wants.push(Want {
                 range: rest,
                 limit: want.limit,

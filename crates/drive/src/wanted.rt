@@ -1,8 +1,7 @@
 // What a host is to read next: the first part of a read that isn't covered. Used by `partial`,
 // `ahead` and `answering`.
-ghost use Rattle.std.specs.Prelude.{◌≡◌, List, ℕ, IfOk, IsTrue, false};
-ghost use Rattle.kv_core.specs.Range.{contains, covers, has_keys};
-ghost use Rattle.drive.specs.Driving.{StartsWhereUncovered};
+ghost use Rattle.std.specs.Prelude.{true, false, IfOk, IfSome, IfNone};
+ghost use Rattle.drive.specs.Driving.{IsAllCovered, IsUncoveredFrom};
 
 use kv_core::{Coverage, KeyRange, Pair};
 use std::alloc::AllocError;
@@ -19,23 +18,43 @@ pub struct Want {
     pub reverse: bool,
 }
 
-/// What is left of a range behind its first keys, or with `reverse` before its last ones, that are
-/// covered.
+/// What is left of a range behind its first keys that are covered, or None where all of it is.
+fn rest_forward(covered: &Coverage, range: &KeyRange) -> Result<Option<KeyRange>, AllocError>
+    ensures some { IfOk result (λ rest. IfSome rest (IsUncoveredFrom covered.now false)) }
+    ensures none { IfOk result (λ rest. IfNone rest (IsAllCovered covered.now range.now)) }
+{
+    let place = covered.past(range.begin())?;
+    if !place.is_before(range.end()) {
+        return Ok(None);
+    }
+    Ok(KeyRange::new(place, range.end().copy()?))
+}
+
+/// What is left of a range before its last keys that are covered, or None where all of it is.
+fn rest_reverse(covered: &Coverage, range: &KeyRange) -> Result<Option<KeyRange>, AllocError>
+    ensures some { IfOk result (λ rest. IfSome rest (IsUncoveredFrom covered.now true)) }
+    ensures none { IfOk result (λ rest. IfNone rest (IsAllCovered covered.now range.now)) }
+{
+    let place = covered.before(range.end())?;
+    if !range.begin().is_before(&place) {
+        return Ok(None);
+    }
+    Ok(KeyRange::new(range.begin().copy()?, place))
+}
+
+/// The part of a range that is still to be read from one end, or None where all of it is covered.
 pub(crate) fn rest_of(
     covered: &Coverage,
     range: &KeyRange,
     reverse: bool,
-) -> Result<KeyRange, AllocError>
-    ensures starts { IfOk result (StartsWhereUncovered covered.now reverse) }
-    ensures whole { IfOk result (λ rest. has_keys rest ≡ false → (key : List ℕ) →
-        IsTrue (contains range.now key) → IsTrue (covers covered.now key)) }
+) -> Result<Option<KeyRange>, AllocError>
+    ensures some { IfOk result (λ rest. IfSome rest (IsUncoveredFrom covered.now reverse)) }
+    ensures none { IfOk result (λ rest. IfNone rest (IsAllCovered covered.now range.now)) }
 {
     if reverse {
-        let place = covered.before(range.end())?;
-        range.upto(&place)
+        rest_reverse(covered, range)
     } else {
-        let place = covered.past(range.begin())?;
-        range.starting_at(&place)
+        rest_forward(covered, range)
     }
 }
 
@@ -47,10 +66,9 @@ pub(crate) fn wanted(
     reverse: bool,
     found: &[Pair],
 ) -> Result<Option<Want>, AllocError> {
-    let rest = rest_of(covered, range, reverse)?;
-    if rest.is_empty() {
+    let Some(rest) = rest_of(covered, range, reverse)? else {
         return Ok(None);
-    }
+    };
     let mut left = limit;
     for (key, _) in found {
         let is_before = if reverse {
