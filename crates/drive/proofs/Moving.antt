@@ -1,20 +1,23 @@
--- Attempts over the pairs that were given, and over a database that has them in what is covered.
-use Rattle.std.proofs.Common.{◌≡◌, ℕ, List, [], ◌∷◌, ◌++◌, length, refl, sym, ap, subst, ◌∙◌}
+-- Commands over the pairs that were given, and over a database that has them in what is covered.
+use Rattle.std.proofs.Common.{◌≡◌, ℕ, List, [], ◌∷◌, ◌++◌, refl, sym, ap, subst, ◌∙◌}
 use Rattle.std.specs.FinMap.{get}
-use Rattle.kv_core.specs.Range.{KeyRange}
+use Rattle.std.specs.Prelude.{IsTrue}
+use Rattle.kv_core.specs.Range.{KeyRange, covers}
 use Rattle.kv_core.specs.Map.{Map, Agree}
 use Rattle.kv_core.specs.declared.change.CommitRequest.{CommitRequest}
 use Rattle.kv_core.specs.declared.change.Mutation.{Mutation}
 use Rattle.schedule.specs.declared.step.Command.{Command}
 use Rattle.schedule.specs.declared.reply.Reply.{Reply}
-use Rattle.schedule.specs.Past.{Attempt}
-use Rattle.schedule.specs.Turns.{AreDone, DidAttempt}
-use Rattle.schedule.proofs.Turning.{done_version, keeps_all}
-use Rattle.drive.specs.Driving.{AreWithin, IsHostAnswered, attempts_at, resumed}
+use Rattle.schedule.specs.Performed.{IsPerformed}
+use Rattle.schedule.specs.Turns.{AreDone}
+use Rattle.schedule.proofs.Turning.{performed_did}
+use Rattle.txn.proofs.Running.{ran_keeps}
+use Rattle.drive.specs.Driving.{ArePerformed, AreWithin, IsHostAnswered, attempts_at, resumed}
 
--- an attempt over the given pairs is one over each database that agrees with them on what was read
-did_over : (pairs : Map) (maps : ℕ → Map) (attempt : Attempt) (old new : CommitRequest) → Agree new.reads pairs (maps old.read_version) → DidAttempt (λ version. pairs) attempt old new → DidAttempt maps attempt old new
-did_over pairs maps attempt old new base did = record {
+-- a command over the given pairs is one over each database that agrees with them on what was read
+one_over : (pairs : Map) (maps : ℕ → Map) (command : Command) (reply : Reply) (old new : CommitRequest) → Agree new.reads pairs (maps old.read_version) → IsPerformed (λ version. pairs) (λ range error. ⊥) command reply old new → IsPerformed maps (λ range error. ⊥) command reply old new
+one_over pairs maps command reply old new base did = record {
+  opened = did.opened;
   added = did.added;
   written = did.written;
   changes = did.changes;
@@ -26,32 +29,57 @@ did_over pairs maps attempt old new base did = record {
   };
 }
 
--- so are attempts in turn
-pub done_over : (pairs : Map) (maps : ℕ → Map) (attempts : List Attempt) (old new : CommitRequest) → Agree new.reads pairs (maps new.read_version) → AreDone (λ version. pairs) attempts old new → AreDone maps attempts old new
-done_over pairs maps [] old new base done = done
-done_over pairs maps (attempt ∷ attempts) old new base (mid, did, rest) =
-    let later = keeps_all (λ version. pairs) attempts mid new rest (maps new.read_version) base in
-    let version = done_version (λ version. pairs) attempts mid new rest ∙ did.ran.version in
-    (mid, did_over pairs maps attempt old mid (subst (λ v. Agree mid.reads pairs (maps v)) version later) did, done_over pairs maps attempts mid new base rest)
+-- what was read stays among what is read later
+keeps_reads : (maps : ℕ → Map) (commands : List Command) (replies : List Reply) (old new : CommitRequest) → ArePerformed maps commands replies old new → (key : List ℕ) → IsTrue (covers old.reads key) → IsTrue (covers new.reads key)
+keeps_reads maps [] [] old new same key h = subst (λ (t : CommitRequest). IsTrue (covers t.reads key)) same h
+keeps_reads maps [] (reply ∷ replies) old new done key h = absurd done
+keeps_reads maps (command ∷ commands) [] old new done key h = absurd done
+keeps_reads maps (command ∷ commands) (reply ∷ replies) old new (mid, did, rest) key h = keeps_reads maps commands replies mid new rest key (ran_keeps did.ran key h)
+
+-- the read version stays
+pub keeps_version : (maps : ℕ → Map) (commands : List Command) (replies : List Reply) (old new : CommitRequest) → ArePerformed maps commands replies old new → new.read_version ≡ old.read_version
+keeps_version maps [] [] old new same = ap (λ (t : CommitRequest). t.read_version) (sym same)
+keeps_version maps [] (reply ∷ replies) old new done = absurd done
+keeps_version maps (command ∷ commands) [] old new done = absurd done
+keeps_version maps (command ∷ commands) (reply ∷ replies) old new (mid, did, rest) = keeps_version maps commands replies mid new rest ∙ did.ran.version
+
+-- so are commands in turn
+all_over : (pairs : Map) (maps : ℕ → Map) (version : ℕ) (commands : List Command) (replies : List Reply) (old new : CommitRequest) → old.read_version ≡ version → Agree new.reads pairs (maps version) → ArePerformed (λ v. pairs) commands replies old new → ArePerformed maps commands replies old new
+all_over pairs maps version [] [] old new at base done = done
+all_over pairs maps version [] (reply ∷ replies) old new at base done = absurd done
+all_over pairs maps version (command ∷ commands) [] old new at base done = absurd done
+all_over pairs maps version (command ∷ commands) (reply ∷ replies) old new at base (mid, did, rest) =
+    let inside : Agree mid.reads pairs (maps version) = λ key h. base key (keeps_reads (λ v. pairs) commands replies mid new rest key h) in (
+      mid,
+      one_over pairs maps command reply old mid (subst (λ v. Agree mid.reads pairs (maps v)) (sym at) inside) did,
+      all_over pairs maps version commands replies mid new (did.ran.version ∙ at) base rest,
+    )
+
+-- they are attempts that were made
+done_of : (maps : ℕ → Map) (commands : List Command) (replies : List Reply) (old new : CommitRequest) → ArePerformed maps commands replies old new → AreDone maps (attempts_at commands replies) old new
+done_of maps [] [] old new same = same
+done_of maps [] (reply ∷ replies) old new done = absurd done
+done_of maps (command ∷ commands) [] old new done = absurd done
+done_of maps (command ∷ commands) (reply ∷ replies) old new (mid, did, rest) =
+    (mid, performed_did maps (λ range error. ⊥) command reply old mid did, done_of maps commands replies mid new rest)
 
 -- one more command with its reply
-pub attempts_append : (commands : List Command) (replies : List Reply) (command : Command) (reply : Reply) → length replies ≡ length commands →
-    attempts_at (commands ++ command ∷ []) (replies ++ reply ∷ []) ≡ attempts_at commands replies ++ record { command = command; reply = reply } ∷ []
-attempts_append [] [] command reply same = refl
-attempts_append [] (first ∷ replies) command reply same = absurd (cc)
-attempts_append (first ∷ commands) [] command reply same = absurd (cc)
-attempts_append (one ∷ commands) (first ∷ replies) command reply same =
-    ap (λ rest. record { command = one; reply = first } ∷ rest) (attempts_append commands replies command reply (cc))
+pub performed_append : (maps : ℕ → Map) (commands : List Command) (replies : List Reply) (command : Command) (reply : Reply) (old mid new : CommitRequest) →
+    ArePerformed maps commands replies old mid → IsPerformed maps (λ range error. ⊥) command reply mid new → ArePerformed maps (commands ++ command ∷ []) (replies ++ reply ∷ []) old new
+performed_append maps [] [] command reply old mid new same did = (new, subst (λ (t : CommitRequest). IsPerformed maps (λ range error. ⊥) command reply t new) (sym same) did, refl)
+performed_append maps [] (first ∷ replies) command reply old mid new done did = absurd done
+performed_append maps (one ∷ commands) [] command reply old mid new done did = absurd done
+performed_append maps (one ∷ commands) (first ∷ replies) command reply old mid new (next, earlier, rest) did = (next, earlier, performed_append maps commands replies command reply next mid new rest did)
 
 -- what commands come to that read what is covered alone
 pub host_answered : (version : ℕ) (covered : List KeyRange) (pairs : Map) (written : List Mutation) (commands : List Command) (replies : List Reply) (request : CommitRequest) →
-    length replies ≡ length commands → AreWithin covered request.reads → AreDone (λ v. pairs) (attempts_at commands replies) (resumed version written) request →
+    AreWithin covered request.reads → ArePerformed (λ v. pairs) commands replies (resumed version written) request →
     IsHostAnswered version covered pairs written commands replies request
-host_answered version covered pairs written commands replies request each within done = record {
-  each = each;
-  within = within;
-  over = λ maps agree.
-      let at = done_version (λ v. pairs) (attempts_at commands replies) (resumed version written) request done in
-      done_over pairs maps (attempts_at commands replies) (resumed version written) request
-      (λ key h. agree key (within key h) ∙ ap (λ v. get (maps v) key) (sym at)) done;
-}
+host_answered version covered pairs written commands replies request within done =
+    let over : (maps : ℕ → Map) → Agree covered pairs (maps version) → ArePerformed maps commands replies (resumed version written) request =
+    λ maps agree. all_over pairs maps version commands replies (resumed version written) request refl (λ key h. agree key (within key h)) done in
+    record {
+      within = within;
+      performed = over;
+      done = λ maps agree. done_of maps commands replies (resumed version written) request (over maps agree);
+    }

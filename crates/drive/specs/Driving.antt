@@ -1,5 +1,5 @@
 -- What commands come to that a host has performed over what it read of a database of its own.
-use Rattle.std.specs.Prelude.{◌≡◌, ◌×◌, ℕ, Bool, true, false, List, [], ◌∷◌, length, IsTrue}
+use Rattle.std.specs.Prelude.{◌≡◌, ◌×◌, ℕ, Bool, true, false, List, [], ◌∷◌, IsTrue}
 use Rattle.std.specs.List.{AllByRecursion}
 use Rattle.kv_core.specs.Range.{KeyRange, contains, covers, has_keys}
 use Rattle.kv_core.specs.Coverage.{BeginsAt}
@@ -9,6 +9,7 @@ use Rattle.kv_core.specs.declared.change.Mutation.{Mutation}
 use Rattle.schedule.specs.declared.step.Command.{Command}
 use Rattle.schedule.specs.declared.reply.Reply.{Reply}
 use Rattle.schedule.specs.Past.{Attempt}
+use Rattle.schedule.specs.Performed.{IsPerformed}
 use Rattle.schedule.specs.Turns.{AreDone}
 use Rattle.drive.specs.declared.wanted.Want.{Want}
 use Rattle.drive.specs.declared.given.Given.{Given}
@@ -21,6 +22,14 @@ attempts_at (command ∷ commands) (reply ∷ replies) =
     record { command = command; reply = reply } ∷ attempts_at commands replies
 attempts_at commands replies = []
 
+-- the commands were performed in turn with these replies, and no read was refused
+abbrev pub ArePerformed : (ℕ → Map) → List Command → List Reply → CommitRequest → CommitRequest → Type 0
+ArePerformed maps [] [] old new = old ≡ new
+ArePerformed maps (command ∷ commands) (reply ∷ replies) old new =
+    (mid : CommitRequest) × IsPerformed maps (λ range error. ⊥) command reply old mid
+    × ArePerformed maps commands replies mid new
+ArePerformed maps commands replies old new = ⊥
+
 -- a transaction at this version that has written this, and has read nothing since
 abbrev pub resumed : ℕ → List Mutation → CommitRequest
 resumed version written = record { read_version = version; reads = []; mutations = written }
@@ -30,12 +39,15 @@ abbrev pub AreWithin : List KeyRange → List KeyRange → Type 0
 AreWithin whole parts = (key : List ℕ) → IsTrue (covers parts key) → IsTrue (covers whole key)
 
 -- the commands have these replies, and make this of a transaction that has written what is given, over every database
--- that has just the given pairs in what is covered at the version; and what they read lies in what is covered
+-- that has just the given pairs in what is covered at the version, as they do in an open transaction over it; and what
+-- they read lies in what is covered
 pub record IsHostAnswered (version : ℕ) (covered : List KeyRange) (pairs : Map) (written : List Mutation)
     (commands : List Command) (replies : List Reply) (request : CommitRequest) : Type 0 where
-  pub each : length replies ≡ length commands
   pub within : AreWithin covered request.reads
-  pub over :
+  pub performed :
+      (maps : ℕ → Map) → Agree covered pairs (maps version) →
+      ArePerformed maps commands replies (resumed version written) request
+  pub done :
       (maps : ℕ → Map) → Agree covered pairs (maps version) →
       AreDone maps (attempts_at commands replies) (resumed version written) request
 

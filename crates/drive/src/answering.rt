@@ -1,7 +1,6 @@
 // A call: the commands performed over what is given, and the test that it covers what they read.
-ghost use Rattle.std.specs.Prelude.{◌≡◌, length, IfOk, IfSome, IfNone};
-ghost use Rattle.drive.specs.Driving.{AreWanted, AreWithin, IsDriven, IsUncovered, attempts_at};
-ghost use Rattle.schedule.specs.Turns.{AreDone};
+ghost use Rattle.std.specs.Prelude.{IfOk, IfSome, IfNone};
+ghost use Rattle.drive.specs.Driving.{ArePerformed, AreWanted, AreWithin, IsDriven, IsUncovered};
 
 use crate::ahead::add_records;
 use crate::error::DriveError;
@@ -40,9 +39,8 @@ fn perform_each(
     tx: &mut Transaction,
     partial: &Partial<'_>,
 ) -> Result<Vec<Reply>, AllocError>
-    ensures each { IfOk result (λ replies. length replies.items ≡ length commands.now) }
-    ensures done { IfOk result (λ replies. AreDone (λ version. partial.now.pairs.now)
-        (attempts_at commands.now replies.items) tx.old tx.new) }
+    ensures { IfOk result (λ replies. ArePerformed (λ version. partial.now.pairs.now) commands.now
+        replies.items tx.old tx.new) }
 {
     let mut known = KnownSchema::new();
     let mut replies = Vec::new(alloc);
