@@ -62,9 +62,7 @@ class Database:
         An index that is given whole is added first, unless there is one of its name.
         """
         name = index if isinstance(index, str) else index.name
-        if not isinstance(index, str):
-            self.transact(lambda tx: index.name in tx.schema.indexes or tx.add_index(index), repeatable=True)
-        self.transact(lambda tx: tx.state(name) == "disabled" and tx.make_write_only(name), repeatable=True)
+        self.transact(lambda tx: begin_building(tx, index, name), repeatable=True)
         while not self.transact(lambda tx: is_built(tx, name, limit), repeatable=True):
             pass
 
@@ -77,6 +75,14 @@ class Database:
 
     def __exit__(self, *_: object) -> None:
         self.close()
+
+
+def begin_building(tx: Transaction, index: Index | str, name: str) -> None:
+    """Adds an index, unless there is one of its name, and marks one that is disabled write-only."""
+    if not isinstance(index, str) and name not in tx.schema.indexes:
+        tx.add_index(index)
+    if tx.state(name) == "disabled":
+        tx.make_write_only(name)
 
 
 def is_built(tx: Transaction, index: str, limit: int) -> bool:

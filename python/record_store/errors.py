@@ -34,6 +34,10 @@ class TooLarge(RecordError):
     """The engine takes no transaction of so many reads or writes."""
 
 
+class Unavailable(RecordError):
+    """The engine doesn't answer. Nothing was written."""
+
+
 class OutOfMemory(RecordError, MemoryError):
     """Memory ran out."""
 

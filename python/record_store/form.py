@@ -84,7 +84,7 @@ class Reader:
     def number(self, form: str, size: int) -> int:
         """The next number."""
         self.at += size
-        return unpack_from(form, self.data, self.at - size)[0]
+        return int(unpack_from(form, self.data, self.at - size)[0])
 
     def count(self) -> int:
         """The next number of 32 bits."""

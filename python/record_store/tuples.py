@@ -1,6 +1,8 @@
 """The tuples that a store's schema is written in: whole numbers, texts, null and nested tuples."""
 from __future__ import annotations
 
+from typing import Any
+
 NULL, TEXT, NESTED, ZERO = 0x00, 0x02, 0x05, 0x14
 
 
@@ -29,7 +31,7 @@ def element_at(data: bytes, at: int) -> tuple[object, int]:
     raise ValueError(f"a schema has no element of the code {code}")
 
 
-def nested_at(data: bytes, at: int) -> tuple[tuple, int]:
+def nested_at(data: bytes, at: int) -> tuple[Any, int]:
     """The tuple whose elements begin here, and where it ends. A null within it is followed by ff."""
     items: list[object] = []
     while True:
@@ -43,6 +45,6 @@ def nested_at(data: bytes, at: int) -> tuple[tuple, int]:
             items.append(item)
 
 
-def unpacked(data: bytes) -> tuple:
+def unpacked(data: bytes) -> Any:
     """The tuple that bytes spell."""
     return nested_at(data + b"\0", 0)[0]

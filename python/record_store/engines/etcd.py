@@ -22,7 +22,7 @@ from collections.abc import Iterable, Sequence
 from typing import Any
 
 from ..engine import page_of, read_of
-from ..errors import Conflict, RecordError, TooLarge, TooOld, Unknown
+from ..errors import Conflict, RecordError, TooLarge, TooOld, Unavailable, Unknown
 from ..form import ADD, CLEAR, Mutation, Read, Want, added
 
 ROUNDS = 20
@@ -33,10 +33,6 @@ Range = tuple[bytes, bytes]
 
 def text(data: bytes) -> str:
     return base64.b64encode(data).decode()
-
-
-class Unavailable(RecordError):
-    """No member of the cluster answered."""
 
 
 class Etcd:
@@ -67,14 +63,16 @@ class Etcd:
             self.own.place = getattr(self.own, "place", 0)
             member = self.members[self.own.place % len(self.members)]
             self.own.connection = http.client.HTTPConnection(member, timeout=self.timeout)
-        return self.own.connection
+        connection: http.client.HTTPConnection = self.own.connection
+        return connection
 
     def post(self, body: dict[str, Any]) -> dict[str, Any]:
         """Has one member carry out a transaction."""
         try:
             connection = self.connection()
             connection.request("POST", "/v3/kv/txn", json.dumps(body))
-            return json.loads(connection.getresponse().read())
+            reply: dict[str, Any] = json.loads(connection.getresponse().read())
+            return reply
         except (OSError, http.client.HTTPException, ValueError):
             self.drop()
             raise

@@ -73,7 +73,7 @@ class FoundationDbSnapshot:
                 transaction.set(self.prefix + first, second)
         try:
             transaction.commit().wait()
-            return transaction.get_committed_version()
+            return int(transaction.get_committed_version())
         except fdb.FDBError as why:
             raise error_of(why) from why
 

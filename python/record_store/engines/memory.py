@@ -84,7 +84,8 @@ class MemorySnapshot:
 
     def read_one(self, want: Want) -> Read:
         """A beginning of a range."""
-        limit, pairs = page_of(want), []
+        limit = page_of(want)
+        pairs: list[tuple[bytes, bytes]] = []
         keys = self.engine.keys_in(want.begin, want.end)
         for key in reversed(keys) if want.reverse else keys:
             if len(pairs) == limit:

@@ -13,13 +13,15 @@ from __future__ import annotations
 
 import threading
 from collections.abc import Sequence
+from typing import Any
 
 import psycopg
 
 from ..engine import page_of, read_of
-from ..errors import Conflict, TooOld, Unknown
+from ..errors import Conflict, TooOld, Unavailable, Unknown
 from ..form import Mutation, Read, Want
 
+Connection = psycopg.Connection[Any]
 COMMITTED, NEWER, SWEPT = 0, 1, 2
 KEPT, SWEEP_EACH = 10_000, 1000
 
@@ -94,16 +96,20 @@ class Postgres:
 
     def __init__(self, conninfo: str, sweep_each: int = SWEEP_EACH, kept: int = KEPT) -> None:
         self.conninfo, self.sweep_each, self.kept = conninfo, sweep_each, kept
-        self.lock, self.free = threading.Lock(), []
+        self.lock = threading.Lock()
+        self.free: list[Connection] = []
         with self.connected() as connection:
             connection.execute("begin")
             connection.execute("select pg_advisory_xact_lock(7263)")  # one process at a time makes the tables
             connection.execute(TABLES)
             connection.execute("commit")
 
-    def connected(self) -> psycopg.Connection:
+    def connected(self) -> Connection:
         """A connection for one transaction at a time."""
-        return psycopg.connect(self.conninfo, autocommit=True)
+        try:
+            return psycopg.connect(self.conninfo, autocommit=True)
+        except psycopg.OperationalError as why:
+            raise Unavailable(str(why)) from why
 
     def begin(self, wants: Sequence[Want]) -> tuple[PostgresSnapshot, list[Read]]:
         with self.lock:
@@ -111,7 +117,7 @@ class Postgres:
         snapshot = PostgresSnapshot(self, connection or self.connected())
         return snapshot, snapshot.begin(wants)
 
-    def give_back(self, connection: psycopg.Connection) -> None:
+    def give_back(self, connection: Connection) -> None:
         """Takes back a connection that no transaction uses any more."""
         if connection.closed or connection.broken:
             return
@@ -127,8 +133,8 @@ class Postgres:
 class PostgresSnapshot:
     """A version of a PostgreSQL database: a read transaction of PostgreSQL's own."""
 
-    def __init__(self, engine: Postgres, connection: psycopg.Connection) -> None:
-        self.engine, self.connection, self.version = engine, connection, -1
+    def __init__(self, engine: Postgres, connection: Connection) -> None:
+        self.engine, self.connection, self.version, self.is_open = engine, connection, -1, True
 
     def begin(self, wants: Sequence[Want]) -> list[Read]:
         """Begins to read, in one round trip with the first reads."""
@@ -136,10 +142,10 @@ class PostgresSnapshot:
             self.connection.execute("begin isolation level repeatable read read only")
             clock = self.connection.execute("select version from record_clock")
             asked = self.asked(wants)
-        self.version = clock.fetchone()[0]
+        self.version = int(clock.fetchall()[0][0])
         return [read_of(want, page_of(want), cursor.fetchall()) for want, cursor in zip(wants, asked)]
 
-    def asked(self, wants: Sequence[Want]) -> list[psycopg.Cursor]:
+    def asked(self, wants: Sequence[Want]) -> list[psycopg.Cursor[Any]]:
         """Sends a read of a beginning of each range."""
         return [self.connection.execute(READ.format("desc" if want.reverse else "asc"),
                                         (want.begin, want.end, page_of(want)), binary=True) for want in wants]
@@ -158,19 +164,19 @@ class PostgresSnapshot:
             with self.connection.pipeline():
                 self.connection.execute("rollback")  # ends the reads
                 cursor = self.connection.execute(COMMIT, given)
-            told, version = cursor.fetchone()
+            told, version = cursor.fetchall()[0]
         except psycopg.OperationalError as why:
             raise Unknown(str(why)) from why
         if told == NEWER:
             raise Conflict("another transaction wrote what was read")
         if told == SWEPT:
             raise TooOld("the version was read too long ago")
-        return version
+        return int(version)
 
     def close(self) -> None:
-        connection, self.connection = self.connection, None
-        if connection is None:
+        if not self.is_open:
             return
+        self.is_open, connection = False, self.connection
         if not connection.closed and connection.info.transaction_status != psycopg.pq.TransactionStatus.IDLE:
             connection.execute("rollback")
         self.engine.give_back(connection)

@@ -15,7 +15,7 @@ import threading
 from collections.abc import Sequence
 
 from ..engine import page_of, read_of
-from ..errors import Conflict, TooOld, Unknown
+from ..errors import Conflict, TooOld, Unavailable, Unknown
 from ..form import ADD, CLEAR, Mutation, Read, Want, added
 
 TABLES = """
@@ -37,7 +37,8 @@ class Sqlite:
 
     def __init__(self, path: str, timeout: float = 60, sweep_each: int = SWEEP_EACH, kept: int = KEPT) -> None:
         self.path, self.timeout, self.sweep_each, self.kept = path, timeout, sweep_each, kept
-        self.lock, self.free = threading.Lock(), []
+        self.lock = threading.Lock()
+        self.free: list[sqlite3.Connection] = []
         connection = self.connected()
         connection.execute("pragma journal_mode=wal")
         connection.executescript(TABLES)
@@ -70,7 +71,7 @@ class SqliteSnapshot:
     """A version of a SQLite file: a read transaction of SQLite's own."""
 
     def __init__(self, engine: Sqlite, connection: sqlite3.Connection) -> None:
-        self.engine, self.connection = engine, connection
+        self.engine, self.connection, self.is_open = engine, connection, True
         connection.execute("begin")
         self.version = connection.execute("select version from clock").fetchone()[0]
 
@@ -87,9 +88,12 @@ class SqliteSnapshot:
                known: dict[bytes, bytes]) -> int:
         connection = self.connection
         connection.execute("rollback")  # ends the reads, so that the write lock is taken over the newest version
-        connection.execute("begin immediate")
+        try:
+            connection.execute("begin immediate")
+        except sqlite3.OperationalError as why:
+            raise Unavailable(str(why)) from why
         self.check(reads)
-        version = connection.execute("update clock set version = version + 1 returning version").fetchone()[0]
+        version = int(connection.execute("update clock set version = version + 1 returning version").fetchone()[0])
         for mutation in mutations:
             self.apply(mutation, version)
         if version % self.engine.sweep_each == 0:
@@ -125,8 +129,8 @@ class SqliteSnapshot:
         self.connection.execute("update clock set swept = max(swept, ?)", (version,))
 
     def close(self) -> None:
-        connection, self.connection = self.connection, None
-        if connection is not None:
-            if connection.in_transaction:
-                connection.execute("rollback")
-            self.engine.give_back(connection)
+        if self.is_open:
+            self.is_open = False
+            if self.connection.in_transaction:
+                self.connection.execute("rollback")
+            self.engine.give_back(self.connection)
