@@ -1,5 +1,6 @@
 -- Commands over the pairs that were given, and over a database that has them in what is covered.
-use Rattle.std.proofs.Common.{◌≡◌, ℕ, List, [], ◌∷◌, ◌++◌, refl, sym, ap, subst, ◌∙◌}
+use Rattle.std.proofs.Common.{◌≡◌, ℕ, ◌+◌, ◌<◌, List, [], ◌∷◌, ◌++◌, length, take, get_or, refl, sym, ap, subst, subst₂, ◌∙◌}
+use Rattle.std.proofs.lemmas.List.{take_more}
 use Rattle.std.specs.FinMap.{get}
 use Rattle.std.specs.Prelude.{IsTrue}
 use Rattle.kv_core.specs.Range.{KeyRange, covers}
@@ -70,6 +71,13 @@ performed_append maps [] [] command reply old mid new same did = (new, subst (λ
 performed_append maps [] (first ∷ replies) command reply old mid new done did = absurd done
 performed_append maps (one ∷ commands) [] command reply old mid new done did = absurd done
 performed_append maps (one ∷ commands) (first ∷ replies) command reply old mid new (next, earlier, rest) did = (next, earlier, performed_append maps commands replies command reply next mid new rest did)
+
+-- so it is once the next command of a list is performed
+pub performed_turn : (maps : ℕ → Map) (commands : List Command) (i : ℕ) (command : Command) (before after : List Reply) (reply : Reply) (old mid new : CommitRequest) → i < length commands → command ≡ get_or commands i command → after ≡ before ++ reply ∷ [] →
+    ArePerformed maps (take i commands) before old mid → IsPerformed maps (λ range error. ⊥) command reply mid new → ArePerformed maps (take (i + 1) commands) after old new
+performed_turn maps commands i command before after reply old mid new within is pushed done did =
+    let longer : take (i + 1) commands ≡ take i commands ++ command ∷ [] = take_more commands i command within ∙ ap (λ s. take i commands ++ s ∷ []) (sym is) in
+    subst₂ (λ cs rs. ArePerformed maps cs rs old new) (sym longer) (sym pushed) (performed_append maps (take i commands) before command reply old mid new done did)
 
 -- what commands come to that read what is covered alone
 pub host_answered : (version : ℕ) (covered : List KeyRange) (pairs : Map) (written : List Mutation) (commands : List Command) (replies : List Reply) (request : CommitRequest) →
