@@ -3,7 +3,8 @@ use Rattle.std.proofs.Common.{◌≡◌, ℕ, ◌+◌, ◌<◌, List, [], ◌∷
 use Rattle.std.specs.Prelude.{IsTrue}
 use Rattle.std.specs.List.{AllByRecursion, list_any}
 use Rattle.std.proofs.lemmas.Bool.{and_parts, or_cases, false≢true}
-use Rattle.std.proofs.lemmas.List.{list_any-append, take_more}
+use Rattle.std.proofs.lemmas.List.{take_more}
+use Rattle.std.proofs.lemmas.List.Folds.{list_any-append}
 use Rattle.kv_core.specs.Bytes.{key_le, key_lt}
 use Rattle.kv_core.specs.Range.{KeyRange, contains, covers}
 use Rattle.kv_core.proofs.Order.{le_from, le_trans, lt_le_trans}
