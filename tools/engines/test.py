@@ -5,7 +5,8 @@
 It installs etcd, PostgreSQL and psycopg from Debian where they aren't there (with apt-get, as root), and a package of
 Python in a folder of its own, by `pip install`. Servers listen on loopback alone, in a folder that is removed at the
 end, and all is over in 15 minutes at most. The record layer comes from the static library that python/build_wheel_here
-finds: proved, or not. With a program the scripts' output is also held against what that one prints.
+finds: proved, or not. With a program the scripts' output is also held against what that one prints, and random scripts
+are tried.
 
 A line is printed for each test. The last one is 'N passed, M failed'; the status is 0 where M is 0.
 """
@@ -23,7 +24,8 @@ HERE = os.path.dirname(os.path.abspath(__file__))
 ROOT = os.path.dirname(os.path.dirname(HERE))
 PYTHON, PACKAGES = "/usr/bin/python3", ["etcd-server", "postgresql", "python3-psycopg", "python3-pip"]
 SECONDS = 900
-NAMES = ("scripts", "interface", "rules", "races", "kills", "calls")
+SEEDS = range(200)
+NAMES = ("scripts", "random", "interface", "rules", "races", "kills", "calls")
 
 
 def prepare(folder):
@@ -97,6 +99,17 @@ class Tests:
                 tried[name].update(scripts=1, steps=len(steps))
         for name, counts in tried.items():
             self.note(f"scripts over {name}", faults[name], f"{counts['scripts']} scripts of {counts['steps']} steps")
+
+    def test_random(self):
+        """Random scripts give the replies of a program over memory, also where few pairs are read at once."""
+        import random_scripts
+        import scripts
+        if not self.options.program:
+            print("without a recordctl no random scripts are tried")
+            return
+        count, faults = random_scripts.differing(self.options.program, SEEDS, scripts.differences,
+                                                 scripts.program_output)
+        self.note("random scripts over memory", faults, f"{len(SEEDS)} scripts of {count} steps")
 
     def test_interface(self):
         """The calls of the package answer and raise what they are said to."""
@@ -193,5 +206,7 @@ def main(parser, body):
 if __name__ == "__main__":
     PARSER = argparse.ArgumentParser(description=__doc__, formatter_class=argparse.RawDescriptionHelpFormatter)
     PARSER.add_argument("--only", default="", help=f"a part of the names of the tests: {' '.join(NAMES)}")
-    PARSER.add_argument("--program", help="a recordctl whose output is compared too")
+    BUILT = [os.path.join(ROOT, it, "recordctl") for it in ("crates/recordctl/out", "out/quick")]
+    PARSER.add_argument("--program", default=next((it for it in BUILT if os.path.exists(it)), None),
+                        help="a recordctl whose output is compared too; else one that is built here")
     sys.exit(main(PARSER, run_over))
