@@ -2,28 +2,43 @@
 use crate::error::FormError;
 use crate::reading::Reader;
 use drive::Given;
-use kv_core::{Coverage, KvMap, Mutation};
+use kv_core::{Coverage, KeyRange, KvMap, Mutation, Pair};
 use schedule::{Command, Step};
 use script::script_of;
-use std::alloc::Global;
+use std::alloc::{AllocError, Global};
 
 /// The number of this form, which is its first byte.
 const FORM: u8 = 1;
 
-fn covered_of(alloc: Global, reader: &mut Reader<'_>) -> Result<Coverage, FormError> {
+fn ranges_of(alloc: Global, reader: &mut Reader<'_>) -> Result<Vec<KeyRange>, FormError> {
+    let count = reader.count()?;
+    let mut ranges = Vec::new(alloc);
+    for _ in 0..count {
+        ranges.push(reader.range(alloc)?)?;
+    }
+    Ok(ranges)
+}
+
+/// The keys of ranges.
+fn coverage_of(alloc: Global, ranges: &[KeyRange]) -> Result<Coverage, AllocError> {
     let mut covered = Coverage::new(alloc);
-    for _ in 0..reader.count()? {
-        covered.add(&reader.range(alloc)?)?;
+    for range in ranges {
+        covered.add(range)?;
     }
     Ok(covered)
 }
 
-fn pairs_of(alloc: Global, reader: &mut Reader<'_>) -> Result<KvMap, FormError> {
-    let mut pairs = KvMap::new(alloc);
-    for _ in 0..reader.count()? {
-        let key = reader.bytes(alloc)?;
-        let value = reader.bytes(alloc)?;
-        pairs.insert(key, value)?;
+fn pair_of(alloc: Global, reader: &mut Reader<'_>) -> Result<Pair, FormError> {
+    let key = reader.bytes(alloc)?;
+    let value = reader.bytes(alloc)?;
+    Ok((key, value))
+}
+
+fn pairs_of(alloc: Global, reader: &mut Reader<'_>) -> Result<Vec<Pair>, FormError> {
+    let count = reader.count()?;
+    let mut pairs = Vec::new(alloc);
+    for _ in 0..count {
+        pairs.push(pair_of(alloc, reader)?)?;
     }
     Ok(pairs)
 }
@@ -44,8 +59,9 @@ fn mutation_of(alloc: Global, reader: &mut Reader<'_>) -> Result<Mutation, FormE
 }
 
 fn written_of(alloc: Global, reader: &mut Reader<'_>) -> Result<Vec<Mutation>, FormError> {
+    let count = reader.count()?;
     let mut written = Vec::new(alloc);
-    for _ in 0..reader.count()? {
+    for _ in 0..count {
         written.push(mutation_of(alloc, reader)?)?;
     }
     Ok(written)
@@ -71,10 +87,12 @@ pub fn given_of(alloc: Global, bytes: &[u8]) -> Result<Given, FormError> {
         return Err(FormError::BadForm);
     }
     let version = reader.number()?;
-    let covered = covered_of(alloc, &mut reader)?;
+    let ranges = ranges_of(alloc, &mut reader)?;
     let pairs = pairs_of(alloc, &mut reader)?;
     let written = written_of(alloc, &mut reader)?;
     let commands = commands_of(alloc, reader.rest())?;
+    let covered = coverage_of(alloc, ranges.as_slice())?;
+    let pairs = KvMap::from_pairs(alloc, pairs)?;
     Ok(Given {
         version,
         covered,
