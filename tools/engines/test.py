@@ -25,7 +25,7 @@ ROOT = os.path.dirname(os.path.dirname(HERE))
 PYTHON, PACKAGES = "/usr/bin/python3", ["etcd-server", "postgresql", "python3-psycopg", "python3-pip"]
 SECONDS = 900
 SEEDS = range(200)
-NAMES = ("scripts", "random", "interface", "rules", "races", "kills", "calls")
+NAMES = ("scripts", "random", "interface", "rules", "binding", "races", "kills", "calls")
 
 
 def prepare(folder):
@@ -129,6 +129,16 @@ class Tests:
             found = list(rules.broken(engine))
             self.note(f"a wrong rule is found: {name}", [] if wanted <= {it.split(": ")[0] for it in found} else found,
                       f"{len(found)} rows break")
+
+    def test_binding(self):
+        """The engine for FoundationDB over what stands in for its binding, which isn't FoundationDB."""
+        import fake_fdb
+        import interface
+        import rules
+        sys.modules["fdb"] = fake_fdb.module()
+        from record_store.engines.foundationdb import FoundationDb
+        faults = [*rules.broken(FoundationDb()), *interface.wrong_calls(FoundationDb(prefix=b"other/"))]
+        self.note("the engine for FoundationDB over a stand-in, not FoundationDB", faults, "the rule, and the calls")
 
     def test_races(self):
         """Clients and a builder race over each engine."""
