@@ -1,4 +1,10 @@
 // The answer to a host, as bytes. Called by `drive_bytes`.
+ghost use Rattle.std.specs.Prelude.{◌≡◌, ◌++◌, ◌∷◌, ◌×◌, [], ℕ, List, length, IfOk, OnOk};
+ghost use Rattle.std.specs.Int.{to_le_bytes, w64};
+ghost use Rattle.drive_form.specs.Bytes.{TellsAnswer, count_bytes, list_bytes, mutation_bytes};
+ghost use Rattle.drive_form.specs.Bytes.{range_bytes, string_bytes, want_bytes};
+ghost use Rattle.drive.specs.declared.answering.Driven.TheVariants.{Done as CameDone};
+
 use drive::{Answer, Driven, Want};
 use kv_core::{KeyRange, Mutation};
 use schedule::Reply;
@@ -10,24 +16,32 @@ const WANTS: u8 = 0;
 
 const DONE: u8 = 1;
 
-fn push_number(out: &mut Vec<u8>, number: usize) -> Result<(), AllocError> {
+fn push_number(out: &mut Vec<u8>, number: usize) -> Result<(), AllocError>
+    ensures { OnOk result (out.new.items ≡ out.old.items ++ count_bytes number) }
+{
     let number = u32::try_from(number).map_err(|_| AllocError)?;
     out.extend_from_slice(number.to_le_bytes().as_slice())?;
     Ok(())
 }
 
-fn push_bytes(out: &mut Vec<u8>, bytes: &[u8]) -> Result<(), AllocError> {
+fn push_bytes(out: &mut Vec<u8>, bytes: &[u8]) -> Result<(), AllocError>
+    ensures { OnOk result (out.new.items ≡ out.old.items ++ string_bytes bytes.now) }
+{
     push_number(out, bytes.len())?;
     out.extend_from_slice(bytes)?;
     Ok(())
 }
 
-fn push_range(out: &mut Vec<u8>, range: &KeyRange) -> Result<(), AllocError> {
+fn push_range(out: &mut Vec<u8>, range: &KeyRange) -> Result<(), AllocError>
+    ensures { OnOk result (out.new.items ≡ out.old.items ++ range_bytes range.now) }
+{
     push_bytes(out, range.begin().as_slice())?;
     push_bytes(out, range.end().as_slice())
 }
 
-fn push_want(out: &mut Vec<u8>, want: &Want) -> Result<(), AllocError> {
+fn push_want(out: &mut Vec<u8>, want: &Want) -> Result<(), AllocError>
+    ensures { OnOk result (out.new.items ≡ out.old.items ++ want_bytes want.now) }
+{
     push_range(out, &want.range)?;
     let limit = want.limit as u64;
     out.extend_from_slice(limit.to_le_bytes().as_slice())?;
@@ -35,7 +49,9 @@ fn push_want(out: &mut Vec<u8>, want: &Want) -> Result<(), AllocError> {
     Ok(())
 }
 
-fn push_wants(out: &mut Vec<u8>, wants: &[Want]) -> Result<(), AllocError> {
+fn push_wants(out: &mut Vec<u8>, wants: &[Want]) -> Result<(), AllocError>
+    ensures { OnOk result (out.new.items ≡ out.old.items ++ 0 ∷ list_bytes want_bytes wants.now) }
+{
     out.push(WANTS)?;
     push_number(out, wants.len())?;
     for want in wants {
@@ -44,7 +60,9 @@ fn push_wants(out: &mut Vec<u8>, wants: &[Want]) -> Result<(), AllocError> {
     Ok(())
 }
 
-fn push_mutation(out: &mut Vec<u8>, mutation: &Mutation) -> Result<(), AllocError> {
+fn push_mutation(out: &mut Vec<u8>, mutation: &Mutation) -> Result<(), AllocError>
+    ensures { OnOk result (out.new.items ≡ out.old.items ++ mutation_bytes mutation.now) }
+{
     match mutation {
         Mutation::Set { key, value } => {
             out.push(0)?;
@@ -63,7 +81,10 @@ fn push_mutation(out: &mut Vec<u8>, mutation: &Mutation) -> Result<(), AllocErro
     }
 }
 
-fn push_replies(alloc: Global, out: &mut Vec<u8>, replies: &[Reply]) -> Result<(), AllocError> {
+fn push_replies(alloc: Global, out: &mut Vec<u8>, replies: &[Reply]) -> Result<(), AllocError>
+    ensures { OnOk result ((texts : List (List ℕ)) × (length texts ≡ length replies.now)
+        × (out.new.items ≡ out.old.items ++ list_bytes string_bytes texts)) }
+{
     push_number(out, replies.len())?;
     for reply in replies {
         let mut line = String::new(alloc);
@@ -73,7 +94,10 @@ fn push_replies(alloc: Global, out: &mut Vec<u8>, replies: &[Reply]) -> Result<(
     Ok(())
 }
 
-fn push_answer(alloc: Global, out: &mut Vec<u8>, answer: &Answer) -> Result<(), AllocError> {
+fn push_answer(alloc: Global, out: &mut Vec<u8>, answer: &Answer) -> Result<(), AllocError>
+    ensures { OnOk result ((told : List ℕ) × (out.new.items ≡ out.old.items ++ told)
+        × TellsAnswer told (CameDone answer.now)) }
+{
     out.push(DONE)?;
     push_replies(alloc, out, answer.replies.as_slice())?;
     let reads = answer.request.reads.as_slice();
@@ -90,7 +114,9 @@ fn push_answer(alloc: Global, out: &mut Vec<u8>, answer: &Answer) -> Result<(), 
 }
 
 /// The bytes that tell a host what a call came to.
-pub fn answer_of(alloc: Global, driven: &Driven) -> Result<Vec<u8>, AllocError> {
+pub fn answer_of(alloc: Global, driven: &Driven) -> Result<Vec<u8>, AllocError>
+    ensures { IfOk result (λ bytes. TellsAnswer bytes.items driven.now) }
+{
     let mut out = Vec::new(alloc);
     match driven {
         Driven::Wants(wants) => push_wants(&mut out, wants.as_slice())?,
