@@ -91,3 +91,14 @@ host_answered version covered pairs written commands replies request within done
       performed = over;
       done = λ maps agree. done_of maps commands replies (resumed version written) request (over maps agree);
     }
+
+-- so it is by other names of what is the same
+pub host_answered_by : (version : ℕ) (covered : List KeyRange) (pairs pairs2 : Map) (written : List Mutation) (commands commands2 : List Command) (replies : List Reply) (old new request : CommitRequest) (reads : List KeyRange) →
+    pairs2 ≡ pairs → commands2 ≡ commands → old ≡ resumed version written → request ≡ new → reads ≡ request.reads →
+    AreWithin covered reads → ArePerformed (λ v. pairs2) commands2 replies old new → IsHostAnswered version covered pairs written commands replies request
+host_answered_by version covered pairs pairs2 written commands commands2 replies old new request reads same_pairs same_commands same_old same_new same_reads within done =
+    let done1 = subst (λ p. ArePerformed (λ v. p) commands2 replies old new) same_pairs done in
+    let done2 = subst (λ cs. ArePerformed (λ v. pairs) cs replies old new) same_commands done1 in
+    let done3 = subst (λ (o : CommitRequest). ArePerformed (λ v. pairs) commands replies o new) same_old done2 in
+    let done4 = subst (λ (n : CommitRequest). ArePerformed (λ v. pairs) commands replies (resumed version written) n) (sym same_new) done3 in
+    host_answered version covered pairs written commands replies request (subst (λ rs. AreWithin covered rs) same_reads within) done4

@@ -1,13 +1,13 @@
 -- What is left of a range beside the keys that are covered from one end on.
-use Rattle.std.proofs.Common.{◌≡◌, ℕ, ◌+◌, ◌<◌, List, [], ◌∷◌, ◌++◌, length, take, get_or, Bool, true, false, ◌&&◌, ◌||◌, inl, inr, tt, sym, ap, ◌∙◌}
-use Rattle.std.specs.Prelude.{IsTrue}
+use Rattle.std.proofs.Common.{◌≡◌, ℕ, ◌+◌, ◌<◌, List, [], ◌∷◌, ◌++◌, length, take, get_or, Bool, true, false, ◌&&◌, ◌||◌, inl, inr, Option, Some, None, sym, ap, subst, ◌∙◌}
+use Rattle.std.specs.Prelude.{IsTrue, IfSome, IfNone}
 use Rattle.std.specs.List.{AllByRecursion, list_any}
-use Rattle.std.proofs.lemmas.Bool.{and_parts, or_cases, false≢true}
+use Rattle.std.proofs.lemmas.Bool.{and_from, and_parts, or_cases, false≢true, true≢false}
 use Rattle.std.proofs.lemmas.List.{take_more}
 use Rattle.std.proofs.lemmas.List.Folds.{list_any-append}
-use Rattle.kv_core.specs.Bytes.{key_le, key_lt}
-use Rattle.kv_core.specs.Range.{KeyRange, contains, covers}
-use Rattle.kv_core.proofs.Order.{le_from, le_trans, lt_le_trans}
+use Rattle.kv_core.specs.Bytes.{key_le, key_lt, end_of_keys}
+use Rattle.kv_core.specs.Range.{KeyRange, contains, covers, is_key_range}
+use Rattle.kv_core.proofs.Order.{le_from, le_from_lt, le_trans, lt_le_trans}
 use Rattle.drive.specs.Driving.{AreWithin, IsAllCovered}
 use Rattle.drive.specs.declared.wanted.Want.{Want}
 
@@ -47,3 +47,30 @@ wanted_more P (first ∷ wants) want all one = (all.0, wanted_more P wants want 
 pub has_last : (wants : List Want) (want : Want) → wants ++ want ∷ [] ≡ [] → ⊥
 has_last [] want same = absurd (cc)
 has_last (first ∷ wants) want same = absurd (cc)
+
+-- the part of a range from a key in it on may be written so
+pub lawful_rest : (range : KeyRange) (b e : List ℕ) → is_key_range range ≡ true → e ≡ range.end → key_lt b range.end ≡ true → is_key_range (record { begin = b; end = e }) ≡ true
+lawful_rest range b e lawful same below =
+    let parts = and_parts (key_le range.begin range.end) (key_le range.end end_of_keys) lawful in
+    subst (λ x. (key_le b x && key_le x end_of_keys) ≡ true) (sym same) (and_from (key_le b range.end) (key_le range.end end_of_keys) (le_from_lt b range.end below) parts.1)
+
+-- and so may the part before one
+pub lawful_front : (range : KeyRange) (b e : List ℕ) → is_key_range range ≡ true → b ≡ range.begin → key_lt range.begin e ≡ true → key_le e range.end ≡ true → is_key_range (record { begin = b; end = e }) ≡ true
+lawful_front range b e lawful same below upto =
+    let parts = and_parts (key_le range.begin range.end) (key_le range.end end_of_keys) lawful in
+    subst (λ x. (key_le x e && key_le e end_of_keys) ≡ true) (sym same) (and_from (key_le range.begin e) (key_le e end_of_keys) (le_from_lt range.begin e below) (le_trans e range.end end_of_keys upto parts.1))
+
+-- a range that may be written so is made
+pub none_never : (found : Option KeyRange) (range : KeyRange) (P : Type 0) → is_key_range range ≡ true → IfNone found (is_key_range range ≡ false) → IfNone found P
+none_never None range P lawful refused = absurd (true≢false (sym lawful ∙ refused))
+none_never (Some found) range P lawful refused = refused
+
+-- what is made is just that
+pub some_made : (found : Option KeyRange) (made : KeyRange) (P : KeyRange → Type 0) → IfSome found (λ range. range ≡ made) → P made → IfSome found P
+some_made None made P is so = is
+some_made (Some found) made P is so = subst P (sym is) so
+
+-- what is so where there is none is so
+pub when_none : (found : Option Want) (P : Type 0) → IfNone found P → found ≡ None → P
+when_none None P is same = is
+when_none (Some found) P is same = absurd (cc)

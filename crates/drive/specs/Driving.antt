@@ -1,5 +1,5 @@
 -- What commands come to that a host has performed over what it read of a database of its own.
-use Rattle.std.specs.Prelude.{◌≡◌, ◌×◌, ℕ, Bool, true, false, List, [], ◌∷◌, IsTrue}
+use Rattle.std.specs.Prelude.{◌≡◌, ℕ, Bool, true, false, List, [], ◌∷◌, IsTrue}
 use Rattle.std.specs.List.{AllByRecursion}
 use Rattle.kv_core.specs.Range.{KeyRange, contains, covers, has_keys}
 use Rattle.kv_core.specs.Coverage.{BeginsAt}

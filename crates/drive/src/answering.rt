@@ -1,5 +1,5 @@
 // A call: the commands performed over what is given, and the test that it covers what they read.
-ghost use Rattle.std.specs.Prelude.{IfOk, IfSome, IfNone};
+ghost use Rattle.std.specs.Prelude.{◌≡◌, IfOk, IfSome, IfNone};
 ghost use Rattle.drive.specs.Driving.{ArePerformed, AreWanted, AreWithin, IsDriven, IsUncovered};
 
 use crate::ahead::add_records;
@@ -7,7 +7,7 @@ use crate::error::DriveError;
 use crate::given::Given;
 use crate::partial::Partial;
 use crate::wanted::{Want, rest_of};
-use kv_core::{CommitRequest, Coverage, KeyRange};
+use kv_core::{CommitRequest, Coverage, KeyRange, Mutation};
 use record_store::KnownSchema;
 use schedule::{Command, Reply, perform_knowing};
 use std::alloc::{AllocError, Global};
@@ -30,6 +30,14 @@ pub enum Driven {
     Wants(Vec<Want>),
     /// The commands were performed.
     Done(Answer),
+}
+
+/// An equal list of mutations.
+fn copy_of(written: &Vec<Mutation>) -> Result<Vec<Mutation>, AllocError>
+    ensures { IfOk result (λ copy. copy.items ≡ written.now.items) }
+{
+    let copy = written.clone()?;
+    Ok(copy)
 }
 
 /// Performs commands, one after another.
@@ -105,7 +113,7 @@ pub fn drive(alloc: Global, given: &Given) -> Result<Driven, DriveError>
 {
     let partial = Partial::new(alloc, &given.covered, &given.pairs);
     let mut tx = Transaction::begin(alloc, given.version);
-    let written = given.written.clone()?;
+    let written = copy_of(&given.written)?;
     tx.write_all(written)?;
     let replies = perform_each(alloc, given.commands.as_slice(), &mut tx, &partial)?;
     let request = tx.into_request();

@@ -1,5 +1,5 @@
 -- The bytes in which a host tells what it has read, and is told what to read next, or what to reply and to commit.
-use Rattle.std.specs.Prelude.{◌≡◌, ◌×◌, ℕ, Bool, true, false, List, [], ◌∷◌, ◌++◌, length, Option, Some, None}
+use Rattle.std.specs.Prelude.{◌≡◌, ℕ, Bool, true, false, List, [], ◌∷◌, ◌++◌, length, Option, Some, None}
 use Rattle.std.specs.Int.{to_le_bytes, w32, w64}
 use Rattle.std.specs.FinMap as finite
 use Rattle.kv_core.specs.Range.{KeyRange, covers}
