@@ -31,6 +31,10 @@ const PLACES: u64 = 4;
 struct Open;
 
 impl Gate for Open {
+    ghost use Rattle.std.specs.Prelude.{◌≡◌};
+
+    ghost passed = { λ old place new. new ≡ old };
+
     fn pass(&mut self, _place: GatePoint) {}
 }
 
@@ -95,7 +99,8 @@ fn save_each<E: End, R: Wait>(
 fn build<E: End, R: Wait>(rt: &R, client: &mut Client<E>, race: &Race) -> Result<(), Fault>
     requires { 0 < race.now.limit }
 {
-    build_worker(rt, client, &race.index.name, race.limit, TURNS, &mut Open)?;
+    let index = race.index.name.copy()?;
+    build_worker(rt, client, index, race.limit, TURNS, Open)?;
     Ok(())
 }
 

@@ -40,10 +40,10 @@ IsBegun me (Some open_tx) =
     × (open_tx.transaction.read_version ≡ version_of open_tx.prefix.name.config open_tx.prefix.log)
 IsBegun me None = Unit {0}
 
--- Private: a fact of the reader, where there is one
-abbrev pub IfReader : {R : Type 0} → (R → Type 0) → Option R → Type 0
-IfReader Fact (Some reader) = Fact reader
-IfReader Fact None = Unit {0}
+-- Private: there is a reader, and this fact of it
+abbrev pub HasReader : {R : Type 0} → (R → Type 0) → Option R → Type 0
+HasReader Fact (Some reader) = Fact reader
+HasReader Fact None = ⊥
 
 -- the clients of a new database: numbered from 0, each with the empty log
 abbrev pub fresh_clients : Name → ℕ → List Knowledge

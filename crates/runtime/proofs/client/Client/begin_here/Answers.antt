@@ -3,7 +3,7 @@ use Rattle.std.specs.Prelude.{IfSome}
 use Rattle.left_right.specs.Sides.{view as knowledge}
 use Rattle.runtime.specs.declared.published.View.{View}
 use Rattle.runtime.specs.declared.open_transaction.OpenTransaction.{OpenTransaction}
-use Rattle.runtime.specs.Clients.{IfReader, IsBegun}
+use Rattle.runtime.specs.Clients.{HasReader, IsBegun}
 use Rattle.runtime.specs.History.{Prefix}
 use Rattle.runtime.specs.Logs.{IsOpenOver, version_of}
 use Rattle.runtime.specs.Publication.{knows}
@@ -19,7 +19,7 @@ pub invariant_of-self-2 : goal.invariant_of-self-2
 invariant_of-self-2 g c =
     let some : c.self.inside.reader ≡ Some c.in-Some.reader = sym c.take.ensures.value ∙ c.in-Some.is in
     let known : knowledge c.in-Some.reader.place ≡ knows c.self.inside.me.name =
-    subst (IfReader (λ r. knowledge r.place ≡ knows c.self.inside.me.name)) some c.self.invariant.3 in
+    subst (HasReader (λ r. knowledge r.place ≡ knows c.self.inside.me.name)) some c.self.invariant.3 in
     let found : c.in-Some-seen.prefix.name ≡ (knowledge c.in-Some.reader.place).prefix.name =
     subst (λ o. IfSome o (λ (f : Prefix). f.name ≡ (knowledge c.in-Some.reader.place).prefix.name)) c.in-Some-seen.is c.look-reader.ensures.prefix in
     let own : c.in-Some-seen.prefix.name ≡ c.self.inside.me.name = found ∙ ap (λ (v : View). v.prefix.name) known in
