@@ -38,7 +38,9 @@ pub(crate) struct InTurn<'a> {
 impl<E: End> Body<E> for InTurn<'_> {
     type Answer = ();
 
-    ghost did = { λ body old result new after. Unit {0} };
+    ghost use Rattle.race.specs.Runs.{DoesEach};
+
+    ghost did = { DoesEach };
 
     fn attempt(&mut self, tx: &mut Txn<'_, E>) -> Result<(), CommandError> {
         for command in self.commands {
