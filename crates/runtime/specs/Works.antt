@@ -66,10 +66,10 @@ module _ {B : Type 0} (did : B → Knowledge → Result Round CommandError → K
       × (new.1.records ≡ old.1.records + records) × (new.1.steps ≡ old.1.steps + 1))
 
   -- so many rounds, from nothing built
-  abbrev pub Rounds : ℕ → B × Knowledge → B × Knowledge → Totals → Type 0
-  Rounds n old new totals = InTurn TakesRound n (old, record { records = 0; steps = 0 }) (new, totals)
+  abbrev pub HasTaken : ℕ → B × Knowledge → B × Knowledge → Totals → Type 0
+  HasTaken n old new totals = InTurn TakesRound n (old, record { records = 0; steps = 0 }) (new, totals)
 
-  -- the last round was refused, or its commit was, for another reason than its age or a conflict
+  -- Private: the last round was refused, or its commit was, for another reason than its age or a conflict
   abbrev pub EndsWork : B × Knowledge → RunError → B × Knowledge → Type 0
   EndsWork old (Refused error) new = IsRefusal did old error new
   EndsWork old GaveUp new = Stops did old new
@@ -83,12 +83,12 @@ module _ {B : Type 0} (did : B → Knowledge → Result Round CommandError → K
   -- what a worker comes to, of at most so many rounds. It answers what it built where its last round marked the index
   abbrev pub IsWork : ℕ → B × Knowledge → Result Totals RunError → B × Knowledge → Type 0
   IsWork limit old (Ok totals) new =
-      (before : ℕ) × (before < limit) × ((mid : B × Knowledge) × Rounds before old mid totals
+      (before : ℕ) × (before < limit) × ((mid : B × Knowledge) × HasTaken before old mid totals
       × CommitsRound mid Marked new)
   IsWork limit old (Err (Refused error)) new =
-      (before : ℕ) × (before < limit) × ((mid : B × Knowledge) × ((totals : Totals) × Rounds before old mid totals
+      (before : ℕ) × (before < limit) × ((mid : B × Knowledge) × ((totals : Totals) × HasTaken before old mid totals
       × IsRefusal did mid error new))
   IsWork limit old (Err GaveUp) new =
-      ((totals : Totals) × Rounds limit old new totals)
-      ⊎ ((before : ℕ) × (before < limit) × ((mid : B × Knowledge) × ((totals : Totals) × Rounds before old mid totals
+      ((totals : Totals) × HasTaken limit old new totals)
+      ⊎ ((before : ℕ) × (before < limit) × ((mid : B × Knowledge) × ((totals : Totals) × HasTaken before old mid totals
       × (Stops did mid new ⊎ Overflows mid totals new))))

@@ -158,8 +158,8 @@ fn take_round<E: End, R: Wait, G: Gate>(
 ///
 /// It passes the gate in each round. A round that read too long ago or was refused with a conflict
 /// is followed by the next one. A refusal of a command is `Refused`, and so is `NotEntered`, and
-/// want of memory before a command. `GaveUp` is told where a commit isn't known to be one, where the
-/// numbers of what is built don't suffice, and after so many rounds.
+/// want of memory before a command. `GaveUp` is told where a commit isn't known to be one, where
+/// the numbers of what is built don't suffice, and after so many rounds.
 pub fn build_worker<E: End, R: Wait, G: Gate>(
     rt: &R,
     client: &mut Client<E>,

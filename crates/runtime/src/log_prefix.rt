@@ -4,8 +4,8 @@ ghost use Rattle.std.specs.Prelude.{◌≡◌, ◌↔◌, IsTrue, ◌-◌, ◌<�
 ghost use Rattle.std.specs.Prelude.{MatchBool};
 ghost use Rattle.std.specs.Bool.{OnTrue, OnFalse};
 ghost use mathlib.Core.List.{IsPrefix};
-ghost use Rattle.runtime.specs.Logs.{HoldsEach, IsHeadlineOf, IsWellFormedLog, IsSerialLog, IsServedLog};
-ghost use Rattle.runtime.specs.Logs.{history_of, is_once};
+ghost use Rattle.runtime.specs.Logs.{HoldsEach, IsHeadlineOf, IsSerialLog, IsServedLog};
+ghost use Rattle.runtime.specs.Logs.{IsWellFormedLog, history_of, is_once};
 ghost use Rattle.runtime.specs.Logs.{version_of};
 ghost use Rattle.cluster_core.specs.History.{IsLegal};
 ghost use Rattle.runtime.specs.History.{log_prefix, submitted_entry};

@@ -4,7 +4,8 @@ ghost use Rattle.std.specs.Prelude.{◌≡◌, ℤ, Bool, List, Option, IfOk};
 ghost use Rattle.metadata.specs.declared.cells.Cell.{Cell};
 ghost use Rattle.planner.specs.Asked.{AskedPlan};
 ghost use Rattle.kv_core.specs.Range.{KeyRange};
-ghost use Rattle.runtime.specs.Calls.{found_reply, marked_reply, part_reply, removed_reply, saved_reply, told_result};
+ghost use Rattle.runtime.specs.Calls.{found_reply, marked_reply, part_reply, removed_reply};
+ghost use Rattle.runtime.specs.Calls.{saved_reply, told_result};
 ghost use Rattle.runtime.specs.Errors.{accepted_reply};
 
 use crate::answers::CommandError;
