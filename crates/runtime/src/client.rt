@@ -43,8 +43,7 @@ impl<E: End> Model for Client<E> {
     ghost use Rattle.std.specs.Prelude.{◌≡◌, [], Some};
     ghost use Rattle.std.specs.Arc.{arc_value};
     ghost use Rattle.left_right.specs.Sides.{view as knowledge};
-    ghost use Rattle.runtime.specs.Publication.{knows};
-    ghost use Rattle.runtime.specs.Clients.{Knowledge, knows_that, IsBegun, HasReader};
+    ghost use Rattle.runtime.specs.Clients.{Knowledge, knows_that, IsBegun, HasReader, Remembers};
     ghost use Rattle.std.specs.Coded.{codes};
     ghost use Rattle.runtime.specs.contracts.log_entry.Entry as entries;
     ghost use Rattle.runtime.specs.contracts.open_transaction.OpenTransaction as works;
@@ -59,7 +58,7 @@ impl<E: End> Model for Client<E> {
         (c.key.table_id ≡ (arc_value c.lock).table.shared.table_id)
         × (c.key.me.1 ≡ [])
         × (c.key.me.0.about.value.state.name ≡ c.me.name)
-        × HasReader (λ r. knowledge r.place ≡ knows c.me.name) c.reader
+        × HasReader (λ r. Remembers c.me (knowledge r.place)) c.reader
         × IsBegun c.me c.begun
         × (c.key.me.0.client ≡ Some c.number)
         × (c.key.me.0.last ≡ c.last) };
