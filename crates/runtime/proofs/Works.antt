@@ -1,5 +1,5 @@
 -- What the rounds of a worker come to: what each performs, and which entries of its client follow from that.
-use Rattle.std.proofs.Common.{◌≡◌, ℕ, ◌≢◌, Bool, true, false, List, [], ◌∷◌, ◌++◌, Option, Some, None, inl, inr, refl, sym, ap, ◌∙◌, subst, true≢false}
+use Rattle.std.proofs.Common.{◌≡◌, ℕ, suc, ◌+◌, ◌<◌, arith, ◌≢◌, Bool, true, false, List, [], ◌∷◌, ◌++◌, Option, Some, None, inl, inr, refl, sym, ap, ◌∙◌, subst, true≢false}
 use Rattle.std.specs.Prelude.{Result, Ok, Err}
 use Rattle.kv_core.specs.Range.{KeyRange}
 use Rattle.schedule.specs.declared.refusal.Refusal.TheVariants.{BadLimit}
@@ -16,7 +16,10 @@ use Rattle.runtime.specs.declared.answers.CommandError.{CommandError}
 use Rattle.runtime.specs.declared.answers.CommitError.{CommitError}
 use Rattle.runtime.specs.declared.answers.CommitError.TheVariants.{Conflict, TooOld, VersionsExhausted, Unknown, Memory}
 use Rattle.runtime.specs.declared.answers.Done.{Done}
+use Rattle.runtime.specs.declared.answers.RunError.{RunError}
+use Rattle.runtime.specs.declared.answers.RunError.TheVariants.{Refused, GaveUp}
 use Rattle.runtime.specs.declared.answers.Done.TheVariants.{Committed, ReadOnly}
+use Rattle.runtime.specs.declared.index_worker.Built.{Built as Totals}
 use Rattle.runtime.specs.declared.index_worker.GatePoint.{GatePoint}
 use Rattle.runtime.specs.declared.index_worker.Round.{Round}
 use Rattle.runtime.specs.declared.index_worker.Round.TheVariants.{Built, Marked}
@@ -29,7 +32,7 @@ use Rattle.runtime.specs.Commits.{Answers}
 use Rattle.runtime.specs.Errors.{accepted_reply}
 use Rattle.runtime.specs.Logs.{attempts_of}
 use Rattle.runtime.specs.Runs.{AttemptFails, Continues, Ends, FailsSo, Starts, Stops, Tries, TriesAndEnds, may_follow}
-use Rattle.runtime.specs.Works.{Asks, CommitsRound, Performs, Works}
+use Rattle.runtime.specs.Works.{Asks, CommitsRound, EndsWork, HasTaken, IsWork, Performs, TakesRound, Works}
 use Rattle.runtime.proofs.Attempts.{continues_trans, follows_self}
 use Rattle.runtime.proofs.Replying.{unrefused}
 use Rattle.runtime.proofs.Rounds.{commits_from}
@@ -55,8 +58,12 @@ performs_continues index limit old new (Ok Marked) is =
     continues_trans (asks_continues part_reply (Build index limit) old is.0 (Ok None) is.1) (asks_continues marked_reply (Readable index) is.0 new (Ok tt) is.2)
 performs_continues index limit old new (Err error) is = elim is [
   | inl asks ↦ asks_continues part_reply (Build index limit) old new (Err error) asks
-  | inr both ↦ continues_trans (asks_continues part_reply (Build index limit) old both.0 (Ok None) both.1.0) (asks_continues marked_reply (Readable index) both.0 new (Err error) both.1.1)
+  | inr both ↦ continues_trans (asks_continues part_reply (Build index limit) old both.0 (Ok None) both.1) (asks_continues marked_reply (Readable index) both.0 new (Err error) both.2)
 ]
+
+-- where all positions are built the round's end is that of the mark
+pub mark_ends : (index : List ℕ) (limit : ℕ) (old mid new : Knowledge) (error : CommandError) → Asks part_reply (Build index limit) old (Ok None) mid → Asks marked_reply (Readable index) mid (Err error) new → Performs index limit old (Err error) new
+mark_ends index limit old mid new error part mark = inr (mid, part, mark)
 
 -- an answered command stands among those that the transaction has performed
 abbrev Stands : Command → Reply → OpenTransaction → Knowledge → Type 0
@@ -129,8 +136,8 @@ module _ {G : Type 0} (passed : G → GatePoint → G → Type 0) where
 
   pub round_failed : (worker after : Worker G) (old new : Knowledge) → AttemptFails (Works passed) (worker, old) (after, new) → IsWorkerRound worker.index None old new
   round_failed worker after old new is = elim is [
-    | inl given_up ↦ too_old given_up.0 given_up.1.1
-    | inr ended ↦ refused ended.0 ended.1.0 ended.1.1.0 ended.1.1.1
+    | inl given_up ↦ too_old given_up.0 given_up.2
+    | inr ended ↦ refused ended.0 ended.1.0 ended.1.1 ended.1.2
   ]
     where
       too_old : (error : CommandError) → Tries (Works passed) (worker, old) (Err error) (after, new) → IsWorkerRound worker.index None old new
@@ -146,6 +153,16 @@ module _ {G : Type 0} (passed : G → GatePoint → G → Type 0) where
           let commits : Commits mid new open_tx false = refused_by mid new error open_tx may both.2.answer.2 in
           inr (open_tx, commits_from old mid new open_tx false (goes.follows.name ∙ starts.follows.name) (goes.follows.number ∙ starts.follows.number) (goes.last ∙ starts.last) commits)
 
+  -- it is the same index after a round
+  pub index_failed : (worker after : Worker G) (old new : Knowledge) → AttemptFails (Works passed) (worker, old) (after, new) → after.index ≡ worker.index
+  index_failed worker after old new is = elim is [
+    | inl given_up ↦ given_up.2.2.index
+    | inr ended ↦ ended.1.2.1.2.index
+  ]
+
+  pub index_committed : (worker after : Worker G) (round : Round) (old new : Knowledge) → CommitsRound (Works passed) (worker, old) round (after, new) → after.index ≡ worker.index
+  index_committed worker after round old new is = is.1.1.2.index
+
 -- an attempt that failed otherwise than by its age or a conflict stops the work
 pub stops_of : {B A : Type 0} (did : B → Knowledge → Result A CommandError → Knowledge → B → Type 0) (old new : B × Knowledge) (ended : Ended) → ended ≢ ends.Conflict → ended ≢ ends.TooOld → FailsSo did old (failures.Ended ended) new → Stops did old new
 stops_of did old new ends.Conflict conflict old_one is = absurd (conflict refl)
@@ -155,3 +172,15 @@ stops_of did old new ends.Committed conflict old_one is = absurd is
 stops_of did old new ends.ReadOnly conflict old_one is = absurd is
 stops_of did old new ends.FutureVersion conflict old_one is = absurd is
 stops_of did old new ends.Unknown conflict old_one is = absurd is
+
+-- ---- round after round
+
+module _ {B : Type 0} (did : B → Knowledge → Result Round CommandError → Knowledge → B → Type 0) where
+  pub taken_more : (n : ℕ) (old mid new : B × Knowledge) (before after : Totals) → HasTaken did n old mid before → TakesRound did (mid, before) (new, after) → HasTaken did (n + 1) old new after
+  taken_more n old mid new before after taken takes =
+      let same : suc n ≡ n + 1 = omega arith in
+      subst (λ (k : ℕ). HasTaken did k old new after) same ((mid, before), taken, takes)
+
+  pub ended_so : (limit n : ℕ) (old mid new : B × Knowledge) (totals : Totals) (error : RunError) → n < limit → HasTaken did n old mid totals → EndsWork did mid error new → IsWork did limit old (Err error) new
+  ended_so limit n old mid new totals (Refused error) below taken is = (n, below, (mid, (totals, taken, is)))
+  ended_so limit n old mid new totals GaveUp below taken is = inr (n, below, (mid, (totals, taken, inl is)))

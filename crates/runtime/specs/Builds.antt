@@ -1,7 +1,7 @@
 -- What a worker that builds an index comes to, by the committed entries of its own.
 use Rattle.std.specs.Prelude.{◌≡◌, ◌⊎◌, ℕ, ◌+◌, Bool, true, false, ◌&&◌, ◌==◌, nat_lt, nat_le}
 use Rattle.std.specs.Prelude.{List, [], ◌∷◌, ◌++◌, filter, count_by, sum_by, is_none, if◌then◌else◌}
-use Rattle.std.specs.Prelude.{Option, Some, Result, Ok, Err}
+use Rattle.std.specs.Prelude.{Option, Some, None}
 use Rattle.std.specs.List.{list_any}
 use Rattle.std.specs.Str.{bytes_eq}
 use mathlib.Core.List.{IsPrefix}
@@ -22,11 +22,6 @@ use Rattle.runtime.specs.declared.index_worker.Round.TheVariants.{Built, Marked}
 use Rattle.runtime.specs.declared.index_worker.Built.{Built as Totals}
 use Rattle.runtime.specs.declared.outcome.Outcome.{Outcome}
 use Rattle.runtime.specs.declared.outcome.Outcome.TheVariants as outcomes
-use Rattle.runtime.specs.declared.answers.Done.{Done}
-use Rattle.runtime.specs.declared.answers.Done.TheVariants.{Committed, ReadOnly}
-use Rattle.runtime.specs.declared.answers.CommitError.{CommitError}
-use Rattle.runtime.specs.declared.answers.CommitError.TheVariants.{Conflict, TooOld, VersionsExhausted}
-use Rattle.runtime.specs.declared.answers.CommitError.TheVariants.{Unknown, Memory}
 use Rattle.runtime.specs.Clients.{Knowledge}
 use Rattle.runtime.specs.Logs.{cause_next}
 use Rattle.runtime.specs.Outcomes.{EndsWith, entry}

@@ -57,6 +57,11 @@ module _ {B : Type 0} (did : B → Knowledge → Result Round CommandError → K
   abbrev pub CommitsRound : B × Knowledge → Round → B × Knowledge → Type 0
   CommitsRound old round new = (done : Done) × TriesAndEnds did old round (Ok done) new
 
+  -- Private: a round came to nothing, and another one may come to more; or it came to this
+  abbrev pub EndsRound : B × Knowledge → Option Round → B × Knowledge → Type 0
+  EndsRound old None new = AttemptFails did old new
+  EndsRound old (Some round) new = CommitsRound old round new
+
   -- one round more, with what was built before it and after: it comes to nothing, and another one may come to more; or
   -- it built so many records
   abbrev pub TakesRound : (B × Knowledge) × Totals → (B × Knowledge) × Totals → Type 0

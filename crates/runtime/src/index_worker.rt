@@ -2,8 +2,8 @@
 ghost use Rattle.std.specs.Prelude.{◌≡◌, ◌+◌, ◌≤◌, ◌^◌, ◌⊎◌, IfErr, IfOk, MatchOption};
 ghost use Rattle.runtime.specs.Builds.{IsBuilt};
 ghost use Rattle.runtime.specs.Calls.{marked_reply, part_reply};
-ghost use Rattle.runtime.specs.Runs.{AttemptFails, GoesOnFrom};
-ghost use Rattle.runtime.specs.Works.{Asks, CommitsRound, EndsWork, IsWork, Performs, Works};
+ghost use Rattle.runtime.specs.Runs.{GoesOnFrom};
+ghost use Rattle.runtime.specs.Works.{Asks, EndsRound, EndsWork, IsWork, Performs, Works};
 
 use crate::answers::{CommandError, RunError};
 use crate::client::Client;
@@ -103,11 +103,13 @@ fn perform_round<E: End>(
     ensures same_reference { tx.new.client.ghost_name ≡ tx.old.client.ghost_name }
     ensures performs { Performs index.now limit tx.old.client.now result tx.new.client.now }
 {
-    if let Some((records, _)) = build_part(tx, index, limit)? {
-        return Ok(Round::Built(records));
+    match build_part(tx, index, limit)? {
+        Some((records, _)) => Ok(Round::Built(records)),
+        None => {
+            mark(tx, index)?;
+            Ok(Round::Marked)
+        }
     }
-    mark(tx, index)?;
-    Ok(Round::Marked)
 }
 
 /// What a worker does in the transaction of a round.
@@ -138,10 +140,8 @@ fn take_round<E: End, R: Wait, G: Gate>(
     worker: &mut Worker<G>,
 ) -> Result<Option<Round>, RunError>
     ensures follows { GoesOnFrom client.old client.new }
-    ensures round { IfOk result (λ round. MatchOption round
-        (AttemptFails (Works G.passed) (worker.old, client.old) (worker.new, client.new))
-        (λ one. CommitsRound (Works G.passed) (worker.old, client.old) one
-        (worker.new, client.new))) }
+    ensures round { IfOk result (λ round.
+        EndsRound (Works G.passed) (worker.old, client.old) round (worker.new, client.new)) }
     ensures ended { IfErr result (λ error.
         EndsWork (Works G.passed) (worker.old, client.old) error (worker.new, client.new)) }
 {
@@ -182,16 +182,16 @@ pub fn build_worker<E: End, R: Wait, G: Gate>(
     for round in 0..rounds {
         let ended = take_round(rt, client, &mut worker)?;
         prove!(client.last_number() <= u64::MAX);
-        match ended {
-            None => {}
-            Some(Round::Marked) => return Ok(built),
-            Some(Round::Built(more)) => {
-                let Some(more_built) = built.with(more) else {
-                    return Err(RunError::GaveUp);
-                };
-                built = more_built;
-            }
-        }
+        let Some(ended) = ended else {
+            continue;
+        };
+        let Round::Built(more) = ended else {
+            return Ok(built);
+        };
+        let Some(more_built) = built.with(more) else {
+            return Err(RunError::GaveUp);
+        };
+        built = more_built;
     }
     Err(RunError::GaveUp)
 }

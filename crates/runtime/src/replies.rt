@@ -1,6 +1,6 @@
 // What replies tell: the answers of the calls that perform a command. Used by `transaction` and
 // `index_worker`.
-ghost use Rattle.std.specs.Prelude.{◌≡◌, ℤ, Bool, List, Option, IfOk};
+ghost use Rattle.std.specs.Prelude.{◌≡◌, ℕ, ℤ, Bool, List, Option, IfOk};
 ghost use Rattle.metadata.specs.declared.cells.Cell.{Cell};
 ghost use Rattle.planner.specs.Asked.{AskedPlan};
 ghost use Rattle.kv_core.specs.Range.{KeyRange};
