@@ -9,7 +9,6 @@ use Rattle.runtime.specs.declared.answers.CommandError.{CommandError}
 use Rattle.runtime.specs.declared.answers.Done.{Done}
 use Rattle.runtime.specs.declared.index_worker.Built.{Built as Totals}
 use Rattle.runtime.specs.declared.index_worker.GatePoint.{GatePoint}
-use Rattle.runtime.specs.declared.index_worker.Worker.{Worker}
 use Rattle.runtime.specs.Calls.{HasCalled}
 use Rattle.runtime.specs.Clients.{Knowledge}
 use Rattle.runtime.specs.Runs.{IsRun}
@@ -26,14 +25,14 @@ CallsEach (command ∷ commands) old new =
 
 -- what a body of commands did where it ended well
 abbrev pub DoesEach : InTurn → Knowledge → Result (Unit {0}) CommandError → Knowledge → InTurn → Type 0
-DoesEach body old (Ok done) new after = CallsEach body.commands old new × (after ≡ body)
+DoesEach body old (Ok done) new after = CallsEach body.commands.now old new × (after ≡ body)
 DoesEach body old (Err error) new after = after ≡ body
 
 -- a transaction of these commands was committed, in at most a thousand attempts
 abbrev pub RunsEach : List Command → Knowledge → Knowledge → Type 0
 RunsEach commands old new =
-    (done : Done)
-    × IsRun DoesEach 1000 (record { commands = commands }, old) (Ok (tt, done)) (record { commands = commands }, new)
+    (done : Done) × ((body : InTurn) × (body.commands.now ≡ commands)
+    × ((after : InTurn) × IsRun DoesEach 1000 (body, old) (Ok (tt, done)) (after, new)))
 
 -- records were saved one after another, each in a transaction of its own
 abbrev pub SavesEach : List ℕ → List (List Cell) → Knowledge → Knowledge → Type 0
@@ -48,6 +47,6 @@ is_passed old place new = new ≡ old
 -- the race's index was built, by parts of at most as many records as the race says, in at most a thousand rounds
 abbrev pub BuildsIndex : Race → Knowledge → Knowledge → Type 0
 BuildsIndex race old new =
-    (totals : Totals) × ((after : Worker Open)
+    (totals : Totals) × ((after : _)
     × IsWork (Works is_passed) 1000 (record { index = race.index.name; limit = race.limit; gate = record {} }, old)
     (Ok totals) (after, new))

@@ -7,4 +7,4 @@ use Rattle.race.proofs.commands.InTurnBody.attempt.Given as goal
 abbrev pub invariant-loop-command : goal.invariant-loop-command
 invariant-loop-command g l =
     (l.tx.client.ghost_name ≡ l.initial.tx.client.ghost_name) × Continues l.initial.tx.client.now l.tx.client.now
-    × ((end : Knowledge) → CallsEach (drop l.command-index l.self.commands) l.tx.client.now end → CallsEach l.self.commands l.initial.tx.client.now end)
+    × ((end : Knowledge) → CallsEach (drop l.command-index l.self.commands.now) l.tx.client.now end → CallsEach l.self.commands.now l.initial.tx.client.now end)
