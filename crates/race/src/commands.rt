@@ -1,4 +1,5 @@
 // The commands of a race's transactions, and what performs them. Called by `racing`.
+ghost use Rattle.std.specs.Prelude.{◌≡◌, IfOk};
 
 use metadata::Cells;
 use runtime::{Body, CommandError, End, Txn};
@@ -8,7 +9,9 @@ use std::alloc::{AllocError, Global};
 use tuple_codec::Text;
 
 /// The command that saves a record.
-pub(crate) fn save(record_type: &Text, cells: &Cells) -> Result<Command, AllocError> {
+pub(crate) fn save(record_type: &Text, cells: &Cells) -> Result<Command, AllocError>
+    ensures { IfOk result (λ command. command ≡ Command.Save record_type.now cells.now) }
+{
     Ok(Command::Save(record_type.copy()?, cells.copy()?))
 }
 
@@ -38,7 +41,9 @@ pub(crate) struct InTurn<'a> {
 impl<E: End> Body<E> for InTurn<'_> {
     type Answer = ();
 
-    ghost did = { λ body old result new after. Unit {0} };
+    ghost use Rattle.race.specs.Runs.{DoesEach};
+
+    ghost did = { DoesEach };
 
     fn attempt(&mut self, tx: &mut Txn<'_, E>) -> Result<(), CommandError> {
         for command in self.commands {

@@ -1,6 +1,7 @@
 // The threads of a race, from its database to its end. Called by `recordctl`.
-ghost use Rattle.std.specs.Prelude.{◌≡◌, ◌<◌, OnOk, IfErr, IsNone};
+ghost use Rattle.std.specs.Prelude.{OnOk, IfErr, IfOk, IsNone};
 ghost use Rattle.race.specs.Racing.{explains_end, race_refusal};
+ghost use Rattle.race.specs.Runs.{BuildsIndex, RunsEach, SavesEach};
 
 use crate::commands::{InTurn, filling, indexing, save};
 use crate::error::{Fault, RaceError, ended, first_fault};
@@ -31,6 +32,10 @@ const PLACES: u64 = 4;
 struct Open;
 
 impl Gate for Open {
+    ghost use Rattle.race.specs.Runs.{is_passed};
+
+    ghost passed = { is_passed };
+
     fn pass(&mut self, _place: GatePoint) {}
 }
 
@@ -60,7 +65,9 @@ fn commit_each<E: End, R: Wait>(
     rt: &R,
     client: &mut Client<E>,
     commands: &[Command],
-) -> Result<(), Fault> {
+) -> Result<(), Fault>
+    ensures { IfOk result (λ _. RunsEach commands.now client.old client.new) }
+{
     client.run(rt, ATTEMPTS, true, &mut InTurn { commands })?;
     Ok(())
 }
@@ -84,7 +91,9 @@ fn save_each<E: End, R: Wait>(
     client: &mut Client<E>,
     record_type: &Text,
     rows: &[Cells],
-) -> Result<(), Fault> {
+) -> Result<(), Fault>
+    ensures { IfOk result (λ _. SavesEach record_type.now rows.now client.old client.new) }
+{
     for cells in rows {
         commit_each(rt, client, &[save(record_type, cells)?])?;
     }
@@ -93,9 +102,10 @@ fn save_each<E: End, R: Wait>(
 
 // Builds the index, and marks it readable.
 fn build<E: End, R: Wait>(rt: &R, client: &mut Client<E>, race: &Race) -> Result<(), Fault>
-    requires { 0 < race.now.limit }
+    ensures { IfOk result (λ _. BuildsIndex race.now client.old client.new) }
 {
-    build_worker(rt, client, &race.index.name, race.limit, TURNS, &mut Open)?;
+    let index = race.index.name.copy()?;
+    build_worker(rt, client, index, race.limit, TURNS, Open)?;
     Ok(())
 }
 
@@ -105,9 +115,7 @@ fn save_and_build<E: End + Send, R: Threads + Wait + Sync>(
     race: &Race,
     saver: &mut Client<E>,
     worker: &mut Client<E>,
-) -> (Result<(), Fault>, Result<(), Fault>)
-    requires { 0 < race.now.limit }
-{
+) -> (Result<(), Fault>, Result<(), Fault>) {
     let record_type = &race.record_type;
     let rows = race.clients.second.as_slice();
     thread::join(
@@ -124,17 +132,13 @@ fn run_threads<E: End + Send, R: Threads + Wait + Sync>(
     one: &mut Client<E>,
     other: &mut Client<E>,
     worker: &mut Client<E>,
-) -> Result<(), Fault>
-    requires { 0 < race.now.limit }
-{
+) -> Result<(), Fault> {
     let record_type = &race.record_type;
     let rows = race.clients.first.as_slice();
     let (first, (second, built)) = thread::join(
         rt,
         || save_each(rt, one, record_type, rows),
-        ||
-            requires { 0 < race.now.limit }
-        { save_and_build(rt, race, other, worker) },
+        || { save_and_build(rt, race, other, worker) },
     );
     first_fault(first_fault(first, second), built)
 }
@@ -147,9 +151,7 @@ fn raced<E: End + Send, R: Threads + Wait + Sync>(
     one: &mut Client<E>,
     other: &mut Client<E>,
     worker: &mut Client<E>,
-) -> Result<String, Fault>
-    requires { 0 < race.now.limit }
-{
+) -> Result<String, Fault> {
     make(rt, alloc, one, race)?;
     run_threads(rt, race, one, other, worker)?;
     lines(alloc, one, race)
@@ -161,9 +163,7 @@ fn raced_among<E: End + Send, R: Threads + Wait + Sync>(
     alloc: Global,
     race: &Race,
     clients: &mut [Client<E>],
-) -> Result<String, Fault>
-    requires { 0 < race.now.limit }
-{
+) -> Result<String, Fault> {
     let Some((one, others)) = clients.split_first_mut() else {
         return Err(Fault::GaveUp);
     };
@@ -188,7 +188,6 @@ pub fn run<R: Threads + Wait + Sync>(
     alloc: Global,
     race: &Race,
 ) -> Result<String, RaceError>
-    requires { 0 < race.now.limit }
     ensures ok { OnOk result (IsNone (race_refusal race.now.config)) }
     ensures err { IfErr result (explains_end race.now.config) }
 {

@@ -1,5 +1,5 @@
--- What a client knows behind a command.
-use Rattle.std.proofs.Common.{◌≡◌, ℕ, ◌-◌, ◌<◌, ◌≤◌, List, Some, refl, sym, ap, ◌∙◌, subst, arith}
+-- What a client knows after a command.
+use Rattle.std.proofs.Common.{◌≡◌, ℕ, ◌-◌, ◌<◌, ◌≤◌, List, Option, Some, None, refl, sym, ap, ◌∙◌, subst, arith}
 use Rattle.std.specs.Prelude.{Result, Ok, Err, IfErr}
 use mathlib.Core.List.{IsPrefix}
 use Rattle.kv_core.specs.declared.change.CommitRequest.{CommitRequest}
@@ -10,12 +10,19 @@ use Rattle.runtime.specs.declared.trace.Trace.{Trace}
 use Rattle.runtime.specs.declared.open_transaction.OpenTransaction.{OpenTransaction}
 use Rattle.runtime.specs.declared.published_reads.EnterError.{EnterError}
 use Rattle.runtime.specs.declared.published_reads.EnterError.TheVariants.{NotEntered, TooOld, Memory}
+use Rattle.runtime.specs.declared.published.View.{View}
 use Rattle.runtime.specs.History.{Prefix}
-use Rattle.runtime.specs.Clients.{IsBegun, IsSameTransaction}
+use Rattle.runtime.specs.Clients.{HasReader, IsBegun, IsSameTransaction, Remembers}
 use Rattle.runtime.specs.Logs.{IsOpenOver, version_of}
 use Rattle.runtime.specs.Serves.{IsUnanswered}
 use Rattle.runtime.proofs.Beginnings.{prefix_trans}
 use Rattle.runtime.proofs.Entries.{version_begins}
+use Rattle.runtime.proofs.Moves.{later_trans}
+
+-- a longer log begins with the log that the reader saw last, as the client's does
+pub reader_later : {R : Type 0} (view : R → View) (me longer : Prefix) (reader : Option R) → longer.name ≡ me.name → IsPrefix me.log longer.log → HasReader (λ r. Remembers me (view r)) reader → HasReader (λ r. Remembers longer (view r)) reader
+reader_later view me longer (Some r) name this known = (known.0, later_trans (view r).prefix me longer known.1 (name, this))
+reader_later view me longer None name this known = known
 
 -- the transaction goes on over its log, which the longer one begins with
 pub begun_on : (me known : Prefix) (open_tx after : OpenTransaction) → IsBegun me (Some open_tx) → known.name ≡ me.name → IsPrefix me.log known.log → after.prefix ≡ open_tx.prefix →

@@ -13,6 +13,7 @@ pub mod Reporting
 pub mod Answering
 pub mod Attempts
 pub mod Replying
+pub mod Works
 pub mod Serving
 pub mod CommitLocks
 pub mod Sendable

@@ -12,44 +12,58 @@ use Rattle.runtime.specs.declared.published.View.{View}
 use Rattle.runtime.specs.Logs.{log_tier}
 use Rattle.runtime.specs.History.{Name, Prefix, log_prefix, submitted_entry}
 use Rattle.std.specs.Prelude.{Result, Ok, Err, MatchResult, ⊤}
-use Rattle.runtime.specs.Publication.{publisher_view, newcomer, knows, IsFold, Kept, Sees, Leads, LeadOn, entries_of, applied}
+use Rattle.runtime.specs.Publication.{publisher_view, newcomer, has_seen, newly_given, IsFold, IsLater, Kept, Sees, Leads, LeadOn, entries_of, applied}
+use Rattle.runtime.proofs.Beginnings.{prefix_self, prefix_trans}
 use Rattle.runtime.proofs.Entries.{tier_next}
 
 off : false ≡ true → ⊥
 off e = true≢false (sym e)
 
--- what the rule says of one view
-abbrev Fits : Name → View → Type 0
-Fits b v = v.named ≡ true → v.prefix.name ≡ b
+pub later_self : (p : Prefix) → IsLater p p
+later_self p = (refl, prefix_self p.log)
 
-fits_set : (b : Name) (views : List View) (seat : ℕ) (w : View) → ((j : ℕ) (u : View) → get_elem? views j ≡ some u → Fits b u) → Fits b w → (j : ℕ) (u : View) → get_elem? (set views seat w) j ≡ some u → Fits b u
+pub later_trans : (p q r : Prefix) → IsLater p q → IsLater q r → IsLater p r
+later_trans p q r one other = (other.0 ∙ one.0, prefix_trans p.log q.log r.log one.1 other.1)
+
+pub later_by : (x y : Published) (more : List Entry) → y.prefix ≡ log_prefix x.prefix.name (x.prefix.log ++ more) → IsLater x.prefix y.prefix
+later_by x y more is = (ap (λ (p : Prefix). p.name) is, (more, sym (ap (λ (p : Prefix). p.log) is)))
+
+-- what the rule says of one view
+abbrev Fits : Prefix → View → Type 0
+Fits b v = v.named ≡ true → IsLater v.prefix b
+
+fits_set : (b : Prefix) (views : List View) (seat : ℕ) (w : View) → ((j : ℕ) (u : View) → get_elem? views j ≡ some u → Fits b u) → Fits b w → (j : ℕ) (u : View) → get_elem? (set views seat w) j ≡ some u → Fits b u
 fits_set b views seat w all mine j u e = ⊎_elim (λ (t : (j ≡ seat) × (w ≡ u)). subst (Fits b) t.1 mine) (λ (t : (j ≢ seat) × (get_elem? views j ≡ some u)). all j u t.1) (at_set views seat j w u e)
 
 pub begins : (x : Published) → IsFold x → Kept x (newcomer ∷ [])
-begins x f = (f, λ j u e. ⊎_elim (λ (t : get_elem? [] j ≡ some u). λ n. absurd (nothing j u t)) (λ (t : newcomer ≡ u). subst (Fits x.prefix.name) t (λ n. absurd (off n))) (at_snoc [] newcomer u j e))
+begins x f = (f, λ j u e. ⊎_elim (λ (t : get_elem? [] j ≡ some u). λ n. absurd (nothing j u t)) (λ (t : newcomer ≡ u). subst (Fits x.prefix) t (λ n. absurd (off n))) (at_snoc [] newcomer u j e))
   where
     nothing : (j : ℕ) (u : View) → get_elem? [] j ≡ some u → ⊥
     nothing j u t = cc
 
 pub admits : Admits Kept newcomer
-admits x views h = (h.0, λ j v at. ⊎_elim (h.1 j v) (λ (e : newcomer ≡ v). subst (Fits x.prefix.name) e (λ n. absurd (off n))) (at_snoc views newcomer v j at))
+admits x views h = (h.0, λ j v at. ⊎_elim (h.1 j v) (λ (e : newcomer ≡ v). subst (Fits x.prefix) e (λ n. absurd (off n))) (at_snoc views newcomer v j at))
 
-pub sees : (seat : ℕ) (v : View) (x y : Published) → y.prefix.name ≡ x.prefix.name → IsFold y → TurnsAt Kept seat v x y Sees
-sees seat v x y same f views h at =
-    let all : (j : ℕ) (u : View) → get_elem? views j ≡ some u → Fits y.prefix.name u = λ j u e n. h.1 j u e n ∙ sym same in
-    (knows y.prefix.name, (f, fits_set y.prefix.name views seat (knows y.prefix.name) all (λ n. refl)), (refl, f, all seat v at))
+pub sees : (seat : ℕ) (v : View) (x y : Published) → IsLater x.prefix y.prefix → IsFold y → TurnsAt Kept seat v x y Sees
+sees seat v x y later f views h at =
+    let all : (j : ℕ) (u : View) → get_elem? views j ≡ some u → Fits y.prefix u = λ j u e n. later_trans u.prefix x.prefix y.prefix (h.1 j u e n) later in
+    (has_seen y.prefix, (f, fits_set y.prefix views seat (has_seen y.prefix) all (λ n. later_self y.prefix)), (refl, f, all seat v at))
 
 pub enters : (seat : ℕ) (v : View) → Turns Kept seat v (λ x. x) Sees
-enters seat v x views h at = sees seat v x x refl h.0 views h at
+enters seat v x views h at = sees seat v x x (later_self x.prefix) h.0 views h at
 
-pub forks : (seat : ℕ) (v : View) → Forks Kept seat v v v
+-- what a new thread is given fits too
+told_fits : (p : Prefix) (v : View) → Fits p v → Fits p (newly_given v)
+told_fits p v fits n = ((fits n).0, (p.log, refl))
+
+pub forks : (seat : ℕ) (v : View) → Forks Kept seat v v (newly_given v)
 forks seat v x views h at =
-    (h.0, λ j u e. ⊎_elim (λ (b : get_elem? (set views seat v) j ≡ some u). fits_set x.prefix.name views seat v h.1 (h.1 seat v at) j u b) (λ (same : v ≡ u). subst (Fits x.prefix.name) same (h.1 seat v at)) (at_snoc (set views seat v) v u j e))
+    (h.0, λ j u e. ⊎_elim (λ (b : get_elem? (set views seat v) j ≡ some u). fits_set x.prefix views seat v h.1 (h.1 seat v at) j u b) (λ (same : newly_given v ≡ u). subst (Fits x.prefix) same (told_fits x.prefix v (h.1 seat v at))) (at_snoc (set views seat v) (newly_given v) u j e))
 
 pub merges : (seat : ℕ) (v : View) (other : ℕ) (w : View) → Merges Kept seat v other w w newcomer
 merges seat v other w x views h at apart there =
-    let theirs : Fits x.prefix.name w = ⊎_elim (λ (t : (other ≡ seat) × (w ≡ w)). absurd (apart t.0)) (λ (t : (other ≢ seat) × (get_elem? views other ≡ some w)). h.1 other w t.1) (at_set views seat other w w there) in
-    (h.0, fits_set x.prefix.name (set views seat w) other newcomer (fits_set x.prefix.name views seat w h.1 theirs) (λ n. absurd (off n)))
+    let theirs : Fits x.prefix w = ⊎_elim (λ (t : (other ≡ seat) × (w ≡ w)). absurd (apart t.0)) (λ (t : (other ≢ seat) × (get_elem? views other ≡ some w)). h.1 other w t.1) (at_set views seat other w w there) in
+    (h.0, fits_set x.prefix (set views seat w) other newcomer (fits_set x.prefix views seat w h.1 theirs) (λ n. absurd (off n)))
 
 abbrev tier_at : Name → List Entry → TierState
 tier_at b log = log_tier b.config log
@@ -91,14 +105,14 @@ next_is x y ss f follow is =
 
 -- what a publish leaves
 abbrev pub Rests : Published → List Step → View → Type 0
-Rests x ss v = IsFold x × LeadOn x.prefix.name x.prefix.log ss × (v ≡ knows x.prefix.name)
+Rests x ss v = IsFold x × LeadOn x.prefix.name x.prefix.log ss × (v ≡ has_seen x.prefix)
 
 pub rests_after : {E : Type 0} (x y : Published) (ss ss' : List Step) (v w : View) (r : Result ⊤ E) → Rests x ss v
     → MatchResult r (λ _. ((y.tier, y.prefix) ≡ fold applied (x.tier, x.prefix) ss) × (ss' ≡ [])) (λ _. (y ≡ x) × (ss' ≡ ss))
     → MatchResult r (λ _. Sees v x y w) (λ _. w ≡ v) → Rests y ss' w
 rests_after x y ss ss' v w (Ok t) rest values rule = (rule.1, subst (LeadOn y.prefix.name y.prefix.log) (sym values.1) tt, rule.0)
 rests_after x y ss ss' v w (Err e) rest values rule =
-    (subst IsFold (sym values.0) rest.0, subst (λ (z : Published × List Step). LeadOn z.0.prefix.name z.0.prefix.log z.1) (λ i. (sym values.0 i, sym values.1 i)) rest.1, rule ∙ rest.2 ∙ ap (λ (z : Published). knows z.prefix.name) (sym values.0))
+    (subst IsFold (sym values.0) rest.0, subst (λ (z : Published × List Step). LeadOn z.0.prefix.name z.0.prefix.log z.1) (λ i. (sym values.0 i, sym values.1 i)) rest.1, rule ∙ rest.2 ∙ ap (λ (z : Published). has_seen z.prefix) (sym values.0))
 
 pub shown_after : {E : Type 0} (x y : Published) (ss ss' : List Step) (v : View) (r : Result ⊤ E) → Rests x ss v
     → MatchResult r (λ _. ((y.tier, y.prefix) ≡ fold applied (x.tier, x.prefix) ss) × (ss' ≡ [])) (λ _. (y ≡ x) × (ss' ≡ ss))

@@ -1,17 +1,21 @@
 -- What the reply to a command is that accepts it: an answer of the call that the command makes.
-use Rattle.std.proofs.Common.{◌≡◌, ℕ, Bool, true, false, List, refl, sym, ap, ◌∙◌, Option, Some, None, true≢false}
+use Rattle.std.proofs.Common.{◌≡◌, ℕ, zero, suc, Bool, true, false, List, refl, sym, ap, ◌∙◌, Option, Some, None, true≢false}
 use Rattle.std.specs.Prelude.{Result, Ok, Err, IfOk}
+use Rattle.kv_core.specs.Range.{KeyRange}
 use Rattle.kv_core.specs.declared.change.WriteError.{WriteError}
 use Rattle.kv_core.specs.declared.change.WriteError.TheVariants as write
 use Rattle.metadata.specs.declared.cells.Cell.{Cell}
 use Rattle.metadata.specs.Record.{Record, key_of, record_of}
 use Rattle.metadata.specs.Schema.{find_index}
 use Rattle.record_store.specs.declared.error.StoreError.{StoreError}
-use Rattle.record_store.specs.Meaning.{Meaning, by_schema, load_meaning, remove_meaning, save_meaning, total_meaning, totalled_index}
+use Rattle.record_store.specs.Meaning.{Meaning, by_schema, load_meaning, readable_meaning, remove_meaning, save_meaning, total_meaning, totalled_index, write_only_named}
 use Rattle.record_store.specs.Store.{Serial, Store, listed_states}
 use Rattle.query.specs.Checked.{query_refusal}
 use Rattle.query.specs.Query as asked
 use Rattle.query.specs.declared.error.QueryError.{QueryError}
+use Rattle.online_builder.specs.declared.progress.Progress.{Progress}
+use Rattle.online_builder.specs.declared.progress.Progress.TheVariants as progress
+use Rattle.online_builder.specs.Stepping.{step_meaning}
 use Rattle.planner.specs.Asked.{AskedPlan}
 use Rattle.planner.specs.Right.{is_served}
 use Rattle.schedule.specs.declared.step.Command.{Command}
@@ -22,11 +26,11 @@ use Rattle.schedule.specs.Past.{is_accepted}
 use Rattle.schedule.specs.Performed.{IsLimit, IsLimited}
 use Rattle.schedule.specs.Planning.{IsPlanned}
 use Rattle.schedule.specs.Query.{IsExecuteReply, Unrefused, states_of}
-use Rattle.schedule.specs.Serve.{IsReply, IsReplyOf, answering, calling, reply_to_load, reply_to_remove, reply_to_save}
+use Rattle.schedule.specs.Serve.{IsReply, IsReplyOf, answering, calling, done, reply_to_build, reply_to_load, reply_to_remove, reply_to_save}
 use Rattle.schedule.proofs.Stops.{error_refuses}
 use Rattle.runtime.specs.declared.answers.CommandError.{CommandError}
 use Rattle.runtime.specs.declared.published_reads.EnterError.{EnterError}
-use Rattle.runtime.specs.Calls.{HasCalled, HasPerformed, found_reply, removed_reply, saved_reply, told_result}
+use Rattle.runtime.specs.Calls.{HasCalled, HasPerformed, found_reply, marked_reply, part_reply, removed_reply, saved_reply, told_result}
 use Rattle.runtime.specs.Clients.{Knowledge}
 use Rattle.runtime.specs.Errors.{accepted_reply, accepted_or_refusal}
 
@@ -109,6 +113,22 @@ plan_shape query (Some store) answer is accepts = by_refusal (query_refusal stor
     by_refusal None false says = refused_no answer (reply.Refused _) refl says accepts
     by_refusal None true says = (says.plan, says.shown)
 
+build_told : (step : Progress) → (part : Option (ℕ × KeyRange)) × (reply_to_build step ≡ part_reply part)
+build_told (progress.Built records range) = (Some (records, range), refl)
+build_told progress.Finished = (None, refl)
+
+pub build_shape : (name : List ℕ) (limit : ℕ) → Shape (commands.Build name limit) part_reply
+build_shape name zero None answer is accepts = no_store (reply.Refused _) answer is refl accepts
+build_shape name zero (Some store) answer is accepts = no_store (reply.Refused _) answer is refl accepts
+build_shape name (suc more) None answer is accepts = no_store (reply.Refused _) answer is refl accepts
+build_shape name (suc more) (Some store) answer is accepts =
+    let found = called store reply_to_build (step_meaning (suc more)) (write_only_named store.schema (listed_states store) name) answer is accepts in
+    let told = build_told found.0 in (told.0, found.1 ∙ told.1)
+
+pub readable_shape : (name : List ℕ) → Shape (commands.Readable name) marked_reply
+readable_shape name None answer is accepts = no_store (reply.Refused _) answer is refl accepts
+readable_shape name (Some store) answer is accepts = (tt, (called store done (λ index. readable_meaning index.number) (write_only_named store.schema (listed_states store) name) answer is accepts).1)
+
 execute_rows : (store : Store) (plan : AskedPlan) (answer : Reply) → IsExecuteReply store plan answer → is_accepted answer ≡ true → (rows : List (List Cell)) × (answer ≡ reply.Rows rows)
 execute_rows store plan (reply.Rows rows) is accepts = (rows, refl)
 execute_rows store plan (reply.Refused refusal) is accepts = absurd (cc)
@@ -139,7 +159,7 @@ execute_shape plan (Some store) answer is accepts = execute_rows store plan answ
 -- ---- replies of calls
 
 -- a reply that a call hands on accepts its command
-unrefused : (told answer : Reply) → accepted_or_refusal told ≡ Ok answer → (told ≡ answer) × (is_accepted told ≡ true)
+pub unrefused : (told answer : Reply) → accepted_or_refusal told ≡ Ok answer → (told ≡ answer) × (is_accepted told ≡ true)
 unrefused (reply.Refused refusal) answer is = absurd (cc)
 unrefused (reply.Corrupt key) answer is = absurd (cc)
 unrefused reply.Stopped answer is = absurd (cc)

@@ -1,5 +1,5 @@
 -- What a worker has built, round by round.
-use Rattle.std.proofs.Common.{◌≡◌, ℕ, ◌+◌, ◌<◌, ◌≤◌, Bool, true, false, ◌&&◌, ◌||◌, cond, is_none, nat_le, List, [], ◌∷◌, ◌++◌, inl, inr, refl, sym, ap, ◌∙◌, subst, arith}
+use Rattle.std.proofs.Common.{◌≡◌, ℕ, ◌+◌, ◌<◌, ◌≤◌, Bool, true, false, ◌&&◌, ◌||◌, cond, is_none, nat_le, Some, None, List, [], ◌∷◌, ◌++◌, inl, inr, refl, sym, ap, ◌∙◌, subst, arith}
 use Rattle.std.specs.Prelude.{Result, Ok, Err, count_by, sum_by}
 use Rattle.std.specs.List.{list_any}
 use Rattle.std.specs.Str.{bytes_eq}
@@ -11,22 +11,15 @@ use Rattle.kv_core.specs.Range.{KeyRange}
 use Rattle.runtime.specs.declared.log_entry.Entry.{Entry}
 use Rattle.runtime.specs.declared.trace.Performed.{Performed}
 use Rattle.runtime.specs.declared.open_transaction.OpenTransaction.{OpenTransaction}
-use Rattle.runtime.specs.declared.index_worker.Round.{Round}
-use Rattle.runtime.specs.declared.index_worker.Round.TheVariants.{Built, Marked, Nothing}
+use Rattle.runtime.specs.declared.index_worker.Round.TheVariants.{Built, Marked}
 use Rattle.runtime.specs.declared.outcome.Outcome.{Outcome}
 use Rattle.runtime.specs.declared.outcome.Outcome.TheVariants as outcomes
-use Rattle.runtime.specs.declared.answers.Done.{Done}
-use Rattle.runtime.specs.declared.answers.Done.TheVariants.{Committed, ReadOnly}
-use Rattle.runtime.specs.declared.answers.CommitError.{CommitError}
-use Rattle.runtime.specs.declared.answers.CommitError.TheVariants.{Conflict, TooOld, VersionsExhausted, Unknown, Memory}
-use Rattle.runtime.specs.Commits.{Answers}
 use Rattle.runtime.specs.Clients.{Knowledge, knows_that}
 use Rattle.runtime.specs.Outcomes.{entry}
 use Rattle.runtime.specs.History.{Name}
 use Rattle.runtime.specs.Logs.{cause_next, has_submission, is_once, version_of}
-use Rattle.runtime.specs.Builds.{Commits, HasWorked, IsSubmission, IsWorkerRound, entry_has_built, has_ended, has_marked}
-use Rattle.runtime.specs.Builds.{is_build, is_committed_result, is_mark, own_committed, own_of, records_built}
-use Rattle.runtime.specs.Builds.{records_by, records_of, steps_of}
+use Rattle.runtime.specs.Builds.{Commits, HasWorked, IsSubmission, IsWorkerRound, entry_has_built, has_marked}
+use Rattle.runtime.specs.Builds.{is_build, is_mark, own_committed, own_of, records_built, records_by}
 use Rattle.runtime.specs.Runs.{GoesOnFrom}
 use Rattle.runtime.proofs.Numbers.{number_begins, number_of_last}
 use Rattle.runtime.proofs.Counting.{or_left_false, or_right_false, own_grown, own_none, sum_next, none_decided, some_decided}
@@ -157,33 +150,36 @@ refused_next index old mid new steps records open_tx before after once counted c
 
 -- ---- one round more
 
-nothing_next : (index : List ℕ) (old mid new : Knowledge) (steps records : ℕ) → GoesOnFrom old mid → GoesOnFrom mid new → is_once new.log ≡ true → Counted index old mid steps records → IsWorkerRound index Nothing mid new → Counted index old new steps records
+pub nothing_next : (index : List ℕ) (old mid new : Knowledge) (steps records : ℕ) → GoesOnFrom old mid → GoesOnFrom mid new → is_once new.log ≡ true → Counted index old mid steps records → IsWorkerRound index None mid new → Counted index old new steps records
 nothing_next index old mid new steps records before after once counted is = elim is [
   | inl same ↦ stayed_next index old mid new steps records after once counted same
   | inr told ↦ refused_next index old mid new steps records told.0 before after once counted told.1
 ]
 
-pub counted_next : (index : List ℕ) (round : Round) (old mid new : Knowledge) (steps records : ℕ) → GoesOnFrom old mid → GoesOnFrom mid new → is_once new.log ≡ true → Counted index old mid steps records → IsWorkerRound index round mid new →
-    Counted index old new (steps + steps_of round) (records + records_of round)
-counted_next index (Built more) old mid new steps records before after once counted is =
+built_next : (index : List ℕ) (more : ℕ) (old mid new : Knowledge) (steps records : ℕ) → GoesOnFrom old mid → GoesOnFrom mid new → is_once new.log ≡ true → Counted index old mid steps records → IsWorkerRound index (Some (Built more)) mid new →
+    Counted index old new (steps + 1) (records + more)
+built_next index more old mid new steps records before after once counted is =
     let e : Entry = entry_by mid is.0 in
     let weighs : entry_has_built index e ≡ true = built_steps index more is.0.trace.attempts is.1 in
     let adds : records_built index e ≡ more = built_records index more is.0.trace.attempts is.1 in
     subst (λ (n : ℕ). Counted index old new (steps + 1) (records + n)) adds (subst (λ (b : Bool). Counted index old new (steps + cond b 1 0) (records + records_built index e)) weighs (committed_next index old mid new steps records is.0 before after once counted is.2))
-counted_next index Marked old mid new steps records before after once counted is =
+
+pub counted_by : (index : List ℕ) (built : ℕ) (old mid new : Knowledge) (steps records more all : ℕ) → GoesOnFrom old mid → GoesOnFrom mid new → is_once new.log ≡ true → Counted index old mid steps records → IsWorkerRound index (Some (Built built)) mid new →
+    more ≡ steps + 1 → all ≡ records + built → Counted index old new more all
+counted_by index built old mid new steps records more all before after once counted is s r =
+    subst (λ (n : ℕ). Counted index old new n all) (sym s) (subst (λ (n : ℕ). Counted index old new (steps + 1) n) (sym r) (built_next index built old mid new steps records before after once counted is))
+
+-- a round that marks the index is no step
+pub counted_marked : (index : List ℕ) (old mid new : Knowledge) (steps records : ℕ) → GoesOnFrom old mid → GoesOnFrom mid new → is_once new.log ≡ true → Counted index old mid steps records → IsWorkerRound index (Some Marked) mid new →
+    Counted index old new steps records
+counted_marked index old mid new steps records before after once counted is =
     let e : Entry = entry_by mid is.0 in
     let weighs : entry_has_built index e ≡ false = marked_steps index is.0.trace.attempts is.1 in
     let adds : records_built index e ≡ 0 = marked_records index is.0.trace.attempts is.1 in
-    subst (λ (n : ℕ). Counted index old new (steps + 0) (records + n)) adds (subst (λ (b : Bool). Counted index old new (steps + cond b 1 0) (records + records_built index e)) weighs (committed_next index old mid new steps records is.0 before after once counted is.2))
-counted_next index Nothing old mid new steps records before after once counted is =
-    let s : steps ≡ steps + 0 = omega arith in
-    let r : records ≡ records + 0 = omega arith in
-    subst (λ (n : ℕ). Counted index old new n (records + 0)) s (subst (λ (n : ℕ). Counted index old new steps n) r (nothing_next index old mid new steps records before after once counted is))
-
-pub counted_by : (index : List ℕ) (round : Round) (old mid new : Knowledge) (steps records more all : ℕ) → GoesOnFrom old mid → GoesOnFrom mid new → is_once new.log ≡ true → Counted index old mid steps records → IsWorkerRound index round mid new →
-    more ≡ steps + steps_of round → all ≡ records + records_of round → Counted index old new more all
-counted_by index round old mid new steps records more all before after once counted is s r =
-    subst (λ (n : ℕ). Counted index old new n all) (sym s) (subst (λ (n : ℕ). Counted index old new (steps + steps_of round) n) (sym r) (counted_next index round old mid new steps records before after once counted is))
+    let s : steps + 0 ≡ steps = omega arith in
+    let r : records + 0 ≡ records = omega arith in
+    subst (λ (n : ℕ). Counted index old new n records) s
+    (subst (λ (n : ℕ). Counted index old new (steps + 0) n) r (subst (λ (n : ℕ). Counted index old new (steps + 0) (records + n)) adds (subst (λ (b : Bool). Counted index old new (steps + cond b 1 0) (records + records_built index e)) weighs (committed_next index old mid new steps records is.0 before after once counted is.2))))
 
 none_counted : {X : Type 0} (p : X → Bool) (xs : List X) → list_any p xs ≡ false → count_by p xs ≡ 0
 none_counted p [] none = refl
@@ -200,7 +196,7 @@ positive true is = omega arith
 positive false is = absurd (cc)
 
 -- the last round marks the index
-pub marked_next : (index : List ℕ) (old mid new : Knowledge) (steps records : ℕ) → GoesOnFrom old mid → GoesOnFrom mid new → is_once new.log ≡ true → Counted index old mid steps records → IsWorkerRound index Marked mid new →
+pub marked_next : (index : List ℕ) (old mid new : Knowledge) (steps records : ℕ) → GoesOnFrom old mid → GoesOnFrom mid new → is_once new.log ≡ true → Counted index old mid steps records → IsWorkerRound index (Some Marked) mid new →
     list_any (has_marked index) (own_of old new) ≡ true
 marked_next index old mid new steps records before after once counted is =
     let e : Entry = entry_by mid is.0 in
@@ -210,18 +206,6 @@ marked_next index old mid new steps records before after once counted is =
     some_counted (has_marked index) (own_of old new) (list_any (has_marked index) (own_of old new)) refl (omega (arith, sum, one))
 
 -- ---- the commit of a round
-
--- what a commit was told is, by the number that came behind the last one
-pub commits_by : (old new : Knowledge) (open_tx : OpenTransaction) (ended : Result Done CommitError) (told : Bool) → told ≡ is_committed_result ended → has_ended ended ≡ true → Answers old new open_tx.transaction open_tx.trace ended → Commits old new open_tx told
-commits_by old new open_tx (Ok (Committed version seen)) told is known a =
-    subst (Commits old new open_tx) (sym is) (version, (seen.prefix.log, a.0.shows, a.0.known, a.0.last))
-commits_by old new open_tx (Ok ReadOnly) told is known a = subst (Commits old new open_tx) (sym is) (inl a.0)
-commits_by old new open_tx (Err (Conflict seen range)) told is known a =
-    subst (Commits old new open_tx) (sym is) (inr (seen, (range, (a.0, a.1.shows, a.1.known, a.1.last))))
-commits_by old new open_tx (Err TooOld) told is known a = subst (Commits old new open_tx) (sym is) (inl a.1.last)
-commits_by old new open_tx (Err VersionsExhausted) told is known a = absurd (cc)
-commits_by old new open_tx (Err Unknown) told is known a = absurd (cc)
-commits_by old new open_tx (Err Memory) told is known a = absurd (cc)
 
 -- what a client is told stays where its name, number and last number were the same before
 submits_from : (a b c : Knowledge) (open_tx : OpenTransaction) (outcome : Outcome) → b.name ≡ a.name → b.number ≡ a.number → b.last ≡ a.last → IsSubmission b c open_tx.transaction open_tx.trace outcome → IsSubmission a c open_tx.transaction open_tx.trace outcome
@@ -236,11 +220,3 @@ commits_from a b c open_tx false name number last commits = elim commits [
   | inl same ↦ inl (same ∙ last)
   | inr told ↦ inr (told.0, (told.1.0, submits_from a b c open_tx (outcomes.Conflict told.0 told.1.0) name number last told.1.1))
 ]
-
-pub round_yes : (index : List ℕ) (round : Round) (old new : Knowledge) (open_tx : OpenTransaction) → (round ≡ Nothing → ⊥) → HasWorked index round open_tx.trace.attempts → Commits old new open_tx true → IsWorkerRound index round old new
-round_yes index (Built records) old new open_tx some worked commits = (open_tx, worked, commits)
-round_yes index Marked old new open_tx some worked commits = (open_tx, worked, commits)
-round_yes index Nothing old new open_tx some worked commits = absurd (some refl)
-
-pub round_no : (index : List ℕ) (old new : Knowledge) (open_tx : OpenTransaction) → Commits old new open_tx false → IsWorkerRound index Nothing old new
-round_no index old new open_tx commits = inr (open_tx, commits)

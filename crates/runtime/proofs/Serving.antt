@@ -30,7 +30,6 @@ use Rattle.schedule.specs.Past.{Attempt, Open, Submission, is_changed}
 use Rattle.schedule.specs.Performed.{IsCommandStopped, IsPerformed, IsReadRefusal}
 use Rattle.schedule.specs.Standing.{listed}
 use Rattle.schedule.specs.Turns.{AreDone, AreSubmitted, DidAttempt, IsOpenTransaction, fresh_request}
-use Rattle.schedule.specs.Headline.{AreRightlyAnswered}
 use Rattle.schedule.proofs.Composed.{holds_committed, open_served, performed_right, serial_all}
 use Rattle.schedule.proofs.Promised.{all_answered, exact_indexes}
 use Rattle.schedule.proofs.Submitting.{numbered_length}
@@ -39,7 +38,7 @@ use Rattle.runtime.specs.declared.log_entry.Entry.{Entry}
 use Rattle.runtime.specs.declared.trace.Performed.{Performed}
 use Rattle.runtime.specs.Logs.{requests_of, version_of, numbered_of, history_of, log_map, pipeline_of}
 use Rattle.runtime.specs.Logs.{logged_mutations, log_tier, attempts_of, opened, submissions_of, committed_at}
-use Rattle.runtime.specs.Logs.{IsHeadlineOf, IsWellFormedLog, IsOpenOver}
+use Rattle.runtime.specs.Logs.{IsHeadlineOf, IsWellFormedLog, IsOpenOver, IsServedLog}
 use Rattle.runtime.specs.Serves.{IsAnswer, stopped}
 use Rattle.txn.specs.Refusing.{MayRefuse}
 use Rattle.txn.specs.Runs.{Ran}
@@ -76,20 +75,23 @@ submitted_open maps reported last [] requests are = tt
 submitted_open maps reported last (one ∷ subs) [] are = absurd are
 submitted_open maps reported last (one ∷ subs) (request ∷ requests) are = ((request, are.0.open_as), submitted_open maps reported (last + 1) subs requests are.1)
 
--- the headline
-pub headline_of : (config : Config) (log : List Entry) → IsWellFormedLog config log → IsHeadlineOf config log
-headline_of config log law = record {
-  rows = λ transaction (one, there, is).
-      let open_as = All-contains WasOpen (submissions_of config log) one
-      (All-from_recursion WasOpen (submissions_of config log) (submitted_open (log_map config log) (version_of config log) config.start (submissions_of config log) (requests_of log) law.submitted)) there in
-      subst (λ (t : Open). AreRightlyAnswered (committed_at config log t.read_version) t.attempts) is
-      (all_answered (committed_at config log one.transaction.read_version) one.transaction.attempts
-      (open_served (pipeline_of config log) (submissions_of config log) (legal_of config log law) law.submitted one.transaction open_as.0 open_as.1));
-  indexes = λ version from upto. exact_indexes (log_map config log version) (committed_at config log version) (holds_of config log law version upto);
-}
+-- each accepted command has its reply at its transaction's read version
+pub served_of : (config : Config) (log : List Entry) → IsWellFormedLog config log → IsServedLog config log
+served_of config log law transaction (one, there, is) =
+    let open_as = All-contains WasOpen (submissions_of config log) one
+    (All-from_recursion WasOpen (submissions_of config log) (submitted_open (log_map config log) (version_of config log) config.start (submissions_of config log) (requests_of log) law.submitted)) there in
+    subst (λ (t : Open). IsSerialAt (committed_at config log t.read_version) t.attempts) is
+    (open_served (pipeline_of config log) (submissions_of config log) (legal_of config log law) law.submitted one.transaction open_as.0 open_as.1)
   where
     WasOpen : Submission → Type 0
     WasOpen one = (request : CommitRequest) × IsOpenTransaction (log_map config log) (version_of config log) one.transaction request
+
+-- the headline
+pub headline_of : (config : Config) (log : List Entry) → IsWellFormedLog config log → IsHeadlineOf config log
+headline_of config log law = record {
+  rows = λ transaction of_log. all_answered (committed_at config log transaction.read_version) transaction.attempts (served_of config log law transaction of_log);
+  indexes = λ version from upto. exact_indexes (log_map config log version) (committed_at config log version) (holds_of config log law version upto);
+}
 
 -- ---- what the servers that have pulled a log answer
 

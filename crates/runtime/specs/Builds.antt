@@ -1,7 +1,7 @@
 -- What a worker that builds an index comes to, by the committed entries of its own.
 use Rattle.std.specs.Prelude.{◌≡◌, ◌⊎◌, ℕ, ◌+◌, Bool, true, false, ◌&&◌, ◌==◌, nat_lt, nat_le}
 use Rattle.std.specs.Prelude.{List, [], ◌∷◌, ◌++◌, filter, count_by, sum_by, is_none, if◌then◌else◌}
-use Rattle.std.specs.Prelude.{Option, Some, Result, Ok, Err}
+use Rattle.std.specs.Prelude.{Option, Some, None}
 use Rattle.std.specs.List.{list_any}
 use Rattle.std.specs.Str.{bytes_eq}
 use mathlib.Core.List.{IsPrefix}
@@ -18,15 +18,10 @@ use Rattle.runtime.specs.declared.trace.Performed.{Performed}
 use Rattle.runtime.specs.declared.trace.Trace.{Trace}
 use Rattle.runtime.specs.declared.open_transaction.OpenTransaction.{OpenTransaction}
 use Rattle.runtime.specs.declared.index_worker.Round.{Round}
-use Rattle.runtime.specs.declared.index_worker.Round.TheVariants.{Built, Marked, Nothing}
+use Rattle.runtime.specs.declared.index_worker.Round.TheVariants.{Built, Marked}
 use Rattle.runtime.specs.declared.index_worker.Built.{Built as Totals}
 use Rattle.runtime.specs.declared.outcome.Outcome.{Outcome}
 use Rattle.runtime.specs.declared.outcome.Outcome.TheVariants as outcomes
-use Rattle.runtime.specs.declared.answers.Done.{Done}
-use Rattle.runtime.specs.declared.answers.Done.TheVariants.{Committed, ReadOnly}
-use Rattle.runtime.specs.declared.answers.CommitError.{CommitError}
-use Rattle.runtime.specs.declared.answers.CommitError.TheVariants.{Conflict, TooOld, VersionsExhausted}
-use Rattle.runtime.specs.declared.answers.CommitError.TheVariants.{Unknown, Memory}
 use Rattle.runtime.specs.Clients.{Knowledge}
 use Rattle.runtime.specs.Logs.{cause_next}
 use Rattle.runtime.specs.Outcomes.{EndsWith, entry}
@@ -87,13 +82,6 @@ pub record IsBuilt (index : List ℕ) (old new : Knowledge) (totals : Totals) : 
 
 -- ---- rounds of a worker
 
--- Private: the transaction has performed one command more, with this reply
-abbrev pub AddsAttempt : Option OpenTransaction → Command → Reply → Option OpenTransaction → Type 0
-AddsAttempt old command reply new =
-    (open_tx : OpenTransaction) → old ≡ Some open_tx →
-    (after : OpenTransaction) × (new ≡ Some after)
-    × (after.trace.attempts ≡ open_tx.trace.attempts ++ record { command = command; reply = reply } ∷ [])
-
 -- Private: what a round performed
 abbrev pub HasWorked : List ℕ → Round → List Performed → Type 0
 HasWorked index (Built records) attempts =
@@ -103,7 +91,6 @@ HasWorked index Marked attempts =
     (limit : ℕ) × (attempts
     ≡ record { command = Build index limit; reply = replies.Finished }
     ∷ record { command = Readable index; reply = replies.Done } ∷ [])
-HasWorked index Nothing attempts = Unit {0}
 
 -- Private: a submission came to this, and the client knows its entry
 abbrev pub IsSubmission : Knowledge → Knowledge → CommitRequest → Trace → Outcome → Type 0
@@ -120,38 +107,11 @@ Commits old new open_tx false =
     ⊎ ((seen : ℕ) × ((range : KeyRange)
     × IsSubmission old new open_tx.transaction open_tx.trace (outcomes.Conflict seen range)))
 
--- Private: the commit was told to be one
-abbrev pub is_committed_result : Result Done CommitError → Bool
-is_committed_result (Ok (Committed version seen)) = true
-is_committed_result (Ok ReadOnly) = false
-is_committed_result (Err error) = false
-
--- Private: another round may follow a commit with this answer
-abbrev pub has_ended : Result Done CommitError → Bool
-has_ended (Ok done) = true
-has_ended (Err (Conflict seen range)) = true
-has_ended (Err TooOld) = true
-has_ended (Err VersionsExhausted) = false
-has_ended (Err Unknown) = false
-has_ended (Err Memory) = false
-
--- Private: a round came to this: its entry is committed, or it has none, or a refused one
-abbrev pub IsWorkerRound : List ℕ → Round → Knowledge → Knowledge → Type 0
-IsWorkerRound index Nothing old new =
+-- Private: a round came to this, and its entry is committed; or it came to nothing, and has no entry or a refused one
+abbrev pub IsWorkerRound : List ℕ → Option Round → Knowledge → Knowledge → Type 0
+IsWorkerRound index None old new =
     (new.last ≡ old.last) ⊎ ((open_tx : OpenTransaction) × Commits old new open_tx false)
-IsWorkerRound index (Built records) old new =
+IsWorkerRound index (Some (Built records)) old new =
     (open_tx : OpenTransaction) × HasWorked index (Built records) open_tx.trace.attempts × Commits old new open_tx true
-IsWorkerRound index Marked old new =
+IsWorkerRound index (Some Marked) old new =
     (open_tx : OpenTransaction) × HasWorked index Marked open_tx.trace.attempts × Commits old new open_tx true
-
--- Private: by how many steps a round adds to what was built
-abbrev pub steps_of : Round → ℕ
-steps_of (Built records) = 1
-steps_of Marked = 0
-steps_of Nothing = 0
-
--- Private: by how many records it does
-abbrev pub records_of : Round → ℕ
-records_of (Built records) = records
-records_of Marked = 0
-records_of Nothing = 0

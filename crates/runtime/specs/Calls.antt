@@ -1,10 +1,12 @@
 -- What a call that performs a command does with a client.
-use Rattle.std.specs.Prelude.{◌≡◌, Bool, true, false, List, [], ◌∷◌, ◌++◌, Option, Some, None, Result, Ok, Err}
-use Rattle.std.specs.Prelude.{IfOk, IfErr, OnOk}
+use Rattle.std.specs.Prelude.{◌≡◌, Bool, true, false, ℕ, List, [], ◌∷◌, ◌++◌, Option, Some, None, Result}
+use Rattle.std.specs.Prelude.{Ok, Err, IfOk, IfErr, OnOk}
+use Rattle.kv_core.specs.Range.{KeyRange}
 use Rattle.metadata.specs.declared.cells.Cell.{Cell}
 use Rattle.schedule.specs.declared.step.Command.{Command}
 use Rattle.schedule.specs.declared.reply.Reply.{Reply}
-use Rattle.schedule.specs.declared.reply.Reply.TheVariants.{Absent, Found, Removed, SavedNew, SavedOver}
+use Rattle.schedule.specs.declared.reply.Reply.TheVariants.{Absent, Built, Done, Finished, Found, Removed, SavedNew}
+use Rattle.schedule.specs.declared.reply.Reply.TheVariants.{SavedOver}
 use Rattle.runtime.specs.declared.answers.CommandError.{CommandError}
 use Rattle.runtime.specs.declared.published_reads.EnterError.{EnterError}
 use Rattle.runtime.specs.declared.open_transaction.OpenTransaction.{OpenTransaction}
@@ -61,3 +63,11 @@ found_reply (Some cells) = Found cells
 abbrev pub removed_reply : Bool → Reply
 removed_reply true = Removed
 removed_reply false = Absent
+
+-- how many records a step of a builder built, and where; or that all positions are built; and that an index is marked
+abbrev pub part_reply : Option (ℕ × KeyRange) → Reply
+part_reply None = Finished
+part_reply (Some part) = Built part.0 part.1
+
+abbrev pub marked_reply : Unit {0} → Reply
+marked_reply answer = Done

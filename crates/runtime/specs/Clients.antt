@@ -1,11 +1,13 @@
 -- What contracts see of a client.
-use Rattle.std.specs.Prelude.{◌≡◌, ℕ, zero, suc, List, [], ◌∷◌, ◌++◌, Option, Some, None}
+use Rattle.std.specs.Prelude.{◌≡◌, ℕ, zero, suc, true, List, [], ◌∷◌, ◌++◌, Option, Some, None}
 use mathlib.Core.List.{IsPrefix}
 use Rattle.schedule.specs.Turns.{fresh_request}
 use Rattle.runtime.specs.declared.log_entry.Entry.{Entry}
 use Rattle.runtime.specs.declared.open_transaction.OpenTransaction.{OpenTransaction}
+use Rattle.runtime.specs.declared.published.View.{View}
 use Rattle.runtime.specs.History.{Name, Prefix, log_prefix}
 use Rattle.runtime.specs.Logs.{IsOpenOver, version_of}
+use Rattle.runtime.specs.Publication.{IsLater}
 
 -- which database is the client's, the longest log that it has entered or learnt, its number, the last number of its
 -- submissions, and its open transaction
@@ -40,10 +42,14 @@ IsBegun me (Some open_tx) =
     × (open_tx.transaction.read_version ≡ version_of open_tx.prefix.name.config open_tx.prefix.log)
 IsBegun me None = Unit {0}
 
--- Private: a fact of the reader, where there is one
-abbrev pub IfReader : {R : Type 0} → (R → Type 0) → Option R → Type 0
-IfReader Fact (Some reader) = Fact reader
-IfReader Fact None = Unit {0}
+-- Private: the client's log begins with the log that its reader saw last, which is of the client's database
+abbrev pub Remembers : Prefix → View → Type 0
+Remembers me seen = (seen.named ≡ true) × IsLater seen.prefix me
+
+-- Private: there is a reader, and this fact of it
+abbrev pub HasReader : {R : Type 0} → (R → Type 0) → Option R → Type 0
+HasReader Fact (Some reader) = Fact reader
+HasReader Fact None = ⊥
 
 -- the clients of a new database: numbered from 0, each with the empty log
 abbrev pub fresh_clients : Name → ℕ → List Knowledge

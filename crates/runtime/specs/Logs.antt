@@ -157,6 +157,13 @@ abbrev pub IsOfLog : Config → List Entry → Open → Type 0
 IsOfLog config log transaction =
     (one : Submission) × Contains (submissions_of config log) one × (one.transaction ≡ transaction)
 
+-- each accepted command of a transaction of the log has its reply at the transaction's read version, after the
+-- transaction's earlier ones
+abbrev pub IsServedLog : Config → List Entry → Type 0
+IsServedLog config log =
+    (transaction : Open) → IsOfLog config log transaction →
+    IsSerialAt (committed_at config log transaction.read_version) transaction.attempts
+
 -- the headline for a log: what the planned queries of its transactions answered, and what the readable indexes have at
 -- each of its versions
 abbrev pub IsHeadlineOf : Config → List Entry → Type 0

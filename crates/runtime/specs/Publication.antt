@@ -1,6 +1,6 @@
--- The rule of the published state, and what its steps tell. A view is the database that its thread has seen the state
--- to be of.
+-- The rule of the published state, and what its steps tell. A view is the log that its thread saw last.
 use Rattle.std.specs.Prelude.{◌≡◌, ℕ, true, false, List, [], ◌∷◌, ◌++◌, map}
+use mathlib.Core.List.{IsPrefix}
 use mathlib.Core.Option.{some}
 use lib.ListN.{get_elem?}
 use Rattle.cluster_core.specs.Tier.{TierState, absorb_all}
@@ -20,24 +20,35 @@ no_name = database_name (record { number = 0; log_name = 0; cells_name = 0 }) no
 abbrev pub newcomer : View
 newcomer = record { named = false; prefix = log_prefix no_name [] }
 
--- the view of a thread that has seen that the state is of this database
+-- the view of a thread that knows of which database the state is, and has seen no log of it
 abbrev pub knows : Name → View
 knows name = record { named = true; prefix = log_prefix name [] }
+
+-- the view of a thread that saw this log last
+abbrev pub has_seen : Prefix → View
+has_seen prefix = record { named = true; prefix = prefix }
+
+-- Private: the view that a new thread is given: of which database the state is
+abbrev pub newly_given : View → View
+newly_given v = record { named = v.named; prefix = log_prefix v.prefix.name [] }
+
+-- it is of the same database, and its log begins with the other one's
+abbrev pub IsLater : Prefix → Prefix → Type 0
+IsLater old new = (new.name ≡ old.name) × IsPrefix old.log new.log
 
 -- Private: the servers have pulled just the published log
 abbrev pub IsFold : Published → Type 0
 IsFold x = x.tier ≡ log_tier x.prefix.name.config x.prefix.log
 
--- Private: the servers have pulled just the log, and the state is of the database that each thread has seen it to be
--- of
+-- Private: the servers have pulled just the log, which begins with each log that a thread saw last
 abbrev pub Kept : Published → List View → Type 0
 Kept x views =
     IsFold x
-    × ((seat : ℕ) (v : View) → get_elem? views seat ≡ some v → v.named ≡ true → v.prefix.name ≡ x.prefix.name)
+    × ((seat : ℕ) (v : View) → get_elem? views seat ≡ some v → v.named ≡ true → IsLater v.prefix x.prefix)
 
--- Private: the state y was seen, which is of the database that was known
+-- Private: the state y was seen, whose log begins with the one that was seen before
 abbrev pub Sees : View → Published → Published → View → Type 0
-Sees v x y w = (w ≡ knows y.prefix.name) × IsFold y × (v.named ≡ true → v.prefix.name ≡ y.prefix.name)
+Sees v x y w = (w ≡ has_seen y.prefix) × IsFold y × (v.named ≡ true → IsLater v.prefix y.prefix)
 
 -- Private: the step leads from a log to the next: it has the entry's mutations where that is committed, and else none
 abbrev pub Leads : Name → List Entry → Step → Type 0

@@ -43,8 +43,7 @@ impl<E: End> Model for Client<E> {
     ghost use Rattle.std.specs.Prelude.{◌≡◌, [], Some};
     ghost use Rattle.std.specs.Arc.{arc_value};
     ghost use Rattle.left_right.specs.Sides.{view as knowledge};
-    ghost use Rattle.runtime.specs.Publication.{knows};
-    ghost use Rattle.runtime.specs.Clients.{Knowledge, knows_that, IsBegun, IfReader};
+    ghost use Rattle.runtime.specs.Clients.{Knowledge, knows_that, IsBegun, HasReader, Remembers};
     ghost use Rattle.std.specs.Coded.{codes};
     ghost use Rattle.runtime.specs.contracts.log_entry.Entry as entries;
     ghost use Rattle.runtime.specs.contracts.open_transaction.OpenTransaction as works;
@@ -59,7 +58,7 @@ impl<E: End> Model for Client<E> {
         (c.key.table_id ≡ (arc_value c.lock).table.shared.table_id)
         × (c.key.me.1 ≡ [])
         × (c.key.me.0.about.value.state.name ≡ c.me.name)
-        × IfReader (λ r. knowledge r.place ≡ knows c.me.name) c.reader
+        × HasReader (λ r. Remembers c.me (knowledge r.place)) c.reader
         × IsBegun c.me c.begun
         × (c.key.me.0.client ≡ Some c.number)
         × (c.key.me.0.last ≡ c.last) };
@@ -121,7 +120,7 @@ impl<E: End> Client<E> {
         ensures why { IfErr result (λ error. error ≡ EnterError.NotEntered) }
     {
         let Some(reader) = self.reader.take() else {
-            return Err(EnterError::NotEntered);
+            unreachable!()
         };
         let (reader, seen) = look(reader);
         self.reader = Some(reader);
@@ -158,8 +157,7 @@ impl<E: End> Client<E> {
             return Err(EnterError::NotEntered);
         };
         let Some(reader) = self.reader.take() else {
-            self.begun = Some(open_tx);
-            return Err(EnterError::NotEntered);
+            unreachable!()
         };
         let OpenTransaction {
             prefix,

@@ -10,8 +10,8 @@ use left_right::reader::{Reader, Reading};
 use left_right::writer::Writer;
 use std::alloc::AllocError;
 
-/// The rule: the servers have pulled just the log, and the state is of the database that each thread
-/// has seen it to be of.
+/// The rule: the servers have pulled just the log, and it begins with each log that a thread has
+/// seen.
 pub struct PublishedRule;
 
 impl Protocol<Published, View> for PublishedRule {
@@ -22,7 +22,7 @@ impl Protocol<Published, View> for PublishedRule {
     ghost first = { newcomer };
 }
 
-/// What an entry and a publish tell: the state is seen.
+/// What an entry and a publish tell: the log is seen.
 pub struct See;
 
 impl Outcome<Published, View> for See {
@@ -31,13 +31,15 @@ impl Outcome<Published, View> for See {
     ghost then = { Sees };
 }
 
-/// What the writer knows, told to a new reader.
+/// Of which database the state is, told by the writer to a new reader.
 pub struct Tell;
 
 impl Split<View> for Tell {
+    ghost use Rattle.runtime.specs.Publication.{newly_given};
+
     ghost left = { λ v. v };
 
-    ghost right = { λ v. v };
+    ghost right = { newly_given };
 }
 
 impl Join<View> for Tell {

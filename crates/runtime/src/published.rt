@@ -25,7 +25,7 @@ pub struct Step {
     pub prefix: LogPrefix,
 }
 
-/// What a thread knows of the published state. No value of it is made.
+/// What a thread has seen of the published state: the last log. No value of it is made.
 pub struct View {
     pub named: bool,
     pub prefix: LogPrefix,

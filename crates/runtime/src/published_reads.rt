@@ -1,10 +1,11 @@
 // Reads of the published state, without locks. Called by `client`.
-ghost use Rattle.std.specs.Prelude.{◌≡◌, ◌++◌, ◌∷◌, [], Err, IfSome, IfOk, IfErr, MatchResult};
+ghost use Rattle.std.specs.Prelude.{◌≡◌, ◌⊎◌, ◌++◌, ◌∷◌, [], true, Err, IfOk, IfErr, MatchOption};
+ghost use Rattle.std.specs.Prelude.{MatchResult};
 ghost use mathlib.Core.List.{IsPrefix};
 ghost use Rattle.left_right.specs.Sides.{view as knowledge};
 ghost use Rattle.runtime.specs.Logs.{IsOpenOver, version_of};
 ghost use Rattle.runtime.specs.Serves.{IsAnswer, IsUnanswered};
-ghost use Rattle.runtime.specs.Publication.{knows, IsFold};
+ghost use Rattle.runtime.specs.Publication.{IsFold, IsLater, has_seen};
 
 use crate::log_prefix::LogPrefix;
 use crate::publication::{See, StateReader, StateReading};
@@ -35,11 +36,11 @@ pub enum EnterError {
 
 /// Enters the published state. The reader comes back where `TRIES` attempts failed.
 fn enter(reader: StateReader) -> Result<StateReading, StateReader>
-    requires { knowledge reader.place ≡ knows (knowledge reader.place).prefix.name }
+    requires { (knowledge reader.place).named ≡ true }
     ensures { MatchResult result
         (λ reading. IsFold reading.part.value
-        × (reading.part.value.prefix.name ≡ (knowledge reader.place).prefix.name)
-        × (knowledge reading.place ≡ knowledge reader.place))
+        × IsLater (knowledge reader.place).prefix reading.part.value.prefix
+        × (knowledge reading.place ≡ has_seen reading.part.value.prefix))
         (λ back. knowledge back.place ≡ knowledge reader.place) }
 {
     let mut reader = reader;
@@ -56,9 +57,10 @@ fn enter(reader: StateReader) -> Result<StateReading, StateReader>
 ///
 /// It waits for nobody.
 pub fn look(reader: StateReader) -> (StateReader, Option<LogPrefix>)
-    requires { knowledge reader.place ≡ knows (knowledge reader.place).prefix.name }
-    ensures reader { knowledge result.0.place ≡ knowledge reader.place }
-    ensures prefix { IfSome result.1 (λ prefix. prefix.name ≡ (knowledge reader.place).prefix.name) }
+    requires { (knowledge reader.place).named ≡ true }
+    ensures { MatchOption result.1 (knowledge result.0.place ≡ knowledge reader.place)
+        (λ prefix. IsLater (knowledge reader.place).prefix prefix
+        × (knowledge result.0.place ≡ has_seen prefix)) }
 {
     match enter(reader) {
         Ok(reading) => {
@@ -130,11 +132,12 @@ pub fn perform_at(
     trace: &mut Trace,
     command: &Command,
 ) -> (StateReader, Result<Reply, EnterError>, LogPrefix)
-    requires reader { knowledge reader.place ≡ knows (knowledge reader.place).prefix.name }
+    requires reader { (knowledge reader.place).named ≡ true }
     requires prefix { prefix.now.name ≡ (knowledge reader.place).prefix.name }
     requires over { IsOpenOver prefix.now.name.config prefix.now.log tx.old trace.old.attempts }
     requires at { tx.old.read_version ≡ version_of prefix.now.name.config prefix.now.log }
-    ensures reader { knowledge result.0.place ≡ knowledge reader.place }
+    ensures reader { (knowledge result.0.place ≡ knowledge reader.place)
+        ⊎ (knowledge result.0.place ≡ has_seen result.2) }
     ensures seen { result.2.name ≡ prefix.now.name }
     ensures answer { IfOk result.1 (λ reply.
         IsAnswer prefix.now.name.config prefix.now.log

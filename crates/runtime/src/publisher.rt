@@ -21,7 +21,8 @@ pub struct Publisher {
 impl Model for Publisher {
     ghost use Rattle.std.specs.Prelude.{◌≡◌, drop};
     ghost use Rattle.left_right.specs.Sides.{view as knowledge};
-    ghost use Rattle.runtime.specs.Publication.{PublisherView, publisher_view, IsFold, LeadOn, entries_of, knows};
+    ghost use Rattle.runtime.specs.Publication.{PublisherView, publisher_view, IsFold, LeadOn, entries_of};
+    ghost use Rattle.runtime.specs.Publication.{has_seen};
     ghost use Rattle.std.specs.Coded.{codes};
     ghost use Rattle.runtime.specs.contracts.log_entry.Entry as entries;
 
@@ -36,7 +37,7 @@ impl Model for Publisher {
     ghost invariant = { λ s. IsFold s.writer.desk.shown.value
         × LeadOn s.writer.desk.shown.value.prefix.name s.writer.desk.shown.value.prefix.log
         (drop s.writer.behind s.writer.log.items)
-        × (knowledge s.writer.desk.place ≡ knows s.writer.desk.shown.value.prefix.name) };
+        × (knowledge s.writer.desk.place ≡ has_seen s.writer.desk.shown.value.prefix) };
 }
 
 impl Publisher {

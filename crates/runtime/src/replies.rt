@@ -1,12 +1,16 @@
-// What replies tell: the answers of the calls that perform a command. Used by `transaction`.
-ghost use Rattle.std.specs.Prelude.{◌≡◌, ℤ, Bool, List, Option, IfOk};
+// What replies tell: the answers of the calls that perform a command. Used by `transaction` and
+// `index_worker`.
+ghost use Rattle.std.specs.Prelude.{◌≡◌, ℕ, ℤ, Bool, List, Option, IfOk};
 ghost use Rattle.metadata.specs.declared.cells.Cell.{Cell};
 ghost use Rattle.planner.specs.Asked.{AskedPlan};
-ghost use Rattle.runtime.specs.Calls.{found_reply, removed_reply, saved_reply, told_result};
+ghost use Rattle.kv_core.specs.Range.{KeyRange};
+ghost use Rattle.runtime.specs.Calls.{found_reply, marked_reply, part_reply, removed_reply};
+ghost use Rattle.runtime.specs.Calls.{saved_reply, told_result};
 ghost use Rattle.runtime.specs.Errors.{accepted_reply};
 
 use crate::answers::CommandError;
 use crate::published_reads::EnterError;
+use kv_core::KeyRange as BuiltRange;
 use metadata::Cells;
 use schedule::{Reply, Rows, SharedPlan};
 
@@ -87,6 +91,32 @@ pub(crate) fn total(reply: Result<Reply, CommandError>) -> Result<i64, CommandEr
 {
     match reply? {
         Reply::Total(total) => Ok(total),
+        _ => unreachable!(),
+    }
+}
+
+/// By the reply how many records a step of a builder built, and where. None where all are built.
+pub(crate) fn part(
+    reply: Result<Reply, CommandError>,
+) -> Result<Option<(usize, BuiltRange)>, CommandError>
+    requires { IfOk reply (λ told.
+        (answer : Option (ℕ × KeyRange)) × (told ≡ part_reply answer)) }
+    ensures { reply ≡ told_result part_reply result }
+{
+    match reply? {
+        Reply::Built { records, range } => Ok(Some((records, range))),
+        Reply::Finished => Ok(None),
+        _ => unreachable!(),
+    }
+}
+
+/// By the reply that an index is marked.
+pub(crate) fn marked(reply: Result<Reply, CommandError>) -> Result<(), CommandError>
+    requires { IfOk reply (λ told. (answer : Unit {0}) × (told ≡ marked_reply answer)) }
+    ensures { reply ≡ told_result marked_reply result }
+{
+    match reply? {
+        Reply::Done => Ok(()),
         _ => unreachable!(),
     }
 }

@@ -1,4 +1,4 @@
-// Transactions that are tried again. Called by `race` and `embed_threads`.
+// Transactions that are tried again. Called by `index_worker`, and by `race` and `embed_threads`.
 ghost use Rattle.std.specs.Prelude.{◌≡◌, IfOk, IfErr};
 ghost use Rattle.runtime.specs.Runs.{Continues, FailsSo, GoesOnFrom, IsRun, TriesAndEnds, ended_by};
 ghost use Rattle.runtime.specs.Runs.{failure_by};
@@ -32,7 +32,7 @@ pub trait Body<E: End> {
 }
 
 /// How an attempt failed.
-enum Failure {
+pub(crate) enum Failure {
     /// It wasn't begun, or its body gave it up, but not for its age.
     Refused(CommandError),
     /// It ended so.
@@ -76,7 +76,7 @@ fn answer_of<E: End, B: Body<E>>(
 }
 
 /// One attempt.
-fn attempt<E: End, R: Wait, B: Body<E>>(
+pub(crate) fn attempt<E: End, R: Wait, B: Body<E>>(
     rt: &R,
     client: &mut Client<E>,
     body: &mut B,

@@ -142,6 +142,8 @@ struct Held<'a> {
 }
 
 impl Gate for Held<'_> {
+    ghost passed = { λ old place new. Unit {0} };
+
     fn pass(&mut self, place: GatePoint) {
         if place == GatePoint::BeforeCommit {
             self.begun.store(true, Ordering::SeqCst);
@@ -159,7 +161,7 @@ fn built<E: End, R: Wait>(
     written: &AtomicBool,
 ) -> Option<Built> {
     let index = Text::from_str(alloc, "cnt").ok()?;
-    build_worker(rt, client, &index, 5, 10, &mut Held { begun, written }).ok()
+    build_worker(rt, client, index, 5, 10, Held { begun, written }).ok()
 }
 
 /// A builder on one thread, with a commit of another client before its own.

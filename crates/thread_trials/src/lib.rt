@@ -8,4 +8,6 @@ mod beside;
 #[cfg(test)]
 mod in_turn;
 #[cfg(test)]
+mod refusing;
+#[cfg(test)]
 mod transactions;

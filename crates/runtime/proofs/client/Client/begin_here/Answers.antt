@@ -1,12 +1,12 @@
 use Rattle.std.proofs.Common.{refl, ◌≡◌, ◌∙◌, sym, ap, append-nil, subst, Some, []}
-use Rattle.std.specs.Prelude.{IfSome}
+use Rattle.std.specs.Prelude.{MatchOption}
 use Rattle.left_right.specs.Sides.{view as knowledge}
-use Rattle.runtime.specs.declared.published.View.{View}
 use Rattle.runtime.specs.declared.open_transaction.OpenTransaction.{OpenTransaction}
-use Rattle.runtime.specs.Clients.{IfReader, IsBegun}
+use Rattle.runtime.specs.Clients.{HasReader, IsBegun, Remembers}
 use Rattle.runtime.specs.History.{Prefix}
 use Rattle.runtime.specs.Logs.{IsOpenOver, version_of}
-use Rattle.runtime.specs.Publication.{knows}
+use Rattle.runtime.specs.Publication.{IsLater, has_seen}
+use Rattle.runtime.proofs.Moves.{later_self}
 use Rattle.runtime.proofs.client.Client.begin_here.Goals as goal
 
 -- a transaction that is open over a log, which the client has seen
@@ -17,16 +17,15 @@ begun_over prefix w is over at = rw is (refl, ([], append-nil prefix.log), over,
 
 pub invariant_of-self-2 : goal.invariant_of-self-2
 invariant_of-self-2 g c =
+    let me : Prefix = c.self.inside.me in
     let some : c.self.inside.reader ≡ Some c.in-Some.reader = sym c.take.ensures.value ∙ c.in-Some.is in
-    let known : knowledge c.in-Some.reader.place ≡ knows c.self.inside.me.name =
-    subst (IfReader (λ r. knowledge r.place ≡ knows c.self.inside.me.name)) some c.self.invariant.3 in
-    let found : c.in-Some-seen.prefix.name ≡ (knowledge c.in-Some.reader.place).prefix.name =
-    subst (λ o. IfSome o (λ (f : Prefix). f.name ≡ (knowledge c.in-Some.reader.place).prefix.name)) c.in-Some-seen.is c.look-reader.ensures.prefix in
-    let own : c.in-Some-seen.prefix.name ≡ c.self.inside.me.name = found ∙ ap (λ (v : View). v.prefix.name) known in
+    let known : Remembers me (knowledge c.in-Some.reader.place) = subst (HasReader (λ r. Remembers me (knowledge r.place))) some c.self.invariant.3 in
+    let found : IsLater (knowledge c.in-Some.reader.place).prefix c.in-Some-seen.prefix × (knowledge c.look-reader.result.0.place ≡ has_seen c.in-Some-seen.prefix) =
+    subst (λ o. MatchOption o (knowledge c.look-reader.result.0.place ≡ knowledge c.in-Some.reader.place) (λ (p : Prefix). IsLater (knowledge c.in-Some.reader.place).prefix p × (knowledge c.look-reader.result.0.place ≡ has_seen p))) c.in-Some-seen.is c.look-reader.ensures in
     let is : c.again.result ≡ c.in-Some-seen.prefix = c.again.ensures in
-    let name : c.again.result.name ≡ c.self.inside.me.name = ap (λ (r : Prefix). r.name) is ∙ own in
-    let reader : knowledge c.look-reader.result.0.place ≡ knows c.again.result.name =
-    c.look-reader.ensures.reader ∙ known ∙ ap knows (sym name) in
+    let name : c.again.result.name ≡ me.name = ap (λ (r : Prefix). r.name) is ∙ found.0.0 ∙ sym known.1.0 in
+    let reader : Remembers c.again.result (knowledge c.look-reader.result.0.place) =
+    subst (λ r. Remembers r (knowledge c.look-reader.result.0.place)) (sym is) (subst (Remembers c.in-Some-seen.prefix) (sym found.1) (refl, later_self c.in-Some-seen.prefix)) in
     let begun : IsBegun c.again.result (Some c.new.result) =
     subst (λ r. IsBegun r (Some c.new.result)) (sym is) (begun_over c.in-Some-seen.prefix c.new.result c.new.ensures.prefix c.new.ensures.over c.new.ensures.at) in
     (c.self.invariant.0, c.self.invariant.1, c.self.invariant.2 ∙ sym name, reader, begun, c.self.invariant.5, c.self.invariant.6)

@@ -4,13 +4,21 @@ use mathlib.Core.List.{IsPrefix}
 use Rattle.kv_core.specs.declared.change.CommitRequest.{CommitRequest}
 use Rattle.runtime.specs.declared.open_transaction.OpenTransaction.{OpenTransaction}
 use Rattle.runtime.specs.History.{Prefix}
-use Rattle.runtime.specs.Clients.{Knowledge, knows_that, IsBegun}
+use Rattle.left_right.specs.Sides.{view as knowledge}
+use Rattle.runtime.specs.Clients.{HasReader, IsBegun, Knowledge, Remembers, knows_that}
 use Rattle.runtime.specs.declared.outcome.Outcome.{Outcome}
 use Rattle.runtime.specs.Commits.{Answers}
 use Rattle.runtime.specs.Outcomes.{Shows, entry, last_then}
 use Rattle.runtime.proofs.Serving.{nothing_written}
 use Rattle.runtime.proofs.Answering.{IsTold, answers_by, told_by}
+use Rattle.runtime.proofs.Known.{reader_later}
 use Rattle.runtime.proofs.client.Client.commit_here.Goals as goal
+
+pub invariant_of-self-2 : goal.invariant_of-self-2
+invariant_of-self-2 g c =
+    let i = c.self.invariant in
+    let reader : HasReader (λ r. Remembers c.learnt.result (knowledge r.place)) c.self.inside.reader = reader_later (λ r. knowledge r.place) c.self.inside.me c.learnt.result c.self.inside.reader c.learnt.ensures.name c.learnt.ensures.log i.3 in
+    search (reader, rules)
 
 pub returns-clause-answer : goal.returns-clause-answer
 returns-clause-answer g c w is =

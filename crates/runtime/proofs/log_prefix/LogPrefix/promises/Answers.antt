@@ -1,4 +1,4 @@
-use Rattle.runtime.proofs.Serving.{headline_of, holds_of, serial_of}
+use Rattle.runtime.proofs.Serving.{headline_of, holds_of, serial_of, served_of}
 use Rattle.runtime.proofs.log_prefix.LogPrefix.promises.Goals as goal
 
 pub returns-clause-holds : goal.returns-clause-holds
@@ -6,6 +6,9 @@ returns-clause-holds c = holds_of _ _ c.len.ensures.well_formed
 
 pub returns-clause-serial : goal.returns-clause-serial
 returns-clause-serial c = serial_of _ _ c.len.ensures.well_formed
+
+pub returns-clause-served : goal.returns-clause-served
+returns-clause-served c = served_of _ _ c.len.ensures.well_formed
 
 pub returns-clause-headline : goal.returns-clause-headline
 returns-clause-headline c = headline_of _ _ c.len.ensures.well_formed

@@ -1,0 +1,186 @@
+-- What the rounds of a worker come to: what each performs, and which entries of its client follow from that.
+use Rattle.std.proofs.Common.{◌≡◌, ℕ, suc, ◌+◌, ◌<◌, arith, ◌≢◌, Bool, true, false, List, [], ◌∷◌, ◌++◌, Option, Some, None, inl, inr, refl, sym, ap, ◌∙◌, subst, true≢false}
+use Rattle.std.specs.Prelude.{Result, Ok, Err}
+use Rattle.kv_core.specs.Range.{KeyRange}
+use Rattle.schedule.specs.declared.refusal.Refusal.TheVariants.{BadLimit}
+use Rattle.schedule.specs.declared.step.Command.{Command}
+use Rattle.schedule.specs.declared.step.Command.TheVariants.{Build, Readable}
+use Rattle.schedule.specs.declared.reply.Reply.{Reply}
+use Rattle.schedule.specs.Past.{is_changed}
+use Rattle.txn.specs.declared.retry.Ended.{Ended}
+use Rattle.txn.specs.declared.retry.Ended.TheVariants as ends
+use Rattle.runtime.specs.declared.trace.Performed.{Performed}
+use Rattle.runtime.specs.declared.open_transaction.OpenTransaction.{OpenTransaction}
+use Rattle.runtime.specs.declared.published_reads.EnterError.{EnterError}
+use Rattle.runtime.specs.declared.answers.CommandError.{CommandError}
+use Rattle.runtime.specs.declared.answers.CommitError.{CommitError}
+use Rattle.runtime.specs.declared.answers.CommitError.TheVariants.{Conflict, TooOld, VersionsExhausted, Unknown, Memory}
+use Rattle.runtime.specs.declared.answers.Done.{Done}
+use Rattle.runtime.specs.declared.answers.RunError.{RunError}
+use Rattle.runtime.specs.declared.answers.RunError.TheVariants.{Refused, GaveUp}
+use Rattle.runtime.specs.declared.answers.Done.TheVariants.{Committed, ReadOnly}
+use Rattle.runtime.specs.declared.index_worker.Built.{Built as Totals}
+use Rattle.runtime.specs.declared.index_worker.GatePoint.{GatePoint}
+use Rattle.runtime.specs.declared.index_worker.Round.{Round}
+use Rattle.runtime.specs.declared.index_worker.Round.TheVariants.{Built, Marked}
+use Rattle.runtime.specs.declared.index_worker.Worker.{Worker}
+use Rattle.runtime.specs.declared.retrying.Failure.TheVariants as failures
+use Rattle.runtime.specs.Builds.{Commits, HasWorked, IsWorkerRound}
+use Rattle.runtime.specs.Calls.{HasPerformed, marked_reply, part_reply}
+use Rattle.runtime.specs.Clients.{Knowledge}
+use Rattle.runtime.specs.Commits.{Answers}
+use Rattle.runtime.specs.Errors.{accepted_reply}
+use Rattle.runtime.specs.Logs.{attempts_of}
+use Rattle.runtime.specs.Runs.{AttemptFails, Continues, Ends, FailsSo, Starts, Stops, Tries, TriesAndEnds, may_follow}
+use Rattle.runtime.specs.Works.{Asks, CommitsRound, EndsWork, HasTaken, IsWork, Performs, TakesRound, Works}
+use Rattle.runtime.proofs.Attempts.{continues_trans, follows_self}
+use Rattle.runtime.proofs.Replying.{unrefused}
+use Rattle.runtime.proofs.Rounds.{commits_from}
+
+-- ---- in the transaction of a round
+
+continues_self : (k : Knowledge) → Continues k k
+continues_self k = record {
+  follows = follows_self k;
+  last = refl;
+  begun = λ open_tx is. (open_tx, is, record { over = refl; version = refl });
+}
+
+asks_continues : {A : Type 0} (told : A → Reply) (command : Command) (old new : Knowledge) (result : Result A CommandError) → Asks told command old result new → Continues old new
+asks_continues told command old new result asks = elim asks [
+  | inl called ↦ called.performed.continues
+  | inr none ↦ subst (λ (k : Knowledge). Continues old k) (sym none.1) (continues_self old)
+]
+
+pub performs_continues : (index : List ℕ) (limit : ℕ) (old new : Knowledge) (result : Result Round CommandError) → Performs index limit old result new → Continues old new
+performs_continues index limit old new (Ok (Built records)) is = asks_continues part_reply (Build index limit) old new (Ok (Some (records, is.0))) is.1
+performs_continues index limit old new (Ok Marked) is =
+    continues_trans (asks_continues part_reply (Build index limit) old is.0 (Ok None) is.1) (asks_continues marked_reply (Readable index) is.0 new (Ok tt) is.2)
+performs_continues index limit old new (Err error) is = elim is [
+  | inl asks ↦ asks_continues part_reply (Build index limit) old new (Err error) asks
+  | inr both ↦ continues_trans (asks_continues part_reply (Build index limit) old both.0 (Ok None) both.1) (asks_continues marked_reply (Readable index) both.0 new (Err error) both.2)
+]
+
+-- where all positions are built the round's end is that of the mark
+pub mark_ends : (index : List ℕ) (limit : ℕ) (old mid new : Knowledge) (error : CommandError) → Asks part_reply (Build index limit) old (Ok None) mid → Asks marked_reply (Readable index) mid (Err error) new → Performs index limit old (Err error) new
+mark_ends index limit old mid new error part mark = inr (mid, part, mark)
+
+-- an answered command stands among those that the transaction has performed
+abbrev Stands : Command → Reply → OpenTransaction → Knowledge → Type 0
+Stands command reply open_tx new =
+    (after : OpenTransaction) × (new.begun ≡ Some after)
+    × (after.trace.attempts ≡ open_tx.trace.attempts ++ record { command = command; reply = reply } ∷ [])
+
+performed_so : (command : Command) (reply : Reply) (old new : Knowledge) (given : Result Reply EnterError) → HasPerformed command old given new → accepted_reply given ≡ Ok reply → (open_tx : OpenTransaction) → old.begun ≡ Some open_tx → Stands command reply open_tx new
+performed_so command reply old new (Ok answer) has is open_tx there =
+    let grown = has.grown open_tx there in
+    let same : answer ≡ reply = (unrefused answer reply is).0 in
+    (grown.0, grown.1, subst (λ (r : Reply). grown.0.trace.attempts ≡ open_tx.trace.attempts ++ record { command = command; reply = r } ∷ []) same grown.3)
+performed_so command reply old new (Err error) has is open_tx there = absurd (cc)
+
+asked_so : {A : Type 0} (told : A → Reply) (command : Command) (old new : Knowledge) (answer : A) → Asks told command old (Ok answer) new → (open_tx : OpenTransaction) → old.begun ≡ Some open_tx → Stands command (told answer) open_tx new
+asked_so told command old new answer asks open_tx there = elim asks [
+  | inl called ↦ performed_so command (told answer) old new called.reply called.performed called.answer open_tx there
+  | inr none ↦ absurd (let no = none.0 in cc)
+]
+
+worked_by : (index : List ℕ) (limit : ℕ) (start mid : Knowledge) (round : Round) → Performs index limit start (Ok round) mid → (open_tx : OpenTransaction) → start.begun ≡ Some open_tx → open_tx.trace.attempts ≡ [] →
+    (after : OpenTransaction) × (mid.begun ≡ Some after) × HasWorked index round after.trace.attempts
+worked_by index limit start mid (Built records) is open_tx there none =
+    let stands = asked_so part_reply (Build index limit) start mid (Some (records, is.0)) is.1 open_tx there in
+    (stands.0, stands.1, (limit, (is.0, stands.2 ∙ ap (λ (l : List Performed). l ++ record { command = Build index limit; reply = part_reply (Some (records, is.0)) } ∷ []) none)))
+worked_by index limit start mid Marked is open_tx there none =
+    let first = asked_so part_reply (Build index limit) start is.0 None is.1 open_tx there in
+    let then = asked_so marked_reply (Readable index) is.0 mid tt is.2 first.0 first.1 in
+    let one : first.0.trace.attempts ≡ record { command = Build index limit; reply = part_reply None } ∷ [] =
+    first.2 ∙ ap (λ (l : List Performed). l ++ record { command = Build index limit; reply = part_reply None } ∷ []) none in
+    (then.0, then.1, (limit, then.2 ∙ ap (λ (l : List Performed). l ++ record { command = Readable index; reply = marked_reply tt } ∷ []) one))
+
+changes_by : (index : List ℕ) (round : Round) (attempts : List Performed) → HasWorked index round attempts → is_changed (attempts_of attempts) ≡ true
+changes_by index (Built records) attempts worked = ap (λ (l : List Performed). is_changed (attempts_of l)) worked.1.1
+changes_by index Marked attempts worked = ap (λ (l : List Performed). is_changed (attempts_of l)) worked.1
+
+-- ---- the commit of a round
+
+committed_by : (mid new : Knowledge) (index : List ℕ) (round : Round) (done : Done) (open_tx : OpenTransaction) → HasWorked index round open_tx.trace.attempts → Answers mid new open_tx.transaction open_tx.trace (Ok done) → Commits mid new open_tx true
+committed_by mid new index round (Committed version seen) open_tx worked a = (version, (seen.prefix.log, a.0.shows, a.0.known, a.0.last))
+committed_by mid new index round ReadOnly open_tx worked a = absurd (true≢false (sym (changes_by index round open_tx.trace.attempts worked) ∙ a.1))
+
+refused_by : (mid new : Knowledge) (error : CommitError) (open_tx : OpenTransaction) → may_follow error ≡ true → Answers mid new open_tx.transaction open_tx.trace (Err error) → Commits mid new open_tx false
+refused_by mid new (Conflict seen range) open_tx may a = inr (seen, (range, (a.0, a.1.shows, a.1.known, a.1.last)))
+refused_by mid new TooOld open_tx may a = inl a.1.last
+refused_by mid new VersionsExhausted open_tx may a = absurd (cc)
+refused_by mid new Unknown open_tx may a = absurd (cc)
+refused_by mid new Memory open_tx may a = absurd (cc)
+
+worker_round : (index : List ℕ) (round : Round) (old new : Knowledge) (open_tx : OpenTransaction) → HasWorked index round open_tx.trace.attempts → Commits old new open_tx true → IsWorkerRound index (Some round) old new
+worker_round index (Built records) old new open_tx worked commits = (open_tx, worked, commits)
+worker_round index Marked old new open_tx worked commits = (open_tx, worked, commits)
+
+module _ {G : Type 0} (passed : G → GatePoint → G → Type 0) where
+  pub round_committed : (worker after : Worker G) (round : Round) (old new : Knowledge) → CommitsRound (Works passed) (worker, old) round (after, new) → IsWorkerRound worker.index (Some round) old new
+  round_committed worker after round old new is =
+      let mid : Knowledge = is.1.0 in
+      let start : Knowledge = is.1.1.0 in
+      let starts : Starts old start = is.1.1.1 in
+      let works : Works passed worker start (Ok round) mid after = is.1.1.2 in
+      let ended : Ends mid (Ok is.0) new = is.1.2 in
+      let worked = worked_by worker.index worker.limit start mid round works.performed starts.begun.0 starts.begun.1 starts.begun.2.attempts in
+      let goes : Continues start mid = performs_continues worker.index worker.limit start mid (Ok round) works.performed in
+      let some : Some ended.answer.0 ≡ Some worked.0 = sym ended.answer.1 ∙ worked.1 in
+      let same : ended.answer.0 ≡ worked.0 = cc (some) in
+      let answers : Answers mid new worked.0.transaction worked.0.trace (Ok is.0) = subst (λ (t : OpenTransaction). Answers mid new t.transaction t.trace (Ok is.0)) same ended.answer.2 in
+      let commits : Commits mid new worked.0 true = committed_by mid new worker.index round is.0 worked.0 worked.2 answers in
+      worker_round worker.index round old new worked.0 worked.2
+      (commits_from old mid new worked.0 true (goes.follows.name ∙ starts.follows.name) (goes.follows.number ∙ starts.follows.number) (goes.last ∙ starts.last) commits)
+
+  pub round_failed : (worker after : Worker G) (old new : Knowledge) → AttemptFails (Works passed) (worker, old) (after, new) → IsWorkerRound worker.index None old new
+  round_failed worker after old new is = elim is [
+    | inl given_up ↦ too_old given_up.0 given_up.2
+    | inr ended ↦ refused ended.0 ended.1.0 ended.1.1 ended.1.2
+  ]
+    where
+      too_old : (error : CommandError) → Tries (Works passed) (worker, old) (Err error) (after, new) → IsWorkerRound worker.index None old new
+      too_old error tries = inl ((performs_continues worker.index worker.limit tries.0 new (Err error) tries.2.performed).last ∙ tries.1.last)
+
+      refused : (round : Round) (error : CommitError) → may_follow error ≡ true → TriesAndEnds (Works passed) (worker, old) round (Err error) (after, new) → IsWorkerRound worker.index None old new
+      refused round error may both =
+          let mid : Knowledge = both.0 in
+          let start : Knowledge = both.1.0 in
+          let starts : Starts old start = both.1.1 in
+          let goes : Continues start mid = performs_continues worker.index worker.limit start mid (Ok round) both.1.2.performed in
+          let open_tx : OpenTransaction = both.2.answer.0 in
+          let commits : Commits mid new open_tx false = refused_by mid new error open_tx may both.2.answer.2 in
+          inr (open_tx, commits_from old mid new open_tx false (goes.follows.name ∙ starts.follows.name) (goes.follows.number ∙ starts.follows.number) (goes.last ∙ starts.last) commits)
+
+  -- it is the same index after a round
+  pub index_failed : (worker after : Worker G) (old new : Knowledge) → AttemptFails (Works passed) (worker, old) (after, new) → after.index ≡ worker.index
+  index_failed worker after old new is = elim is [
+    | inl given_up ↦ given_up.2.2.index
+    | inr ended ↦ ended.1.2.1.2.index
+  ]
+
+  pub index_committed : (worker after : Worker G) (round : Round) (old new : Knowledge) → CommitsRound (Works passed) (worker, old) round (after, new) → after.index ≡ worker.index
+  index_committed worker after round old new is = is.1.1.2.index
+
+-- an attempt that failed otherwise than by its age or a conflict stops the work
+pub stops_of : {B A : Type 0} (did : B → Knowledge → Result A CommandError → Knowledge → B → Type 0) (old new : B × Knowledge) (ended : Ended) → ended ≢ ends.Conflict → ended ≢ ends.TooOld → FailsSo did old (failures.Ended ended) new → Stops did old new
+stops_of did old new ends.Conflict conflict old_one is = absurd (conflict refl)
+stops_of did old new ends.TooOld conflict old_one is = absurd (old_one refl)
+stops_of did old new ends.Other conflict old_one is = is
+stops_of did old new ends.Committed conflict old_one is = absurd is
+stops_of did old new ends.ReadOnly conflict old_one is = absurd is
+stops_of did old new ends.FutureVersion conflict old_one is = absurd is
+stops_of did old new ends.Unknown conflict old_one is = absurd is
+
+-- ---- round after round
+
+module _ {B : Type 0} (did : B → Knowledge → Result Round CommandError → Knowledge → B → Type 0) where
+  pub taken_more : (n : ℕ) (old mid new : B × Knowledge) (before after : Totals) → HasTaken did n old mid before → TakesRound did (mid, before) (new, after) → HasTaken did (n + 1) old new after
+  taken_more n old mid new before after taken takes =
+      let same : suc n ≡ n + 1 = omega arith in
+      subst (λ (k : ℕ). HasTaken did k old new after) same ((mid, before), taken, takes)
+
+  pub ended_so : (limit n : ℕ) (old mid new : B × Knowledge) (totals : Totals) (error : RunError) → n < limit → HasTaken did n old mid totals → EndsWork did mid error new → IsWork did limit old (Err error) new
+  ended_so limit n old mid new totals (Refused error) below taken is = (n, below, (mid, (totals, taken, is)))
+  ended_so limit n old mid new totals GaveUp below taken is = inr (n, below, (mid, (totals, taken, inl is)))
