@@ -22,7 +22,7 @@ FILE_LINES, BODY_LINES, COLUMNS = 400, 40, 120
 RATTLE = "crates/*/src/**/*.rt"
 SPECS = "crates/*/specs/**/*.antt"
 PROOFS = "crates/*/proofs/**/*.antt"
-PYTHON = "tools/**/*.py"
+PYTHON = ("tools/**/*.py", "python/**/*.py")
 DOCUMENTS = ("*.md", "docs/**/*.md", "crates/*/README.md", "examples/*.md")
 EDITS = ("crates/*/wrong-bodies/*.edits", "crates/*/must-fail/*.edit")
 OTHERS = ("crates.txt", "cases/**/*", "examples/**/*")
@@ -66,7 +66,7 @@ def readme_code_stands(root):
 
 def files_are_short(root):
     """No file of Rattle, of a specification, a proof or Python has many lines."""
-    paths = files(root, RATTLE, SPECS, PROOFS, PYTHON)
+    paths = files(root, RATTLE, SPECS, PROOFS, *PYTHON)
     counted = [(path, len(lines_of(read(root, path)))) for path in paths]
     return len(paths), [(path, f"{it} lines, above {FILE_LINES}") for path, it in counted if it > FILE_LINES]
 
@@ -81,7 +81,7 @@ def bodies_are_short(root):
 def lines_are_narrow(root):
     """No line of Rattle, of a specification or of Python has many columns, but for data."""
     seen, faults = 0, []
-    for path in files(root, RATTLE, SPECS, PYTHON):
+    for path in files(root, RATTLE, SPECS, *PYTHON):
         text = read(root, path)
         seen += len(lines_of(text))
         wide = wide_lines(text, COLUMNS, data(text) if path.endswith(".rt") else ())
@@ -154,7 +154,7 @@ def nothing_surprises(root):
 
 def nothing_is_cited(root):
     """No file leans on a text outside the repository, or on a mark that only such a text tells."""
-    paths, faults = files(root, RATTLE, SPECS, PROOFS, PYTHON, *DOCUMENTS, *EDITS, *OTHERS), []
+    paths, faults = files(root, RATTLE, SPECS, PROOFS, *PYTHON, *DOCUMENTS, *EDITS, *OTHERS), []
     for path in paths:
         text = read(root, path)
         found = [(it.start(), it[0]) for it in CITED.finditer(text)]

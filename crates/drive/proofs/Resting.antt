@@ -1,0 +1,76 @@
+-- What is left of a range beside the keys that are covered from one end on.
+use Rattle.std.proofs.Common.{◌≡◌, ℕ, ◌+◌, ◌<◌, List, [], ◌∷◌, ◌++◌, length, take, get_or, Bool, true, false, ◌&&◌, ◌||◌, inl, inr, Option, Some, None, sym, ap, subst, ◌∙◌}
+use Rattle.std.specs.Prelude.{IsTrue, IfSome, IfNone}
+use Rattle.std.specs.List.{AllByRecursion, list_any}
+use Rattle.std.proofs.lemmas.Bool.{and_from, and_parts, or_cases, false≢true, true≢false}
+use Rattle.std.proofs.lemmas.List.{take_more}
+use Rattle.std.proofs.lemmas.List.Folds.{list_any-append}
+use Rattle.kv_core.specs.Bytes.{key_le, key_lt, end_of_keys}
+use Rattle.kv_core.specs.Range.{KeyRange, contains, covers, is_key_range}
+use Rattle.kv_core.proofs.Order.{le_from, le_from_lt, le_trans, lt_le_trans}
+use Rattle.drive.specs.Driving.{AreWithin, IsAllCovered}
+use Rattle.drive.specs.declared.wanted.Want.{Want}
+
+-- nothing is left where the keys from its begin on are covered up to its end
+pub covered_forward : (covered : List KeyRange) (range : KeyRange) (place : List ℕ) →
+    ((q : List ℕ) → IsTrue (key_le range.begin q) → IsTrue (key_lt q place) → IsTrue (covers covered q)) →
+    key_lt place range.end ≡ false → IsAllCovered covered range
+covered_forward covered range place are ends key inside =
+    let parts = and_parts (key_le range.begin key) (key_lt key range.end) inside in
+    are key parts.0 (lt_le_trans key range.end place parts.1 (le_from range.end place ends))
+
+-- nothing is left where the keys before its end are covered down to its begin
+pub covered_reverse : (covered : List KeyRange) (range : KeyRange) (place : List ℕ) →
+    ((q : List ℕ) → IsTrue (key_le place q) → IsTrue (key_lt q range.end) → IsTrue (covers covered q)) →
+    key_lt range.begin place ≡ false → IsAllCovered covered range
+covered_reverse covered range place are ends key inside =
+    let parts = and_parts (key_le range.begin key) (key_lt key range.end) inside in
+    are key (le_trans place range.begin key (le_from place range.begin ends) parts.0) parts.1
+
+-- so many ranges and the next one are covered where those before it are, and it is
+pub within_turn : (covered ranges : List KeyRange) (i : ℕ) (range : KeyRange) → i < length ranges → range ≡ get_or ranges i range →
+    AreWithin covered (take i ranges) → IsAllCovered covered range → AreWithin covered (take (i + 1) ranges)
+within_turn covered ranges i range inside is before here key h =
+    let p : KeyRange → Bool = λ one. contains one key in
+    elim (or_cases (list_any p (take i ranges)) (list_any p (range ∷ []))
+    (sym (list_any-append p (take i ranges) (range ∷ [])) ∙ ap (λ one. list_any p (take i ranges ++ one ∷ [])) is ∙ ap (list_any p) (sym (take_more ranges i range inside)) ∙ h)) [
+      | inl earlier ↦ before key earlier
+      | inr now ↦ elim (or_cases (contains range key) false now) [ inl found ↦ here key found | inr never ↦ absurd (false≢true never) ]
+    ]
+
+-- one more that is wanted isn't covered either
+pub wanted_more : (P : Want → Type 0) (wants : List Want) (want : Want) → AllByRecursion P wants → P want → AllByRecursion P (wants ++ want ∷ [])
+wanted_more P [] want all one = (one, tt)
+wanted_more P (first ∷ wants) want all one = (all.0, wanted_more P wants want all.1 one)
+
+-- what has something at its end isn't empty
+pub has_last : (wants : List Want) (want : Want) → wants ++ want ∷ [] ≡ [] → ⊥
+has_last [] want same = absurd (cc)
+has_last (first ∷ wants) want same = absurd (cc)
+
+-- the part of a range from a key in it on may be written so
+pub lawful_rest : (range : KeyRange) (b e : List ℕ) → is_key_range range ≡ true → e ≡ range.end → key_lt b range.end ≡ true → is_key_range (record { begin = b; end = e }) ≡ true
+lawful_rest range b e lawful same below =
+    let parts = and_parts (key_le range.begin range.end) (key_le range.end end_of_keys) lawful in
+    subst (λ x. (key_le b x && key_le x end_of_keys) ≡ true) (sym same) (and_from (key_le b range.end) (key_le range.end end_of_keys) (le_from_lt b range.end below) parts.1)
+
+-- and so may the part before one
+pub lawful_front : (range : KeyRange) (b e : List ℕ) → is_key_range range ≡ true → b ≡ range.begin → key_lt range.begin e ≡ true → key_le e range.end ≡ true → is_key_range (record { begin = b; end = e }) ≡ true
+lawful_front range b e lawful same below upto =
+    let parts = and_parts (key_le range.begin range.end) (key_le range.end end_of_keys) lawful in
+    subst (λ x. (key_le x e && key_le e end_of_keys) ≡ true) (sym same) (and_from (key_le range.begin e) (key_le e end_of_keys) (le_from_lt range.begin e below) (le_trans e range.end end_of_keys upto parts.1))
+
+-- a range that may be written so is made
+pub none_never : (found : Option KeyRange) (range : KeyRange) (P : Type 0) → is_key_range range ≡ true → IfNone found (is_key_range range ≡ false) → IfNone found P
+none_never None range P lawful refused = absurd (true≢false (sym lawful ∙ refused))
+none_never (Some found) range P lawful refused = refused
+
+-- what is made is just that
+pub some_made : (found : Option KeyRange) (made : KeyRange) (P : KeyRange → Type 0) → IfSome found (λ range. range ≡ made) → P made → IfSome found P
+some_made None made P is so = is
+some_made (Some found) made P is so = subst P (sym is) so
+
+-- what is so where there is none is so
+pub when_none : (found : Option Want) (P : Type 0) → IfNone found P → found ≡ None → P
+when_none None P is same = is
+when_none (Some found) P is same = absurd (cc)

@@ -1,0 +1,76 @@
+-- What commands come to that a host has performed over what it read of a database of its own.
+use Rattle.std.specs.Prelude.{◌≡◌, ℕ, Bool, true, false, List, [], ◌∷◌, IsTrue}
+use Rattle.std.specs.List.{AllByRecursion}
+use Rattle.kv_core.specs.Range.{KeyRange, contains, covers, has_keys}
+use Rattle.kv_core.specs.Coverage.{BeginsAt}
+use Rattle.kv_core.specs.Map.{Map, Agree}
+use Rattle.kv_core.specs.declared.change.CommitRequest.{CommitRequest}
+use Rattle.kv_core.specs.declared.change.Mutation.{Mutation}
+use Rattle.schedule.specs.declared.step.Command.{Command}
+use Rattle.schedule.specs.declared.reply.Reply.{Reply}
+use Rattle.schedule.specs.Past.{Attempt}
+use Rattle.schedule.specs.Performed.{IsPerformed}
+use Rattle.schedule.specs.Turns.{AreDone}
+use Rattle.drive.specs.declared.wanted.Want.{Want}
+use Rattle.drive.specs.declared.given.Given.{Given}
+use Rattle.drive.specs.declared.answering.Driven.{Driven}
+use Rattle.drive.specs.declared.answering.Driven.TheVariants.{Wants, Done}
+
+-- each of these commands with its reply
+abbrev pub attempts_at : List Command → List Reply → List Attempt
+attempts_at (command ∷ commands) (reply ∷ replies) =
+    record { command = command; reply = reply } ∷ attempts_at commands replies
+attempts_at commands replies = []
+
+-- the commands were performed in turn with these replies, and no read was refused
+abbrev pub ArePerformed : (ℕ → Map) → List Command → List Reply → CommitRequest → CommitRequest → Type 0
+ArePerformed maps [] [] old new = old ≡ new
+ArePerformed maps (command ∷ commands) (reply ∷ replies) old new =
+    (mid : CommitRequest) × IsPerformed maps (λ range error. ⊥) command reply old mid
+    × ArePerformed maps commands replies mid new
+ArePerformed maps commands replies old new = ⊥
+
+-- a transaction at this version that has written this, and has read nothing since
+abbrev pub resumed : ℕ → List Mutation → CommitRequest
+resumed version written = record { read_version = version; reads = []; mutations = written }
+
+-- each key of the one list of ranges is one of the other's
+abbrev pub AreWithin : List KeyRange → List KeyRange → Type 0
+AreWithin whole parts = (key : List ℕ) → IsTrue (covers parts key) → IsTrue (covers whole key)
+
+-- the commands have these replies, and make this of a transaction that has written what is given, over every database
+-- that has just the given pairs in what is covered at the version, as they do in an open transaction over it; and what
+-- they read lies in what is covered
+pub record IsHostAnswered (version : ℕ) (covered : List KeyRange) (pairs : Map) (written : List Mutation)
+    (commands : List Command) (replies : List Reply) (request : CommitRequest) : Type 0 where
+  pub within : AreWithin covered request.reads
+  pub performed :
+      (maps : ℕ → Map) → Agree covered pairs (maps version) →
+      ArePerformed maps commands replies (resumed version written) request
+  pub done :
+      (maps : ℕ → Map) → Agree covered pairs (maps version) →
+      AreDone maps (attempts_at commands replies) (resumed version written) request
+
+-- a range is to be read from its begin on, which isn't covered, or from its end back, just before which not all is
+abbrev pub IsUncoveredFrom : List KeyRange → Bool → KeyRange → Type 0
+IsUncoveredFrom covered true range = IsTrue (has_keys range) × BeginsAt covered range.end
+IsUncoveredFrom covered false range = IsTrue (has_keys range) × (covers covered range.begin ≡ false)
+
+-- Private: each key of the range is covered
+abbrev pub IsAllCovered : List KeyRange → KeyRange → Type 0
+IsAllCovered covered range = (key : List ℕ) → IsTrue (contains range key) → IsTrue (covers covered key)
+
+-- what is wanted isn't covered where it is to be read from
+abbrev pub IsUncovered : List KeyRange → Want → Type 0
+IsUncovered covered want = IsUncoveredFrom covered want.reverse want.range
+
+-- these are wanted, one at least
+abbrev pub AreWanted : List KeyRange → List Want → Type 0
+AreWanted covered wants = (wants ≡ [] → ⊥) × AllByRecursion (IsUncovered covered) wants
+
+-- a call is answered, or wants ranges that aren't covered
+abbrev pub IsDriven : Given → Driven → Type 0
+IsDriven given (Wants wants) = AreWanted given.covered wants.items
+IsDriven given (Done answer) =
+    IsHostAnswered given.version given.covered given.pairs given.written.items given.commands.items answer.replies.items
+    answer.request

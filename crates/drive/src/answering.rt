@@ -1,0 +1,127 @@
+// A call: the commands performed over what is given, and the test that it covers what they read.
+ghost use Rattle.std.specs.Prelude.{◌≡◌, IfOk, IfSome, IfNone};
+ghost use Rattle.drive.specs.Driving.{ArePerformed, AreWanted, AreWithin, IsDriven, IsUncovered};
+
+use crate::ahead::add_records;
+use crate::error::DriveError;
+use crate::given::Given;
+use crate::partial::Partial;
+use crate::wanted::{Want, rest_of};
+use kv_core::{CommitRequest, Coverage, KeyRange, Mutation};
+use record_store::KnownSchema;
+use schedule::{Command, Reply, perform_knowing};
+use std::alloc::{AllocError, Global};
+use txn::Transaction;
+
+/// What commands come to that were performed over what is covered.
+#[derive(Drop)]
+pub struct Answer {
+    /// The reply to each command, in order.
+    pub replies: Vec<Reply>,
+    /// What the transaction asks to have committed now: the ranges that these commands read, and
+    /// all that it has written, also before them.
+    pub request: CommitRequest,
+}
+
+/// What a call comes to.
+#[derive(Drop)]
+pub enum Driven {
+    /// These ranges are to be read first, at the same version: one at least.
+    Wants(Vec<Want>),
+    /// The commands were performed.
+    Done(Answer),
+}
+
+/// An equal list of mutations.
+fn copy_of(written: &Vec<Mutation>) -> Result<Vec<Mutation>, AllocError>
+    ensures { IfOk result (λ copy. copy.items ≡ written.now.items) }
+{
+    let copy = written.clone()?;
+    Ok(copy)
+}
+
+/// Performs commands, one after another.
+fn perform_each(
+    alloc: Global,
+    commands: &[Command],
+    tx: &mut Transaction,
+    partial: &Partial<'_>,
+) -> Result<Vec<Reply>, AllocError>
+    ensures { IfOk result (λ replies. ArePerformed (λ version. partial.now.pairs.now) commands.now
+        replies.items tx.old tx.new) }
+{
+    let mut known = KnownSchema::new();
+    let mut replies = Vec::new(alloc);
+    for command in commands {
+        let reply = perform_knowing(alloc, command, tx, partial, &mut known)?;
+        replies.push(reply)?;
+    }
+    Ok(replies)
+}
+
+/// The first part of these ranges that isn't covered, or None where all of them are.
+fn first_uncovered(covered: &Coverage, ranges: &[KeyRange]) -> Result<Option<Want>, AllocError>
+    ensures wanted { IfOk result (λ found. IfSome found (IsUncovered covered.now)) }
+    ensures whole { IfOk result (λ found. IfNone found (AreWithin covered.now ranges.now)) }
+{
+    for range in ranges {
+        if let Some(rest) = rest_of(covered, range, false)? {
+            return Ok(Some(Want {
+                range: rest,
+                limit: usize::MAX,
+                reverse: false,
+            }));
+        }
+    }
+    Ok(None)
+}
+
+/// Of what was asked for all that isn't covered, or else this.
+fn next_wants(
+    alloc: Global,
+    covered: &Coverage,
+    asked: &[Want],
+    first: Want,
+) -> Result<Vec<Want>, AllocError>
+    requires { IsUncovered covered.now first }
+    ensures { IfOk result (λ wants. AreWanted covered.now wants.items) }
+{
+    let mut wants = Vec::new(alloc);
+    for want in asked {
+        if let Some(rest) = rest_of(covered, &want.range, want.reverse)? {
+            wants.push(Want {
+                range: rest,
+                limit: want.limit,
+                reverse: want.reverse,
+            })?;
+        }
+    }
+    if wants.is_empty() {
+        wants.push(first)?;
+    }
+    Ok(wants)
+}
+
+/// Performs the commands of a transaction over what a host has read, or tells what it is to read.
+///
+/// Where all that the commands read is covered, they are answered, and it is as if they were
+/// performed over the host's database itself. Else there is no reply: the host reads a beginning of
+/// each range that is wanted, or of the first one at least, and calls again with what it has read
+/// then. The only other errors are want of memory and what is refused of `written`.
+pub fn drive(alloc: Global, given: &Given) -> Result<Driven, DriveError>
+    ensures { IfOk result (IsDriven given.now) }
+{
+    let partial = Partial::new(alloc, &given.covered, &given.pairs);
+    let mut tx = Transaction::begin(alloc, given.version);
+    let written = copy_of(&given.written)?;
+    tx.write_all(written)?;
+    let replies = perform_each(alloc, given.commands.as_slice(), &mut tx, &partial)?;
+    let request = tx.into_request();
+    let Some(first) = first_uncovered(&given.covered, request.reads.as_slice())? else {
+        return Ok(Driven::Done(Answer { replies, request }));
+    };
+    let mut asked = partial.asked.into_inner();
+    add_records(alloc, given, request.reads.as_slice(), &mut asked)?;
+    let wants = next_wants(alloc, &given.covered, asked.wants.as_slice(), first)?;
+    Ok(Driven::Wants(wants))
+}

@@ -1,0 +1,65 @@
+// Numbers, byte strings and ranges, read from the front of bytes. Called by `given_bytes`.
+use crate::error::FormError;
+use kv_core::{Bytes, KeyRange};
+use std::alloc::Global;
+
+/// Bytes that are read from their front on.
+#[derive(Drop)]
+pub(crate) struct Reader<'a> {
+    rest: &'a [u8],
+}
+
+impl<'a> Reader<'a> {
+    pub(crate) fn new(rest: &'a [u8]) -> Reader<'a> {
+        Reader { rest }
+    }
+
+    /// The bytes that are left.
+    pub(crate) fn rest(self) -> &'a [u8] {
+        self.rest
+    }
+
+    /// The next byte.
+    pub(crate) fn byte(&mut self) -> Result<u8, FormError> {
+        let Some((first, rest)) = self.rest.split_first() else {
+            return Err(FormError::BadForm);
+        };
+        self.rest = rest;
+        Ok(*first)
+    }
+
+    /// The next number of 64 bits.
+    pub(crate) fn number(&mut self) -> Result<u64, FormError> {
+        let Some((first, rest)) = self.rest.split_first_chunk::<8>() else {
+            return Err(FormError::BadForm);
+        };
+        self.rest = rest;
+        Ok(u64::from_le_bytes(*first))
+    }
+
+    /// The next number of 32 bits, a length or a count.
+    pub(crate) fn count(&mut self) -> Result<usize, FormError> {
+        let Some((first, rest)) = self.rest.split_first_chunk::<4>() else {
+            return Err(FormError::BadForm);
+        };
+        self.rest = rest;
+        Ok(u32::from_le_bytes(*first) as usize)
+    }
+
+    /// The next byte string, behind its length.
+    pub(crate) fn bytes(&mut self, alloc: Global) -> Result<Bytes, FormError> {
+        let count = self.count()?;
+        let Some((first, rest)) = self.rest.split_at_checked(count) else {
+            return Err(FormError::BadForm);
+        };
+        self.rest = rest;
+        Ok(Bytes::from_slice(alloc, first)?)
+    }
+
+    /// The next range: its begin and its end.
+    pub(crate) fn range(&mut self, alloc: Global) -> Result<KeyRange, FormError> {
+        let begin = self.bytes(alloc)?;
+        let end = self.bytes(alloc)?;
+        KeyRange::new(begin, end).ok_or(FormError::BadForm)
+    }
+}

@@ -1,0 +1,95 @@
+"""A record store in an engine: transactions that are tried again."""
+from __future__ import annotations
+
+import random
+import time
+from collections.abc import Callable
+from typing import TypeVar
+
+from .engine import Engine
+from .errors import AlreadyThere, Conflict, Unknown
+from .schema import Index, Schema
+from .transaction import OPENING, Transaction
+
+T = TypeVar("T")
+ATTEMPTS = 100
+FIRST_WAIT, LONGEST_WAIT = 0.001, 0.25
+
+
+class Database:
+    """A record store in an engine. With a schema the store is made where there is none."""
+
+    def __init__(self, engine: Engine, schema: Schema | None = None) -> None:
+        self.engine = engine
+        if schema is not None:
+            self.make(schema)
+
+    def begin(self) -> Transaction:
+        """A transaction over the newest version. It is to be committed or closed."""
+        return Transaction(*self.engine.begin(OPENING))
+
+    def transact(self, body: Callable[[Transaction], T], attempts: int = ATTEMPTS, repeatable: bool = False) -> T:
+        """Runs a function in a transaction and commits it. After a conflict it is run again in a new one.
+
+        The last conflict is raised where there were as many as `attempts`. `Unknown` is raised at once, since the
+        transaction may be committed, unless it is said to be `repeatable`: that it may be made twice.
+        """
+        for attempt in range(1, attempts + 1):
+            tx = self.begin()
+            try:
+                result = body(tx)
+                tx.commit()
+                return result
+            except (Conflict, Unknown) as why:
+                if attempt == attempts or isinstance(why, Unknown) and not repeatable:
+                    raise
+                time.sleep(random.uniform(0, min(LONGEST_WAIT, FIRST_WAIT * 2 ** min(attempt, 16))))
+            finally:
+                tx.close()
+        raise ValueError("a transaction takes one attempt at least")
+
+    def make(self, schema: Schema) -> bool:
+        """Makes the store, and tells whether it did: where there is one it is left as it is."""
+        try:
+            self.transact(lambda tx: tx.create(schema))
+        except AlreadyThere:
+            return False
+        return True
+
+    def build(self, index: Index | str, limit: int = 100) -> None:
+        """Builds an index in steps, each a transaction, while others write; then it is readable.
+
+        An index that is given whole is added first, unless there is one of its name.
+        """
+        name = index if isinstance(index, str) else index.name
+        self.transact(lambda tx: begin_building(tx, index, name), repeatable=True)
+        while not self.transact(lambda tx: is_built(tx, name, limit), repeatable=True):
+            pass
+
+    def close(self) -> None:
+        """Lets go of the engine."""
+        self.engine.close()
+
+    def __enter__(self) -> Database:
+        return self
+
+    def __exit__(self, *_: object) -> None:
+        self.close()
+
+
+def begin_building(tx: Transaction, index: Index | str, name: str) -> None:
+    """Adds an index, unless there is one of its name, and marks one that is disabled write-only."""
+    if not isinstance(index, str) and name not in tx.schema.indexes:
+        tx.add_index(index)
+    if tx.state(name) == "disabled":
+        tx.make_write_only(name)
+
+
+def is_built(tx: Transaction, index: str, limit: int) -> bool:
+    """Builds a part of an index, or makes it readable where there is none left; whether it is readable now."""
+    if tx.state(index) == "readable":
+        return True
+    if not tx.build_step(index, limit).finished:
+        return False
+    tx.make_readable(index)
+    return True

@@ -1,0 +1,246 @@
+"""An etcd cluster, by the JSON gateway of its clients' port: replicated, and small (a few gigabytes at most).
+
+**Rule of a commit.** One transaction of etcd, which compares what was read. For each range: no key of it was written
+after the revision that was read. That alone misses deletions, since a key that is gone has no revision to compare: so
+for each pair that was found in a range, its key is there. For the range of one key where nothing was found: it isn't
+there.
+
+etcd has no ADD. So where something is added to a key, what stands there now is read, and the sum put with a compare
+that it stands there still; where that alone fails it is done again. So two transactions that add to one total don't
+conflict, but take turns.
+
+etcd refuses a transaction of more operations than `--max-txn-ops` (128 where it isn't given): reads and writes of many
+records in one transaction need it higher. A read of a compacted revision is refused as too old.
+"""
+from __future__ import annotations
+
+import base64
+import http.client
+import json
+import threading
+from collections.abc import Iterable, Sequence
+from typing import Any
+
+from ..engine import page_of, read_of
+from ..errors import Conflict, RecordError, TooLarge, TooOld, Unavailable, Unknown
+from ..form import ADD, CLEAR, Mutation, Read, Want, added
+
+ROUNDS = 20
+ADD_ROUNDS = 200
+INVALID = 3
+Range = tuple[bytes, bytes]
+
+
+def text(data: bytes) -> str:
+    return base64.b64encode(data).decode()
+
+
+class Etcd:
+    """A database below a prefix of an etcd cluster's keys, by the addresses of its members, each `host:port`."""
+
+    def __init__(self, members: Sequence[str], prefix: bytes = b"records/", timeout: float = 5) -> None:
+        self.members, self.prefix, self.timeout = list(members), prefix, timeout
+        self.own = threading.local()
+
+    def begin(self, wants: Sequence[Want]) -> tuple[EtcdSnapshot, list[Read]]:
+        revision, reads = self.ranges(wants, None)
+        return EtcdSnapshot(self, revision), reads
+
+    def close(self) -> None:
+        self.drop()
+
+    def drop(self) -> None:
+        """Closes the thread's connection; the next call takes the next member."""
+        connection = getattr(self.own, "connection", None)
+        if connection is not None:
+            connection.close()
+        self.own.connection = None
+        self.own.place = getattr(self.own, "place", -1) + 1
+
+    def connection(self) -> http.client.HTTPConnection:
+        """The thread's connection to a member."""
+        if getattr(self.own, "connection", None) is None:
+            self.own.place = getattr(self.own, "place", 0)
+            member = self.members[self.own.place % len(self.members)]
+            self.own.connection = http.client.HTTPConnection(member, timeout=self.timeout)
+        connection: http.client.HTTPConnection = self.own.connection
+        return connection
+
+    def post(self, body: dict[str, Any]) -> dict[str, Any]:
+        """Has one member carry out a transaction."""
+        try:
+            connection = self.connection()
+            connection.request("POST", "/v3/kv/txn", json.dumps(body))
+            reply: dict[str, Any] = json.loads(connection.getresponse().read())
+            return reply
+        except (OSError, http.client.HTTPException, ValueError):
+            self.drop()
+            raise
+
+    def read_txn(self, body: dict[str, Any]) -> dict[str, Any]:
+        """The same of reads alone, which are asked of one member after another."""
+        said = "no member answers"
+        for _ in range(ROUNDS * len(self.members)):
+            try:
+                reply = self.post(body)
+            except (OSError, http.client.HTTPException, ValueError) as why:
+                said = str(why)
+                continue
+            if "error" not in reply:
+                return reply
+            said = reply["error"]
+            if "compacted" in said or "future revision" in said:
+                raise TooOld(said)
+            self.drop()
+            threading.Event().wait(0.05)
+        raise Unavailable(said)
+
+    def at(self, begin: bytes, end: bytes) -> dict[str, str]:
+        """A range of keys below the prefix."""
+        return {"key": text(self.prefix + begin), "range_end": text(self.prefix + end)}
+
+    def ranges(self, wants: Sequence[Want], revision: int | None) -> tuple[int, list[Read]]:
+        """A beginning of each range, all at one revision: this one, or the newest, which is answered."""
+        reads: list[Read] = []
+        for first in range(0, max(len(wants), 1), 100):
+            part = wants[first:first + 100]
+            reply = self.read_txn({"success": [{"requestRange": self.range_request(it, revision)} for it in part]})
+            revision = revision or int(reply["header"]["revision"])
+            for want, response in zip(part, reply.get("responses", [])):
+                pairs = [self.pair_of(it) for it in response["response_range"].get("kvs", [])]
+                reads.append(read_of(want, page_of(want), pairs))
+        return revision or 0, reads
+
+    def range_request(self, want: Want, revision: int | None) -> dict[str, Any]:
+        """A read of a beginning of a range."""
+        order = {"sort_order": "DESCEND", "sort_target": "KEY"} if want.reverse else {}
+        at = {"revision": str(revision)} if revision else {}
+        return self.at(want.begin, want.end) | {"limit": str(page_of(want))} | order | at
+
+    def pair_of(self, item: dict[str, str]) -> tuple[bytes, bytes]:
+        key = base64.b64decode(item["key"])[len(self.prefix):]
+        return key, base64.b64decode(item.get("value", ""))
+
+
+class Writes:
+    """Writes in their order, as what they come to: etcd takes no two writes of one key."""
+
+    def __init__(self, mutations: Sequence[Mutation]) -> None:
+        self.mutations, self.clears, self.added_to = mutations, [], []
+        own: set[bytes] = set()
+        for kind, first, second in mutations:
+            if kind == CLEAR:
+                self.clears.append((first, second))
+            elif kind == ADD and first not in own and not any(begin <= first < end for begin, end in self.clears):
+                self.added_to.append(first)
+            if kind != CLEAR:
+                own.add(first)
+
+    def puts(self, stored: dict[bytes, bytes | None]) -> dict[bytes, bytes]:
+        """The pairs that are put, where this stands at the keys to which something is added."""
+        puts: dict[bytes, bytes] = {}
+        cleared: list[Range] = []
+        for kind, first, second in self.mutations:
+            if kind == CLEAR:
+                puts = {key: value for key, value in puts.items() if not first <= key < second}
+                cleared.append((first, second))
+            elif kind == ADD:
+                gone = any(begin <= first < end for begin, end in cleared)
+                puts[first] = added(puts.get(first, None if gone else stored.get(first)), second)
+            else:
+                puts[first] = second
+        return puts
+
+
+class EtcdSnapshot:
+    """A revision of an etcd cluster."""
+
+    def __init__(self, engine: Etcd, version: int) -> None:
+        self.engine, self.version = engine, version
+
+    def read(self, wants: Sequence[Want]) -> list[Read]:
+        return self.engine.ranges(wants, self.version)[1]
+
+    def commit(self, reads: Sequence[Range], mutations: Sequence[Mutation], known: dict[bytes, bytes]) -> int:
+        compares = self.compares(reads, known)
+        writes = Writes(mutations)
+        for _ in range(ADD_ROUNDS):
+            stored = self.stored(compares, writes.added_to) if writes.added_to else {}
+            more = [{"key": self.key(key), "target": "MOD", "result": "EQUAL", "mod_revision": revision}
+                    for key, (revision, _) in stored.items()]
+            puts = writes.puts({key: value for key, (_, value) in stored.items()})
+            reply = self.send({"compare": compares + more, "success": self.operations(puts, writes.clears)})
+            if reply.get("succeeded"):
+                return int(reply["header"]["revision"])
+            if not more:
+                break
+        raise Conflict("another transaction wrote what was read")
+
+    def send(self, body: dict[str, Any]) -> dict[str, Any]:
+        """Has a transaction of etcd carried out once."""
+        try:
+            reply = self.engine.post(body)
+        except (OSError, http.client.HTTPException, ValueError) as why:
+            raise Unknown(f"etcd didn't answer the commit: {why}") from why
+        if "too many operations" in reply.get("error", "") or "too large" in reply.get("error", ""):
+            raise TooLarge(reply["error"])
+        if reply.get("code") == INVALID:
+            raise RecordError(reply["error"])
+        if "error" in reply:
+            raise Unknown(reply["error"])
+        return reply
+
+    def stored(self, compares: list[dict[str, str]], keys: Sequence[bytes]) -> dict[bytes, tuple[str, bytes | None]]:
+        """What stands now at keys to which something is added, each with its revision, while what was read stands."""
+        asked = [{"requestRange": {"key": self.key(key)}} for key in keys]
+        reply = self.engine.read_txn({"compare": compares, "success": asked})
+        if not reply.get("succeeded"):
+            raise Conflict("another transaction wrote what was read")
+        found: dict[bytes, tuple[str, bytes | None]] = {}
+        for key, response in zip(keys, reply["responses"]):
+            items = response["response_range"].get("kvs", [])
+            found[key] = (items[0]["mod_revision"], self.engine.pair_of(items[0])[1]) if items else ("0", None)
+        return found
+
+    def key(self, key: bytes) -> str:
+        """A key below the prefix."""
+        return text(self.engine.prefix + key)
+
+    def compares(self, reads: Iterable[Range], known: dict[bytes, bytes]) -> list[dict[str, str]]:
+        """What is compared: that what was read stands just as it was read."""
+        compares = []
+        for begin, end in reads:
+            if end == begin + b"\0" and begin not in known:
+                compares.append({"key": self.key(begin), "target": "CREATE", "result": "EQUAL", "create_revision": "0"})
+                continue
+            found = [begin] if end == begin + b"\0" else [key for key in known if begin <= key < end]
+            compares.append(self.engine.at(begin, end) | {"target": "MOD", "result": "LESS",
+                                                          "mod_revision": str(self.version + 1)})
+            compares += [{"key": self.key(key), "target": "CREATE", "result": "GREATER", "create_revision": "0"}
+                         for key in found]
+        return compares
+
+    def operations(self, puts: dict[bytes, bytes], clears: Sequence[Range]) -> list[dict[str, Any]]:
+        """What is written. No key may stand in two operations, so ranges are cleared around the keys that are put."""
+        gaps: list[Range] = []
+        for begin, end in merged(clears):
+            for key in sorted(key for key in puts if begin <= key < end):
+                gaps.append((begin, key))
+                begin = key + b"\0"
+            gaps.append((begin, end))
+        made: list[dict[str, Any]] = [{"requestDeleteRange": self.engine.at(*it)} for it in gaps if it[0] < it[1]]
+        return made + [{"requestPut": {"key": self.key(key), "value": text(value)}} for key, value in puts.items()]
+
+    def close(self) -> None:
+        pass
+
+
+def merged(ranges: Iterable[Range]) -> list[Range]:
+    """The same keys in ranges of which no two touch."""
+    made: list[Range] = []
+    for begin, end in sorted(ranges):
+        if made and begin <= made[-1][1]:
+            made[-1] = made[-1][0], max(made[-1][1], end)
+        else:
+            made.append((begin, end))
+    return made

@@ -1,0 +1,90 @@
+"""A FoundationDB cluster, by its Python binding `fdb`. **Written by its documented interface, and never run.**
+
+**Rule of a commit.** FoundationDB's own: a transaction is refused where a range among its read conflict ranges was
+written after its read version. Reads are made as snapshot reads, which add no conflict range, and what the record layer
+has read is added by hand at the commit. ADD is FoundationDB's own atomic operation, so that transactions that add to
+one total don't conflict. Several commits may share a version: they are ordered by the version, and within it by their
+order in the batch.
+"""
+from __future__ import annotations
+
+from collections.abc import Sequence
+from typing import Any
+
+import fdb
+
+from ..engine import page_of, read_of
+from ..errors import Conflict, RecordError, TooLarge, TooOld, Unknown
+from ..form import ADD, CLEAR, Mutation, Read, Want
+
+API = 710
+# codes of FoundationDB's errors
+TOO_OLD, FUTURE_VERSION, NOT_COMMITTED, UNKNOWN_RESULT, TRANSACTION_TOO_LARGE = 1007, 1009, 1020, 1021, 2101
+
+
+class FoundationDb:
+    """A database below a prefix of a FoundationDB cluster's keys."""
+
+    def __init__(self, cluster_file: str | None = None, prefix: bytes = b"records/") -> None:
+        fdb.api_version(API)
+        self.database, self.prefix = fdb.open(cluster_file), prefix
+
+    def begin(self, wants: Sequence[Want]) -> tuple[FoundationDbSnapshot, list[Read]]:
+        snapshot = FoundationDbSnapshot(self, self.database.create_transaction())
+        return snapshot, snapshot.read(wants)
+
+    def close(self) -> None:
+        pass
+
+
+class FoundationDbSnapshot:
+    """A version of a FoundationDB cluster: a transaction of its own."""
+
+    def __init__(self, engine: FoundationDb, transaction: Any) -> None:
+        self.prefix, self.transaction = engine.prefix, transaction
+        try:
+            self.version = transaction.get_read_version().wait()
+        except fdb.FDBError as why:
+            raise error_of(why) from why
+
+    def read(self, wants: Sequence[Want]) -> list[Read]:
+        asked = [self.transaction.snapshot.get_range(self.prefix + want.begin, self.prefix + want.end,
+                                                     limit=page_of(want), reverse=want.reverse) for want in wants]
+        try:
+            return [self.read_of(want, items) for want, items in zip(wants, asked)]
+        except fdb.FDBError as why:
+            raise error_of(why) from why
+
+    def read_of(self, want: Want, items: Any) -> Read:
+        pairs = [(bytes(it.key)[len(self.prefix):], bytes(it.value)) for it in items]
+        return read_of(want, page_of(want), pairs)
+
+    def commit(self, reads: Sequence[tuple[bytes, bytes]], mutations: Sequence[Mutation],
+               known: dict[bytes, bytes]) -> int:
+        transaction = self.transaction
+        for begin, end in reads:
+            transaction.add_read_conflict_range(self.prefix + begin, self.prefix + end)
+        for kind, first, second in mutations:
+            if kind == CLEAR:
+                transaction.clear_range(self.prefix + first, self.prefix + second)
+            elif kind == ADD:
+                transaction.add(self.prefix + first, second)
+            else:
+                transaction.set(self.prefix + first, second)
+        try:
+            transaction.commit().wait()
+            return int(transaction.get_committed_version())
+        except fdb.FDBError as why:
+            raise error_of(why) from why
+
+    def close(self) -> None:
+        self.transaction.cancel()
+
+
+def error_of(why: Any) -> RecordError:
+    """What an error of FoundationDB means."""
+    said = f"FoundationDB's error {why.code}: {why.description}"
+    kinds: dict[int, type[RecordError]] = {
+        TOO_OLD: TooOld, FUTURE_VERSION: TooOld, NOT_COMMITTED: Conflict, UNKNOWN_RESULT: Unknown,
+        TRANSACTION_TOO_LARGE: TooLarge}
+    return kinds.get(why.code, RecordError)(said)

@@ -1,0 +1,182 @@
+"""A PostgreSQL database, by `psycopg` (version 3).
+
+**Rule of a commit.** A function in the database locks the row with the version, so that one commit is made at a time,
+and refuses it where a key of a range that was read has a version above the one that was read. A key that is cleared
+stays as a row without a value, with the version that cleared it, so that a deletion shows as a write does. SERIALIZABLE
+would not do: it lets a transaction commit after one that overwrote what it has read, since it may order the two the
+other way round.
+
+Reads are made in a transaction of PostgreSQL's own (REPEATABLE READ), whose snapshot has the version's row and the
+pairs of that version.
+"""
+from __future__ import annotations
+
+import threading
+from collections.abc import Sequence
+from typing import Any
+
+import psycopg
+
+from ..engine import page_of, read_of
+from ..errors import Conflict, TooOld, Unavailable, Unknown
+from ..form import Mutation, Read, Want
+
+Connection = psycopg.Connection[Any]
+COMMITTED, NEWER, SWEPT = 0, 1, 2
+KEPT, SWEEP_EACH = 10_000, 1000
+
+TABLES = """
+create table if not exists record_pairs(key bytea primary key, value bytea, version bigint not null);
+create table if not exists record_clock(one int primary key check (one = 1), version bigint not null,
+    swept bigint not null);
+insert into record_clock values (1, 0, 0) on conflict do nothing;
+
+create or replace function record_added(value bytea, operand bytea) returns bytea language plpgsql immutable as $$
+declare
+    carry int := 0;
+    total int;
+    sum bytea := operand;
+begin
+    for place in 0 .. length(operand) - 1 loop
+        total := get_byte(operand, place) + carry;
+        if place < length(coalesce(value, '')) then
+            total := total + get_byte(value, place);
+        end if;
+        sum := set_byte(sum, place, total % 256);
+        carry := total / 256;
+    end loop;
+    return sum;
+end $$;
+
+create or replace function record_commit(read_version bigint, begins bytea[], ends bytea[], kinds int[], firsts bytea[],
+    seconds bytea[], sweep_each bigint, kept bigint, out told int, out made bigint) language plpgsql as $$
+declare
+    sweeps bigint;
+    value_there bytea;
+begin
+    select version, swept into made, sweeps from record_clock for update;
+    if sweeps > read_version then
+        told := 2;
+        return;
+    end if;
+    if exists (select 1 from unnest(begins, ends) as r(b, e) where exists
+        (select 1 from record_pairs where key >= r.b and key < r.e and version > read_version)) then
+        told := 1;
+        return;
+    end if;
+    made := made + 1;
+    for place in 1 .. coalesce(array_length(kinds, 1), 0) loop
+        if kinds[place] = 1 then
+            update record_pairs set value = null, version = made
+                where key >= firsts[place] and key < seconds[place] and value is not null;
+        else
+            value_there := seconds[place];
+            if kinds[place] = 2 then
+                select value into value_there from record_pairs where key = firsts[place];
+                value_there := record_added(value_there, seconds[place]);
+            end if;
+            insert into record_pairs values (firsts[place], value_there, made)
+                on conflict (key) do update set value = excluded.value, version = excluded.version;
+        end if;
+    end loop;
+    if made % sweep_each = 0 and made > kept then
+        delete from record_pairs where value is null and version <= made - kept;
+        sweeps := greatest(sweeps, made - kept);
+    end if;
+    update record_clock set version = made, swept = sweeps;
+    told := 0;
+end $$;
+"""
+READ = "select key, value from record_pairs where key >= %s and key < %s and value is not null order by key {} limit %s"
+COMMIT = "select told, made from record_commit(%s, %s, %s, %s, %s, %s, %s, %s)"
+
+
+class Postgres:
+    """A PostgreSQL database, by a connection string of libpq. Its tables are made where they aren't there."""
+
+    def __init__(self, conninfo: str, sweep_each: int = SWEEP_EACH, kept: int = KEPT) -> None:
+        self.conninfo, self.sweep_each, self.kept = conninfo, sweep_each, kept
+        self.lock = threading.Lock()
+        self.free: list[Connection] = []
+        with self.connected() as connection:
+            connection.execute("begin")
+            connection.execute("select pg_advisory_xact_lock(7263)")  # one process at a time makes the tables
+            connection.execute(TABLES)
+            connection.execute("commit")
+
+    def connected(self) -> Connection:
+        """A connection for one transaction at a time."""
+        try:
+            return psycopg.connect(self.conninfo, autocommit=True)
+        except psycopg.OperationalError as why:
+            raise Unavailable(str(why)) from why
+
+    def begin(self, wants: Sequence[Want]) -> tuple[PostgresSnapshot, list[Read]]:
+        with self.lock:
+            connection = self.free.pop() if self.free else None
+        snapshot = PostgresSnapshot(self, connection or self.connected())
+        return snapshot, snapshot.begin(wants)
+
+    def give_back(self, connection: Connection) -> None:
+        """Takes back a connection that no transaction uses any more."""
+        if connection.closed or connection.broken:
+            return
+        with self.lock:
+            self.free.append(connection)
+
+    def close(self) -> None:
+        with self.lock:
+            while self.free:
+                self.free.pop().close()
+
+
+class PostgresSnapshot:
+    """A version of a PostgreSQL database: a read transaction of PostgreSQL's own."""
+
+    def __init__(self, engine: Postgres, connection: Connection) -> None:
+        self.engine, self.connection, self.version, self.is_open = engine, connection, -1, True
+
+    def begin(self, wants: Sequence[Want]) -> list[Read]:
+        """Begins to read, in one round trip with the first reads."""
+        with self.connection.pipeline():
+            self.connection.execute("begin isolation level repeatable read read only")
+            clock = self.connection.execute("select version from record_clock")
+            asked = self.asked(wants)
+        self.version = int(clock.fetchall()[0][0])
+        return [read_of(want, page_of(want), cursor.fetchall()) for want, cursor in zip(wants, asked)]
+
+    def asked(self, wants: Sequence[Want]) -> list[psycopg.Cursor[Any]]:
+        """Sends a read of a beginning of each range."""
+        return [self.connection.execute(READ.format("desc" if want.reverse else "asc"),
+                                        (want.begin, want.end, page_of(want)), binary=True) for want in wants]
+
+    def read(self, wants: Sequence[Want]) -> list[Read]:
+        with self.connection.pipeline():
+            asked = self.asked(wants)
+        return [read_of(want, page_of(want), cursor.fetchall()) for want, cursor in zip(wants, asked)]
+
+    def commit(self, reads: Sequence[tuple[bytes, bytes]], mutations: Sequence[Mutation],
+               known: dict[bytes, bytes]) -> int:
+        columns = [list(it) for it in zip(*mutations)] or [[], [], []]
+        ranges = [[begin for begin, _ in reads], [end for _, end in reads]]
+        given = (self.version, *ranges, *columns, self.engine.sweep_each, self.engine.kept)
+        try:
+            with self.connection.pipeline():
+                self.connection.execute("rollback")  # ends the reads
+                cursor = self.connection.execute(COMMIT, given)
+            told, version = cursor.fetchall()[0]
+        except psycopg.OperationalError as why:
+            raise Unknown(str(why)) from why
+        if told == NEWER:
+            raise Conflict("another transaction wrote what was read")
+        if told == SWEPT:
+            raise TooOld("the version was read too long ago")
+        return int(version)
+
+    def close(self) -> None:
+        if not self.is_open:
+            return
+        self.is_open, connection = False, self.connection
+        if not connection.closed and connection.info.transaction_status != psycopg.pq.TransactionStatus.IDLE:
+            connection.execute("rollback")
+        self.engine.give_back(connection)

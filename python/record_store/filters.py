@@ -1,0 +1,66 @@
+"""Filters of queries, written as comparisons of fields: `(field("author") == "Austen") & (field("copies") > 2)`."""
+from __future__ import annotations
+
+from typing import Any
+
+from .schema import Cell, cell_json
+
+
+class Filter:
+    """What a query's records are to meet: `&`, `|` and `~` put filters together."""
+
+    def __init__(self, *parts: Any) -> None:
+        self.parts = parts
+
+    def json(self) -> list[Any]:
+        """The filter as the record layer reads it."""
+        return [it.json() if isinstance(it, Filter) else it for it in self.parts]
+
+    def __and__(self, other: Filter) -> Filter:
+        return Filter("and", self, other)
+
+    def __or__(self, other: Filter) -> Filter:
+        return Filter("or", self, other)
+
+    def __invert__(self) -> Filter:
+        return Filter("not", self)
+
+
+class Field:
+    """A field of a record type. None is equal to nothing, and neither less nor greater: ask `is_none`."""
+
+    __hash__ = object.__hash__
+
+    def __init__(self, name: str) -> None:
+        self.name = name
+
+    def __eq__(self, value: Cell) -> Filter:  # type: ignore[override]
+        return Filter("=", self.name, cell_json(value))
+
+    def __ne__(self, value: Cell) -> Filter:  # type: ignore[override]
+        return Filter("!=", self.name, cell_json(value))
+
+    def __lt__(self, value: Cell) -> Filter:
+        return Filter("<", self.name, cell_json(value))
+
+    def __le__(self, value: Cell) -> Filter:
+        return Filter("<=", self.name, cell_json(value))
+
+    def __gt__(self, value: Cell) -> Filter:
+        return Filter(">", self.name, cell_json(value))
+
+    def __ge__(self, value: Cell) -> Filter:
+        return Filter(">=", self.name, cell_json(value))
+
+    def starts_with(self, value: str | bytes) -> Filter:
+        """The text or the bytes begin so."""
+        return Filter("starts", self.name, cell_json(value))
+
+    def is_none(self) -> Filter:
+        """The field is None."""
+        return Filter("null", self.name)
+
+
+def field(name: str) -> Field:
+    """The field of this name."""
+    return Field(name)

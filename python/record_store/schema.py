@@ -1,0 +1,151 @@
+"""Types of records and indexes over them, and the values of fields as the record layer writes them."""
+from __future__ import annotations
+
+import json
+from collections.abc import Iterable, Mapping, Sequence
+from dataclasses import dataclass
+from typing import Any, Union
+
+from .errors import RecordError, UnknownIndex, UnknownType
+from .tuples import unpacked
+
+Cell = Union[None, int, str, bytes]
+Record = dict[str, Cell]
+KINDS = {int: "int", str: "text", bytes: "bytes"}
+KIND_NUMBERS = {1: int, 2: str, 3: bytes}
+INDEX_KINDS = {1: "value", 2: "count", 3: "sum"}
+
+
+def names(given: str | Iterable[str]) -> list[str]:
+    """A list of names, of which a single one may be given by itself."""
+    return [given] if isinstance(given, str) else list(given)
+
+
+def cell_json(cell: Cell) -> Any:
+    """A value as the record layer reads it."""
+    if isinstance(cell, (bytes, bytearray, memoryview)):
+        return {"hex": bytes(cell).hex()}
+    if cell is None or isinstance(cell, str) or isinstance(cell, int) and not isinstance(cell, bool):
+        return cell
+    raise TypeError(f"a field has an int, a str, bytes or None, and not {type(cell).__name__}")
+
+
+def cell_of(value: Any) -> Cell:
+    """A value as the record layer writes it."""
+    return bytes.fromhex(value["hex"]) if isinstance(value, dict) else value
+
+
+@dataclass(frozen=True)
+class RecordType:
+    """A type of records: its fields by name, each of int, str or bytes, and the fields of its key."""
+
+    name: str
+    fields: Mapping[str, type]
+    key: str | Sequence[str]
+
+    def json(self) -> dict[str, Any]:
+        """The type as the record layer reads it."""
+        fields = [[name, KINDS[kind]] for name, kind in self.fields.items()]
+        return {"name": self.name, "fields": fields, "key": names(self.key)}
+
+    def cells(self, record: Mapping[str, Cell]) -> list[Any]:
+        """A record's values in the order of the fields. A field that isn't there is None."""
+        if unknown := record.keys() - self.fields.keys():
+            raise KeyError(f"{self.name} has no field {', '.join(sorted(unknown))}")
+        return [cell_json(record.get(name)) for name in self.fields]
+
+    def key_cells(self, key: Mapping[str, Cell] | Sequence[Cell] | Cell) -> list[Any]:
+        """The values of a key, which is given as a mapping, as a sequence, or as the only value."""
+        if isinstance(key, Mapping):
+            return [cell_json(key[name]) for name in names(self.key)]
+        return [cell_json(it) for it in (key if isinstance(key, (list, tuple)) else [key])]
+
+    def record(self, cells: Sequence[Any]) -> Record:
+        """The record of these values."""
+        return dict(zip(self.fields, map(cell_of, cells)))
+
+
+@dataclass(frozen=True)
+class Index:
+    """An index over a type: of the kind value, count or sum, with its columns; of a sum, the summed field."""
+
+    name: str
+    type: str
+    columns: str | Sequence[str]
+    kind: str = "value"
+    summed: str | None = None
+
+    def json(self) -> dict[str, Any]:
+        """The index as the record layer reads it."""
+        made = {"name": self.name, "kind": self.kind, "type": self.type, "columns": names(self.columns)}
+        return made | ({"summed": self.summed} if self.summed is not None else {})
+
+    def group_cells(self, group: Mapping[str, Cell]) -> list[Any]:
+        """The values of the columns."""
+        return [cell_json(group[name]) for name in names(self.columns)]
+
+
+def value_index(name: str, record_type: str, *columns: str) -> Index:
+    """An index of the records by these columns."""
+    return Index(name, record_type, columns)
+
+
+def count_index(name: str, record_type: str, *columns: str) -> Index:
+    """How many records there are in each group of records with the same columns."""
+    return Index(name, record_type, columns, "count")
+
+
+def sum_index(name: str, record_type: str, *columns: str, summed: str) -> Index:
+    """What a field of the records sums up to, in each group of records with the same columns."""
+    return Index(name, record_type, columns, "sum", summed)
+
+
+class Schema:
+    """Types of records, and indexes over them."""
+
+    def __init__(self, types: Iterable[RecordType], indexes: Iterable[Index] = ()) -> None:
+        self.types = {it.name: it for it in types}
+        self.indexes = {it.name: it for it in indexes}
+
+    def json(self) -> dict[str, Any]:
+        """The schema as the record layer reads it."""
+        return {"types": [it.json() for it in self.types.values()],
+                "indexes": [it.json() for it in self.indexes.values()]}
+
+    def type(self, name: str) -> RecordType:
+        """The type of this name."""
+        if name not in self.types:
+            raise UnknownType(UnknownType.__doc__)
+        return self.types[name]
+
+    def index(self, name: str) -> Index:
+        """The index of this name."""
+        if name not in self.indexes:
+            raise UnknownIndex(UnknownIndex.__doc__)
+        return self.indexes[name]
+
+    @staticmethod
+    def of_bytes(data: bytes) -> Schema:
+        """The schema that a store keeps in these bytes."""
+        form, _, _, types, indexes = unpacked(data)
+        if form != 1:
+            raise RecordError(f"a schema of the form {form}")
+        made = {}
+        for number, name, fields, key in types:
+            fields = {field: KIND_NUMBERS[kind] for field, kind in fields}
+            made[number] = RecordType(name, fields, [list(fields)[place] for place in key])
+        return Schema(made.values(), [index_of(made, *it) for it in indexes])
+
+
+def index_of(types: Mapping[int, RecordType], _: int, name: str, kind: int, type_number: int,
+             columns: Sequence[int], summed: int | None) -> Index:
+    """The index that a schema's bytes tell of."""
+    owner = types[type_number]
+    fields = list(owner.fields)
+    return Index(name, owner.name, [fields[it] for it in columns], INDEX_KINDS[kind],
+                 None if summed is None else fields[summed])
+
+
+def compact(value: Any) -> str:
+    """A value as JSON without blanks."""
+    return json.dumps(value, separators=(",", ":"))

@@ -1,0 +1,79 @@
+"""Stands in for FoundationDB's binding, over memory: what of its documented interface the engine for it calls.
+
+It shows that the engine's calls go together, and nothing of FoundationDB.
+"""
+from collections import namedtuple
+from types import SimpleNamespace
+
+from record_store.engines.memory import Memory
+from record_store.errors import Conflict
+from record_store.form import ADD, CLEAR, SET, Mutation, Want
+
+MANY = 1 << 20
+NOT_COMMITTED = 1020
+KeyValue = namedtuple("KeyValue", "key value")
+
+
+class FDBError(Exception):
+    """An error by its code."""
+
+    def __init__(self, code):
+        super().__init__(code)
+        self.code, self.description = code, "not_committed"
+
+
+class Future:
+    """What comes of a call, once it is waited for."""
+
+    def __init__(self, call):
+        self.wait = call
+
+
+class Transaction:
+    """A transaction, whose reads are snapshot reads alone."""
+
+    def __init__(self, memory):
+        self.under, _ = memory.begin([])
+        self.conflicts, self.mutations, self.version = [], [], None
+        self.snapshot = SimpleNamespace(get_range=self.get_range)
+
+    def get_read_version(self):
+        return Future(lambda: self.under.version)
+
+    def get_range(self, begin, end, limit=0, reverse=False):
+        pairs = self.under.read([Want(begin, end, limit or MANY, reverse)])[0].pairs
+        return iter([KeyValue(*it) for it in pairs][:limit or None])
+
+    def add_read_conflict_range(self, begin, end):
+        self.conflicts.append((begin, end))
+
+    def set(self, key, value):
+        self.mutations.append(Mutation(SET, key, value))
+
+    def clear_range(self, begin, end):
+        self.mutations.append(Mutation(CLEAR, begin, end))
+
+    def add(self, key, param):
+        self.mutations.append(Mutation(ADD, key, param))
+
+    def commit(self):
+        return Future(self.committed)
+
+    def committed(self):
+        try:
+            self.version = self.under.commit(self.conflicts, self.mutations, {})
+        except Conflict as why:
+            raise FDBError(NOT_COMMITTED) from why
+
+    def get_committed_version(self):
+        return self.version
+
+    def cancel(self):
+        self.under.close()
+
+
+def module():
+    """A module that stands in for `fdb`, over a database of its own."""
+    memory = Memory()
+    database = SimpleNamespace(create_transaction=lambda: Transaction(memory))
+    return SimpleNamespace(api_version=lambda version: None, open=lambda cluster_file: database, FDBError=FDBError)

@@ -1,0 +1,122 @@
+"""The calls of the Python package, in one transaction after another: each row a call, and what it answers or raises."""
+from record_store import Corrupt, Database, RecordError, RecordType, Refused, Schema, errors
+from record_store import count_index, field, sum_index, value_index
+from record_store.form import SET, Mutation
+from record_store.library import BadCommand, drive
+from record_store.transaction import SCHEMA_KEY
+
+BOOK = RecordType("book", {"title": str, "author": str, "copies": int, "cover": bytes}, "title")
+LOAN = RecordType("loan", {"title": str, "day": int, "who": str}, ("title", "day"))
+TAG = RecordType("tag", {"word": str}, "word")
+BOOKS = Schema([BOOK, LOAN], [value_index("by_author", "book", "author"), count_index("books", "book"),
+                              sum_index("copies_of", "book", "author", summed="copies")])
+EMMA = {"title": "Emma", "author": "Austen", "copies": 3, "cover": b"\x00\xff"}
+PERSUASION = {"title": "Persuasion", "author": "Austen", "copies": -1, "cover": None}
+ROMOLA = {"title": "Romola \u2603", "author": None, "copies": 2**63 - 1, "cover": b""}
+LENT = {"title": "Emma", "day": 7, "who": "x"}
+AUSTEN, COPIES = field("author") == "Austen", field("copies")
+
+
+def titles(tx, *query, **how):
+    return [it["title"] for it in tx.query("book", *query, **how)]
+
+
+# a call in a transaction of its own, and what it answers, or the error that it raises
+ROWS = [
+    (lambda tx: tx.save("book", EMMA), None),
+    (lambda tx: tx.save_each("book", [PERSUASION, ROMOLA, EMMA | {"copies": 4}]), [None, None, EMMA]),
+    (lambda tx: tx.save("book", {"title": "Silas Marner", "author": "Eliot"}), None),
+    (lambda tx: tx.load("book", "Silas Marner"), {"title": "Silas Marner", "author": "Eliot", "copies": None,
+                                                  "cover": None}),
+    (lambda tx: tx.load_each("book", ["Persuasion", "gone", ("Romola \u2603",), {"title": "Emma"}]),
+     [PERSUASION, None, ROMOLA, EMMA | {"copies": 4}]),
+    (lambda tx: [tx.save("loan", LENT), tx.load("loan", ("Emma", 7)), tx.load("loan", {"day": 8, "title": "Emma"})],
+     [None, LENT, None]),
+    (lambda tx: titles(tx, AUSTEN), ["Emma", "Persuasion"]),
+    (lambda tx: titles(tx, AUSTEN & (COPIES > 0)), ["Emma"]),
+    (lambda tx: titles(tx, (COPIES >= 4) & (COPIES <= 4) | ~(field("author") != "Eliot") & (field("author") < "F")),
+     ["Emma", "Silas Marner"]),
+    (lambda tx: titles(tx, field("title").starts_with("R") | (COPIES < 0)), ["Persuasion", "Romola \u2603"]),
+    (lambda tx: titles(tx, field("author").is_none()), ["Romola \u2603"]),
+    (lambda tx: titles(tx, field("cover") == b"\x00\xff"), ["Emma"]),
+    (lambda tx: titles(tx, ["=", "author", "Eliot"]), ["Silas Marner"]),
+    (lambda tx: titles(tx, sort="title", reverse=True), ["Silas Marner", "Romola \u2603", "Persuasion", "Emma"]),
+    (lambda tx: tx.explain("book", AUSTEN).split("(")[:2], ["Fetch", "IndexScan"]),
+    (lambda tx: [tx.aggregate("copies_of", author=it) for it in ("Austen", None, "nobody")], [3, 2**63 - 1, 0]),
+    (lambda tx: tx.aggregate("books"), 4),
+    (lambda tx: [tx.remove("book", "Persuasion"), tx.remove("book", "Persuasion"), tx.aggregate("books")],
+     [True, False, 3]),
+    (lambda tx: tx.add_index(value_index("by_copies", "book", "copies")), "disabled"),
+    (lambda tx: [tx.make_write_only("by_copies"), tx.state("by_copies")], [None, "write-only"]),
+    (lambda tx: tx.make_readable("by_copies"), errors.NotBuilt),
+    (lambda tx: tx.build_step("by_copies", 2), (2, False)),
+    (lambda tx: [tx.build_step("by_copies").records, tx.build_step("by_copies"), tx.make_readable("by_copies")],
+     [1, (0, True), None]),
+    (lambda tx: [tx.disable_index("by_copies"), tx.state("by_copies"), tx.drop_index("by_copies")],
+     [None, "disabled", None]),
+    (lambda tx: tx.state("by_copies"), errors.UnknownIndex),
+    (lambda tx: [tx.add_type(TAG), tx.save("tag", {"word": "new"}), tx.load("tag", "new"), sorted(tx.schema.types)],
+     [None, None, {"word": "new"}, ["book", "loan", "tag"]]),
+    (lambda tx: tx.create(BOOKS), errors.AlreadyThere),
+    (lambda tx: tx.save("film", {}), errors.UnknownType),
+    (lambda tx: tx.save("book", {"title": None}), errors.NullKey),
+    (lambda tx: tx.save("book", {"title": 7}), errors.WrongKind),
+    (lambda tx: tx.save("book", {"titel": "x"}), KeyError),
+    (lambda tx: tx.save("book", {"title": 1.5}), TypeError),
+    (lambda tx: tx.save("book", {"title": "x", "copies": 2**63}), BadCommand),
+    (lambda tx: titles(tx, sort="copies"), errors.SortNotServed),
+    (lambda tx: titles(tx, sort=["title", "title"]), errors.SortTwice),
+    (lambda tx: titles(tx, field("gone") == 1), errors.UnknownField),
+    (lambda tx: tx.aggregate("by_author", author="x"), errors.NotAggregate),
+    (lambda tx: tx.save("book", EMMA | {"cover": bytes(100_001)}), errors.ValueTooLarge),
+    (lambda tx: tx.save("book", EMMA | {"title": "x" * 10_001}), errors.KeyTooLarge),
+    (lambda tx: tx.build_step("books", 0), errors.BadLimit),
+    (lambda tx: titles(tx), ["Emma", "Romola \u2603", "Silas Marner"]),
+]
+
+
+def outcome(database, body):
+    """What a call answers, or the type of what it raises."""
+    try:
+        return database.transact(body)
+    except Exception as why:
+        return type(why)
+
+
+def retried(database):
+    """How often a body is run where another transaction writes what it reads, at its first two attempts."""
+    runs = []
+
+    def body(tx):
+        runs.append(tx.load("book", "Emma")["copies"])
+        if len(runs) < 3:
+            database.transact(lambda other: other.save("book", EMMA | {"copies": 10 * len(runs)}))
+        tx.save("book", EMMA | {"copies": runs[-1] + 1})
+
+    database.transact(body)
+    return runs, database.transact(lambda tx: tx.load("book", "Emma")["copies"])
+
+
+def wrong_calls(engine):
+    """What of the package's calls isn't as it is said to be."""
+    if outcome(Database(engine), lambda tx: tx.state("any")) is not errors.NoStore:
+        yield "there is a store before one is made"
+    database = Database(engine, BOOKS)
+    if database.make(BOOKS) or sorted(database.transact(lambda tx: tx.schema).types) != ["book", "loan"]:
+        yield "the store isn't that of the schema"
+    for number, (body, wanted) in enumerate(ROWS, 1):
+        if (told := outcome(database, body)) != wanted:
+            yield f"row {number}: {told}, and not {wanted}"
+    if retried(database) != ([4, 10, 20], 21):
+        yield "a body that conflicts isn't run again as it should be"
+    if not all(issubclass(it, Refused) and it.__doc__ for it in errors.REFUSALS.values()):
+        yield "a refusal has no words"
+    snapshot, _ = engine.begin([])
+    snapshot.commit([], [Mutation(SET, SCHEMA_KEY, b"\x15\x02")], {})
+    snapshot.close()
+    if outcome(database, lambda tx: tx.perform(("state", "any"))) != [f"refused Corrupt {SCHEMA_KEY.hex()}"]:
+        yield "damage isn't told"
+    if outcome(database, lambda tx: tx.ask("state", "any")) is not Corrupt:
+        yield "damage isn't raised"
+    if outcome(database, lambda tx: drive(b"\x02")) is not RecordError:
+        yield "bytes of another form are taken"

@@ -1,0 +1,165 @@
+"""The rule of a commit, tried on an engine: where others wrote what was read, the commit is refused.
+
+Each row has the pairs that there are, what a transaction reads, what another one commits after that, and whether the
+first one may commit then. The ones that an engine is likely to get wrong: a deletion in a range that was read, a new
+key in one where nothing was found, two transactions of which each writes what the other reads, and one that overwrites
+what the other read and commits first.
+"""
+from record_store.errors import Conflict
+from record_store.form import ADD, CLEAR, SET, Mutation, Want
+
+MANY = 1 << 20
+ONE, TWO = (1).to_bytes(8, "little"), (2).to_bytes(8, "little")
+LESS = (2**64 - 1).to_bytes(8, "little")
+AA, AB, AC, B, C, Z = b"aa", b"ab", b"ac", b"b", b"c", b"z"
+THREE = [(AA, b"1"), (AB, b"2"), (AC, b"3")]
+
+
+def point(key):
+    return Want(key, key + b"\0", 1)
+
+
+def put(key, value=b"new"):
+    return Mutation(SET, key, value)
+
+
+def clear(begin, end):
+    return Mutation(CLEAR, begin, end)
+
+
+def add(key, operand=ONE):
+    return Mutation(ADD, key, operand)
+
+
+ALL = Want(b"a", b"b", MANY)
+# what a row shows, the pairs before, the read, what another one commits, and whether the reader may commit after that
+ROWS = [
+    ("a key that was there is written", THREE, point(AB), [put(AB)], False),
+    ("a key that was there is written anew with its value", THREE, point(AB), [put(AB, b"2")], False),
+    ("a key that was there is cleared", THREE, point(AB), [clear(AB, AB + b"\0")], False),
+    ("a key that was there is cleared and put again", THREE, point(AB), [clear(AB, AC), put(AB, b"2")], False),
+    ("a key that wasn't there is written", [], point(AB), [put(AB)], False),
+    ("a key that was there is added to", [(AB, ONE)], point(AB), [add(AB)], False),
+    ("a key that wasn't there is added to", [], point(AB), [add(AB)], False),
+    ("a key in a range is written", THREE, ALL, [put(AB)], False),
+    ("a key in a range is cleared", THREE, ALL, [clear(AB, AC)], False),
+    ("all keys in a range are cleared", THREE, ALL, [clear(b"a", b"b")], False),
+    ("a key comes into a range", THREE, ALL, [put(b"abc")], False),
+    ("a key comes into a range that was empty", [], ALL, [put(b"abc")], False),
+    ("the first key of a range is written", THREE, Want(AA, AC, MANY), [put(AA)], False),
+    ("the end of a range is written", THREE, Want(AA, AC, MANY), [put(AC)], True),
+    ("a key before a range is written", THREE, Want(AB, AC, MANY), [put(AA)], True),
+    ("keys outside a range are cleared", THREE, Want(AB, AC, MANY), [clear(AA, AB), clear(AC, B)], True),
+    ("a clear that finds nothing in a range", THREE, Want(B, Z, MANY), [clear(b"a", Z)], True),
+    ("a key next to one that was read is written", THREE, point(AB), [put(AB + b"\0"), put(AC)], True),
+    ("nothing that was read", THREE, point(C), [put(AA), add(B)], True),
+]
+# what a row shows, the value before, what two transactions write to one key that neither has read, and what stands then
+SUMS = [
+    ("two add where nothing is", None, [add(C)], [add(C)], TWO),
+    ("two add", ONE, [add(C)], [add(C, LESS)], ONE),
+    ("one puts, one adds", ONE, [put(C, TWO)], [add(C)], (3).to_bytes(8, "little")),
+    ("one adds, one clears and adds", TWO, [add(C)], [clear(B, Z), add(C)], ONE),
+    ("one adds, one adds, puts and adds", TWO, [add(C)], [add(C), put(C, ONE), add(C)], TWO),
+    ("a sum wraps", ONE, [add(C, LESS)], [add(C, LESS)], LESS),
+    ("a sum is as long as what is added", b"\xff\xff\xff", [add(C, b"\x01\x00")], [], b"\x00\x00"),
+    ("a short value is longer then", b"\xff", [add(C, b"\x01\x00")], [], b"\x00\x01"),
+]
+
+
+def committed(engine, mutations, reads=()):
+    """Commits writes in a transaction of their own."""
+    snapshot, found = engine.begin(reads)
+    known = {key: value for read in found for key, value in read.pairs}
+    try:
+        return snapshot.commit([(it.begin, it.end) for it in reads], mutations, known)
+    finally:
+        snapshot.close()
+
+
+def fill(engine, pairs):
+    """Leaves just these pairs."""
+    committed(engine, [clear(b"a", Z), *(put(*it) for it in pairs)])
+
+
+def value(engine, key):
+    """What stands at a key."""
+    snapshot, (read,) = engine.begin([point(key)])
+    snapshot.close()
+    return dict(read.pairs).get(key)
+
+
+def may_commit(engine, want, others):
+    """Whether a transaction that has read this may commit after another one has."""
+    snapshot, (read,) = engine.begin([want])
+    try:
+        committed(engine, others)
+        again = snapshot.read([want])
+        if again != [read]:
+            raise AssertionError(f"a snapshot changed from {read} to {again}")
+        snapshot.commit([(want.begin, want.end)], [put(Z + b"z")], dict(read.pairs))
+        return True
+    except Conflict:
+        return False
+    finally:
+        snapshot.close()
+
+
+def summed(engine, first, second):
+    """What stands at a key to which two write that haven't read it, or why the second one may not."""
+    older, _ = engine.begin([])
+    try:
+        committed(engine, first)
+        older.commit([], second, {})
+    except Conflict as why:
+        return repr(why)
+    finally:
+        older.close()
+    return value(engine, C)
+
+
+def skew(engine):
+    """Whether of two transactions that each write what the other reads just the first one commits."""
+    fill(engine, THREE)
+    pairs = [engine.begin([point(it)]) for it in (AA, AB)]
+    told = []
+    for (snapshot, (read,)), other in zip(pairs, (AB, AA)):
+        try:
+            snapshot.commit([(read.begin, read.end)], [put(other)], dict(read.pairs))
+            told.append(True)
+        except Conflict:
+            told.append(False)
+        finally:
+            snapshot.close()
+    return told
+
+
+def ordered(engine):
+    """What reads give of a range from either end, with a limit: the part that they cover, and the pairs in it."""
+    fill(engine, THREE)
+    wants = [Want(b"a", b"b", 2), Want(b"a", b"b", 2, True), Want(b"a", b"b", 9), Want(b"d", b"e", 1)]
+    snapshot, found = engine.begin(wants)
+    snapshot.close()
+    return [tuple(it) for it in found]
+
+
+ORDERED = [
+    (b"a", b"ab\0", THREE[:2]), (b"ab", b"b", [THREE[2], THREE[1]]), (b"a", b"b", THREE), (b"d", b"e", []),
+]
+
+
+def broken(engine):
+    """What of the rule an engine breaks."""
+    for shows, pairs, want, others, wanted in ROWS:
+        fill(engine, pairs)
+        if may_commit(engine, want, others) != wanted:
+            yield f"{shows}: the commit is {'refused' if wanted else 'made'}"
+    for shows, before, first, second, wanted in SUMS:
+        fill(engine, [] if before is None else [(C, before)])
+        found = summed(engine, first, second)
+        if found != wanted:
+            yield f"{shows}: {found}, and not {wanted}"
+    if skew(engine) != [True, False]:
+        yield "two that write what the other reads"
+    if ordered(engine) != ORDERED:
+        yield f"reads of a beginning: {ordered(engine)}"

@@ -1,0 +1,120 @@
+"""Scripts of `recordctl run`, carried out over an engine: each step's reply must be the program's.
+
+Versions are the engine's own, so they are left out of what is compared, and of a conflict the range. A commit is made
+where the script settles, in the order in which it was asked for. Scripts that go through the roles of the cluster step
+by step, that split its keys or have a small window tell of that cluster alone, and are left out; so is what `execute`
+replies, which is a plan that the program keeps.
+"""
+import json
+import os
+import re
+import subprocess
+import sys
+
+HERE = os.path.dirname(os.path.abspath(__file__))
+ROOT = os.path.dirname(os.path.dirname(HERE))
+sys.path += [os.path.join(ROOT, "tools", "program_tests"), os.path.join(ROOT, "python")]
+from cases import cases_in, example_cases
+from record_store.errors import Conflict
+from record_store.transaction import OPENING, Transaction
+
+ROLES = {"resolve", "log", "pull", "report", "lost"}
+CLIENTS = 16
+VERSIONS = re.compile(r"\b(begun|submitted|committed|conflict) \d+(?: [0-9a-f]*\.\.[0-9a-f]*)?")
+# more steps than this take minutes over a server
+LONG = 5000
+
+
+def compared(reply):
+    """What of a reply is compared."""
+    return VERSIONS.sub(r"\1", reply)
+
+
+def suited():
+    """The scripts that tell of no cluster of their own: what each shows, its steps, and the output that it wants."""
+    found = []
+    for case in [*cases_in(os.path.join(ROOT, "cases")), *example_cases(os.path.join(ROOT, "examples"))]:
+        if case.words[0] != "run" or case.status:
+            continue
+        text = case.given
+        if not text:
+            with open(case.words[1], "rb") as file:
+                text = file.read()
+        script = json.loads(text)
+        if not script.get("config") and not any(step[0] in ROLES for step in script["steps"]):
+            found.append((case.shows, script["steps"], text, case.output.decode()))
+    return found
+
+
+class Clients:
+    """The clients of a script, over an engine."""
+
+    def __init__(self, engine):
+        self.engine, self.open, self.submitted = engine, {}, []
+
+    def reply(self, step):
+        """What a step replies, or None where that isn't compared."""
+        name, client, *parts = [*step, None][:2] + step[2:]
+        if name == "settle":
+            return self.settle()
+        if client >= CLIENTS:
+            return "refused NoSuchClient"
+        if name == "begin":
+            return self.begin(client)
+        if client not in self.open:
+            return "refused NoTransaction"
+        if name == "execute":
+            return None
+        if name in ("commit", "abandon"):
+            return self.end(name, client)
+        return self.open[client].perform((name, *parts))[0]
+
+    def begin(self, client):
+        """Begins a transaction."""
+        if client in self.open:
+            return "refused Busy"
+        self.open[client] = Transaction(*self.engine.begin(OPENING))
+        return "begun"
+
+    def end(self, name, client):
+        """Submits a transaction, or drops it."""
+        tx = self.open.pop(client)
+        if name == "commit" and len(tx.written) > 4:
+            self.submitted.append((client, tx))
+            return "submitted"
+        tx.close()
+        return "read only" if name == "commit" else "ok"
+
+    def settle(self):
+        """Commits what was submitted."""
+        told = []
+        for client, tx in self.submitted:
+            try:
+                tx.commit()
+                told.append(f"client {client} committed")
+            except Conflict:
+                told.append(f"client {client} conflict")
+        self.submitted = []
+        return ", ".join(told) or "nothing"
+
+    def close(self):
+        """Ends all transactions."""
+        for tx in [*self.open.values(), *(tx for _, tx in self.submitted)]:
+            tx.close()
+
+
+def differences(engine, steps, wanted):
+    """The steps whose replies differ from a program's output, each with both."""
+    clients = Clients(engine)
+    try:
+        for number, (step, line) in enumerate(zip(steps, wanted.splitlines(), strict=True), 1):
+            told = clients.reply(step)
+            if told is not None and compared(told) != compared(line.partition(" ")[2]):
+                yield number, step, told, line
+    finally:
+        clients.close()
+
+
+def program_output(program, text):
+    """What the program prints of a script."""
+    return subprocess.run([program, "run"], input=text, capture_output=True, check=True).stdout.decode()
