@@ -47,3 +47,15 @@ next_of old new taken client told seen of is some by =
 pub none_of : (old new : List Knowledge) (taken : Option Knowledge) (told : Option Seen) →
     AreOf old told → old ≡ new ++ option_to_list taken → AreOf new None
 none_of old new taken told of is = record { name = of.name; named = (popped old new taken told of is).0; learnt = tt }
+
+-- two that are taken out, one after the other, are of one store
+pub both_of : (all mid last : List Knowledge) (first second : Option Knowledge) (one other : Knowledge) → AreOf all None →
+    all ≡ mid ++ option_to_list first → mid ≡ last ++ option_to_list second → first ≡ Some one → second ≡ Some other →
+    one.name ≡ other.name
+both_of all mid last first second one other of taken next is_one is_other =
+    let p = popped all mid first None of taken in
+    let rest : AreOf mid None = record { name = of.name; named = p.0; learnt = tt } in
+    let q = popped mid last second None rest next in
+    let named_one = subst (λ (o : Option Knowledge). IfSome o (λ (it : Knowledge). it.name ≡ of.name)) is_one p.1 in
+    let named_other = subst (λ (o : Option Knowledge). IfSome o (λ (it : Knowledge). it.name ≡ of.name)) is_other q.1 in
+    named_one ∙ sym named_other

@@ -1,7 +1,8 @@
 // Transactions written as scripts, and what is told of them in lines. Called by `beside` and
 // `in_turn`.
-ghost use Rattle.std.specs.Prelude.{◌≡◌, IfSome, Ok, Some};
+ghost use Rattle.std.specs.Prelude.{◌≡◌, IfSome, None, Ok, Some};
 ghost use Rattle.runtime.specs.Runs.{Continues};
+ghost use Rattle.thread_trials.specs.Turns.{AreOf};
 
 use cluster_core::Config;
 use metadata::Cells;
@@ -18,16 +19,33 @@ pub(crate) struct Told {
     pub(crate) seen: Option<Seen>,
 }
 
+/// The last two of the clients of a store.
+fn two_of<E: End>(clients: Vec<Client<E>>) -> Option<(Client<E>, Client<E>)>
+    requires { AreOf clients.items None }
+    ensures { IfSome result (λ it. it.0.name ≡ it.1.name) }
+{
+    let mut clients = clients;
+    let Some(one) = clients.pop() else {
+        return None;
+    };
+    let Some(other) = clients.pop() else {
+        return None;
+    };
+    Some((one, other))
+}
+
 /// Two clients of a new store.
 pub(crate) fn two_clients<R: Wait>(
     rt: &R,
     alloc: Global,
-) -> Option<(Client<Waits<&R>>, Client<Waits<&R>>)> {
+) -> Option<(Client<Waits<&R>>, Client<Waits<&R>>)>
+    ensures named { IfSome result (λ it. it.0.name ≡ it.1.name) }
+{
     let config = Config::single(alloc);
-    let mut clients = open(rt, alloc, Waits { rt }, &config).ok()?;
-    let one = clients.pop()?;
-    let other = clients.pop()?;
-    Some((one, other))
+    match open(rt, alloc, Waits { rt }, &config) {
+        Ok(clients) => two_of(clients),
+        Err(_) => None,
+    }
 }
 
 /// The command of a step; `execute` takes this plan.
@@ -188,15 +206,26 @@ fn seen_of(answer: Result<Done, CommitError>) -> Option<Seen>
     }
 }
 
-/// A text with more behind it.
+/// A text with more after it.
 pub(crate) fn joined(lines: Option<String>, more: Option<String>) -> Option<String> {
     let mut lines = lines?;
     lines.push_str(more?.as_str()).ok()?;
     Some(lines)
 }
 
+/// The lines of commands with what their commit is told after them, and what another client may
+/// learn of it.
+fn told_of(alloc: Global, lines: Option<String>, answer: Result<Done, CommitError>) -> Told
+    ensures { IfSome result.seen (λ it.
+        (version : _) × (answer ≡ Ok (Done.Committed version it))) }
+{
+    let lines = joined(lines, words_of(alloc, &answer));
+    let seen = seen_of(answer);
+    Told { lines, seen }
+}
+
 /// Performs these commands and commits: the lines that they reply with what the commit is told
-/// behind them, and what another client may learn of it.
+/// after them, and what another client may learn of it.
 pub(crate) fn over<E: End, R: Wait>(rt: &R, alloc: Global, tx: Txn<'_, E>, script: &str) -> Told
     ensures seen { (work : _) → tx.entry.client.now.begun ≡ Some work →
         IfSome result.seen (λ it. it.prefix.name ≡ tx.entry.client.now.name) }
@@ -204,9 +233,7 @@ pub(crate) fn over<E: End, R: Wait>(rt: &R, alloc: Global, tx: Txn<'_, E>, scrip
     let mut tx = tx;
     let lines = performed(alloc, &mut tx, script);
     let answer = tx.commit(rt);
-    let lines = joined(lines, words_of(alloc, &answer));
-    let seen = seen_of(answer);
-    Told { lines, seen }
+    told_of(alloc, lines, answer)
 }
 
 /// The same in a transaction that is begun for them.
@@ -216,13 +243,17 @@ pub(crate) fn alone<E: End, R: Wait>(
     client: &mut Client<E>,
     script: &str,
 ) -> Told
+    ensures same { client.new.name ≡ client.old.name }
     ensures seen { IfSome result.seen (λ it. it.prefix.name ≡ client.old.name) }
 {
-    match begin(client) {
-        Ok(tx) => over(rt, alloc, tx, script),
-        Err(_) => Told {
+    let Ok(tx) = begin(client) else {
+        return Told {
             lines: None,
             seen: None,
-        },
-    }
+        };
+    };
+    let mut tx = tx;
+    let lines = performed(alloc, &mut tx, script);
+    let answer = tx.commit(rt);
+    told_of(alloc, lines, answer)
 }
