@@ -14,7 +14,7 @@ const AHEAD: usize = 128;
 /// Of how many wants it is looked whether they are of such a record.
 const LOOKED_AT: usize = 16;
 
-/// What the keys of records and of index entries begin with behind the store's prefix.
+/// What the keys of records and of index entries begin with after the store's prefix.
 const RECORDS: u64 = 1;
 
 const ENTRIES: u64 = 2;
@@ -28,7 +28,7 @@ fn elements_of(alloc: Global, key: &Bytes) -> Result<Option<Vec<Element>>, Alloc
     }
 }
 
-/// Whether a tuple is that of a key under this number behind the prefix.
+/// Whether a tuple is that of a key under this number after the prefix.
 fn stands_under(elements: &[Element], number: u64) -> bool {
     match elements {
         [_, Element::Int(second), _, ..] => second.get() == i128::from(number),
@@ -36,7 +36,7 @@ fn stands_under(elements: &[Element], number: u64) -> bool {
     }
 }
 
-/// Packs elements behind bytes.
+/// Packs elements after bytes.
 fn pack_each(elements: &[Element], out: &mut Vec<u8>) -> Result<(), AllocError> {
     for element in elements {
         pack_element(element, out)?;

@@ -18,7 +18,7 @@ pub struct Want {
     pub reverse: bool,
 }
 
-/// What is left of a range behind its first keys that are covered, or None where all of it is.
+/// What is left of a range after its first keys that are covered, or None where all of it is.
 fn rest_forward(covered: &Coverage, range: &KeyRange) -> Result<Option<KeyRange>, AllocError>
     ensures some { IfOk result (λ rest. IfSome rest (IsUncoveredFrom covered.now false)) }
     ensures none { IfOk result (λ rest. IfNone rest (IsAllCovered covered.now range.now)) }

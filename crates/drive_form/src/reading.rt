@@ -46,7 +46,7 @@ impl<'a> Reader<'a> {
         Ok(u32::from_le_bytes(*first) as usize)
     }
 
-    /// The next byte string, behind its length.
+    /// The next byte string, after its length.
     pub(crate) fn bytes(&mut self, alloc: Global) -> Result<Bytes, FormError> {
         let count = self.count()?;
         let Some((first, rest)) = self.rest.split_at_checked(count) else {
