@@ -1,14 +1,14 @@
 -- What is left of a range beside the keys that are covered from one end on.
-use Rattle.std.proofs.Common.{◌≡◌, ℕ, ◌+◌, ◌<◌, List, [], ◌∷◌, ◌++◌, length, take, get_or, Bool, true, false, ◌&&◌, ◌||◌, inl, inr, Option, Some, None, sym, ap, subst, ◌∙◌}
-use Rattle.std.specs.Prelude.{IsTrue, IfSome, IfNone}
+use Rattle.std.proofs.Common.{◌≡◌, ℕ, ◌+◌, ◌<◌, List, [], ◌∷◌, ◌++◌, length, take, get_or, Bool, true, false, ◌&&◌, ◌||◌, inl, inr, Option, Some, None, refl, sym, ap, subst, ◌∙◌}
+use Rattle.std.specs.Prelude.{Contains, IsTrue, IfSome, IfNone}
 use Rattle.std.specs.List.{AllByRecursion, list_any}
-use Rattle.std.proofs.lemmas.Bool.{and_from, and_parts, or_cases, false≢true, true≢false}
+use Rattle.std.proofs.lemmas.Bool.{and_from, and_parts, or_cases, or_left, or_right, false≢true, true≢false}
 use Rattle.std.proofs.lemmas.List.{take_more}
 use Rattle.std.proofs.lemmas.List.Folds.{list_any-append}
 use Rattle.kv_core.specs.Bytes.{key_le, key_lt, end_of_keys}
 use Rattle.kv_core.specs.Range.{KeyRange, contains, covers, is_key_range}
 use Rattle.kv_core.proofs.Order.{le_from, le_from_lt, le_trans, lt_le_trans}
-use Rattle.drive.specs.Driving.{AreWithin, IsAllCovered}
+use Rattle.drive.specs.Driving.{AreWithin, IsAllCovered, IsRemainder, IsNeeded, IsUncoveredFrom}
 use Rattle.drive.specs.declared.wanted.Want.{Want}
 
 -- nothing is left where the keys from its begin on are covered up to its end
@@ -74,3 +74,92 @@ some_made (Some found) made P is so = subst P (sym is) so
 pub when_none : (found : Option Want) (P : Type 0) → IfNone found P → found ≡ None → P
 when_none None P is same = is
 when_none (Some found) P is same = absurd (cc)
+
+-- what is left of a range after its first keys
+pub left_forward : (covered : List KeyRange) (range : KeyRange) (place e : List ℕ) → e ≡ range.end → IsTrue (key_le range.begin place) →
+    ((q : List ℕ) → IsTrue (key_le range.begin q) → IsTrue (key_lt q place) → IsTrue (covers covered q)) → IsRemainder covered range (record { begin = place; end = e })
+left_forward covered range place e same from are = subst (λ x. IsRemainder covered range (record { begin = place; end = x })) (sym same) base
+  where
+    by_test : (key : List ℕ) → IsTrue (key_le range.begin key) → IsTrue (key_lt key range.end) → (b : Bool) → key_lt key place ≡ b → ((key_le place key && key_lt key range.end) || covers covered key) ≡ true
+    by_test key after before true below = or_right (key_le place key && key_lt key range.end) (covers covered key) (are key after below)
+    by_test key after before false here = or_left (key_le place key && key_lt key range.end) (covers covered key) (and_from (key_le place key) (key_lt key range.end) (le_from place key here) before)
+
+    base : IsRemainder covered range (record { begin = place; end = range.end })
+    base = record {
+      within = λ key inside.
+          let parts = and_parts (key_le place key) (key_lt key range.end) inside in
+          and_from (key_le range.begin key) (key_lt key range.end) (le_trans range.begin place key from parts.0) parts.1;
+      others = λ key inside.
+          let parts = and_parts (key_le range.begin key) (key_lt key range.end) inside in
+          by_test key parts.0 parts.1 (key_lt key place) refl;
+    }
+
+-- and before its last ones
+pub left_reverse : (covered : List KeyRange) (range : KeyRange) (b place : List ℕ) → b ≡ range.begin → IsTrue (key_le place range.end) →
+    ((q : List ℕ) → IsTrue (key_le place q) → IsTrue (key_lt q range.end) → IsTrue (covers covered q)) → IsRemainder covered range (record { begin = b; end = place })
+left_reverse covered range b place same upto are = subst (λ x. IsRemainder covered range (record { begin = x; end = place })) (sym same) base
+  where
+    by_test : (key : List ℕ) → IsTrue (key_le range.begin key) → IsTrue (key_lt key range.end) → (b : Bool) → key_lt key place ≡ b → ((key_le range.begin key && key_lt key place) || covers covered key) ≡ true
+    by_test key after before true below = or_left (key_le range.begin key && key_lt key place) (covers covered key) (and_from (key_le range.begin key) (key_lt key place) after below)
+    by_test key after before false here = or_right (key_le range.begin key && key_lt key place) (covers covered key) (are key (le_from place key here) before)
+
+    base : IsRemainder covered range (record { begin = range.begin; end = place })
+    base = record {
+      within = λ key inside.
+          let parts = and_parts (key_le range.begin key) (key_lt key place) inside in
+          and_from (key_le range.begin key) (key_lt key range.end) parts.0 (lt_le_trans key place range.end parts.1 upto);
+      others = λ key inside.
+          let parts = and_parts (key_le range.begin key) (key_lt key range.end) inside in
+          by_test key parts.0 parts.1 (key_lt key place) refl;
+    }
+
+-- what is left of what is left
+pub left_left : (covered : List KeyRange) (range part rest : KeyRange) → IsRemainder covered range part → IsRemainder covered part rest → IsRemainder covered range rest
+left_left covered range part rest first then = record {
+  within = λ key inside. first.within key (then.within key inside);
+  others = λ key inside. elim (or_cases (contains part key) (covers covered key) (first.others key inside)) [
+    | inl here ↦ then.others key here
+    | inr there ↦ or_right (contains rest key) (covers covered key) there
+  ];
+}
+
+-- nothing is left of a range of which nothing is left in the part that was left
+pub left_none : (covered : List KeyRange) (range part : KeyRange) → IsRemainder covered range part → IsAllCovered covered part → IsAllCovered covered range
+left_none covered range part first all key inside = elim (or_cases (contains part key) (covers covered key) (first.others key inside)) [
+  | inl here ↦ all key here
+  | inr there ↦ there
+]
+
+-- what is left of a range that was read is needed
+pub needed_of : (covered reads : List KeyRange) (read rest : KeyRange) → Contains reads read → IsRemainder covered read rest → IsUncoveredFrom covered true rest → IsNeeded covered reads rest
+needed_of covered reads read rest among left from = (
+  read,
+  among,
+  (λ all.
+      let found = from.1 rest.begin from.0 in
+      false≢true (sym found.3 ∙ all found.0 (left.within found.0 (and_from (key_le rest.begin found.0) (key_lt found.0 rest.end) found.1 found.2)))),
+  left.others,
+)
+
+-- and so is what has all its keys
+pub needed_whole : (covered reads : List KeyRange) (rest want : KeyRange) → ((key : List ℕ) → IsTrue (contains rest key) → IsTrue (contains want key)) → IsNeeded covered reads rest → IsNeeded covered reads want
+needed_whole covered reads rest want has (read, among, open_still, others) = (
+  read,
+  among,
+  open_still,
+  λ key inside. elim (or_cases (contains rest key) (covers covered key) (others key inside)) [
+    | inl here ↦ or_left (contains want key) (covers covered key) (has key here)
+    | inr there ↦ or_right (contains want key) (covers covered key) there
+  ],
+)
+
+-- a range that begins no later and ends no earlier has all keys
+pub larger_has : (range other : KeyRange) → key_le other.begin range.begin ≡ true → key_le range.end other.end ≡ true → (key : List ℕ) → IsTrue (contains range key) → IsTrue (contains other key)
+larger_has range other below above key inside =
+    let parts = and_parts (key_le range.begin key) (key_lt key range.end) inside in
+    and_from (key_le other.begin key) (key_lt key other.end) (le_trans other.begin range.begin key below parts.0) (lt_le_trans key range.end other.end parts.1 above)
+
+-- what is so of what is found is so of it
+pub when_some : (found : Option Want) (first : Want) (P : Want → Type 0) → IfSome found P → found ≡ Some first → P first
+when_some None first P is same = absurd (cc)
+when_some (Some other) first P is same = let found : other ≡ first = cc in subst P found is

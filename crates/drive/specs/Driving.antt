@@ -1,5 +1,5 @@
 -- What commands come to that a host has performed over what it read of a database of its own.
-use Rattle.std.specs.Prelude.{◌≡◌, ℕ, Bool, true, false, List, [], ◌∷◌, IsTrue}
+use Rattle.std.specs.Prelude.{◌≡◌, ◌≤◌, ℕ, Bool, true, false, List, [], ◌∷◌, Contains, IsTrue}
 use Rattle.std.specs.List.{AllByRecursion}
 use Rattle.kv_core.specs.Range.{KeyRange, contains, covers, has_keys}
 use Rattle.kv_core.specs.Coverage.{BeginsAt}
@@ -56,21 +56,46 @@ abbrev pub IsUncoveredFrom : List KeyRange → Bool → KeyRange → Type 0
 IsUncoveredFrom covered true range = IsTrue (has_keys range) × BeginsAt covered range.end
 IsUncoveredFrom covered false range = IsTrue (has_keys range) × (covers covered range.begin ≡ false)
 
--- Private: each key of the range is covered
+-- each key of the range is covered
 abbrev pub IsAllCovered : List KeyRange → KeyRange → Type 0
 IsAllCovered covered range = (key : List ℕ) → IsTrue (contains range key) → IsTrue (covers covered key)
 
--- what is wanted isn't covered where it is to be read from
+-- what is wanted isn't covered where it is to be read from, and is one pair at least
 abbrev pub IsUncovered : List KeyRange → Want → Type 0
-IsUncovered covered want = IsUncoveredFrom covered want.reverse want.range
+IsUncovered covered want = IsUncoveredFrom covered want.reverse want.range × (1 ≤ want.limit)
 
--- these are wanted, one at least
-abbrev pub AreWanted : List KeyRange → List Want → Type 0
-AreWanted covered wants = (wants ≡ [] → ⊥) × AllByRecursion (IsUncovered covered) wants
+-- Private: a part is left of a range: it lies in the range, and all of the range is covered once it is
+pub record IsRemainder (covered : List KeyRange) (range part : KeyRange) : Type 0 where
+  pub within : (key : List ℕ) → IsTrue (contains part key) → IsTrue (contains range key)
+  pub others : IsAllCovered (part ∷ covered) range
+
+-- one of these ranges isn't covered, and is once this one is
+abbrev pub IsNeeded : List KeyRange → List KeyRange → KeyRange → Type 0
+IsNeeded covered reads range =
+    (read : KeyRange) × Contains reads read × (IsAllCovered covered read → ⊥) × IsAllCovered (range ∷ covered) read
+
+-- Private: one of what is wanted has all keys of a range
+abbrev pub HasWhole : List Want → KeyRange → Type 0
+HasWhole wants range =
+    (want : Want) × Contains wants want
+    × ((key : List ℕ) → IsTrue (contains range key) → IsTrue (contains want.range key))
+
+-- ranges are wanted that aren't covered where they are to be read from; the commands, over the given pairs as if there
+-- were no others, read a range that isn't covered, and is once one of those that are wanted is read whole
+pub record IsHostAsked (version : ℕ) (covered : List KeyRange) (pairs : Map) (written : List Mutation)
+    (commands : List Command) (wants : List Want) : Type 0 where
+  pub wanted : AllByRecursion (IsUncovered covered) wants
+  pub replies : List Reply
+  pub request : CommitRequest
+  pub performed : ArePerformed (λ v. pairs) commands replies (resumed version written) request
+  pub want : Want
+  pub among : Contains wants want
+  pub needed : IsNeeded covered request.reads want.range
 
 -- a call is answered, or wants ranges that aren't covered
 abbrev pub IsDriven : Given → Driven → Type 0
-IsDriven given (Wants wants) = AreWanted given.covered wants.items
+IsDriven given (Wants wants) =
+    IsHostAsked given.version given.covered given.pairs given.written.items given.commands.items wants.items
 IsDriven given (Done answer) =
     IsHostAnswered given.version given.covered given.pairs given.written.items given.commands.items answer.replies.items
     answer.request

@@ -1,4 +1,7 @@
 -- The errors of a call.
+use Rattle.std.specs.Prelude.{◌≡◌, List, [], Some}
+use Rattle.kv_core.specs.Limits.{write_all_refusal}
+use Rattle.kv_core.specs.declared.change.Mutation.{Mutation}
 use Rattle.kv_core.specs.declared.change.WriteError.{WriteError}
 use Rattle.kv_core.specs.declared.change.WriteError.TheVariants as writes
 use Rattle.drive.specs.declared.error.DriveError.{DriveError}
@@ -8,3 +11,8 @@ use Rattle.drive.specs.declared.error.DriveError.TheVariants.{Memory, Write}
 abbrev pub error_of : WriteError → DriveError
 error_of writes.Memory = Memory
 error_of why = Write why
+
+-- the error tells the first refusal of a transaction's writes
+abbrev pub IsWriteRefused : List Mutation → DriveError → Type 0
+IsWriteRefused written error =
+    (why : WriteError) × (write_all_refusal [] written ≡ Some why) × (error ≡ error_of why)

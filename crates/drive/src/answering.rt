@@ -1,12 +1,16 @@
 // A call: the commands performed over what is given, and the test that it covers what they read.
-ghost use Rattle.std.specs.Prelude.{◌≡◌, IfOk, IfSome, IfNone};
-ghost use Rattle.drive.specs.Driving.{ArePerformed, AreWanted, AreWithin, IsDriven, IsUncovered};
+ghost use Rattle.std.specs.Prelude.{◌≡◌, ◌⊎◌, IfOk, IfErr, IfSome, IfNone, MatchBool};
+ghost use Rattle.std.specs.List.{AllByRecursion};
+ghost use Rattle.drive.specs.declared.error.DriveError.TheVariants.{Memory};
+ghost use Rattle.drive.specs.Driving.{ArePerformed, AreWithin, HasWhole, IsDriven, IsNeeded};
+ghost use Rattle.drive.specs.Driving.{IsUncovered};
+ghost use Rattle.drive.specs.Errors.{IsWriteRefused};
 
 use crate::ahead::add_records;
 use crate::error::DriveError;
 use crate::given::Given;
 use crate::partial::Partial;
-use crate::wanted::{Want, rest_of};
+use crate::wanted::{Want, rest_between, rest_of};
 use kv_core::{CommitRequest, Coverage, KeyRange, Mutation};
 use record_store::KnownSchema;
 use schedule::{Command, Reply, perform_knowing};
@@ -59,24 +63,38 @@ fn perform_each(
     Ok(replies)
 }
 
-/// The first part of these ranges that isn't covered, or None where all of them are.
+/// What is left of the first of these ranges that isn't covered, or None where all of them are.
 fn first_uncovered(covered: &Coverage, ranges: &[KeyRange]) -> Result<Option<Want>, AllocError>
     ensures wanted { IfOk result (λ found. IfSome found (IsUncovered covered.now)) }
+    ensures needed { IfOk result (λ found.
+        IfSome found (λ want. IsNeeded covered.now ranges.now want.range)) }
     ensures whole { IfOk result (λ found. IfNone found (AreWithin covered.now ranges.now)) }
 {
     for range in ranges {
-        if let Some(rest) = rest_of(covered, range, false)? {
+        if let Some(rest) = rest_between(covered, range)? {
             return Ok(Some(Want {
                 range: rest,
                 limit: usize::MAX,
-                reverse: false,
+                reverse: true,
             }));
         }
     }
     Ok(None)
 }
 
-/// Of what was asked for all that isn't covered, or else this.
+/// Whether one of these has all keys of a range.
+fn has_whole(wants: &[Want], range: &KeyRange) -> bool
+    ensures { MatchBool result (HasWhole wants.now range.now) (Unit {0}) }
+{
+    for want in wants {
+        if want.range.begin().is_upto(range.begin()) && range.end().is_upto(want.range.end()) {
+            return true;
+        }
+    }
+    false
+}
+
+/// Of what was asked for all that isn't covered, with this one, unless another one has its keys.
 fn next_wants(
     alloc: Global,
     covered: &Coverage,
@@ -84,19 +102,20 @@ fn next_wants(
     first: Want,
 ) -> Result<Vec<Want>, AllocError>
     requires { IsUncovered covered.now first }
-    ensures { IfOk result (λ wants. AreWanted covered.now wants.items) }
+    ensures wanted { IfOk result (λ wants. AllByRecursion (IsUncovered covered.now) wants.items) }
+    ensures whole { IfOk result (λ wants. HasWhole wants.items first.range) }
 {
     let mut wants = Vec::new(alloc);
     for want in asked {
         if let Some(rest) = rest_of(covered, &want.range, want.reverse)? {
             wants.push(Want {
                 range: rest,
-                limit: want.limit,
+                limit: if want.limit == 0 { 1 } else { want.limit },
                 reverse: want.reverse,
             })?;
         }
     }
-    if wants.is_empty() {
+    if !has_whole(wants.as_slice(), &first.range) {
         wants.push(first)?;
     }
     Ok(wants)
@@ -109,7 +128,9 @@ fn next_wants(
 /// each range that is wanted, or of the first one at least, and calls again with what it has read
 /// then. The only other errors are want of memory and what is refused of `written`.
 pub fn drive(alloc: Global, given: &Given) -> Result<Driven, DriveError>
-    ensures { IfOk result (IsDriven given.now) }
+    ensures done { IfOk result (IsDriven given.now) }
+    ensures refused { IfErr result (λ error.
+        (error ≡ Memory) ⊎ IsWriteRefused given.now.written.items error) }
 {
     let partial = Partial::new(alloc, &given.covered, &given.pairs);
     let mut tx = Transaction::begin(alloc, given.version);

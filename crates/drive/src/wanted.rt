@@ -1,7 +1,7 @@
 // What a host is to read next: the first part of a read that isn't covered. Used by `partial`,
 // `ahead` and `answering`.
 ghost use Rattle.std.specs.Prelude.{true, false, IfOk, IfSome, IfNone};
-ghost use Rattle.drive.specs.Driving.{IsAllCovered, IsUncoveredFrom};
+ghost use Rattle.drive.specs.Driving.{IsAllCovered, IsRemainder, IsUncoveredFrom};
 
 use kv_core::{Coverage, KeyRange, Pair};
 use std::alloc::AllocError;
@@ -21,6 +21,7 @@ pub struct Want {
 /// What is left of a range after its first keys that are covered, or None where all of it is.
 fn rest_forward(covered: &Coverage, range: &KeyRange) -> Result<Option<KeyRange>, AllocError>
     ensures some { IfOk result (λ rest. IfSome rest (IsUncoveredFrom covered.now false)) }
+    ensures left { IfOk result (λ rest. IfSome rest (IsRemainder covered.now range.now)) }
     ensures none { IfOk result (λ rest. IfNone rest (IsAllCovered covered.now range.now)) }
 {
     let place = covered.past(range.begin())?;
@@ -33,6 +34,7 @@ fn rest_forward(covered: &Coverage, range: &KeyRange) -> Result<Option<KeyRange>
 /// What is left of a range before its last keys that are covered, or None where all of it is.
 fn rest_reverse(covered: &Coverage, range: &KeyRange) -> Result<Option<KeyRange>, AllocError>
     ensures some { IfOk result (λ rest. IfSome rest (IsUncoveredFrom covered.now true)) }
+    ensures left { IfOk result (λ rest. IfSome rest (IsRemainder covered.now range.now)) }
     ensures none { IfOk result (λ rest. IfNone rest (IsAllCovered covered.now range.now)) }
 {
     let place = covered.before(range.end())?;
@@ -56,6 +58,22 @@ pub(crate) fn rest_of(
     } else {
         rest_forward(covered, range)
     }
+}
+
+/// What is left of a range between its first keys and its last ones that are covered, or None where
+/// all of it is covered.
+pub(crate) fn rest_between(
+    covered: &Coverage,
+    range: &KeyRange,
+) -> Result<Option<KeyRange>, AllocError>
+    ensures some { IfOk result (λ rest. IfSome rest (IsUncoveredFrom covered.now true)) }
+    ensures left { IfOk result (λ rest. IfSome rest (IsRemainder covered.now range.now)) }
+    ensures none { IfOk result (λ rest. IfNone rest (IsAllCovered covered.now range.now)) }
+{
+    let Some(rest) = rest_forward(covered, range)? else {
+        return Ok(None);
+    };
+    rest_reverse(covered, &rest)
 }
 
 /// What of a read isn't covered and is needed, where it found these pairs in what is given.

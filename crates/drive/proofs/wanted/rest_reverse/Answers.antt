@@ -1,8 +1,8 @@
-use Rattle.std.proofs.Common.{◌≡◌, ℕ, List, true, sym, ap, subst, ◌∙◌}
+use Rattle.std.proofs.Common.{◌≡◌, true, sym, ap, subst, ◌∙◌}
 use Rattle.std.specs.Prelude.{IsTrue}
 use Rattle.kv_core.specs.Bytes.{key_le, key_lt}
-use Rattle.drive.specs.Driving.{IsAllCovered, IsUncoveredFrom}
-use Rattle.drive.proofs.Resting.{covered_reverse, lawful_front, none_never, some_made}
+use Rattle.drive.specs.Driving.{IsAllCovered, IsRemainder, IsUncoveredFrom}
+use Rattle.drive.proofs.Resting.{covered_reverse, lawful_front, left_reverse, none_never, some_made}
 use Rattle.drive.proofs.wanted.rest_reverse.Goals as goal
 
 pub returns-then-not-is_before-clause-none : goal.returns-then-not-is_before-clause-none
@@ -22,3 +22,10 @@ returns-clause-none c =
     none_never c.new.result (record { begin = c.in_ok-copy.field-0; end = c.in_ok-place.place }) (IsAllCovered c.args.covered.now c.args.range.now)
     (lawful_front c.args.range.now c.in_ok-copy.field-0 c.in_ok-place.place c.begin.ensures.lawful (c.in_ok-copy.ensures ∙ c.begin-2.ensures.value) below (subst (λ e. IsTrue (key_le c.in_ok-place.place e)) c.end.ensures c.in_ok-place.ensures.upto))
     c.new.ensures.none
+
+pub returns-clause-left : goal.returns-clause-left
+returns-clause-left c =
+    some_made c.new.result (record { begin = c.in_ok-copy.field-0; end = c.in_ok-place.place }) (IsRemainder c.args.covered.now c.args.range.now) c.new.ensures.some
+    (left_reverse c.args.covered.now c.args.range.now c.in_ok-copy.field-0 c.in_ok-place.place (c.in_ok-copy.ensures ∙ c.begin-2.ensures.value)
+    (subst (λ e. IsTrue (key_le c.in_ok-place.place e)) c.end.ensures c.in_ok-place.ensures.upto)
+    (λ q from before. c.in_ok-place.ensures.covered q from (subst (λ e. IsTrue (key_lt q e)) (sym c.end.ensures) before)))
