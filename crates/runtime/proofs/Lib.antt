@@ -4,6 +4,8 @@ pub mod Beginnings
 pub mod Rounds
 pub mod Counting
 pub mod Entries
+pub mod Finishing
+pub mod Handled
 pub mod Known
 pub mod WellFormed
 pub mod Moves

@@ -103,11 +103,11 @@ changes_by index Marked attempts worked = ap (λ (l : List Performed). is_change
 -- ---- the commit of a round
 
 committed_by : (mid new : Knowledge) (index : List ℕ) (round : Round) (done : Done) (open_tx : OpenTransaction) → HasWorked index round open_tx.trace.attempts → Answers mid new open_tx.transaction open_tx.trace (Ok done) → Commits mid new open_tx true
-committed_by mid new index round (Committed version seen) open_tx worked a = (version, (seen.prefix.log, a.0.shows, a.0.known, a.0.last))
+committed_by mid new index round (Committed version seen) open_tx worked a = (version, (seen.prefix.log, a.0.shows.0, a.0.known, a.0.last))
 committed_by mid new index round ReadOnly open_tx worked a = absurd (true≢false (sym (changes_by index round open_tx.trace.attempts worked) ∙ a.1))
 
 refused_by : (mid new : Knowledge) (error : CommitError) (open_tx : OpenTransaction) → may_follow error ≡ true → Answers mid new open_tx.transaction open_tx.trace (Err error) → Commits mid new open_tx false
-refused_by mid new (Conflict seen range) open_tx may a = inr (seen, (range, (a.0, a.1.shows, a.1.known, a.1.last)))
+refused_by mid new (Conflict seen range) open_tx may a = inr (seen, (range, (a.0, a.1.shows.0, a.1.known, a.1.last)))
 refused_by mid new TooOld open_tx may a = inl a.1.last
 refused_by mid new VersionsExhausted open_tx may a = absurd (cc)
 refused_by mid new Unknown open_tx may a = absurd (cc)

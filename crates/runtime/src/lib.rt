@@ -7,6 +7,7 @@ mod commit_lock;
 mod commit_state;
 mod critical_section;
 mod db;
+mod finishing;
 mod in_flight;
 mod index_worker;
 mod log_config;

@@ -1,0 +1,90 @@
+-- What becomes of a request that was handed in, by what was due before it.
+use Rattle.std.proofs.Common.{◌≡◌, ℕ, ◌+◌, ◌-◌, ◌<◌, List, [], ◌∷◌, ◌++◌, Option, Some, None, inl, inr, refl, sym, ap, ◌∙◌, subst}
+use Rattle.std.specs.Prelude.{IfSome}
+use Rattle.cluster_core.specs.declared.answers.Reported.{Reported}
+use Rattle.cluster_core.specs.declared.answers.Reported.TheVariants as reported
+use Rattle.cluster_core.specs.Decision.{Cause}
+use Rattle.cluster_core.specs.Roles.{told}
+use Rattle.runtime.specs.declared.log_entry.Entry.{Entry}
+use Rattle.runtime.specs.declared.outcome.Outcome.{Outcome}
+use Rattle.runtime.specs.declared.outcome.Outcome.TheVariants.{Committed, Conflict, TooOld, VersionsExhausted, Unknown, Memory}
+use Rattle.runtime.specs.CommitStates.{AddsEntry, CommitView, Finishes, IsHandled, LeavesEntry, commit_view}
+use Rattle.runtime.specs.History.{Name, Prefix, log_prefix}
+use Rattle.runtime.specs.Logs.{HasEarlier, IsExhausted, cause_next, version_of}
+use Rattle.runtime.specs.Outcomes.{GivesNext, Shows, decided, outcome_by}
+use Rattle.runtime.proofs.Numbers.{earlier_begins}
+
+decided_told : (why : Option Cause) (version : ℕ) → outcome_by (told why version) ≡ decided why version
+decided_told None version = refl
+decided_told (Some why) version = refl
+
+something_told : (why : Option Cause) (version : ℕ) → reported.NothingToDo ≡ told why version → ⊥
+something_told None version is = cc
+something_told (Some why) version is = cc
+
+-- it was reported, and its entry is added
+pub handled_by : (old new : CommitView) (e : Entry) (r : Reported) → new.name ≡ old.name → new.published ≡ old.published → HasEarlier old.due e →
+    r ≡ told (cause_next old.name.config old.due e.request) (version_of old.name.config old.due + 1) → GivesNext old.last new.last e → AddsEntry old new e → IsHandled old new e (outcome_by r)
+handled_by old new e (reported.Committed version) name published earlier is gives adds =
+    let why = cause_next old.name.config old.due e.request in
+    let next : ℕ = version_of old.name.config old.due + 1 in
+    record { name = name; published = published; reason = sym (decided_told why next) ∙ ap outcome_by (sym is); earlier = earlier; numbers = gives; added = adds }
+handled_by old new e (reported.Conflict seen range) name published earlier is gives adds =
+    let why = cause_next old.name.config old.due e.request in
+    let next : ℕ = version_of old.name.config old.due + 1 in
+    record { name = name; published = published; reason = sym (decided_told why next) ∙ ap outcome_by (sym is); earlier = earlier; numbers = gives; added = adds }
+handled_by old new e reported.NothingToDo name published earlier is gives adds = absurd (something_told (cause_next old.name.config old.due e.request) (version_of old.name.config old.due + 1) is)
+
+-- it has a version, and its entry is due
+pub handled_unknown : (old new : CommitView) (e : Entry) → new.name ≡ old.name → new.published ≡ old.published → HasEarlier old.due e → GivesNext old.last new.last e → LeavesEntry old new e → IsHandled old new e Unknown
+handled_unknown old new e name published earlier gives leaves =
+    record { name = name; published = published; reason = tt; earlier = earlier; numbers = gives; added = leaves }
+
+-- memory ran out in finishing
+pub handled_unfinished : (old new : CommitView) (e : Entry) → new.name ≡ old.name → new.published ≡ old.published → new.log ≡ old.log → new.due ≡ old.due → new.last ≡ old.last → HasEarlier old.due e → IsHandled old new e Memory
+handled_unfinished old new e name published log due last earlier =
+    record { name = name; published = published; reason = tt; earlier = earlier; numbers = last; added = inr (log, due) }
+
+-- what was due is in the log
+abbrev pub finished : CommitView → CommitView
+finished s = commit_view s.name s.published s.due s.due s.last
+
+-- a request that was handled once what was due was finished
+finished_first : (old new : CommitView) (e : Entry) (outcome : Outcome) → IsHandled (finished old) new e outcome → IsHandled old new e outcome
+finished_first old new e (Committed version) h = record { name = h.name; published = h.published; reason = h.reason; earlier = h.earlier; numbers = h.numbers; added = h.added }
+finished_first old new e (Conflict seen range) h = record { name = h.name; published = h.published; reason = h.reason; earlier = h.earlier; numbers = h.numbers; added = h.added }
+finished_first old new e TooOld h = record { name = h.name; published = h.published; reason = h.reason; earlier = h.earlier; numbers = h.numbers; added = h.added }
+finished_first old new e VersionsExhausted h = record { name = h.name; published = h.published; reason = h.reason; earlier = h.earlier; numbers = h.numbers; added = h.added }
+finished_first old new e Unknown h = record { name = h.name; published = h.published; reason = h.reason; earlier = h.earlier; numbers = h.numbers; added = h.added }
+finished_first old new e Memory h = record { name = h.name; published = h.published; reason = h.reason; earlier = h.earlier; numbers = h.numbers; added = inl (elim h.added [
+  | inl one ↦ one
+  | inr same ↦ same
+]) }
+
+finished_is : (old mid : CommitView) → mid.name ≡ old.name → mid.published ≡ old.published → mid.log ≡ old.due → mid.due ≡ old.due → mid.last ≡ old.last → mid ≡ finished old
+finished_is old mid name published log due last = λ i. commit_view (name i) (published i) (log i) (due i) (last i)
+
+pub handled_after : (old mid new : CommitView) (e : Entry) (outcome : Outcome) → mid.name ≡ old.name → mid.published ≡ old.published → mid.log ≡ old.due → mid.due ≡ old.due → mid.last ≡ old.last →
+    IsHandled mid new e outcome → IsHandled old new e outcome
+handled_after old mid new e outcome name published log due last h =
+    finished_first old new e outcome (subst (λ (s : CommitView). IsHandled s new e outcome) (finished_is old mid name published log due last) h)
+
+-- ---- the log that shows it
+
+log_shows : (old new : CommitView) (e : Entry) (outcome : Outcome) → IsHandled old new e outcome → Shows old.name.config new.log e outcome
+log_shows old new e (Committed version) h =
+    ((old.due, h.added.0, h.reason), subst (λ (l : List Entry). HasEarlier l e) (sym h.added.0) (earlier_begins old.due (old.due ++ e ∷ []) e (e ∷ [], refl) h.earlier))
+log_shows old new e (Conflict seen range) h =
+    ((old.due, h.added.0, h.reason), subst (λ (l : List Entry). HasEarlier l e) (sym h.added.0) (earlier_begins old.due (old.due ++ e ∷ []) e (e ∷ [], refl) h.earlier))
+log_shows old new e TooOld h =
+    (subst (λ (l : List Entry). old.name.config.window < version_of old.name.config l - e.request.read_version) (sym h.added.0) h.reason, subst (λ (l : List Entry). HasEarlier l e) (sym h.added.0) h.earlier)
+log_shows old new e VersionsExhausted h =
+    (subst (λ (l : List Entry). IsExhausted old.name.config l e) (sym h.added.0) h.reason, subst (λ (l : List Entry). HasEarlier l e) (sym h.added.0) h.earlier)
+log_shows old new e Unknown h = tt
+log_shows old new e Memory h = tt
+
+pub shows_by : (old new : CommitView) (e : Entry) (outcome : Outcome) (seen : Option Prefix) → IsHandled old new e outcome → IfSome seen (λ prefix. prefix ≡ log_prefix new.name new.log) →
+    IfSome seen (λ prefix. Shows prefix.name.config prefix.log e outcome)
+shows_by old new e outcome None h is = tt
+shows_by old new e outcome (Some prefix) h is =
+    subst (λ (p : Prefix). Shows p.name.config p.log e outcome) (sym is) (subst (λ (n : Name). Shows n.config new.log e outcome) (sym h.name) (log_shows old new e outcome h))
