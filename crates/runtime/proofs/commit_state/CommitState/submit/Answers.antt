@@ -77,5 +77,5 @@ returns-in-Ok-clause-taken c =
     let made : due ≡ log ++ entry c.args.client c.in_ok-number.number c.args.request c.args.trace ∷ [] = ap (λ (r : CommitRequest). log ++ entry c.args.client c.in_ok-number.number r c.args.trace ∷ []) c.of.ensures in
     let next : due ≡ log ++ next_entry c.args.self.now.last c.args.client c.args.request c.args.trace ∷ [] = made ∙ ap (λ (number : ℕ). log ++ entry c.args.client number c.args.request c.args.trace ∷ []) c.in_ok-number.ensures.next in
     subst
-    (λ (h : CommitView). (n ≡ h.name) × (c.self.inside.publisher.published ≡ h.published) × (log ≡ h.due) × (due ≡ h.due ++ next_entry c.args.self.now.last c.args.client c.args.request c.args.trace ∷ [])) c.self.view_is
-    (refl, refl, sym none, next ∙ ap (λ (l : List Entry). l ++ next_entry c.args.self.now.last c.args.client c.args.request c.args.trace ∷ []) (sym none))
+    (λ (h : CommitView). (n ≡ h.name) × (c.self.inside.publisher.published ≡ h.published) × ((log ≡ h.due) × (due ≡ h.due ++ next_entry c.args.self.now.last c.args.client c.args.request c.args.trace ∷ []))) c.self.view_is
+    (refl, refl, (sym none, next ∙ ap (λ (l : List Entry). l ++ next_entry c.args.self.now.last c.args.client c.args.request c.args.trace ∷ []) (sym none)))
