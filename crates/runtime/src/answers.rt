@@ -85,9 +85,8 @@ pub enum CommitError {
     /// log is fixed, and whoever commits next finishes it.
     #[error("out of memory after the transaction was submitted")]
     Unknown,
-    /// Memory ran out before it was submitted, also in finishing an earlier submission whose outcome
-    /// wasn't known, or after it was refused and before that could be shown; or there was no open
-    /// transaction.
+    /// Memory ran out before it was submitted, also in finishing an earlier submission, or after it
+    /// was refused and before that could be shown; or there was no open transaction.
     #[error("out of memory")]
     Memory,
 }

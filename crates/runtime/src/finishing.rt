@@ -10,7 +10,8 @@ use std::alloc::AllocError;
 fn resolve_rest(pipeline: &mut Pipeline) -> Result<(), AllocError>
     requires { IsUnfinished pipeline.old }
     ensures on { HasGoneOn pipeline.old pipeline.new }
-    ensures all { OnOk result (All (λ clock. submitted pipeline.new ≤ clock) pipeline.new.resolved) }
+    ensures all { OnOk result (
+        All (λ clock. submitted pipeline.new ≤ clock) pipeline.new.resolved) }
 {
     for r in 0..pipeline.resolvers() {
         prove!(pipeline.read_version() <= u64::MAX);
@@ -25,7 +26,8 @@ fn append_rest(pipeline: &mut Pipeline) -> Result<(), AllocError>
     requires resolved { All (λ clock. submitted pipeline.old ≤ clock) pipeline.old.resolved }
     ensures on { HasGoneOn pipeline.old pipeline.new }
     ensures resolved { pipeline.new.resolved ≡ pipeline.old.resolved }
-    ensures all { OnOk result (All (λ clock. submitted pipeline.new ≤ clock) pipeline.new.logged) }
+    ensures all { OnOk result (
+        All (λ clock. submitted pipeline.new ≤ clock) pipeline.new.logged) }
 {
     for l in 0..pipeline.logs() {
         prove!(pipeline.read_version() <= u64::MAX);
@@ -34,12 +36,13 @@ fn append_rest(pipeline: &mut Pipeline) -> Result<(), AllocError>
     Ok(())
 }
 
-/// Has each role handle the last version that was given, which isn't reported yet, and tells what is
-/// reported of it. Where memory runs out, some more roles have, and it can be finished later.
+/// Has each role handle the last version that was given, which isn't reported yet, and tells what
+/// is reported of it. Where memory runs out, some more roles have, and it can be finished later.
 pub(crate) fn finish(pipeline: &mut Pipeline) -> Result<Reported, AllocError>
     requires { IsUnfinished pipeline.old }
     ensures handled { OnOk result (pipeline.new ≡ all_handled pipeline.old) }
-    ensures told { IfOk result (λ reported. reported ≡ outcome pipeline.new (submitted pipeline.new)) }
+    ensures told { IfOk result (λ reported.
+        reported ≡ outcome pipeline.new (submitted pipeline.new)) }
     ensures stays { OnErr result (HasGoneOn pipeline.old pipeline.new) }
 {
     resolve_rest(pipeline)?;

@@ -48,9 +48,11 @@ pub(crate) fn logged(alloc: Global, reported: &Reported, mutations: Mutations) -
 /// Has the roles handle a submission that isn't reported. Where memory runs out it still isn't.
 pub(crate) fn report(alloc: Global, pipeline: &mut Pipeline, due: Due) -> InFlight
     requires { IsUnfinished pipeline.old }
-    ensures due { (log : List Entry) → due_of result log ≡ log ++ submitted_entry due.submitted ∷ [] }
+    ensures due { (log : List Entry) →
+        due_of result log ≡ log ++ submitted_entry due.submitted ∷ [] }
     ensures further { (name : Name) (log : List Entry) →
-        IsInFlight name log pipeline.old (InFlight.Unreported due) → IsInFlight name log pipeline.new result }
+        IsInFlight name log pipeline.old (InFlight.Unreported due) →
+        IsInFlight name log pipeline.new result }
 {
     match finish(pipeline) {
         Ok(reported) => {
