@@ -1,6 +1,7 @@
 -- What becomes of a request that was handed in, by what was due before it.
-use Rattle.std.proofs.Common.{◌≡◌, ℕ, ◌+◌, ◌-◌, ◌<◌, List, [], ◌∷◌, ◌++◌, Option, Some, None, inl, inr, refl, sym, ap, ◌∙◌, subst}
+use Rattle.std.proofs.Common.{◌≡◌, ℕ, ◌+◌, ◌-◌, ◌^◌, ◌<◌, List, [], ◌∷◌, ◌++◌, Option, Some, None, inl, inr, refl, sym, ap, ◌∙◌, subst, arith}
 use Rattle.std.specs.Prelude.{IfSome}
+use Rattle.cluster_core.specs.declared.answers.Config.{Config}
 use Rattle.cluster_core.specs.declared.answers.Reported.{Reported}
 use Rattle.cluster_core.specs.declared.answers.Reported.TheVariants as reported
 use Rattle.cluster_core.specs.Decision.{Cause}
@@ -44,6 +45,35 @@ handled_unknown old new e name published earlier gives leaves =
 pub handled_unfinished : (old new : CommitView) (e : Entry) → new.name ≡ old.name → new.published ≡ old.published → new.log ≡ old.log → new.due ≡ old.due → new.last ≡ old.last → HasEarlier old.due e → IsHandled old new e Memory
 handled_unfinished old new e name published log due last earlier =
     record { name = name; published = published; reason = tt; earlier = earlier; numbers = last; added = inr (log, due) }
+
+-- nothing was submitted, and all is as before: memory ran out, or there is a reason
+pub handled_stays : (old new : CommitView) (e : Entry) → new ≡ old → HasEarlier old.due e → IsHandled old new e Memory
+handled_stays old new e same earlier =
+    handled_unfinished old new e (ap (λ (s : CommitView). s.name) same) (ap (λ (s : CommitView). s.published) same) (ap (λ (s : CommitView). s.log) same) (ap (λ (s : CommitView). s.due) same) (ap (λ (s : CommitView). s.last) same) earlier
+
+pub handled_too_old : (old new : CommitView) (e : Entry) → new ≡ old → old.log ≡ old.due → HasEarlier old.due e → old.name.config.window < version_of old.name.config old.due - e.request.read_version → IsHandled old new e TooOld
+handled_too_old old new e same idle earlier late = record {
+  name = ap (λ (s : CommitView). s.name) same;
+  published = ap (λ (s : CommitView). s.published) same;
+  reason = late;
+  earlier = earlier;
+  numbers = ap (λ (s : CommitView). s.last) same;
+  added = (ap (λ (s : CommitView). s.log) same ∙ idle, ap (λ (s : CommitView). s.due) same);
+}
+
+pub handled_exhausted : (old new : CommitView) (e : Entry) → new ≡ old → old.log ≡ old.due → HasEarlier old.due e → IsExhausted old.name.config old.due e → IsHandled old new e VersionsExhausted
+handled_exhausted old new e same idle earlier none = record {
+  name = ap (λ (s : CommitView). s.name) same;
+  published = ap (λ (s : CommitView). s.published) same;
+  reason = none;
+  earlier = earlier;
+  numbers = ap (λ (s : CommitView). s.last) same;
+  added = (ap (λ (s : CommitView). s.log) same ∙ idle, ap (λ (s : CommitView). s.due) same);
+}
+
+-- no number is left for a client that was given the last one
+pub no_number : (config : Config) (log : List Entry) (e : Entry) → HasEarlier log e → e.number ≡ 2 ^ 64 → IsExhausted config log e
+no_number config log e earlier last = inr (last, earlier.stands (2 ^ 64 - 1) (omega arith) (omega (arith, last)))
 
 -- what was due is in the log
 abbrev pub finished : CommitView → CommitView
