@@ -7,13 +7,22 @@ use Rattle.cluster_core.specs.declared.answers.Reported.TheVariants as reported
 use Rattle.cluster_core.specs.Decision.{Cause}
 use Rattle.cluster_core.specs.Roles.{told}
 use Rattle.runtime.specs.declared.log_entry.Entry.{Entry}
+use Rattle.runtime.specs.declared.in_flight.InFlight.{InFlight}
+use Rattle.runtime.specs.declared.in_flight.InFlight.TheVariants.{Idle, Unreported, Decided, Added}
 use Rattle.runtime.specs.declared.outcome.Outcome.{Outcome}
 use Rattle.runtime.specs.declared.outcome.Outcome.TheVariants.{Committed, Conflict, TooOld, VersionsExhausted, Unknown, Memory}
-use Rattle.runtime.specs.CommitStates.{AddsEntry, CommitView, Finishes, IsHandled, LeavesEntry, commit_view}
-use Rattle.runtime.specs.History.{Name, Prefix, log_prefix}
+use Rattle.runtime.specs.CommitStates.{Adds, AddsEntry, CommitView, IsHandled, IsOneDue, LeavesEntry, commit_view, due_of}
+use Rattle.runtime.specs.History.{Name, Prefix, log_prefix, submitted_entry}
 use Rattle.runtime.specs.Logs.{HasEarlier, IsExhausted, cause_next, version_of}
 use Rattle.runtime.specs.Outcomes.{GivesNext, Shows, decided, outcome_by}
 use Rattle.runtime.proofs.Numbers.{earlier_begins}
+
+-- what is in flight is one submission at most
+pub one_due : (in_flight : InFlight) (log : List Entry) → IsOneDue log (due_of in_flight log)
+one_due Idle log = inl refl
+one_due (Unreported due) log = inr (submitted_entry due.submitted, refl)
+one_due (Decided due) log = inr (submitted_entry due.submitted, refl)
+one_due (Added step) log = inr (submitted_entry step.submitted, refl)
 
 decided_told : (why : Option Cause) (version : ℕ) → outcome_by (told why version) ≡ decided why version
 decided_told None version = refl
@@ -24,37 +33,38 @@ something_told None version is = cc
 something_told (Some why) version is = cc
 
 -- it was reported, and its entry is added
-pub handled_by : (old new : CommitView) (e : Entry) (r : Reported) → new.name ≡ old.name → new.published ≡ old.published → HasEarlier old.due e →
+pub handled_by : (old new : CommitView) (e : Entry) (r : Reported) → new.name ≡ old.name → new.published ≡ old.published → IsOneDue old.log old.due → HasEarlier old.due e →
     r ≡ told (cause_next old.name.config old.due e.request) (version_of old.name.config old.due + 1) → GivesNext old.last new.last e → AddsEntry old new e → IsHandled old new e (outcome_by r)
-handled_by old new e (reported.Committed version) name published earlier is gives adds =
+handled_by old new e (reported.Committed version) name published waiting earlier is gives adds =
     let why = cause_next old.name.config old.due e.request in
     let next : ℕ = version_of old.name.config old.due + 1 in
-    record { name = name; published = published; reason = sym (decided_told why next) ∙ ap outcome_by (sym is); earlier = earlier; numbers = gives; added = adds }
-handled_by old new e (reported.Conflict seen range) name published earlier is gives adds =
+    record { name = name; published = published; waiting = waiting; reason = sym (decided_told why next) ∙ ap outcome_by (sym is); earlier = earlier; numbers = gives; added = adds }
+handled_by old new e (reported.Conflict seen range) name published waiting earlier is gives adds =
     let why = cause_next old.name.config old.due e.request in
     let next : ℕ = version_of old.name.config old.due + 1 in
-    record { name = name; published = published; reason = sym (decided_told why next) ∙ ap outcome_by (sym is); earlier = earlier; numbers = gives; added = adds }
-handled_by old new e reported.NothingToDo name published earlier is gives adds = absurd (something_told (cause_next old.name.config old.due e.request) (version_of old.name.config old.due + 1) is)
+    record { name = name; published = published; waiting = waiting; reason = sym (decided_told why next) ∙ ap outcome_by (sym is); earlier = earlier; numbers = gives; added = adds }
+handled_by old new e reported.NothingToDo name published waiting earlier is gives adds = absurd (something_told (cause_next old.name.config old.due e.request) (version_of old.name.config old.due + 1) is)
 
 -- it has a version, and its entry is due
-pub handled_unknown : (old new : CommitView) (e : Entry) → new.name ≡ old.name → new.published ≡ old.published → HasEarlier old.due e → GivesNext old.last new.last e → LeavesEntry old new e → IsHandled old new e Unknown
-handled_unknown old new e name published earlier gives leaves =
-    record { name = name; published = published; reason = tt; earlier = earlier; numbers = gives; added = leaves }
+pub handled_unknown : (old new : CommitView) (e : Entry) → new.name ≡ old.name → new.published ≡ old.published → IsOneDue old.log old.due → HasEarlier old.due e → GivesNext old.last new.last e → LeavesEntry old new e → IsHandled old new e Unknown
+handled_unknown old new e name published waiting earlier gives leaves =
+    record { name = name; published = published; waiting = waiting; reason = tt; earlier = earlier; numbers = gives; added = leaves }
 
 -- memory ran out in finishing
-pub handled_unfinished : (old new : CommitView) (e : Entry) → new.name ≡ old.name → new.published ≡ old.published → new.log ≡ old.log → new.due ≡ old.due → new.last ≡ old.last → HasEarlier old.due e → IsHandled old new e Memory
-handled_unfinished old new e name published log due last earlier =
-    record { name = name; published = published; reason = tt; earlier = earlier; numbers = last; added = inr (log, due) }
+pub handled_unfinished : (old new : CommitView) (e : Entry) → new.name ≡ old.name → new.published ≡ old.published → new.log ≡ old.log → new.due ≡ old.due → new.last ≡ old.last → IsOneDue old.log old.due → HasEarlier old.due e → IsHandled old new e Memory
+handled_unfinished old new e name published log due last waiting earlier =
+    record { name = name; published = published; waiting = waiting; reason = tt; earlier = earlier; numbers = last; added = inr (log, due) }
 
 -- nothing was submitted, and all is as before: memory ran out, or there is a reason
-pub handled_stays : (old new : CommitView) (e : Entry) → new ≡ old → HasEarlier old.due e → IsHandled old new e Memory
-handled_stays old new e same earlier =
-    handled_unfinished old new e (ap (λ (s : CommitView). s.name) same) (ap (λ (s : CommitView). s.published) same) (ap (λ (s : CommitView). s.log) same) (ap (λ (s : CommitView). s.due) same) (ap (λ (s : CommitView). s.last) same) earlier
+pub handled_stays : (old new : CommitView) (e : Entry) → new ≡ old → IsOneDue old.log old.due → HasEarlier old.due e → IsHandled old new e Memory
+handled_stays old new e same waiting earlier =
+    handled_unfinished old new e (ap (λ (s : CommitView). s.name) same) (ap (λ (s : CommitView). s.published) same) (ap (λ (s : CommitView). s.log) same) (ap (λ (s : CommitView). s.due) same) (ap (λ (s : CommitView). s.last) same) waiting earlier
 
 pub handled_too_old : (old new : CommitView) (e : Entry) → new ≡ old → old.log ≡ old.due → HasEarlier old.due e → old.name.config.window < version_of old.name.config old.due - e.request.read_version → IsHandled old new e TooOld
 handled_too_old old new e same idle earlier late = record {
   name = ap (λ (s : CommitView). s.name) same;
   published = ap (λ (s : CommitView). s.published) same;
+  waiting = inl (sym idle);
   reason = late;
   earlier = earlier;
   numbers = ap (λ (s : CommitView). s.last) same;
@@ -65,6 +75,7 @@ pub handled_exhausted : (old new : CommitView) (e : Entry) → new ≡ old → o
 handled_exhausted old new e same idle earlier none = record {
   name = ap (λ (s : CommitView). s.name) same;
   published = ap (λ (s : CommitView). s.published) same;
+  waiting = inl (sym idle);
   reason = none;
   earlier = earlier;
   numbers = ap (λ (s : CommitView). s.last) same;
@@ -79,25 +90,36 @@ no_number config log e earlier last = inr (last, earlier.stands (2 ^ 64 - 1) (om
 abbrev pub finished : CommitView → CommitView
 finished s = commit_view s.name s.published s.due s.due s.last
 
--- a request that was handled once what was due was finished
-finished_first : (old new : CommitView) (e : Entry) (outcome : Outcome) → IsHandled (finished old) new e outcome → IsHandled old new e outcome
-finished_first old new e (Committed version) h = record { name = h.name; published = h.published; reason = h.reason; earlier = h.earlier; numbers = h.numbers; added = h.added }
-finished_first old new e (Conflict seen range) h = record { name = h.name; published = h.published; reason = h.reason; earlier = h.earlier; numbers = h.numbers; added = h.added }
-finished_first old new e TooOld h = record { name = h.name; published = h.published; reason = h.reason; earlier = h.earlier; numbers = h.numbers; added = h.added }
-finished_first old new e VersionsExhausted h = record { name = h.name; published = h.published; reason = h.reason; earlier = h.earlier; numbers = h.numbers; added = h.added }
-finished_first old new e Unknown h = record { name = h.name; published = h.published; reason = h.reason; earlier = h.earlier; numbers = h.numbers; added = h.added }
-finished_first old new e Memory h = record { name = h.name; published = h.published; reason = h.reason; earlier = h.earlier; numbers = h.numbers; added = inl (elim h.added [
+added_first : (old new : CommitView) (e : Entry) (outcome : Outcome) → Adds (finished old) new e outcome → Adds old new e outcome
+added_first old new e (Committed version) added = added
+added_first old new e (Conflict seen range) added = added
+added_first old new e TooOld added = added
+added_first old new e VersionsExhausted added = added
+added_first old new e Unknown added = added
+added_first old new e Memory added = inl (elim added [
   | inl one ↦ one
   | inr same ↦ same
-]) }
+])
+
+-- a request that was handled once what was due was finished
+finished_first : (old new : CommitView) (e : Entry) (outcome : Outcome) → IsOneDue old.log old.due → IsHandled (finished old) new e outcome → IsHandled old new e outcome
+finished_first old new e outcome waiting h = record {
+  name = h.name;
+  published = h.published;
+  waiting = waiting;
+  reason = h.reason;
+  earlier = h.earlier;
+  numbers = h.numbers;
+  added = added_first old new e outcome h.added;
+}
 
 finished_is : (old mid : CommitView) → mid.name ≡ old.name → mid.published ≡ old.published → mid.log ≡ old.due → mid.due ≡ old.due → mid.last ≡ old.last → mid ≡ finished old
 finished_is old mid name published log due last = λ i. commit_view (name i) (published i) (log i) (due i) (last i)
 
 pub handled_after : (old mid new : CommitView) (e : Entry) (outcome : Outcome) → mid.name ≡ old.name → mid.published ≡ old.published → mid.log ≡ old.due → mid.due ≡ old.due → mid.last ≡ old.last →
-    IsHandled mid new e outcome → IsHandled old new e outcome
-handled_after old mid new e outcome name published log due last h =
-    finished_first old new e outcome (subst (λ (s : CommitView). IsHandled s new e outcome) (finished_is old mid name published log due last) h)
+    IsOneDue old.log old.due → IsHandled mid new e outcome → IsHandled old new e outcome
+handled_after old mid new e outcome name published log due last waiting h =
+    finished_first old new e outcome waiting (subst (λ (s : CommitView). IsHandled s new e outcome) (finished_is old mid name published log due last) h)
 
 -- ---- the log that shows it
 

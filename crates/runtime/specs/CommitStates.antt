@@ -48,6 +48,10 @@ abbrev pub commit_view : Name → List Entry → List Entry → List Entry → L
 commit_view name published log due last =
     record { name = name; published = published; log = log; due = due; last = last }
 
+-- one entry at most is due after the log
+abbrev pub IsOneDue : List Entry → List Entry → Type 0
+IsOneDue log due = (due ≡ log) ⊎ ((e : Entry) × (due ≡ log ++ e ∷ []))
+
 -- what was due is in the log, and nothing else
 abbrev pub Finishes : CommitView → CommitView → Type 0
 Finishes old new = (new.log ≡ old.due) × (new.due ≡ old.due)
@@ -70,10 +74,11 @@ Adds old new e VersionsExhausted = Finishes old new
 Adds old new e Unknown = LeavesEntry old new e
 Adds old new e Memory = Finishes old new ⊎ ((new.log ≡ old.log) × (new.due ≡ old.due))
 
--- a request whose entry this is was handed in, and came to this; all that was due comes before the entry
+-- a request whose entry this is was handed in, and came to this; what was due comes before the entry
 pub record IsHandled (old new : CommitView) (e : Entry) (outcome : Outcome) : Type 0 where
   pub name : new.name ≡ old.name
   pub published : new.published ≡ old.published
+  pub waiting : IsOneDue old.log old.due
   pub reason : IsReason old.name.config old.due e outcome
   pub earlier : HasEarlier old.due e
   pub numbers : GivesOne old.last new.last e outcome

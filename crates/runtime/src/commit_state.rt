@@ -6,7 +6,7 @@ ghost use Rattle.std.specs.Bool.{OnTrue, OnFalse};
 ghost use Rattle.left_right.specs.Sides.{view as knowledge};
 ghost use Rattle.cluster_core.specs.Configuration.{config_refusal};
 ghost use Rattle.cluster_core.specs.Roles.{told};
-ghost use Rattle.runtime.specs.CommitStates.{LeavesEntry, commit_view, IsHandled};
+ghost use Rattle.runtime.specs.CommitStates.{IsHandled, IsOneDue, LeavesEntry, commit_view};
 ghost use Rattle.runtime.specs.History.{log_prefix};
 ghost use Rattle.runtime.specs.Logs.{AreGiven, HasEarlier, IsOpenOver, cause_next, version_of};
 ghost use Rattle.runtime.specs.Outcomes.{GivesNext, next_entry};
@@ -73,9 +73,12 @@ impl Model for CommitState {
 }
 
 impl CommitState {
-    /// Has the roles handle what isn't reported yet.
+    /// Has the roles handle what isn't reported yet. One entry at most is due, and each number that
+    /// was given is that of an entry in the log or of the one that is due.
     fn report(&mut self)
-        ensures { self.new ≡ self.old }
+        ensures same { self.new ≡ self.old }
+        ensures waiting { IsOneDue self.old.log self.old.due }
+        ensures given { AreGiven self.old.last self.old.due }
     {
         match replace(&mut self.in_flight, InFlight::Idle) {
             InFlight::Unreported(due) => {
@@ -150,7 +153,8 @@ impl CommitState {
         ensures last { self.new.last ≡ self.old.last }
         ensures done { OnTrue result (self.new.log ≡ self.old.due) }
         ensures stays { OnFalse result (self.new.log ≡ self.old.log) }
-        ensures given { AreGiven self.new.last self.new.due }
+        ensures waiting { IsOneDue self.old.log self.old.due }
+        ensures given { AreGiven self.old.last self.old.due }
     {
         self.report();
         self.record();
@@ -195,6 +199,7 @@ impl CommitState {
     ) -> Result<Reported, Outcome>
         requires name { prefix.now.name ≡ self.old.name }
         requires open { IsOpenOver self.old.name.config prefix.now.log request trace.attempts }
+        requires waiting { IsOneDue self.old.log self.old.due }
         requires earlier { HasEarlier self.old.due (next_entry self.old.last client request trace) }
         ensures told { IfOk result (λ reported.
             reported ≡ told (cause_next self.old.name.config self.old.due request)
