@@ -6,16 +6,18 @@ use Rattle.cluster_core.specs.declared.answers.Reported.{Reported}
 use Rattle.cluster_core.specs.declared.answers.Reported.TheVariants as reported
 use Rattle.cluster_core.specs.Decision.{Cause}
 use Rattle.cluster_core.specs.Roles.{told}
+use Rattle.kv_core.specs.declared.change.CommitRequest.{CommitRequest}
 use Rattle.runtime.specs.declared.log_entry.Entry.{Entry}
+use Rattle.runtime.specs.declared.trace.Trace.{Trace}
 use Rattle.runtime.specs.declared.in_flight.InFlight.{InFlight}
 use Rattle.runtime.specs.declared.in_flight.InFlight.TheVariants.{Idle, Unreported, Decided, Added}
 use Rattle.runtime.specs.declared.outcome.Outcome.{Outcome}
 use Rattle.runtime.specs.declared.outcome.Outcome.TheVariants.{Committed, Conflict, TooOld, VersionsExhausted, Unknown, Memory}
 use Rattle.runtime.specs.CommitStates.{Adds, AddsEntry, CommitView, IsHandled, IsOneDue, LeavesEntry, commit_view, due_of}
 use Rattle.runtime.specs.History.{Name, Prefix, log_prefix, submitted_entry}
-use Rattle.runtime.specs.Logs.{HasEarlier, IsExhausted, cause_next, version_of}
-use Rattle.runtime.specs.Outcomes.{GivesNext, Shows, decided, outcome_by}
-use Rattle.runtime.proofs.Numbers.{earlier_begins}
+use Rattle.runtime.specs.Logs.{AreGiven, HasEarlier, IsExhausted, cause_next, version_of}
+use Rattle.runtime.specs.Outcomes.{GivesNext, Shows, decided, next_entry, outcome_by}
+use Rattle.runtime.proofs.Numbers.{earlier_begins, earlier_next}
 
 -- what is in flight is one submission at most
 pub one_due : (in_flight : InFlight) (log : List Entry) → IsOneDue log (due_of in_flight log)
@@ -113,13 +115,43 @@ finished_first old new e outcome waiting h = record {
   added = added_first old new e outcome h.added;
 }
 
-finished_is : (old mid : CommitView) → mid.name ≡ old.name → mid.published ≡ old.published → mid.log ≡ old.due → mid.due ≡ old.due → mid.last ≡ old.last → mid ≡ finished old
+pub finished_is : (old mid : CommitView) → mid.name ≡ old.name → mid.published ≡ old.published → mid.log ≡ old.due → mid.due ≡ old.due → mid.last ≡ old.last → mid ≡ finished old
 finished_is old mid name published log due last = λ i. commit_view (name i) (published i) (log i) (due i) (last i)
 
-pub handled_after : (old mid new : CommitView) (e : Entry) (outcome : Outcome) → mid.name ≡ old.name → mid.published ≡ old.published → mid.log ≡ old.due → mid.due ≡ old.due → mid.last ≡ old.last →
-    IsOneDue old.log old.due → IsHandled mid new e outcome → IsHandled old new e outcome
-handled_after old mid new e outcome name published log due last waiting h =
-    finished_first old new e outcome waiting (subst (λ (s : CommitView). IsHandled s new e outcome) (finished_is old mid name published log due last) h)
+-- ---- a request, from the finishing before it to the one after it
+
+-- what was due was finished, and then the request was submitted
+abbrev pub IsSubmitted : CommitView → CommitView → Entry → Type 0
+IsSubmitted old new e = (new.name ≡ old.name) × (new.published ≡ old.published) × LeavesEntry old new e
+
+-- its entry was added too
+pub handled_done : (s0 s1 s2 s3 : CommitView) (client : ℕ) (request : CommitRequest) (trace : Trace) (r : Reported) → s1 ≡ finished s0 → IsOneDue s0.log s0.due → AreGiven s0.last s0.due →
+    r ≡ told (cause_next s1.name.config s1.due request) (version_of s1.name.config s1.due + 1) → GivesNext s1.last s2.last (next_entry s1.last client request trace) → IsSubmitted s1 s2 (next_entry s1.last client request trace) →
+    s3.name ≡ s2.name → s3.published ≡ s2.published → s3.log ≡ s2.due → s3.due ≡ s2.due → s3.last ≡ s2.last → IsHandled s0 s3 (next_entry s0.last client request trace) (outcome_by r)
+handled_done s0 s1 s2 s3 client request trace r is waiting given told_so gives taken name published log due last =
+    let e : Entry = next_entry s0.last client request trace in
+    let told_then : r ≡ told (cause_next s0.name.config s0.due request) (version_of s0.name.config s0.due + 1) = subst (λ (s : CommitView). r ≡ told (cause_next s.name.config s.due request) (version_of s.name.config s.due + 1)) is told_so in
+    let gave : GivesNext s0.last s2.last e = subst (λ (s : CommitView). GivesNext s.last s2.last (next_entry s.last client request trace)) is gives in
+    let took : IsSubmitted (finished s0) s2 e = subst (λ (s : CommitView). IsSubmitted s s2 (next_entry s.last client request trace)) is taken in
+    handled_by s0 s3 e r (name ∙ took.0) (published ∙ took.1) waiting (earlier_next s0.last client request trace s0.due given) told_then
+    (subst (λ (l : List ℕ). GivesNext s0.last l e) (sym last) gave) (log ∙ took.2.1, due ∙ took.2.1)
+
+-- memory ran out before its entry was added
+pub handled_lost : (s0 s1 s2 s3 : CommitView) (client : ℕ) (request : CommitRequest) (trace : Trace) → s1 ≡ finished s0 → IsOneDue s0.log s0.due → AreGiven s0.last s0.due →
+    GivesNext s1.last s2.last (next_entry s1.last client request trace) → IsSubmitted s1 s2 (next_entry s1.last client request trace) →
+    s3.name ≡ s2.name → s3.published ≡ s2.published → s3.log ≡ s2.log → s3.due ≡ s2.due → s3.last ≡ s2.last → IsHandled s0 s3 (next_entry s0.last client request trace) Unknown
+handled_lost s0 s1 s2 s3 client request trace is waiting given gives taken name published log due last =
+    let e : Entry = next_entry s0.last client request trace in
+    let gave : GivesNext s0.last s2.last e = subst (λ (s : CommitView). GivesNext s.last s2.last (next_entry s.last client request trace)) is gives in
+    let took : IsSubmitted (finished s0) s2 e = subst (λ (s : CommitView). IsSubmitted s s2 (next_entry s.last client request trace)) is taken in
+    handled_unknown s0 s3 e (name ∙ took.0) (published ∙ took.1) waiting (earlier_next s0.last client request trace s0.due given)
+    (subst (λ (l : List ℕ). GivesNext s0.last l e) (sym last) gave) (log ∙ took.2.0, due ∙ took.2.1)
+
+-- it was refused
+pub handled_refused : (s0 s1 s2 : CommitView) (client : ℕ) (request : CommitRequest) (trace : Trace) (outcome : Outcome) → s1 ≡ finished s0 → IsOneDue s0.log s0.due →
+    IsHandled s1 s2 (next_entry s1.last client request trace) outcome → IsHandled s0 s2 (next_entry s0.last client request trace) outcome
+handled_refused s0 s1 s2 client request trace outcome is waiting h =
+    finished_first s0 s2 (next_entry s0.last client request trace) outcome waiting (subst (λ (s : CommitView). IsHandled s s2 (next_entry s.last client request trace) outcome) is h)
 
 -- ---- the log that shows it
 

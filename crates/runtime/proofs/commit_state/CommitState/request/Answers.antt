@@ -1,0 +1,46 @@
+use Rattle.std.proofs.Common.{◌≡◌, List, sym, subst}
+use Rattle.runtime.specs.declared.log_entry.Entry.{Entry}
+use Rattle.runtime.specs.declared.outcome.Outcome.{Outcome}
+use Rattle.runtime.specs.CommitStates.{CommitView, IsHandled}
+use Rattle.runtime.specs.Logs.{AreGiven, HasEarlier}
+use Rattle.runtime.specs.Outcomes.{next_entry}
+use Rattle.runtime.proofs.Handled.{finished, finished_is, handled_done, handled_lost, handled_refused, handled_unfinished}
+use Rattle.runtime.proofs.Numbers.{earlier_next}
+use Rattle.runtime.proofs.commit_state.CommitState.request.Goals as goal
+
+pub returns-then-not-finish : goal.returns-then-not-finish
+returns-then-not-finish c =
+    let old = c.args.self.now in
+    let s = c.finish.new.self in
+    let e = c.finish.ensures in
+    handled_unfinished old s (next_entry old.last c.args.client c.args.request c.args.trace) e.name e.published c.if-not-finish.ensures.stays e.due e.last e.waiting
+    (earlier_next old.last c.args.client c.args.request c.args.trace old.due e.given)
+
+pub returns-in-Ok-then-finish : goal.returns-in-Ok-then-finish
+returns-in-Ok-then-finish c =
+    let old : CommitView = c.args.self.now in
+    let s : CommitView = c.finish.new.self in
+    let e = c.finish.ensures in
+    let is : s ≡ finished old = finished_is old s e.name e.published c.if-not-finish.ensures.done e.due e.last in
+    let next = c.finish-in-Ok in
+    subst (λ (outcome : Outcome). IsHandled old next.new.self (next_entry old.last c.args.client c.args.request c.args.trace) outcome) (sym c.of.ensures)
+    (handled_done old s c.submit.new.self next.new.self c.args.client c.args.request c.args.trace c.in-Ok.reported is e.waiting e.given
+    c.in-Ok.ensures.told c.in-Ok.ensures.numbers c.in-Ok.ensures.taken next.ensures.name next.ensures.published c.if-finish.ensures.done next.ensures.due next.ensures.last)
+
+pub returns-in-Ok-else-finish : goal.returns-in-Ok-else-finish
+returns-in-Ok-else-finish c =
+    let old : CommitView = c.args.self.now in
+    let s : CommitView = c.finish.new.self in
+    let e = c.finish.ensures in
+    let is : s ≡ finished old = finished_is old s e.name e.published c.if-not-finish.ensures.done e.due e.last in
+    let next = c.finish-in-Ok in
+    handled_lost old s c.submit.new.self next.new.self c.args.client c.args.request c.args.trace is e.waiting e.given
+    c.in-Ok.ensures.numbers c.in-Ok.ensures.taken next.ensures.name next.ensures.published c.if-finish.ensures.stays next.ensures.due next.ensures.last
+
+pub returns-in-Err : goal.returns-in-Err
+returns-in-Err c =
+    let old : CommitView = c.args.self.now in
+    let s : CommitView = c.finish.new.self in
+    let e = c.finish.ensures in
+    let is : s ≡ finished old = finished_is old s e.name e.published c.if-not-finish.ensures.done e.due e.last in
+    handled_refused old s c.submit.new.self c.args.client c.args.request c.args.trace c.in-Err.outcome is e.waiting c.in-Err.ensures.refused
