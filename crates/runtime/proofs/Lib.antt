@@ -4,7 +4,7 @@ pub mod Beginnings
 pub mod Rounds
 pub mod Counting
 pub mod Entries
-pub mod Finishing
+pub mod GoingOn
 pub mod Handled
 pub mod Known
 pub mod WellFormed

@@ -29,7 +29,7 @@ use Rattle.runtime.specs.CommitStates.{IsInFlight}
 use Rattle.runtime.specs.Finishing.{HasGoneOn, IsUnfinished}
 use Rattle.runtime.specs.History.{submitted_entry}
 use Rattle.runtime.specs.Outcomes.{entry}
-use Rattle.runtime.proofs.Finishing.{handled_same, outcome_last, raised_length, still_unfinished}
+use Rattle.runtime.proofs.GoingOn.{handled_same, outcome_last, raised_length, still_unfinished}
 use Rattle.runtime.proofs.WellFormed.{pipeline_next, lawful_next, open_begins, numbered_more}
 
 told_committed : (why : Option Cause) (version : ℕ) → is_told (told why version) ≡ is_none why

@@ -1,4 +1,4 @@
-use Rattle.runtime.proofs.Finishing.{IsAppending}
+use Rattle.runtime.proofs.GoingOn.{IsAppending}
 use Rattle.runtime.proofs.finishing.append_rest.Given as goal
 
 abbrev pub invariant-loop-l : goal.invariant-loop-l

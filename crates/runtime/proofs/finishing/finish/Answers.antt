@@ -1,6 +1,11 @@
+use Rattle.std.specs.Prelude.{Result, Ok, Err, OnErr}
 use Rattle.runtime.specs.Finishing.{HasGoneOn}
-use Rattle.runtime.proofs.Finishing.{finished_is, finished_told, gone_on_trans, still_answered, still_unfinished}
+use Rattle.runtime.proofs.GoingOn.{finished_is, finished_told, gone_on_trans, still_answered, still_unfinished}
 use Rattle.runtime.proofs.finishing.finish.Goals as goal
+
+on_err : {A E P : Type 0} (r : Result A E) → P → OnErr r P
+on_err (Ok a) p = tt
+on_err (Err e) p = p
 
 pub append_rest-requires : goal.append_rest-requires
 append_rest-requires c = record {
@@ -10,7 +15,7 @@ append_rest-requires c = record {
 
 pub returns-in_err-append_rest-clause-stays : goal.returns-in_err-append_rest-clause-stays
 returns-in_err-append_rest-clause-stays c =
-    gone_on_trans c.args.pipeline.now c.resolve_rest.new.pipeline c.append_rest.new.pipeline c.resolve_rest.ensures.on c.append_rest.ensures.on
+    on_err c.from_residual-in_err-append_rest.result (gone_on_trans c.args.pipeline.now c.resolve_rest.new.pipeline c.append_rest.new.pipeline c.resolve_rest.ensures.on c.append_rest.ensures.on)
 
 pub returns-clause-handled : goal.returns-clause-handled
 returns-clause-handled c =

@@ -1,4 +1,4 @@
-use Rattle.runtime.proofs.Finishing.{IsResolving}
+use Rattle.runtime.proofs.GoingOn.{IsResolving}
 use Rattle.runtime.proofs.finishing.resolve_rest.Given as goal
 
 abbrev pub invariant-loop-r : goal.invariant-loop-r

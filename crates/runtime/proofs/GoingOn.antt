@@ -1,5 +1,5 @@
 -- How far the roles have come with a version that isn't reported, one after another.
-use Rattle.std.proofs.Common.{◌≡◌, ◌≢◌, ◌∙◌, ℕ, zero, suc, ◌+◌, ◌-◌, ◌<◌, ◌≤◌, ◌==◌, Bool, true, false, true≢false, nat_lt, cond, Option, Some, List, [], ◌∷◌, ◌++◌, All, ap, arith, get_or-set_other, get_or-set_same, length, length-append, map, refl, subst, sym}
+use Rattle.std.proofs.Common.{◌≡◌, ◌≢◌, ◌∙◌, ℕ, zero, suc, ◌+◌, ◌-◌, ◌<◌, ◌≤◌, ◌==◌, Bool, true, false, true≢false, nat_lt, cond, Option, None, Some, List, [], ◌∷◌, ◌++◌, All, ap, arith, get_or-set_other, get_or-set_same, length, length-append, map, refl, subst, sym}
 use Rattle.std.proofs.lemmas.Bool.{and_from, lt-ltb}
 use Rattle.std.proofs.lemmas.Bool.Decides.{nat_tests}
 use Rattle.std.proofs.lemmas.List.{get_or_default, length-set}
@@ -12,10 +12,10 @@ use Rattle.cluster_core.specs.declared.answers.Reported.TheVariants.{NothingToDo
 use Rattle.cluster_core.specs.declared.answers.Work.{Work}
 use Rattle.cluster_core.specs.declared.answers.Work.TheVariants.{Done, NothingToDo}
 use Rattle.cluster_core.specs.Cluster.{Did}
+use Rattle.cluster_core.specs.History.{Entry}
 use Rattle.cluster_core.specs.Roles.{AreInOrder, PipelineState, all_handled, append, entries, may_append, may_report, may_resolve, outcome, raised, report, resolve, submitted, told_of}
 use Rattle.cluster_core.proofs.Bridge.{entry_of, numbered_at}
 use Rattle.txn.specs.Holds.{first_raised, newest, verdict}
-use Rattle.txn.proofs.Handling.{told-any}
 use Rattle.runtime.specs.Finishing.{HasGoneOn, IsUnfinished}
 
 -- ---- clocks
@@ -52,17 +52,17 @@ all_past n (clock ∷ clocks) all =
     and_from _ _ (lt-ltb n clock (all 0 0 (omega arith))) (all_past n clocks (λ k d below. all (suc k) d (omega (arith, below))))
 
 not_less : (a b : ℕ) → nat_lt a b ≡ false → b ≤ a
-not_less a b no = grind (arith, nat_tests)
+not_less a b below = grind (arith, nat_tests)
 
 -- a log that may not append has all that every resolver has answered for
 none_left : (n v : ℕ) (clocks : List ℕ) → All (λ clock. v ≤ clock) clocks → list_all (λ clock. nat_lt n clock) clocks ≡ false → v ≤ n
-none_left n v clocks all no = left_by (nat_lt n v) refl
+none_left n v clocks all refused = left_by (nat_lt n v) refl
   where
     left_by : (b : Bool) → nat_lt n v ≡ b → v ≤ n
     left_by true less =
         let lt : n < v = grind (arith, nat_tests) in
         let past : list_all (λ clock. nat_lt n clock) clocks ≡ true = all_past n clocks (λ k d below. let least = all k d below in omega (arith, lt, least)) in
-        absurd (true≢false (sym past ∙ no))
+        absurd (true≢false (sym past ∙ refused))
     left_by false no_less = not_less n v no_less
 
 -- clocks of one number, each replaced by the same one
@@ -166,10 +166,14 @@ all_logged old now n end is = let count = is.count in all_upto (submitted now) n
 
 -- ---- the report
 
+told_entry : (p : PipelineState) (resolved logged : List ℕ) (reported : ℕ) (entry : Option Entry) → told_of (record p { resolved = resolved; logged = logged; reported = reported }) entry ≡ told_of p entry
+told_entry p resolved logged reported None = refl
+told_entry p resolved logged reported (Some entry) = refl
+
 -- what is told of a version doesn't depend on how far the roles are
 told_same : (p : PipelineState) (version : ℕ) → outcome p version ≡ outcome (all_handled p) version
 told_same p version =
-    sym (told-any p (all_handled p).resolved (all_handled p).logged (all_handled p).reported (slice_get (entries p) (version - p.start - 1)))
+    sym (told_entry p (all_handled p).resolved (all_handled p).logged (all_handled p).reported (slice_get (entries p) (version - p.start - 1)))
 
 -- every resolver has answered and every log has it: it is reported
 module _ (old mid new : PipelineState) (r : Reported) (one : IsUnfinished old) (on : HasGoneOn old mid) (order : AreInOrder mid)
