@@ -13,8 +13,10 @@ returns-then-not-finish c =
     let old = c.args.self.now in
     let s = c.finish.new.self in
     let e = c.finish.ensures in
-    handled_unfinished old s (next_entry old.last c.args.client c.args.request c.args.trace) e.name e.published c.if-not-finish.ensures.stays e.due e.last e.waiting
-    (earlier_next old.last c.args.client c.args.request c.args.trace old.due e.given)
+    record {
+      handled = handled_unfinished old s (next_entry old.last c.args.client c.args.request c.args.trace) e.name e.published c.if-not-finish.ensures.stays e.due e.last e.waiting
+      (earlier_next old.last c.args.client c.args.request c.args.trace old.due e.given);
+    }
 
 pub submit-requires-clause-waiting : goal.submit-requires-clause-waiting
 submit-requires-clause-waiting c = inl (c.finish.ensures.due ∙ sym c.if-not-finish.ensures.done)
@@ -27,26 +29,30 @@ submit-requires-clause-earlier c =
     earlier_next s.last c.args.client c.args.request c.args.trace s.due
     (subst (λ (l : List ℕ). AreGiven l s.due) (sym e.last) (subst (λ (d : List Entry). AreGiven old.last d) (sym e.due) e.given))
 
-pub returns-in-Ok-then-finish : goal.returns-in-Ok-then-finish
-returns-in-Ok-then-finish c =
+pub returns-then-finish : goal.returns-then-finish
+returns-then-finish c =
     let old : CommitView = c.args.self.now in
     let s : CommitView = c.finish.new.self in
     let e = c.finish.ensures in
     let is : s ≡ finished old = finished_is old s e.name e.published c.if-not-finish.ensures.done e.due e.last in
     let next = c.finish-in-Ok in
-    subst (λ (outcome : Outcome). IsHandled old next.new.self (next_entry old.last c.args.client c.args.request c.args.trace) outcome) (sym c.of.ensures)
-    (handled_done old s c.submit.new.self next.new.self c.args.client c.args.request c.args.trace c.in-Ok.reported is e.waiting e.given
-    c.in-Ok.ensures.told c.in-Ok.ensures.numbers c.in-Ok.ensures.taken next.ensures.name next.ensures.published c.if-finish.ensures.done next.ensures.due next.ensures.last)
+    record {
+      handled = subst (λ (outcome : Outcome). IsHandled old next.new.self (next_entry old.last c.args.client c.args.request c.args.trace) outcome) (sym c.of.ensures)
+      (handled_done old s c.submit.new.self next.new.self c.args.client c.args.request c.args.trace c.in-Ok.reported is e.waiting e.given
+      c.in-Ok.ensures.told c.in-Ok.ensures.numbers c.in-Ok.ensures.taken next.ensures.name next.ensures.published c.if-finish.ensures.done next.ensures.due next.ensures.last);
+    }
 
-pub returns-in-Ok-else-finish : goal.returns-in-Ok-else-finish
-returns-in-Ok-else-finish c =
+pub returns-else-finish : goal.returns-else-finish
+returns-else-finish c =
     let old : CommitView = c.args.self.now in
     let s : CommitView = c.finish.new.self in
     let e = c.finish.ensures in
     let is : s ≡ finished old = finished_is old s e.name e.published c.if-not-finish.ensures.done e.due e.last in
     let next = c.finish-in-Ok in
-    handled_lost old s c.submit.new.self next.new.self c.args.client c.args.request c.args.trace is e.waiting e.given
-    c.in-Ok.ensures.numbers c.in-Ok.ensures.taken next.ensures.name next.ensures.published c.if-finish.ensures.stays next.ensures.due next.ensures.last
+    record {
+      handled = handled_lost old s c.submit.new.self next.new.self c.args.client c.args.request c.args.trace is e.waiting e.given
+      c.in-Ok.ensures.numbers c.in-Ok.ensures.taken next.ensures.name next.ensures.published c.if-finish.ensures.stays next.ensures.due next.ensures.last;
+    }
 
 pub returns-in-Err : goal.returns-in-Err
 returns-in-Err c =
@@ -54,4 +60,4 @@ returns-in-Err c =
     let s : CommitView = c.finish.new.self in
     let e = c.finish.ensures in
     let is : s ≡ finished old = finished_is old s e.name e.published c.if-not-finish.ensures.done e.due e.last in
-    handled_refused old s c.submit.new.self c.args.client c.args.request c.args.trace c.in-Err.outcome is e.waiting c.in-Err.ensures.refused
+    record { handled = handled_refused old s c.submit.new.self c.args.client c.args.request c.args.trace c.in-Err.outcome is e.waiting c.in-Err.ensures.refused }
