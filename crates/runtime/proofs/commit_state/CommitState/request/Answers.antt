@@ -15,7 +15,7 @@ returns-then-not-finish c =
     let e = c.finish.ensures in
     record {
       handled = handled_unfinished old s (next_entry old.last c.args.client c.args.request c.args.trace) e.name e.published c.if-not-finish.ensures.stays e.due e.last e.waiting
-      (earlier_next old.last c.args.client c.args.request c.args.trace old.due e.given);
+          (earlier_next old.last c.args.client c.args.request c.args.trace old.due e.given);
     }
 
 pub submit-requires-clause-waiting : goal.submit-requires-clause-waiting
@@ -38,8 +38,8 @@ returns-then-finish c =
     let next = c.finish-in-Ok in
     record {
       handled = subst (λ (outcome : Outcome). IsHandled old next.new.self (next_entry old.last c.args.client c.args.request c.args.trace) outcome) (sym c.of.ensures)
-      (handled_done old s c.submit.new.self next.new.self c.args.client c.args.request c.args.trace c.in-Ok.reported is e.waiting e.given
-      c.in-Ok.ensures.told c.in-Ok.ensures.numbers c.in-Ok.ensures.taken next.ensures.name next.ensures.published c.if-finish.ensures.done next.ensures.due next.ensures.last);
+          (handled_done old s c.submit.new.self next.new.self c.args.client c.args.request c.args.trace c.in-Ok.reported is e.waiting e.given
+          c.in-Ok.ensures.told c.in-Ok.ensures.numbers c.in-Ok.ensures.taken next.ensures.name next.ensures.published c.if-finish.ensures.done next.ensures.due next.ensures.last);
     }
 
 pub returns-else-finish : goal.returns-else-finish
@@ -51,7 +51,7 @@ returns-else-finish c =
     let next = c.finish-in-Ok in
     record {
       handled = handled_lost old s c.submit.new.self next.new.self c.args.client c.args.request c.args.trace is e.waiting e.given
-      c.in-Ok.ensures.numbers c.in-Ok.ensures.taken next.ensures.name next.ensures.published c.if-finish.ensures.stays next.ensures.due next.ensures.last;
+          c.in-Ok.ensures.numbers c.in-Ok.ensures.taken next.ensures.name next.ensures.published c.if-finish.ensures.stays next.ensures.due next.ensures.last;
     }
 
 pub returns-in-Err : goal.returns-in-Err
