@@ -5,7 +5,7 @@ use Rattle.std.proofs.lemmas.Bool.Decides.{nat_tests}
 use Rattle.std.proofs.lemmas.List.{get_or_default, length-set}
 use Rattle.std.specs.List.{list_all, slice_get}
 use Rattle.std.specs.Option.{option_map}
-use Rattle.std.specs.Prelude.{slice_index, slice_set}
+use Rattle.std.specs.Prelude.{slice_index}
 use Rattle.kv_core.specs.declared.change.CommitRequest.{CommitRequest}
 use Rattle.cluster_core.specs.declared.answers.Reported.{Reported}
 use Rattle.cluster_core.specs.declared.answers.Reported.TheVariants.{NothingToDo as Idle}

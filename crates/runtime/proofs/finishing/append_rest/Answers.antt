@@ -1,5 +1,5 @@
 use Rattle.std.proofs.Common.{arith}
-use Rattle.runtime.proofs.GoingOn.{all_logged, appends_one, appending_first}
+use Rattle.runtime.proofs.GoingOn.{appends_one, appending_first}
 use Rattle.runtime.proofs.finishing.append_rest.Goals as goal
 
 pub loop-l-init : goal.loop-l-init

@@ -1,5 +1,5 @@
 use Rattle.std.proofs.Common.{arith}
-use Rattle.runtime.proofs.GoingOn.{all_resolved, resolves_one, resolving_first}
+use Rattle.runtime.proofs.GoingOn.{resolves_one, resolving_first}
 use Rattle.runtime.proofs.finishing.resolve_rest.Goals as goal
 
 pub loop-r-init : goal.loop-r-init
