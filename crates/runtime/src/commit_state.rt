@@ -26,7 +26,7 @@ use std::alloc::{AllocError, Global};
 use std::marker::Model;
 use std::mem::replace;
 use std::sync::Wait;
-use txn::{Commit, HoldError as TxnError};
+use txn::{Commit, HoldError as Held};
 
 /// The history has room for so many entries.
 const MOST: u64 = 1 << 60;
@@ -237,13 +237,11 @@ impl CommitState {
                 self.last[client as usize] = number;
                 Ok(reported)
             }
-            Err(TxnError::Submit(SubmitError::TooOld)) => Err(Outcome::TooOld),
-            Err(TxnError::Submit(SubmitError::VersionsExhausted)) => {
-                Err(Outcome::VersionsExhausted)
-            }
-            Err(TxnError::Submit(SubmitError::Memory)) => Err(Outcome::Memory),
-            Err(TxnError::Behind(_)) => unreachable!(),
-            Err(TxnError::Unknown) => {
+            Err(Held::Submit(SubmitError::TooOld)) => Err(Outcome::TooOld),
+            Err(Held::Submit(SubmitError::VersionsExhausted)) => Err(Outcome::VersionsExhausted),
+            Err(Held::Submit(SubmitError::Memory)) => Err(Outcome::Memory),
+            Err(Held::Behind(_)) => unreachable!(),
+            Err(Held::Unknown) => {
                 self.in_flight = InFlight::Unreported(Due {
                     submitted,
                     mutations,
