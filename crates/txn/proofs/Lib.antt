@@ -1,8 +1,10 @@
 pub mod Exits
 pub mod Handling
+pub mod Finished
 pub mod Merging
 pub mod Rounds
 pub mod OneMore
+pub mod Comparing
 pub mod Deciding
 pub mod Cursors
 pub mod Running

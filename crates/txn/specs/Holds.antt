@@ -23,6 +23,22 @@ first_handled resolvers logs p =
 abbrev pub with_handled : ℕ → ℕ → ClusterState → ClusterState
 with_handled resolvers logs c = with_pipeline (first_handled resolvers logs c.pipeline) c
 
+-- every submitted version but the last one is reported, which some roles may have handled
+abbrev pub is_unfinished : PipelineState → Type 0
+is_unfinished p = p.reported + 1 ≡ submitted p
+
+-- Private: the clocks, with so many of the first ones at this version
+abbrev pub first_at : ℕ → ℕ → List ℕ → List ℕ
+first_at version count clocks = map (λ _. version) (take count clocks) ++ drop count clocks
+
+-- Private: the state where so many of the first resolvers and logs have handled the last version
+abbrev pub first_finished : ℕ → ℕ → PipelineState → PipelineState
+first_finished resolvers logs p =
+    record p {
+      resolved = first_at (submitted p) resolvers p.resolved;
+      logged = first_at (submitted p) logs p.logged;
+    }
+
 -- the request with the last version that was given
 abbrev pub newest : CommitRequest → PipelineState → Entry
 newest request p = record { version = submitted p; request = request }

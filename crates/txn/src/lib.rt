@@ -2,7 +2,10 @@
 #![tactic(auto)]
 
 mod commit;
+mod compared;
 mod cursor;
+mod fail_at;
+mod finishing;
 mod laws;
 mod merge;
 mod own;
@@ -15,6 +18,8 @@ mod transaction;
 
 pub use commit::{Commit, HoldError};
 pub use cursor::{BATCH, RangeCursor};
+pub use fail_at::FailAt;
+pub use finishing::finish;
 pub use laws::reads_decide;
 pub use retry::{Ended, Next, Retry};
 pub use snapshot::Snapshot;
