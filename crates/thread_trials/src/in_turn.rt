@@ -53,7 +53,7 @@ static SAVED: [&str; 4] = [
 ];
 
 /// A transaction of a client, which learns before it what another one has seen.
-fn taught<E: End, R: Wait>(
+pub(crate) fn taught<E: End, R: Wait>(
     rt: &R,
     alloc: Global,
     client: &mut Client<E>,
@@ -61,6 +61,7 @@ fn taught<E: End, R: Wait>(
     script: &str,
 ) -> Told
     requires { IfSome seen (λ it. it.prefix.name ≡ client.old.name) }
+    ensures same { client.new.name ≡ client.old.name }
     ensures seen { IfSome result.seen (λ it. it.prefix.name ≡ client.old.name) }
 {
     if let Some(seen) = seen {
@@ -69,12 +70,12 @@ fn taught<E: End, R: Wait>(
     alone(rt, alloc, client, script)
 }
 
-/// A text with another one behind it.
-fn parted(alloc: Global, lines: Option<String>, more: Option<String>) -> Option<String> {
+/// A text with another one after it.
+pub(crate) fn parted(alloc: Global, lines: Option<String>, more: Option<String>) -> Option<String> {
     joined(joined(lines, String::from_str(alloc, "; ").ok()), more)
 }
 
-/// A transaction of the next client, behind what was told so far.
+/// A transaction of the next client, after what was told so far.
 fn next<E: End, R: Wait>(
     rt: &R,
     alloc: Global,

@@ -10,4 +10,6 @@ mod in_turn;
 #[cfg(test)]
 mod refusing;
 #[cfg(test)]
+mod rounds;
+#[cfg(test)]
 mod transactions;

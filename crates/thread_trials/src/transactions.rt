@@ -22,7 +22,9 @@ pub(crate) struct Told {
 pub(crate) fn two_clients<R: Wait>(
     rt: &R,
     alloc: Global,
-) -> Option<(Client<Waits<&R>>, Client<Waits<&R>>)> {
+) -> Option<(Client<Waits<&R>>, Client<Waits<&R>>)>
+    ensures named { IfSome result (λ it. it.0.name ≡ it.1.name) }
+{
     let config = Config::single(alloc);
     let mut clients = open(rt, alloc, Waits { rt }, &config).ok()?;
     let one = clients.pop()?;
@@ -188,7 +190,7 @@ fn seen_of(answer: Result<Done, CommitError>) -> Option<Seen>
     }
 }
 
-/// A text with more behind it.
+/// A text with more after it.
 pub(crate) fn joined(lines: Option<String>, more: Option<String>) -> Option<String> {
     let mut lines = lines?;
     lines.push_str(more?.as_str()).ok()?;
@@ -196,10 +198,11 @@ pub(crate) fn joined(lines: Option<String>, more: Option<String>) -> Option<Stri
 }
 
 /// Performs these commands and commits: the lines that they reply with what the commit is told
-/// behind them, and what another client may learn of it.
+/// after them, and what another client may learn of it.
 pub(crate) fn over<E: End, R: Wait>(rt: &R, alloc: Global, tx: Txn<'_, E>, script: &str) -> Told
     ensures seen { (work : _) → tx.entry.client.now.begun ≡ Some work →
         IfSome result.seen (λ it. it.prefix.name ≡ tx.entry.client.now.name) }
+    ensures same { tx.exit.0.now.name ≡ tx.entry.client.now.name }
 {
     let mut tx = tx;
     let lines = performed(alloc, &mut tx, script);
@@ -216,6 +219,7 @@ pub(crate) fn alone<E: End, R: Wait>(
     client: &mut Client<E>,
     script: &str,
 ) -> Told
+    ensures same { client.new.name ≡ client.old.name }
     ensures seen { IfSome result.seen (λ it. it.prefix.name ≡ client.old.name) }
 {
     match begin(client) {
