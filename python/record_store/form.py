@@ -47,7 +47,7 @@ NOTHING_WRITTEN = pack("<I", 0)
 
 
 def packed(*words: bytes) -> bytes:
-    """Byte strings, each behind its length."""
+    """Byte strings, each after its length."""
     return b"".join(pack("<I", len(word)) + word for word in words)
 
 

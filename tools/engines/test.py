@@ -29,10 +29,10 @@ NAMES = ("scripts", "random", "interface", "rules", "binding", "dropped", "docum
 
 
 def prepare(folder):
-    """Installs what is wanting, and goes on in Debian's Python with the package installed in a folder."""
-    wanting = subprocess.run(["dpkg-query", "-W", "-f", "${Status}\n", *PACKAGES], capture_output=True, text=True,
-                             check=False).stdout.count("install ok installed") < len(PACKAGES)
-    if wanting:
+    """Installs what isn't there, and goes on in Debian's Python with the package installed in a folder."""
+    there = subprocess.run(["dpkg-query", "-W", "-f", "${Status}\n", *PACKAGES], capture_output=True, text=True,
+                           check=False).stdout.count("install ok installed")
+    if there < len(PACKAGES):
         how = {"check": True, "stdin": subprocess.DEVNULL, "env": {**os.environ, "DEBIAN_FRONTEND": "noninteractive"}}
         subprocess.run(["apt-get", "update", "-q"], **how)
         subprocess.run(["apt-get", "install", "-y", "-q", "--no-install-recommends", *PACKAGES], **how)

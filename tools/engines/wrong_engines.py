@@ -13,7 +13,7 @@ PUT = "insert into plain values (%s, %s) on conflict (key) do update set value =
 
 
 class Forgetful(Memory):
-    """What is cleared leaves no version behind."""
+    """What is cleared leaves no version."""
 
     def begin(self, wants):
         snapshot = ForgetfulSnapshot(self, self.version)
