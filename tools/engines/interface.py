@@ -112,7 +112,19 @@ CALLS = [
     (lambda db: [it["title"] for it in db.transact(lambda tx: tx.query("book", sort="title"))],
      ["Emma", "Romola \u2603", "Silas Marner"]),
     (lambda db: unsaved(db), ["Emma", "Romola \u2603", "Silas Marner"]),
+    (lambda db: found_again(db), 30),
+    (lambda db: db.transact(titles), ["Emma", "Romola \u2603", "Silas Marner"]),
 ]
+
+
+def found_again(database):
+    """How many records are found as they were saved, more than one call takes together; then they are gone."""
+    large = [EMMA | {"title": f"m{it:02}", "cover": bytes([it + 1]) * 90_000} for it in range(30)]
+    keys = [it["title"] for it in large]
+    database.transact(lambda tx: tx.save_each("book", large))
+    found = database.transact(lambda tx: tx.load_each("book", keys))
+    database.transact(lambda tx: [tx.remove("book", it) for it in keys])
+    return sum(it == wanted for it, wanted in zip(found, large))
 
 
 def unsaved(database):
