@@ -1,7 +1,7 @@
 """Builds the package's wheel: its files of Python, and the record layer as a shared object that `cc` links.
 
 The record layer comes as a static library. RECORD_ARCHIVE names it; else it is the proved one, `rt lib` in
-crates/record_c, or else the unproved one, `python3 tools/quick_build record_c`. What is built says which it is.
+crates/record_c, or else the unproved one, `python3 tools/quick_build record_c`. The package's summary says which it is.
 """
 import base64
 import glob
@@ -22,7 +22,7 @@ SHARED_OBJECT = "librecord_c.so"
 METADATA = f"""Metadata-Version: 2.1
 Name: record-store
 Version: {VERSION}
-Summary: Typed records, indexes and totals in transactions, above a database of yours
+Summary: Typed records, indexes and totals in transactions, above a database of yours; its record layer is {{}}
 Requires-Python: >=3.10
 """
 
@@ -49,7 +49,7 @@ def heap(path):
 
 
 def link(to):
-    """Links the shared object, of which only `record_drive` can be seen."""
+    """Links the shared object, of which only `record_drive` can be seen, and answers what is said of its archive."""
     path, what = archive()
     print(f"the record layer is {what}: {path}")
     with tempfile.NamedTemporaryFile("w", suffix=".map") as names:
@@ -58,6 +58,7 @@ def link(to):
         subprocess.run([os.environ.get("CC", "cc"), "-shared", "-o", to, "-Wl,--whole-archive", path, *heap(path),
                         "-Wl,--no-whole-archive", "-Wl,--gc-sections", f"-Wl,--version-script={names.name}"],
                        check=True)
+    return what
 
 
 def tag():
@@ -78,12 +79,12 @@ def build_wheel(wheel_directory, config_settings=None, metadata_directory=None):
         with open(path, "rb") as file:
             files[os.path.relpath(path, HERE)] = file.read()
     with tempfile.TemporaryDirectory() as room:
-        link(os.path.join(room, SHARED_OBJECT))
+        what = link(os.path.join(room, SHARED_OBJECT))
         with open(os.path.join(room, SHARED_OBJECT), "rb") as file:
             files[f"{PACKAGE}/{SHARED_OBJECT}"] = file.read()
     files[f"{PACKAGE}/py.typed"] = b""
     info = f"{NAME}-{VERSION}.dist-info"
-    files[f"{info}/METADATA"] = METADATA.encode()
+    files[f"{info}/METADATA"] = METADATA.format(what).encode()
     wheel = f"Wheel-Version: 1.0\nGenerator: build_wheel_here\nRoot-Is-Purelib: false\nTag: {tag()}\n"
     files[f"{info}/WHEEL"] = wheel.encode()
     record = "".join(line(path, data) for path, data in files.items()) + f"{info}/RECORD,,\n"

@@ -13,13 +13,14 @@
 What commands reply and write is decided by the record layer, a function of C; reads and commits are the engine's.
 """
 from .database import Database
-from .errors import Conflict, Corrupt, OutOfMemory, RecordError, Refused, TooLarge, TooOld, Unavailable, Unknown
+from .errors import BadCommand, Closed, Conflict, Corrupt, OtherStore, OutOfMemory, RecordError, Refused
+from .errors import TooLarge, TooOld, Unavailable, Unknown
 from .filters import Field, Filter, field
 from .schema import Index, RecordType, Schema, count_index, sum_index, value_index
 from .transaction import Built, Transaction
 
 __all__ = [
-    "Built", "Conflict", "Corrupt", "Database", "Field", "Filter", "Index", "OutOfMemory", "RecordError",
-    "RecordType", "Refused", "Schema", "TooLarge", "TooOld", "Transaction", "Unavailable", "Unknown", "count_index",
-    "field", "sum_index", "value_index",
+    "BadCommand", "Built", "Closed", "Conflict", "Corrupt", "Database", "Field", "Filter", "Index", "OtherStore",
+    "OutOfMemory", "RecordError", "RecordType", "Refused", "Schema", "TooLarge", "TooOld", "Transaction",
+    "Unavailable", "Unknown", "count_index", "field", "sum_index", "value_index",
 ]

@@ -7,7 +7,7 @@ from collections.abc import Callable
 from typing import TypeVar
 
 from .engine import Engine
-from .errors import AlreadyThere, Conflict, Unknown
+from .errors import AlreadyThere, Conflict, NameTaken, OtherStore, Unknown
 from .schema import Index, Schema
 from .transaction import OPENING, Transaction
 
@@ -17,35 +17,42 @@ FIRST_WAIT, LONGEST_WAIT = 0.001, 0.25
 
 
 class Database:
-    """A record store in an engine. With a schema the store is made where there is none."""
+    """A record store in an engine. It may be used by several threads.
+
+    With a schema the store is made where there is none. A store that is there must have each of its types and indexes
+    just so, and may have others: else OtherStore is raised. Without a schema it is taken as it is.
+    """
 
     def __init__(self, engine: Engine, schema: Schema | None = None) -> None:
         self.engine = engine
-        if schema is not None:
-            self.make(schema)
+        if schema is not None and not self.make(schema):
+            lacking = self.transact(lambda tx: tx.schema.lacks(schema))
+            if lacking:
+                raise OtherStore(f"the store's schema lacks {', '.join(lacking)}, or has it otherwise")
 
     def begin(self) -> Transaction:
-        """A transaction over the newest version. It is to be committed or closed."""
+        """A transaction over the newest version. It is to be committed or closed: `with` closes it at its end."""
         return Transaction(*self.engine.begin(OPENING))
 
     def transact(self, body: Callable[[Transaction], T], attempts: int = ATTEMPTS, repeatable: bool = False) -> T:
         """Runs a function in a transaction and commits it. After a conflict it is run again in a new one.
 
-        The last conflict is raised where there were as many as `attempts`. `Unknown` is raised at once, since the
-        transaction may be committed, unless it is said to be `repeatable`: that it may be made twice.
+        So the function may run several times, and should change nothing but by the transaction. Where it raises an
+        error nothing is committed; it may also commit or close the transaction itself. The last conflict is raised
+        where there were as many as `attempts`. `Unknown` is raised at once, since the transaction may be committed,
+        unless it is said to be `repeatable`: that it may be made twice.
         """
         for attempt in range(1, attempts + 1):
-            tx = self.begin()
             try:
-                result = body(tx)
-                tx.commit()
-                return result
+                with self.begin() as tx:
+                    result = body(tx)
+                    if tx.is_open:
+                        tx.commit()
+                    return result
             except (Conflict, Unknown) as why:
                 if attempt == attempts or isinstance(why, Unknown) and not repeatable:
                     raise
-                time.sleep(random.uniform(0, min(LONGEST_WAIT, FIRST_WAIT * 2 ** min(attempt, 16))))
-            finally:
-                tx.close()
+            time.sleep(random.uniform(0, min(LONGEST_WAIT, FIRST_WAIT * 2 ** min(attempt, 16))))
         raise ValueError("a transaction takes one attempt at least")
 
     def make(self, schema: Schema) -> bool:
@@ -59,7 +66,7 @@ class Database:
     def build(self, index: Index | str, limit: int = 100) -> None:
         """Builds an index in steps, each a transaction, while others write; then it is readable.
 
-        An index that is given whole is added first, unless there is one of its name.
+        An index that is given whole is added first, unless it is there. One that was being built is built further.
         """
         name = index if isinstance(index, str) else index.name
         self.transact(lambda tx: begin_building(tx, index, name), repeatable=True)
@@ -78,9 +85,13 @@ class Database:
 
 
 def begin_building(tx: Transaction, index: Index | str, name: str) -> None:
-    """Adds an index, unless there is one of its name, and marks one that is disabled write-only."""
-    if not isinstance(index, str) and name not in tx.schema.indexes:
-        tx.add_index(index)
+    """Adds an index, unless it is there, and marks one that is disabled write-only."""
+    there = tx.schema.indexes.get(name)
+    if not isinstance(index, str):
+        if there is None:
+            tx.add_index(index)
+        elif there.json() != index.json():
+            raise NameTaken(f"there is another index {name}: {there.json()}")
     if tx.state(name) == "disabled":
         tx.make_write_only(name)
 

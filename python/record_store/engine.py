@@ -3,6 +3,9 @@
 **The rule of a commit.** An engine may commit a request at a version only if what the request read has the same pairs
 just before that version as at the version that it read. All that the record layer promises rests on it; an engine that
 is only "serializable" may not keep it. Each engine here says how it does.
+
+Errors: reads raise TooOld where the version isn't kept any more, and Unavailable where the database doesn't answer. A
+commit raises these and Conflict, TooLarge where nothing was written; where it can't be told, and only there, Unknown.
 """
 from __future__ import annotations
 
@@ -22,23 +25,28 @@ class Snapshot(Protocol):
     version: int
 
     def read(self, wants: Sequence[Want]) -> list[Read]:
-        """Reads of each range a beginning, in the direction that it asks for: all of it, or a pair at least."""
+        """Reads of each range a beginning, in the direction that it asks for: all of it, or a pair at least.
+
+        What is answered for a range lies in it, begins where it does, or with `reverse` ends there, and has all pairs
+        of the database at the snapshot's version in what it covers, and no others.
+        """
 
     def commit(self, reads: Sequence[tuple[bytes, bytes]], mutations: Sequence[Mutation],
                known: dict[bytes, bytes]) -> int:
-        """Commits these writes, by the rule, and answers the version. `known` has the pairs that were read.
+        """Commits these writes, in their order, by the rule, and answers the version.
 
-        It raises Conflict, TooOld, TooLarge, or Unknown where it can't tell what became of it."""
+        `known` has all pairs that there are in what was read. It is called once at most, and before `close`.
+        """
 
     def close(self) -> None:
-        """Lets go of the snapshot. It may be called more than once."""
+        """Lets go of the snapshot, and raises nothing. It may be called more than once."""
 
 
 class Engine(Protocol):
-    """A database that a record store is kept in."""
+    """A database that a record store is kept in. It may be used by several threads, a snapshot by one at a time."""
 
     def begin(self, wants: Sequence[Want]) -> tuple[Snapshot, list[Read]]:
-        """A snapshot of the newest version, and what it has at once of these ranges."""
+        """A snapshot of the newest version, with all that is committed by now, and what it has at once of ranges."""
 
     def close(self) -> None:
         """Lets go of the engine."""

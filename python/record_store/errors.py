@@ -42,6 +42,18 @@ class OutOfMemory(RecordError, MemoryError):
     """Memory ran out."""
 
 
+class Closed(RecordError):
+    """The transaction has ended: nothing can be asked or committed in it any more."""
+
+
+class BadCommand(RecordError):
+    """A command isn't of its form."""
+
+
+class OtherStore(RecordError):
+    """The store's schema lacks a type or an index that it is said to have, or has another one of its name."""
+
+
 # the refusals of commands
 class BadName(Refused):
     """A name isn't 1 to 32 of a-z A-Z 0-9 _."""

@@ -7,7 +7,10 @@ from .schema import Cell, cell_json
 
 
 class Filter:
-    """What a query's records are to meet: `&`, `|` and `~` put filters together."""
+    """What a query's records are to meet: `&`, `|` and `~` put filters together.
+
+    `and`, `or`, `not` and `1 < field < 5` would keep a part of what they are given alone, so they raise TypeError.
+    """
 
     def __init__(self, *parts: Any) -> None:
         self.parts = parts
@@ -25,6 +28,9 @@ class Filter:
     def __invert__(self) -> Filter:
         return Filter("not", self)
 
+    def __bool__(self) -> bool:
+        raise TypeError("a filter is neither true nor false: put filters together by &, | and ~")
+
 
 class Field:
     """A field of a record type. None is equal to nothing, and neither less nor greater: ask `is_none`."""
@@ -34,27 +40,33 @@ class Field:
     def __init__(self, name: str) -> None:
         self.name = name
 
+    def compared(self, how: str, value: Cell) -> Filter:
+        """The filter of a comparison. One with None would hold of no record, so it raises TypeError."""
+        if value is None:
+            raise TypeError(f"no record meets {self.name} {how} None: ask is_none")
+        return Filter(how, self.name, cell_json(value))
+
     def __eq__(self, value: Cell) -> Filter:  # type: ignore[override]
-        return Filter("=", self.name, cell_json(value))
+        return self.compared("=", value)
 
     def __ne__(self, value: Cell) -> Filter:  # type: ignore[override]
-        return Filter("!=", self.name, cell_json(value))
+        return self.compared("!=", value)
 
     def __lt__(self, value: Cell) -> Filter:
-        return Filter("<", self.name, cell_json(value))
+        return self.compared("<", value)
 
     def __le__(self, value: Cell) -> Filter:
-        return Filter("<=", self.name, cell_json(value))
+        return self.compared("<=", value)
 
     def __gt__(self, value: Cell) -> Filter:
-        return Filter(">", self.name, cell_json(value))
+        return self.compared(">", value)
 
     def __ge__(self, value: Cell) -> Filter:
-        return Filter(">=", self.name, cell_json(value))
+        return self.compared(">=", value)
 
     def starts_with(self, value: str | bytes) -> Filter:
         """The text or the bytes begin so."""
-        return Filter("starts", self.name, cell_json(value))
+        return self.compared("starts", value)
 
     def is_none(self) -> Filter:
         """The field is None."""

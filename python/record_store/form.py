@@ -19,7 +19,7 @@ class Want(NamedTuple):
 
 
 class Read(NamedTuple):
-    """All pairs of a range at the version of a snapshot, in the order of their keys."""
+    """All pairs of a range at the version of a snapshot, in the order of their keys, or from the last one back."""
 
     begin: bytes
     end: bytes

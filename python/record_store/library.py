@@ -5,21 +5,20 @@ import ctypes
 import os
 import threading
 
-from .errors import OutOfMemory, RecordError
+from .errors import BadCommand, OutOfMemory, RecordError
 
 SHARED_OBJECT = "librecord_c.so"
 ROOM = 1 << 16
 ANSWERED, TOO_SHORT, OUT_OF_MEMORY, BAD_FORM, BAD_COMMAND = range(5)
 
 
-class BadCommand(RecordError):
-    """A command isn't of its form."""
-
-
 def loaded() -> ctypes.CDLL:
     """The shared object. RECORD_LIBRARY names another one."""
     path = os.environ.get("RECORD_LIBRARY") or os.path.join(os.path.dirname(__file__), SHARED_OBJECT)
-    library = ctypes.CDLL(path)
+    try:
+        library = ctypes.CDLL(path)
+    except OSError as why:
+        raise ImportError(f"the record layer isn't there, which `pip install` of this package links: {why}") from why
     library.record_drive.restype = ctypes.c_uint32
     library.record_drive.argtypes = [ctypes.c_char_p, ctypes.c_size_t, ctypes.c_void_p, ctypes.c_size_t,
                                      ctypes.POINTER(ctypes.c_size_t)]
@@ -50,6 +49,6 @@ def drive(given: bytes) -> bytes:
         elif status == OUT_OF_MEMORY:
             raise OutOfMemory("the record layer ran out of memory")
         elif status == BAD_COMMAND:
-            raise BadCommand("a command isn't of its form")
+            raise BadCommand(BadCommand.__doc__)
         else:
             raise RecordError("what was read or written isn't of its form")

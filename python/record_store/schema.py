@@ -4,9 +4,9 @@ from __future__ import annotations
 import json
 from collections.abc import Iterable, Mapping, Sequence
 from dataclasses import dataclass
-from typing import Any, Union
+from typing import Any, TypeVar, Union
 
-from .errors import RecordError, UnknownIndex, UnknownType
+from .errors import NameTaken, RecordError, UnknownField, UnknownIndex, UnknownType, WrongKind
 from .tuples import unpacked
 
 Cell = Union[None, int, str, bytes]
@@ -14,6 +14,7 @@ Record = dict[str, Cell]
 KINDS = {int: "int", str: "text", bytes: "bytes"}
 KIND_NUMBERS = {1: int, 2: str, 3: bytes}
 INDEX_KINDS = {1: "value", 2: "count", 3: "sum"}
+LEAST, MOST = -(1 << 63), (1 << 63) - 1
 
 
 def names(given: str | Iterable[str]) -> list[str]:
@@ -22,11 +23,18 @@ def names(given: str | Iterable[str]) -> list[str]:
 
 
 def cell_json(cell: Cell) -> Any:
-    """A value as the record layer reads it."""
+    """A value as the record layer reads it. What no field can have is raised: TypeError, or ValueError by its value."""
     if isinstance(cell, (bytes, bytearray, memoryview)):
         return {"hex": bytes(cell).hex()}
-    if cell is None or isinstance(cell, str) or isinstance(cell, int) and not isinstance(cell, bool):
+    if isinstance(cell, str):
+        cell.encode()  # a lone surrogate is no text
         return cell
+    if isinstance(cell, int) and not isinstance(cell, bool):
+        if not LEAST <= cell <= MOST:
+            raise ValueError(f"an int of a field has 64 bits with sign, and {cell} more")
+        return int(cell)
+    if cell is None:
+        return None
     raise TypeError(f"a field has an int, a str, bytes or None, and not {type(cell).__name__}")
 
 
@@ -45,19 +53,25 @@ class RecordType:
 
     def json(self) -> dict[str, Any]:
         """The type as the record layer reads it."""
+        for name, kind in self.fields.items():
+            if kind not in KINDS:
+                raise TypeError(f"a field is of int, str or bytes, and {name} of {kind!r}")
         fields = [[name, KINDS[kind]] for name, kind in self.fields.items()]
         return {"name": self.name, "fields": fields, "key": names(self.key)}
 
     def cells(self, record: Mapping[str, Cell]) -> list[Any]:
         """A record's values in the order of the fields. A field that isn't there is None."""
         if unknown := record.keys() - self.fields.keys():
-            raise KeyError(f"{self.name} has no field {', '.join(sorted(unknown))}")
+            raise UnknownField(f"{self.name} has no field {', '.join(map(repr, unknown))}")
         return [cell_json(record.get(name)) for name in self.fields]
 
     def key_cells(self, key: Mapping[str, Cell] | Sequence[Cell] | Cell) -> list[Any]:
-        """The values of a key, which is given as a mapping, as a sequence, or as the only value."""
+        """The values of a key, which is given as a mapping, as a sequence, or as the only value.
+
+        A mapping may have other fields too, as a whole record has.
+        """
         if isinstance(key, Mapping):
-            return [cell_json(key[name]) for name in names(self.key)]
+            return [cell_json(key.get(name)) for name in names(self.key)]
         return [cell_json(it) for it in (key if isinstance(key, (list, tuple)) else [key])]
 
     def record(self, cells: Sequence[Any]) -> Record:
@@ -81,8 +95,11 @@ class Index:
         return made | ({"summed": self.summed} if self.summed is not None else {})
 
     def group_cells(self, group: Mapping[str, Cell]) -> list[Any]:
-        """The values of the columns."""
-        return [cell_json(group[name]) for name in names(self.columns)]
+        """The values of the columns, each of which is to be given, and no other."""
+        columns = names(self.columns)
+        if group.keys() != set(columns):
+            raise WrongKind(f"the columns of {self.name} are {columns}, and {list(group)} are given")
+        return [cell_json(group[name]) for name in columns]
 
 
 def value_index(name: str, record_type: str, *columns: str) -> Index:
@@ -100,12 +117,25 @@ def sum_index(name: str, record_type: str, *columns: str, summed: str) -> Index:
     return Index(name, record_type, columns, "sum", summed)
 
 
+Named = TypeVar("Named", RecordType, Index)
+
+
+def by_name(items: Iterable[Named]) -> dict[str, Named]:
+    """Types or indexes by their names, of which none may stand twice."""
+    found: dict[str, Named] = {}
+    for item in items:
+        if item.name in found:
+            raise NameTaken(f"{item.name} is given twice")
+        found[item.name] = item
+    return found
+
+
 class Schema:
     """Types of records, and indexes over them."""
 
     def __init__(self, types: Iterable[RecordType], indexes: Iterable[Index] = ()) -> None:
-        self.types = {it.name: it for it in types}
-        self.indexes = {it.name: it for it in indexes}
+        self.types = by_name(types)
+        self.indexes = by_name(indexes)
 
     def json(self) -> dict[str, Any]:
         """The schema as the record layer reads it."""
@@ -123,6 +153,13 @@ class Schema:
         if name not in self.indexes:
             raise UnknownIndex(UnknownIndex.__doc__)
         return self.indexes[name]
+
+    def lacks(self, other: Schema) -> list[str]:
+        """The names of another schema's types and indexes that aren't here just as they are there."""
+        both: list[tuple[Mapping[str, Any], Mapping[str, Any]]] = [(self.types, other.types),
+                                                                   (self.indexes, other.indexes)]
+        return [name for mine, theirs in both for name, it in theirs.items()
+                if name not in mine or mine[name].json() != it.json()]
 
     @staticmethod
     def of_bytes(data: bytes) -> Schema:

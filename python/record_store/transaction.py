@@ -6,7 +6,7 @@ from collections.abc import Iterable, Iterator, Mapping, Sequence
 from typing import Any, NamedTuple
 
 from .engine import Snapshot
-from .errors import NoStore, refusal
+from .errors import Closed, Corrupt, NoStore, RecordError, refusal
 from .filters import Filter
 from .form import NOTHING_WRITTEN, Answer, Given, Read, Want, answered, mutations
 from .library import drive
@@ -29,13 +29,14 @@ class Built(NamedTuple):
 class Transaction:
     """A transaction on a record store, whose reads see its own writes.
 
-    It is made by `Database.transact`, which commits it, or by `Database.begin`.
+    It is made by `Database.transact`, which commits it, or by `Database.begin`, and is used by one thread at a time. It
+    holds all that it has read, until it is dropped itself. Once it is committed or closed each call raises Closed.
     """
 
     def __init__(self, snapshot: Snapshot, reads: Iterable[Read]) -> None:
         self.snapshot, self.given, self.written = snapshot, Given(snapshot.version), NOTHING_WRITTEN
         self.conflicts: dict[tuple[bytes, bytes], None] = {}
-        self.changes_schema = False
+        self.changes_schema, self.is_open = False, True
         self.rounds, self.calls, self.decoded = 0, 0, (b"", Schema([]))
         for read in reads:
             self.given.add(read)
@@ -47,6 +48,7 @@ class Transaction:
 
     def perform(self, *commands: Sequence[Any]) -> list[str]:
         """Performs commands as scripts have them, without a client, and answers the text of each reply."""
+        self.check_open()
         steps = [[name, 0, *parts] for name, *parts in commands]
         self.changes_schema |= any(step[0] in SCHEMA_COMMANDS for step in steps)
         script = compact({"steps": steps}).encode()
@@ -62,6 +64,11 @@ class Transaction:
         self.conflicts.update(dict.fromkeys(answer.reads))
         return answer.replies
 
+    def check_open(self) -> None:
+        """Raises Closed where the transaction has ended."""
+        if not self.is_open:
+            raise Closed(Closed.__doc__)
+
     def ask(self, *command: Any) -> str:
         """Performs a command, and answers the text of its reply. A refusal is raised."""
         return accepted(self.perform(command)[0])
@@ -76,7 +83,10 @@ class Transaction:
         if data is None:
             raise NoStore(NoStore.__doc__)
         if self.decoded[0] != data:
-            self.decoded = data, Schema.of_bytes(data)
+            try:
+                self.decoded = data, Schema.of_bytes(data)
+            except (ValueError, LookupError, TypeError, RecursionError, RecordError) as why:
+                raise Corrupt(SCHEMA_KEY) from why
         return self.decoded[1]
 
     def create(self, schema: Schema) -> None:
@@ -88,7 +98,10 @@ class Transaction:
         return self.save_each(record_type, [record])[0]
 
     def save_each(self, record_type: str, records: Iterable[Mapping[str, Cell]]) -> list[Record | None]:
-        """Saves records, with as few reads as one takes."""
+        """Saves records, in as few rounds of reads as one takes.
+
+        Where some are refused the others are saved all the same, and the first refusal is raised.
+        """
         kind = self.schema.type(record_type)
         replies = self.perform(*(("save", record_type, kind.cells(record)) for record in records))
         return [saved_over(kind, accepted(reply)) for reply in replies]
@@ -98,7 +111,7 @@ class Transaction:
         return self.load_each(record_type, [key])[0]
 
     def load_each(self, record_type: str, keys: Iterable[Any]) -> list[Record | None]:
-        """The records of keys, with as few reads as one takes."""
+        """The records of keys, in as few rounds of reads as one takes."""
         kind = self.schema.type(record_type)
         replies = self.perform(*(("load", record_type, kind.key_cells(key)) for key in keys))
         return [found(kind, accepted(reply)) for reply in replies]
@@ -111,20 +124,19 @@ class Transaction:
               reverse: bool = False) -> Iterator[Record]:
         """The records of a type that meet a filter, in the order of the fields of a sort, if there are any.
 
-        The query is asked when the first record is taken.
+        The query is asked at once, and answered as a text that has all rows; each record is made when it is taken, also
+        after the transaction has ended. There are no pages: what a query reads is held as long as the transaction is.
         """
         kind = self.schema.type(record_type)
-        reply = self.ask("query", query_json(record_type, where, sort, reverse))
-        for cells in json.loads(reply.removeprefix("rows ")):
-            yield kind.record(cells)
+        return rows(kind, self.ask("query", query_json(record_type, where, sort, reverse)).removeprefix("rows "))
 
     def explain(self, record_type: str, where: Filter | Sequence[Any] | None = None,
                 sort: str | Iterable[str] = (), reverse: bool = False) -> str:
         """The plan of a query."""
         return self.ask("plan", query_json(record_type, where, sort, reverse)).removeprefix("plan ")
 
-    def aggregate(self, index: str, **group: Cell) -> int:
-        """The total of a COUNT or SUM index for the group of records with these columns."""
+    def aggregate(self, index: str, /, **group: Cell) -> int:
+        """The total of a COUNT or SUM index for the group of records with these columns, each of which is given."""
         cells = self.schema.index(index).group_cells(group)
         return int(self.ask("aggregate", index, cells).removeprefix("total "))
 
@@ -153,7 +165,7 @@ class Transaction:
         self.ask("readable", index)
 
     def build_step(self, index: str, limit: int = 100) -> Built:
-        """Builds a part of a write-only index, of at most so many records."""
+        """Builds a part of a write-only index, of at most so many records, fewer than 2**32."""
         words = self.ask("build", index, limit).split(" ")
         return Built(0, True) if words[0] == "finished" else Built(int(words[1]), False)
 
@@ -162,7 +174,8 @@ class Transaction:
         return self.ask("state", index)
 
     def commit(self) -> int | None:
-        """Commits what was written, and answers the version, or None where nothing was written."""
+        """Commits what was written, and answers the version, or None where nothing was written. It ends either way."""
+        self.check_open()
         writes = mutations(self.written)
         try:
             return self.snapshot.commit(list(self.conflicts), writes, self.given.values) if writes else None
@@ -170,8 +183,15 @@ class Transaction:
             self.close()
 
     def close(self) -> None:
-        """Ends the transaction. What isn't committed is dropped."""
+        """Ends the transaction, if it is open. What isn't committed is dropped."""
+        self.is_open = False
         self.snapshot.close()
+
+    def __enter__(self) -> Transaction:
+        return self
+
+    def __exit__(self, *_: object) -> None:
+        self.close()
 
 
 def accepted(reply: str) -> str:
@@ -189,6 +209,15 @@ def saved_over(kind: RecordType, reply: str) -> Record | None:
 def found(kind: RecordType, reply: str) -> Record | None:
     """The record that was found."""
     return kind.record(json.loads(reply.removeprefix("found "))) if reply.startswith("found ") else None
+
+
+def rows(kind: RecordType, text: str) -> Iterator[Record]:
+    """The records of a list of rows in JSON without blanks, each made when it is taken."""
+    decode, at = json.JSONDecoder().raw_decode, 1
+    while text[at] != "]":
+        cells, at = decode(text, at)
+        at += text[at] == ","
+        yield kind.record(cells)
 
 
 def query_json(record_type: str, where: Filter | Sequence[Any] | None, sort: str | Iterable[str],

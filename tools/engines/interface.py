@@ -1,8 +1,10 @@
 """The calls of the Python package, in one transaction after another: each row a call, and what it answers or raises."""
-from record_store import Corrupt, Database, RecordError, RecordType, Refused, Schema, errors
+from contextlib import suppress
+
+from record_store import BadCommand, Closed, Corrupt, Database, RecordError, RecordType, Refused, Schema, errors
 from record_store import count_index, field, sum_index, value_index
 from record_store.form import SET, Mutation
-from record_store.library import BadCommand, drive
+from record_store.library import drive
 from record_store.transaction import SCHEMA_KEY
 
 BOOK = RecordType("book", {"title": str, "author": str, "copies": int, "cover": bytes}, "title")
@@ -61,9 +63,29 @@ ROWS = [
     (lambda tx: tx.save("film", {}), errors.UnknownType),
     (lambda tx: tx.save("book", {"title": None}), errors.NullKey),
     (lambda tx: tx.save("book", {"title": 7}), errors.WrongKind),
-    (lambda tx: tx.save("book", {"titel": "x"}), KeyError),
+    (lambda tx: tx.save("book", {"titel": "x"}), errors.UnknownField),
     (lambda tx: tx.save("book", {"title": 1.5}), TypeError),
-    (lambda tx: tx.save("book", {"title": "x", "copies": 2**63}), BadCommand),
+    (lambda tx: tx.save("book", {"title": True}), TypeError),
+    (lambda tx: tx.save("book", {"title": "x", "copies": 2**63}), ValueError),
+    (lambda tx: tx.save("book", {"title": "\ud800"}), UnicodeEncodeError),
+    (lambda tx: tx.load("loan", {"title": "Emma"}), errors.NullKey),
+    (lambda tx: tx.load("loan", ("Emma",)), errors.WrongKind),
+    (lambda tx: tx.load("loan", LENT | {"who": "nobody"}), LENT),
+    (lambda tx: tx.ask("save", 0, "book"), BadCommand),
+    (lambda tx: tx.aggregate("copies_of"), errors.WrongKind),
+    (lambda tx: tx.aggregate("copies_of", author="Austen", title="Emma"), errors.WrongKind),
+    (lambda tx: titles(tx, AUSTEN and COPIES > 0), TypeError),
+    (lambda tx: titles(tx, COPIES == None), TypeError),  # noqa: E711
+    (lambda tx: Schema([BOOK, BOOK]), errors.NameTaken),
+    (lambda tx: Schema([RecordType("real", {"a": float}, "a")]).json(), TypeError),
+    (lambda tx: [tx.close(), tx.load("book", "Emma")], Closed),
+    (lambda tx: [tx.commit(), tx.commit()], Closed),
+    (lambda tx: [tx.save("book", EMMA), tx.close()][1:], [None]),
+    (lambda tx: [tx.save("book", EMMA | {"copies": 5}), tx.commit()][:1], [EMMA | {"copies": 4}]),
+    (lambda tx: [tx.load("book", "Emma")["copies"], tx.save("book", EMMA | {"copies": 4})["copies"]], [5, 5]),
+    (lambda tx: [tx.save_each("book", []), tx.load_each("book", [])], [[], []]),
+    (lambda tx: [next(it) for it in [tx.query("book", AUSTEN)]][0]["title"], "Emma"),
+    (lambda tx: list(tx.query("loan", field("day") > 7)), []),
     (lambda tx: titles(tx, sort="copies"), errors.SortNotServed),
     (lambda tx: titles(tx, sort=["title", "title"]), errors.SortTwice),
     (lambda tx: titles(tx, field("gone") == 1), errors.UnknownField),
@@ -75,12 +97,52 @@ ROWS = [
 ]
 
 
-def outcome(database, body):
+# calls of a database, and what they answer or raise
+CALLS = [
+    (lambda db: db.make(BOOKS), False),
+    (lambda db: db.make(Schema([TAG])), False),
+    (lambda db: Database(db.engine, Schema([LOAN])).transact(lambda tx: tx.load("loan", ("Emma", 7))), LENT),
+    (lambda db: Database(db.engine, Schema([RecordType("film", {"title": str}, "title")])), errors.OtherStore),
+    (lambda db: Database(db.engine, Schema([RecordType("book", {"title": str}, "title")])), errors.OtherStore),
+    (lambda db: Database(db.engine, Schema([BOOK], [count_index("by_author", "book", "author")])), errors.OtherStore),
+    (lambda db: db.build(value_index("by_author", "book", "copies")), errors.NameTaken),
+    (lambda db: db.build("gone"), errors.UnknownIndex),
+    (lambda db: [db.build(value_index("by_author", "book", "author")), db.build("books")], [None, None]),
+    (lambda db: db.transact(lambda tx: 1, attempts=0), ValueError),
+    (lambda db: [it["title"] for it in db.transact(lambda tx: tx.query("book", sort="title"))],
+     ["Emma", "Romola \u2603", "Silas Marner"]),
+    (lambda db: unsaved(db), ["Emma", "Romola \u2603", "Silas Marner"]),
+]
+
+
+def unsaved(database):
+    """The titles where a transaction ended in an error, and another one by `with`, without a commit."""
+    for leave in (lambda: 1 // 0, lambda: None):
+        with suppress(ZeroDivisionError), database.begin() as tx:
+            tx.save("book", {"title": "never"})
+            leave()
+    return database.transact(titles)
+
+
+def told(call):
     """What a call answers, or the type of what it raises."""
     try:
-        return database.transact(body)
+        return call()
     except Exception as why:
         return type(why)
+
+
+def outcome(database, body):
+    """What a call in a transaction answers, or the type of what it raises."""
+    return told(lambda: database.transact(body))
+
+
+def different(cases):
+    """Of calls with what is wanted of each those that answer something else."""
+    for number, (call, wanted) in enumerate(cases, 1):
+        found = told(call)
+        if found != wanted:
+            yield f"row {number}: {found}, and not {wanted}"
 
 
 def retried(database):
@@ -104,9 +166,8 @@ def wrong_calls(engine):
     database = Database(engine, BOOKS)
     if database.make(BOOKS) or sorted(database.transact(lambda tx: tx.schema).types) != ["book", "loan"]:
         yield "the store isn't that of the schema"
-    for number, (body, wanted) in enumerate(ROWS, 1):
-        if (told := outcome(database, body)) != wanted:
-            yield f"row {number}: {told}, and not {wanted}"
+    yield from different([(lambda body=body: database.transact(body), wanted) for body, wanted in ROWS])
+    yield from different([(lambda call=call: call(database), wanted) for call, wanted in CALLS])
     if retried(database) != ([4, 10, 20], 21):
         yield "a body that conflicts isn't run again as it should be"
     if not all(issubclass(it, Refused) and it.__doc__ for it in errors.REFUSALS.values()):
@@ -118,5 +179,7 @@ def wrong_calls(engine):
         yield "damage isn't told"
     if outcome(database, lambda tx: tx.ask("state", "any")) is not Corrupt:
         yield "damage isn't raised"
+    if outcome(database, lambda tx: tx.load("book", "Emma")) is not Corrupt:
+        yield "damage of the schema isn't raised"
     if outcome(database, lambda tx: drive(b"\x02")) is not RecordError:
         yield "bytes of another form are taken"

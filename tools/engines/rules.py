@@ -5,7 +5,9 @@ first one may commit then. The ones that an engine is likely to get wrong: a del
 key in one where nothing was found, two transactions of which each writes what the other reads, and one that overwrites
 what the other read and commits first.
 """
-from record_store.errors import Conflict
+import random
+
+from record_store.errors import Conflict, TooLarge
 from record_store.form import ADD, CLEAR, SET, Mutation, Want
 
 MANY = 1 << 20
@@ -13,6 +15,9 @@ ONE, TWO = (1).to_bytes(8, "little"), (2).to_bytes(8, "little")
 LESS = (2**64 - 1).to_bytes(8, "little")
 AA, AB, AC, B, C, Z = b"aa", b"ab", b"ac", b"b", b"c", b"z"
 THREE = [(AA, b"1"), (AB, b"2"), (AC, b"3")]
+# keys that differ in zero bytes alone, and bytes that can't be compressed
+ZEROS = [(b"a", b"1"), (b"a\0", b""), (b"a\0\0", b"\0"), (b"a\0\xff", b"4")]
+LARGE = random.Random(7).randbytes(100_000)
 
 
 def point(key):
@@ -53,6 +58,18 @@ ROWS = [
     ("a clear that finds nothing in a range", THREE, Want(B, Z, MANY), [clear(b"a", Z)], True),
     ("a key next to one that was read is written", THREE, point(AB), [put(AB + b"\0"), put(AC)], True),
     ("nothing that was read", THREE, point(C), [put(AA), add(B)], True),
+    ("a key that ends in zero bytes is written", ZEROS, point(b"a\0\0"), [put(b"a\0\0")], False),
+    ("a key that ends in zero bytes is cleared", ZEROS, point(b"a\0"), [clear(b"a\0", b"a\0\0")], False),
+    ("keys with more zero bytes are written", ZEROS, point(b"a"), [put(b"a\0"), put(b"a\0\0\0")], True),
+    ("a range that ends in zero bytes", ZEROS, Want(b"a\0", b"a\0\0", MANY), [put(b"a"), put(b"a\0\0")], True),
+    ("one of many keys in a range is cleared", [(b"a%d" % it, b"") for it in range(100)], ALL, [clear(b"a7", b"a70")],
+     False),
+]
+# pairs that are to stand as they were put
+KEPT = [
+    ("keys that differ in zero bytes alone", ZEROS),
+    ("a value of 100,000 bytes, and an empty one", [(AA, LARGE), (AB, b"")]),
+    ("keys of 2,500 bytes", [(b"a" + LARGE[it:it + 2499], LARGE[it:it + 9]) for it in range(0, 50_000, 2499)]),
 ]
 # what a row shows, the value before, what two transactions write to one key that neither has read, and what stands then
 SUMS = [
@@ -118,6 +135,29 @@ def summed(engine, first, second):
     return value(engine, C)
 
 
+def stands(engine, pairs):
+    """Whether just these pairs are there."""
+    snapshot, (read,) = engine.begin([Want(b"a", Z, MANY)])
+    snapshot.close()
+    return read.pairs == sorted(pairs)
+
+
+def kept(engine, pairs):
+    """Whether just these pairs are there once they are put."""
+    fill(engine, pairs)
+    return stands(engine, pairs)
+
+
+def longest(engine):
+    """Whether a key of 10,000 bytes is kept, or refused as too large with nothing written."""
+    fill(engine, THREE)
+    pairs = [*THREE, (b"a" + LARGE[:9999], b"long")]
+    try:
+        return kept(engine, pairs)
+    except TooLarge:
+        return stands(engine, THREE)
+
+
 def skew(engine):
     """Whether of two transactions that each write what the other reads just the first one commits."""
     fill(engine, THREE)
@@ -159,6 +199,11 @@ def broken(engine):
         found = summed(engine, first, second)
         if found != wanted:
             yield f"{shows}: {found}, and not {wanted}"
+    for shows, pairs in KEPT:
+        if not kept(engine, pairs):
+            yield f"{shows}: they aren't read as they were put"
+    if not longest(engine):
+        yield "a key of 10,000 bytes is lost"
     if skew(engine) != [True, False]:
         yield "two that write what the other reads"
     if ordered(engine) != ORDERED:

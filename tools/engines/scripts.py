@@ -16,6 +16,7 @@ ROOT = os.path.dirname(os.path.dirname(HERE))
 sys.path += [os.path.join(ROOT, "tools", "program_tests"), os.path.join(ROOT, "python")]
 from cases import cases_in, example_cases
 from record_store.errors import Conflict
+from record_store.form import NOTHING_WRITTEN
 from record_store.transaction import OPENING, Transaction
 
 ROLES = {"resolve", "log", "pull", "report", "lost"}
@@ -79,7 +80,7 @@ class Clients:
     def end(self, name, client):
         """Submits a transaction, or drops it."""
         tx = self.open.pop(client)
-        if name == "commit" and len(tx.written) > 4:
+        if name == "commit" and len(tx.written) > len(NOTHING_WRITTEN):
             self.submitted.append((client, tx))
             return "submitted"
         tx.close()

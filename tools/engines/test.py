@@ -25,7 +25,7 @@ ROOT = os.path.dirname(os.path.dirname(HERE))
 PYTHON, PACKAGES = "/usr/bin/python3", ["etcd-server", "postgresql", "python3-psycopg", "python3-pip"]
 SECONDS = 900
 SEEDS = range(200)
-NAMES = ("scripts", "random", "interface", "rules", "binding", "races", "kills", "calls")
+NAMES = ("scripts", "random", "interface", "rules", "binding", "dropped", "documents", "races", "kills", "calls")
 
 
 def prepare(folder):
@@ -60,13 +60,13 @@ class Tests:
 
     def engines(self, name):
         """For each engine how it is opened, over a database of this name that is empty at first."""
-        import psycopg
+        import psycopg.sql
         from record_store.engines.etcd import Etcd
         from record_store.engines.memory import Memory
         from record_store.engines.postgres import Postgres
         from record_store.engines.sqlite import Sqlite
         with psycopg.connect(self.postgres.conninfo, autocommit=True) as connection:
-            connection.execute(f'create database "{name}"')
+            connection.execute(psycopg.sql.SQL("create database {}").format(psycopg.sql.Identifier(name)))
         conninfo, memory = self.postgres.conninfo.replace("dbname=postgres", f"dbname={name}"), Memory()
         return {
             "memory": lambda: memory,
@@ -116,7 +116,7 @@ class Tests:
         import interface
         for name, opened in self.engines("interface").items():
             self.note(f"the calls of the package over {name}", list(interface.wrong_calls(opened())),
-                      f"{len(interface.ROWS)} rows")
+                      f"{len(interface.ROWS) + len(interface.CALLS)} rows")
 
     def test_rules(self):
         """Each engine keeps the rule of a commit, and engines that don't are found out."""
@@ -124,7 +124,7 @@ class Tests:
         import wrong_engines
         for name, opened in self.engines("rules").items():
             self.note(f"the rule of a commit over {name}", list(rules.broken(opened())),
-                      f"{len(rules.ROWS) + len(rules.SUMS) + 2} rows")
+                      f"{len(rules.ROWS) + len(rules.SUMS) + len(rules.KEPT) + 3} rows")
         for name, engine, wanted in wrong_engines.all_of(self):
             found = list(rules.broken(engine))
             self.note(f"a wrong rule is found: {name}", [] if wanted <= {it.split(": ")[0] for it in found} else found,
@@ -139,6 +139,17 @@ class Tests:
         from record_store.engines.foundationdb import FoundationDb
         faults = [*rules.broken(FoundationDb()), *interface.wrong_calls(FoundationDb(prefix=b"other/"))]
         self.note("the engine for FoundationDB over a stand-in, not FoundationDB", faults, "the rule, and the calls")
+
+    def test_dropped(self):
+        """Connections that are dropped, and files that are locked, are told as what they may have come to."""
+        import dropped
+        for name, rows in dropped.engines(self):
+            self.note(f"what isn't answered over {name}", list(dropped.different(rows)), f"{len(rows)} rows")
+
+    def test_documents(self):
+        """The lines of Python in documents do what is said there, also a second time."""
+        import documents
+        self.note("lines of documents", list(documents.different(self.folder)), f"{len(documents.BLOCKS)} documents")
 
     def test_races(self):
         """Clients and a builder race over each engine."""

@@ -3,7 +3,7 @@ import psycopg
 from record_store.engine import page_of, read_of
 from record_store.engines.etcd import Etcd, EtcdSnapshot
 from record_store.engines.memory import Memory, MemorySnapshot
-from record_store.errors import Conflict
+from record_store.errors import Conflict, TooLarge
 from record_store.form import ADD, CLEAR, added
 
 DELETIONS = {"a key in a range is cleared", "all keys in a range are cleared"}
@@ -77,6 +77,8 @@ class SerializableSnapshot:
             self.connection.execute("commit")
         except psycopg.errors.SerializationFailure as why:
             raise Conflict(str(why)) from why
+        except psycopg.errors.ProgramLimitExceeded as why:
+            raise TooLarge(str(why)) from why
         return 0
 
     def apply(self, kind, first, second):

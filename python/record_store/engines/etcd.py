@@ -10,7 +10,8 @@ that it stands there still; where that alone fails it is done again. So two tran
 conflict, but take turns.
 
 etcd refuses a transaction of more operations than `--max-txn-ops` (128 where it isn't given): reads and writes of many
-records in one transaction need it higher. A read of a compacted revision is refused as too old.
+records in one transaction need it higher. A read of a compacted revision is refused as too old. Plain HTTP alone is
+spoken, without TLS, users or passwords.
 """
 from __future__ import annotations
 
@@ -18,6 +19,7 @@ import base64
 import http.client
 import json
 import threading
+import time
 from collections.abc import Iterable, Sequence
 from typing import Any
 
@@ -25,28 +27,50 @@ from ..engine import page_of, read_of
 from ..errors import Conflict, RecordError, TooLarge, TooOld, Unavailable, Unknown
 from ..form import ADD, CLEAR, Mutation, Read, Want, added
 
-ROUNDS = 20
 ADD_ROUNDS = 200
-INVALID = 3
+# so many reads are asked for at once, in seconds how long it is waited before a read is asked of the next member
+READS, WAIT = 100, 0.05
+# codes of the gateway's errors: what isn't well formed, and what there is no room for, neither of which is made
+INVALID, EXHAUSTED = 3, 8
+TOO_MANY = "too many operations", "too large", "larger than max"
+NO_ANSWER = OSError, http.client.HTTPException, ValueError
 Range = tuple[bytes, bytes]
 
 
 def text(data: bytes) -> str:
+    """Bytes as the gateway reads them."""
     return base64.b64encode(data).decode()
 
 
-class Etcd:
-    """A database below a prefix of an etcd cluster's keys, by the addresses of its members, each `host:port`."""
+def refusal(reply: dict[str, Any]) -> RecordError:
+    """What an error of the gateway means: Unknown, unless it says that the transaction isn't made."""
+    said, code = f"etcd: {reply['error']}", reply.get("code")
+    if "compacted" in said or "future revision" in said:
+        return TooOld(said)
+    if code in (INVALID, EXHAUSTED) and any(it in said for it in TOO_MANY):
+        return TooLarge(said)
+    return RecordError(said) if code == INVALID else Unavailable(said) if code == EXHAUSTED else Unknown(said)
 
-    def __init__(self, members: Sequence[str], prefix: bytes = b"records/", timeout: float = 5) -> None:
-        self.members, self.prefix, self.timeout = list(members), prefix, timeout
+
+class Etcd:
+    """A database below a prefix of an etcd cluster's keys, by the addresses of its members, each `host:port`.
+
+    `timeout` is for how many seconds an answer is waited for; `patience`, for how many a read is asked of one member
+    after another, before it is Unavailable.
+    """
+
+    def __init__(self, members: Sequence[str], prefix: bytes = b"records/", timeout: float = 5,
+                 patience: float = 30) -> None:
+        self.members, self.prefix, self.timeout, self.patience = list(members), prefix, timeout, patience
         self.own = threading.local()
 
     def begin(self, wants: Sequence[Want]) -> tuple[EtcdSnapshot, list[Read]]:
+        """A snapshot of the newest revision, and what it has at once of these ranges."""
         revision, reads = self.ranges(wants, None)
         return EtcdSnapshot(self, revision), reads
 
     def close(self) -> None:
+        """Closes the thread's connection; those of other threads end with them."""
         self.drop()
 
     def drop(self) -> None:
@@ -58,42 +82,54 @@ class Etcd:
         self.own.place = getattr(self.own, "place", -1) + 1
 
     def connection(self) -> http.client.HTTPConnection:
-        """The thread's connection to a member."""
-        if getattr(self.own, "connection", None) is None:
-            self.own.place = getattr(self.own, "place", 0)
-            member = self.members[self.own.place % len(self.members)]
-            self.own.connection = http.client.HTTPConnection(member, timeout=self.timeout)
-        connection: http.client.HTTPConnection = self.own.connection
-        return connection
+        """The thread's connection to a member, to the next one that takes one where there is none."""
+        made: http.client.HTTPConnection | None = getattr(self.own, "connection", None)
+        place, said = getattr(self.own, "place", 0), "no member is given"
+        for turn in range(len(self.members)):
+            if made is not None:
+                break
+            member = self.members[(place + turn) % len(self.members)]
+            try:
+                made = http.client.HTTPConnection(member, timeout=self.timeout)
+                made.connect()
+                self.own.place = place + turn
+            except OSError as why:
+                made, said = None, f"{member}: {why}"
+        if made is None:
+            raise Unavailable(f"etcd: {said}")
+        self.own.connection = made
+        return made
 
     def post(self, body: dict[str, Any]) -> dict[str, Any]:
-        """Has one member carry out a transaction."""
+        """Has one member carry out a transaction. Unavailable is raised where it was sent to none."""
+        connection = self.connection()
         try:
-            connection = self.connection()
             connection.request("POST", "/v3/kv/txn", json.dumps(body))
-            reply: dict[str, Any] = json.loads(connection.getresponse().read())
+            reply = json.loads(connection.getresponse().read())
+            if not isinstance(reply, dict):
+                raise ValueError(f"etcd answers {reply}")
             return reply
-        except (OSError, http.client.HTTPException, ValueError):
-            self.drop()
+        except BaseException:
+            self.drop()  # what comes of the call might be taken for the next one's answer
             raise
 
     def read_txn(self, body: dict[str, Any]) -> dict[str, Any]:
         """The same of reads alone, which are asked of one member after another."""
-        said = "no member answers"
-        for _ in range(ROUNDS * len(self.members)):
+        until = time.monotonic() + self.patience
+        while True:
             try:
                 reply = self.post(body)
-            except (OSError, http.client.HTTPException, ValueError) as why:
-                said = str(why)
-                continue
-            if "error" not in reply:
-                return reply
-            said = reply["error"]
-            if "compacted" in said or "future revision" in said:
-                raise TooOld(said)
-            self.drop()
-            threading.Event().wait(0.05)
-        raise Unavailable(said)
+                if "error" not in reply:
+                    return reply
+                said = refusal(reply)
+                if not isinstance(said, (Unavailable, Unknown)):
+                    raise said
+                self.drop()
+            except (*NO_ANSWER, Unavailable) as why:
+                said = Unavailable(f"etcd: {why}")
+            if time.monotonic() > until:
+                raise Unavailable(str(said))
+            time.sleep(WAIT)
 
     def at(self, begin: bytes, end: bytes) -> dict[str, str]:
         """A range of keys below the prefix."""
@@ -102,8 +138,8 @@ class Etcd:
     def ranges(self, wants: Sequence[Want], revision: int | None) -> tuple[int, list[Read]]:
         """A beginning of each range, all at one revision: this one, or the newest, which is answered."""
         reads: list[Read] = []
-        for first in range(0, max(len(wants), 1), 100):
-            part = wants[first:first + 100]
+        for first in range(0, max(len(wants), 1), READS):
+            part = wants[first:first + READS]
             reply = self.read_txn({"success": [{"requestRange": self.range_request(it, revision)} for it in part]})
             revision = revision or int(reply["header"]["revision"])
             for want, response in zip(part, reply.get("responses", [])):
@@ -118,6 +154,7 @@ class Etcd:
         return self.at(want.begin, want.end) | {"limit": str(page_of(want))} | order | at
 
     def pair_of(self, item: dict[str, str]) -> tuple[bytes, bytes]:
+        """A pair below the prefix, as the gateway writes it."""
         key = base64.b64decode(item["key"])[len(self.prefix):]
         return key, base64.b64decode(item.get("value", ""))
 
@@ -159,9 +196,11 @@ class EtcdSnapshot:
         self.engine, self.version = engine, version
 
     def read(self, wants: Sequence[Want]) -> list[Read]:
+        """Reads of each range a beginning, in the direction that it asks for."""
         return self.engine.ranges(wants, self.version)[1]
 
     def commit(self, reads: Sequence[Range], mutations: Sequence[Mutation], known: dict[bytes, bytes]) -> int:
+        """Commits these writes, by the rule, and answers the revision."""
         compares = self.compares(reads, known)
         writes = Writes(mutations)
         for _ in range(ADD_ROUNDS):
@@ -173,21 +212,17 @@ class EtcdSnapshot:
             if reply.get("succeeded"):
                 return int(reply["header"]["revision"])
             if not more:
-                break
-        raise Conflict("another transaction wrote what was read")
+                raise Conflict("another transaction wrote what was read")
+        raise Conflict(f"others came before this transaction's ADDs, {ADD_ROUNDS} times")
 
     def send(self, body: dict[str, Any]) -> dict[str, Any]:
         """Has a transaction of etcd carried out once."""
         try:
             reply = self.engine.post(body)
-        except (OSError, http.client.HTTPException, ValueError) as why:
+        except NO_ANSWER as why:
             raise Unknown(f"etcd didn't answer the commit: {why}") from why
-        if "too many operations" in reply.get("error", "") or "too large" in reply.get("error", ""):
-            raise TooLarge(reply["error"])
-        if reply.get("code") == INVALID:
-            raise RecordError(reply["error"])
         if "error" in reply:
-            raise Unknown(reply["error"])
+            raise refusal(reply)
         return reply
 
     def stored(self, compares: list[dict[str, str]], keys: Sequence[bytes]) -> dict[bytes, tuple[str, bytes | None]]:
@@ -210,6 +245,8 @@ class EtcdSnapshot:
         """What is compared: that what was read stands just as it was read."""
         compares = []
         for begin, end in reads:
+            if begin >= end:
+                continue
             if end == begin + b"\0" and begin not in known:
                 compares.append({"key": self.key(begin), "target": "CREATE", "result": "EQUAL", "create_revision": "0"})
                 continue
@@ -232,7 +269,7 @@ class EtcdSnapshot:
         return made + [{"requestPut": {"key": self.key(key), "value": text(value)}} for key, value in puts.items()]
 
     def close(self) -> None:
-        pass
+        """There is nothing to let go of."""
 
 
 def merged(ranges: Iterable[Range]) -> list[Range]:

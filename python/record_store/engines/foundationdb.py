@@ -14,12 +14,16 @@ from typing import Any
 import fdb
 
 from ..engine import page_of, read_of
-from ..errors import Conflict, RecordError, TooLarge, TooOld, Unknown
+from ..errors import Conflict, RecordError, TooLarge, TooOld, Unavailable, Unknown
 from ..form import ADD, CLEAR, Mutation, Read, Want
 
 API = 710
-# codes of FoundationDB's errors
-TOO_OLD, FUTURE_VERSION, NOT_COMMITTED, UNKNOWN_RESULT, TRANSACTION_TOO_LARGE = 1007, 1009, 1020, 1021, 2101
+# codes of FoundationDB's errors, of which each says that nothing was committed
+NOT_COMMITTED: dict[int, type[RecordError]] = {
+    1007: TooOld, 1009: TooOld, 1020: Conflict, 2101: TooLarge, 2102: TooLarge, 2103: TooLarge,
+    # a process that lags, a locked database, proxies without memory, and transactions that are throttled
+    1037: Unavailable, 1038: Unavailable, 1042: Unavailable, 1051: Unavailable, 1078: Unavailable, 1213: Unavailable,
+}
 
 
 class FoundationDb:
@@ -30,11 +34,12 @@ class FoundationDb:
         self.database, self.prefix = fdb.open(cluster_file), prefix
 
     def begin(self, wants: Sequence[Want]) -> tuple[FoundationDbSnapshot, list[Read]]:
+        """A snapshot of the newest version, and what it has at once of these ranges."""
         snapshot = FoundationDbSnapshot(self, self.database.create_transaction())
         return snapshot, snapshot.read(wants)
 
     def close(self) -> None:
-        pass
+        """The binding keeps its own connections as long as the process lives."""
 
 
 class FoundationDbSnapshot:
@@ -45,22 +50,25 @@ class FoundationDbSnapshot:
         try:
             self.version = transaction.get_read_version().wait()
         except fdb.FDBError as why:
-            raise error_of(why) from why
+            raise error_of(why, Unavailable) from why
 
     def read(self, wants: Sequence[Want]) -> list[Read]:
+        """Reads of each range a beginning, in the direction that it asks for."""
         asked = [self.transaction.snapshot.get_range(self.prefix + want.begin, self.prefix + want.end,
                                                      limit=page_of(want), reverse=want.reverse) for want in wants]
         try:
             return [self.read_of(want, items) for want, items in zip(wants, asked)]
         except fdb.FDBError as why:
-            raise error_of(why) from why
+            raise error_of(why, Unavailable) from why
 
     def read_of(self, want: Want, items: Any) -> Read:
+        """What came of a read."""
         pairs = [(bytes(it.key)[len(self.prefix):], bytes(it.value)) for it in items]
         return read_of(want, page_of(want), pairs)
 
     def commit(self, reads: Sequence[tuple[bytes, bytes]], mutations: Sequence[Mutation],
                known: dict[bytes, bytes]) -> int:
+        """Commits these writes, by the rule, and answers the version."""
         transaction = self.transaction
         for begin, end in reads:
             transaction.add_read_conflict_range(self.prefix + begin, self.prefix + end)
@@ -73,18 +81,16 @@ class FoundationDbSnapshot:
                 transaction.set(self.prefix + first, second)
         try:
             transaction.commit().wait()
-            return int(transaction.get_committed_version())
         except fdb.FDBError as why:
-            raise error_of(why) from why
+            raise error_of(why, Unknown) from why
+        return int(transaction.get_committed_version())
 
     def close(self) -> None:
+        """Lets go of the transaction."""
         self.transaction.cancel()
 
 
-def error_of(why: Any) -> RecordError:
-    """What an error of FoundationDB means."""
+def error_of(why: Any, otherwise: type[RecordError]) -> RecordError:
+    """What an error of FoundationDB means, and what it does where its code isn't one that is known here."""
     said = f"FoundationDB's error {why.code}: {why.description}"
-    kinds: dict[int, type[RecordError]] = {
-        TOO_OLD: TooOld, FUTURE_VERSION: TooOld, NOT_COMMITTED: Conflict, UNKNOWN_RESULT: Unknown,
-        TRANSACTION_TOO_LARGE: TooLarge}
-    return kinds.get(why.code, RecordError)(said)
+    return NOT_COMMITTED.get(why.code, otherwise)(said)

@@ -1,12 +1,14 @@
 """A database in the memory of one process, for tests and caches: it ends with the process.
 
 **Rule of a commit.** Under a lock: no key of a range that was read has been written, or cleared, at a version after the
-one that was read. A key that was cleared keeps its place with the version, so that a deletion shows as a write does.
+one that was read. A key that was cleared keeps its place with the version, so that a deletion shows as a write does,
+until no version is kept any more at which it was there.
 """
 from __future__ import annotations
 
 import threading
 from bisect import bisect_left, bisect_right, insort
+from collections import deque
 from collections.abc import Sequence
 
 from ..engine import page_of, read_of
@@ -24,6 +26,8 @@ class Memory:
         self.keys: list[bytes] = []
         # for each key its values, None where it was cleared, each with the version that wrote it
         self.values: dict[bytes, list[tuple[int, bytes | None]]] = {}
+        # keys that were cleared, each with the version that did it, the oldest first
+        self.cleared: deque[tuple[int, bytes]] = deque()
 
     def begin(self, wants: Sequence[Want]) -> tuple[MemorySnapshot, list[Read]]:
         with self.lock:
@@ -58,6 +62,15 @@ class Memory:
         values.append((self.version, value))
         while len(values) > 1 and values[1][0] <= self.version - self.window:
             values.pop(0)
+        if value is None:
+            self.cleared.append((self.version, key))
+
+    def sweep(self) -> None:
+        """Removes the keys that were cleared before all versions that are kept, unless they were put again."""
+        while self.cleared and self.cleared[0][0] <= self.version - self.window:
+            version, key = self.cleared.popleft()
+            if self.values.get(key, [])[-1:] == [(version, None)]:
+                del self.values[key], self.keys[bisect_left(self.keys, key)]
 
     def apply(self, mutation: Mutation) -> None:
         """Applies a write at the newest version."""
@@ -105,6 +118,7 @@ class MemorySnapshot:
             engine.version += 1
             for mutation in mutations:
                 engine.apply(mutation)
+            engine.sweep()
             return engine.version
 
     def close(self) -> None:

@@ -7,18 +7,24 @@ would not do: it lets a transaction commit after one that overwrote what it has 
 other way round.
 
 Reads are made in a transaction of PostgreSQL's own (REPEATABLE READ), whose snapshot has the version's row and the
-pairs of that version.
+pairs of that version. The function runs at READ COMMITTED, where what it looks at after the lock is what the commit
+before it left. A commit outlives the server as far as its `synchronous_commit` says, which is on where nothing is said.
+
+A key has about 2,700 bytes at most, or some more where it can be compressed, since it is to fit into a page of the
+table's index: a commit of a longer one is TooLarge. How long a server may be silent is the connection string's matter
+(`connect_timeout`, `tcp_user_timeout`). A connection that was lost while no transaction used it is made anew.
 """
 from __future__ import annotations
 
 import threading
-from collections.abc import Sequence
+from collections.abc import Iterator, Sequence
+from contextlib import contextmanager, suppress
 from typing import Any
 
 import psycopg
 
 from ..engine import page_of, read_of
-from ..errors import Conflict, TooOld, Unavailable, Unknown
+from ..errors import Conflict, RecordError, TooLarge, TooOld, Unavailable, Unknown
 from ..form import Mutation, Read, Want
 
 Connection = psycopg.Connection[Any]
@@ -87,18 +93,47 @@ begin
     told := 0;
 end $$;
 """
-READ = "select key, value from record_pairs where key >= %s and key < %s and value is not null order by key {} limit %s"
+READ = """select key, value from record_pairs where key >= %s and key < %s and value is not null
+    order by key limit %s"""
+READ_BACK = """select key, value from record_pairs where key >= %s and key < %s and value is not null
+    order by key desc limit %s"""
 COMMIT = "select told, made from record_commit(%s, %s, %s, %s, %s, %s, %s, %s)"
+# PostgreSQL's error codes: two transactions couldn't both be made; a version that isn't kept
+CONFLICTS, TOO_OLD = ("40001", "40P01"), "72000"
+# classes of codes: after these nobody can tell (of the connection, of a rollback, an operator's, or a limit of time);
+# and what is above a limit, as a key that doesn't fit into a page of the table's index
+UNTOLD, LIMIT = ("08", "40", "57"), "54"
+
+
+@contextmanager
+def answering() -> Iterator[None]:
+    """Tells an error of PostgreSQL's in a read as the package's."""
+    try:
+        yield
+    except psycopg.Error as why:
+        raise (TooOld if why.sqlstate == TOO_OLD else Unavailable)(f"PostgreSQL: {why}") from why
+
+
+def of_commit(why: psycopg.Error) -> RecordError:
+    """What an error of PostgreSQL's means of a commit: one without a code is a lost connection's."""
+    if why.sqlstate in CONFLICTS:
+        return Conflict(f"PostgreSQL: {why}")
+    if why.sqlstate is None or why.sqlstate.startswith(UNTOLD):
+        return Unknown(f"PostgreSQL: {why}")
+    return (TooLarge if why.sqlstate.startswith(LIMIT) else Unavailable)(f"PostgreSQL: {why}")
 
 
 class Postgres:
-    """A PostgreSQL database, by a connection string of libpq. Its tables are made where they aren't there."""
+    """A PostgreSQL database, by a connection string of libpq. Its tables are made where they aren't there.
+
+    Each `sweep_each` versions the rows are swept of keys that were cleared more than `kept` versions ago.
+    """
 
     def __init__(self, conninfo: str, sweep_each: int = SWEEP_EACH, kept: int = KEPT) -> None:
         self.conninfo, self.sweep_each, self.kept = conninfo, sweep_each, kept
         self.lock = threading.Lock()
         self.free: list[Connection] = []
-        with self.connected() as connection:
+        with answering(), self.connected() as connection:
             connection.execute("begin")
             connection.execute("select pg_advisory_xact_lock(7263)")  # one process at a time makes the tables
             connection.execute(TABLES)
@@ -106,25 +141,29 @@ class Postgres:
 
     def connected(self) -> Connection:
         """A connection for one transaction at a time."""
-        try:
-            return psycopg.connect(self.conninfo, autocommit=True)
-        except psycopg.OperationalError as why:
-            raise Unavailable(str(why)) from why
+        return psycopg.connect(self.conninfo, autocommit=True)
 
     def begin(self, wants: Sequence[Want]) -> tuple[PostgresSnapshot, list[Read]]:
-        with self.lock:
-            connection = self.free.pop() if self.free else None
-        snapshot = PostgresSnapshot(self, connection or self.connected())
-        return snapshot, snapshot.begin(wants)
+        """A snapshot of the newest version, and what it has at once of these ranges."""
+        while True:
+            with self.lock:
+                free = self.free.pop() if self.free else None
+            with answering():
+                snapshot = PostgresSnapshot(self, free or self.connected())
+            try:
+                return snapshot, snapshot.begin(wants)
+            except Unavailable:
+                snapshot.connection.close()
+                if free is None:
+                    raise
 
     def give_back(self, connection: Connection) -> None:
         """Takes back a connection that no transaction uses any more."""
-        if connection.closed or connection.broken:
-            return
         with self.lock:
             self.free.append(connection)
 
     def close(self) -> None:
+        """Closes the connections that no transaction uses."""
         with self.lock:
             while self.free:
                 self.free.pop().close()
@@ -138,35 +177,45 @@ class PostgresSnapshot:
 
     def begin(self, wants: Sequence[Want]) -> list[Read]:
         """Begins to read, in one round trip with the first reads."""
-        with self.connection.pipeline():
-            self.connection.execute("begin isolation level repeatable read read only")
-            clock = self.connection.execute("select version from record_clock")
-            asked = self.asked(wants)
-        self.version = int(clock.fetchall()[0][0])
-        return [read_of(want, page_of(want), cursor.fetchall()) for want, cursor in zip(wants, asked)]
+        with answering():
+            with self.connection.pipeline():
+                self.connection.execute("begin isolation level repeatable read read only")
+                clock = self.connection.execute("select version from record_clock")
+                asked = self.asked(wants)
+            self.version = int(clock.fetchall()[0][0])
+            return self.answers(wants, asked)
 
     def asked(self, wants: Sequence[Want]) -> list[psycopg.Cursor[Any]]:
         """Sends a read of a beginning of each range."""
-        return [self.connection.execute(READ.format("desc" if want.reverse else "asc"),
-                                        (want.begin, want.end, page_of(want)), binary=True) for want in wants]
+        return [self.connection.execute(READ_BACK if want.reverse else READ, (want.begin, want.end, page_of(want)),
+                                        binary=True) for want in wants]
+
+    def answers(self, wants: Sequence[Want], asked: Sequence[psycopg.Cursor[Any]]) -> list[Read]:
+        """What was read of each range."""
+        return [read_of(want, page_of(want), cursor.fetchall()) for want, cursor in zip(wants, asked)]
 
     def read(self, wants: Sequence[Want]) -> list[Read]:
-        with self.connection.pipeline():
-            asked = self.asked(wants)
-        return [read_of(want, page_of(want), cursor.fetchall()) for want, cursor in zip(wants, asked)]
+        """Reads of each range a beginning, in the direction that it asks for."""
+        with answering():
+            with self.connection.pipeline():
+                asked = self.asked(wants)
+            return self.answers(wants, asked)
 
     def commit(self, reads: Sequence[tuple[bytes, bytes]], mutations: Sequence[Mutation],
                known: dict[bytes, bytes]) -> int:
+        """Commits these writes, by the rule, and answers the version."""
         columns = [list(it) for it in zip(*mutations)] or [[], [], []]
         ranges = [[begin for begin, _ in reads], [end for _, end in reads]]
         given = (self.version, *ranges, *columns, self.engine.sweep_each, self.engine.kept)
         try:
             with self.connection.pipeline():
                 self.connection.execute("rollback")  # ends the reads
+                self.connection.execute("begin isolation level read committed read write")
                 cursor = self.connection.execute(COMMIT, given)
+                self.connection.execute("commit")
             told, version = cursor.fetchall()[0]
-        except psycopg.OperationalError as why:
-            raise Unknown(str(why)) from why
+        except psycopg.Error as why:
+            raise of_commit(why) from why
         if told == NEWER:
             raise Conflict("another transaction wrote what was read")
         if told == SWEPT:
@@ -174,9 +223,12 @@ class PostgresSnapshot:
         return int(version)
 
     def close(self) -> None:
+        """Ends PostgreSQL's transaction, and gives the connection back, unless it is lost."""
         if not self.is_open:
             return
         self.is_open, connection = False, self.connection
-        if not connection.closed and connection.info.transaction_status != psycopg.pq.TransactionStatus.IDLE:
-            connection.execute("rollback")
-        self.engine.give_back(connection)
+        with suppress(psycopg.Error):
+            if not connection.closed and connection.info.transaction_status != psycopg.pq.TransactionStatus.IDLE:
+                connection.execute("rollback")
+            if not connection.closed:
+                self.engine.give_back(connection)

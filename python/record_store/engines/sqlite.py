@@ -6,13 +6,15 @@ value, with the version that cleared it, so that a deletion shows as a write doe
 enough, and a commit that read a version before the sweep is refused.
 
 The file is in WAL mode with `synchronous=FULL`: a commit that was answered outlives the process, and the machine as far
-as its disk keeps what it was told to sync.
+as its disk keeps what it was told to sync. A process that forks opens the file anew in the child.
 """
 from __future__ import annotations
 
 import sqlite3
 import threading
-from collections.abc import Sequence
+import time
+from collections.abc import Iterator, Sequence
+from contextlib import contextmanager, suppress
 
 from ..engine import page_of, read_of
 from ..errors import Conflict, TooOld, Unavailable, Unknown
@@ -24,7 +26,8 @@ create table if not exists clock(one integer primary key check (one = 1), versio
     swept integer not null);
 insert or ignore into clock values (1, 0, 0);
 """
-READ = "select key, value from pairs where key >= ? and key < ? and value is not null order by key {} limit ?"
+READ = "select key, value from pairs where key >= ? and key < ? and value is not null order by key limit ?"
+READ_BACK = "select key, value from pairs where key >= ? and key < ? and value is not null order by key desc limit ?"
 NEWER = "select 1 from pairs where key >= ? and key < ? and version > ? limit 1"
 PUT = """insert into pairs values (?, ?, ?)
     on conflict (key) do update set value = excluded.value, version = excluded.version"""
@@ -32,17 +35,28 @@ CLEARED = "update pairs set value = null, version = ? where key >= ? and key < ?
 SWEEP_EACH, KEPT = 1000, 10_000
 
 
+@contextmanager
+def answering() -> Iterator[None]:
+    """Tells an error of SQLite, before which nothing is committed, as the package's."""
+    try:
+        yield
+    except sqlite3.Error as why:
+        raise Unavailable(f"SQLite: {why}") from why
+
+
 class Sqlite:
-    """A database in a SQLite file. A snapshot may be read as long as it is open."""
+    """A database in a SQLite file. A snapshot may be read as long as it is open.
+
+    `timeout` is for how many seconds a commit waits for those of others, before it is Unavailable. Each `sweep_each`
+    versions the rows are swept of keys that were cleared more than `kept` versions ago.
+    """
 
     def __init__(self, path: str, timeout: float = 60, sweep_each: int = SWEEP_EACH, kept: int = KEPT) -> None:
         self.path, self.timeout, self.sweep_each, self.kept = path, timeout, sweep_each, kept
         self.lock = threading.Lock()
         self.free: list[sqlite3.Connection] = []
-        connection = self.connected()
-        connection.execute("pragma journal_mode=wal")
-        connection.executescript(TABLES)
-        self.free.append(connection)
+        with answering():
+            self.free.append(self.prepared(self.connected()))
 
     def connected(self) -> sqlite3.Connection:
         """A connection of its own for one transaction at a time."""
@@ -50,11 +64,32 @@ class Sqlite:
         connection.execute("pragma synchronous=full")
         return connection
 
+    def prepared(self, connection: sqlite3.Connection) -> sqlite3.Connection:
+        """Puts the file into WAL mode and makes its tables, where others may be about to do the same."""
+        until = time.monotonic() + self.timeout
+        while True:
+            try:
+                mode = connection.execute("pragma journal_mode=wal").fetchone()[0]
+                if mode != "wal":
+                    raise Unavailable(f"{self.path} is in the journal mode {mode}, and can't be in WAL mode")
+                connection.executescript(TABLES)
+                return connection
+            except sqlite3.OperationalError as why:
+                if "locked" not in str(why) or time.monotonic() > until:
+                    raise
+            time.sleep(0.01)
+
     def begin(self, wants: Sequence[Want]) -> tuple[SqliteSnapshot, list[Read]]:
+        """A snapshot of the newest version, and what it has at once of these ranges."""
         with self.lock:
             connection = self.free.pop() if self.free else None
-        snapshot = SqliteSnapshot(self, connection or self.connected())
-        return snapshot, snapshot.read(wants)
+        with answering():
+            snapshot = SqliteSnapshot(self, connection or self.connected())
+        try:
+            return snapshot, snapshot.read(wants)
+        except Unavailable:
+            snapshot.close()
+            raise
 
     def give_back(self, connection: sqlite3.Connection) -> None:
         """Takes back a connection that no transaction uses any more."""
@@ -62,6 +97,7 @@ class Sqlite:
             self.free.append(connection)
 
     def close(self) -> None:
+        """Closes the connections that no transaction uses."""
         with self.lock:
             while self.free:
                 self.free.pop().close()
@@ -73,35 +109,40 @@ class SqliteSnapshot:
     def __init__(self, engine: Sqlite, connection: sqlite3.Connection) -> None:
         self.engine, self.connection, self.is_open = engine, connection, True
         connection.execute("begin")
-        self.version = connection.execute("select version from clock").fetchone()[0]
+        self.version = self.newest()
+
+    def newest(self) -> int:
+        """The version of the last commit that the connection's transaction sees."""
+        return int(self.connection.execute("select version from clock").fetchone()[0])
 
     def read(self, wants: Sequence[Want]) -> list[Read]:
-        return [self.read_one(want) for want in wants]
+        """Reads of each range a beginning, in the direction that it asks for."""
+        with answering():
+            return [self.read_one(want) for want in wants]
 
     def read_one(self, want: Want) -> Read:
         """A beginning of a range."""
         limit = page_of(want)
-        select = READ.format("desc" if want.reverse else "asc")
-        return read_of(want, limit, self.connection.execute(select, (want.begin, want.end, limit)).fetchall())
+        asked = self.connection.execute(READ_BACK if want.reverse else READ, (want.begin, want.end, limit))
+        return read_of(want, limit, asked.fetchall())
 
     def commit(self, reads: Sequence[tuple[bytes, bytes]], mutations: Sequence[Mutation],
                known: dict[bytes, bytes]) -> int:
-        connection = self.connection
-        connection.execute("rollback")  # ends the reads, so that the write lock is taken over the newest version
+        """Commits these writes, by the rule, and answers the version."""
+        with answering():
+            self.connection.execute("rollback")  # ends the reads: the write lock is taken over the newest version
+            self.connection.execute("begin immediate")
+            self.check(reads)
+            version = self.newest() + 1
+            self.connection.execute("update clock set version = ?", (version,))
+            for mutation in mutations:
+                self.apply(mutation, version)
+            if version % self.engine.sweep_each == 0:
+                self.sweep(version - self.engine.kept)
         try:
-            connection.execute("begin immediate")
-        except sqlite3.OperationalError as why:
-            raise Unavailable(str(why)) from why
-        self.check(reads)
-        version = int(connection.execute("update clock set version = version + 1 returning version").fetchone()[0])
-        for mutation in mutations:
-            self.apply(mutation, version)
-        if version % self.engine.sweep_each == 0:
-            self.sweep(version - self.engine.kept)
-        try:
-            connection.execute("commit")
-        except sqlite3.OperationalError as why:
-            raise Unknown(str(why)) from why
+            self.connection.execute("commit")
+        except sqlite3.Error as why:
+            raise Unknown(f"SQLite: {why}") from why
         return version
 
     def check(self, reads: Sequence[tuple[bytes, bytes]]) -> None:
@@ -129,8 +170,11 @@ class SqliteSnapshot:
         self.connection.execute("update clock set swept = max(swept, ?)", (version,))
 
     def close(self) -> None:
-        if self.is_open:
-            self.is_open = False
+        """Ends SQLite's transaction, and gives the connection back, unless that fails."""
+        if not self.is_open:
+            return
+        self.is_open = False
+        with suppress(sqlite3.Error):
             if self.connection.in_transaction:
                 self.connection.execute("rollback")
             self.engine.give_back(self.connection)
