@@ -1,2 +1,3 @@
+pub mod Committed
 pub mod Moving
 pub mod Resting

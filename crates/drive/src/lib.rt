@@ -6,10 +6,12 @@ mod ahead;
 mod answering;
 mod error;
 mod given;
+mod laws;
 mod partial;
 mod wanted;
 
 pub use answering::{Answer, Driven, drive};
 pub use error::DriveError;
 pub use given::Given;
+pub use laws::histories_of_hosts;
 pub use wanted::Want;
