@@ -1,0 +1,6 @@
+use Rattle.drive_form.specs.Spelled.{mutation_bytes}
+use Rattle.drive_form.proofs.Spelling.{each_more}
+use Rattle.drive_form.proofs.answer_bytes.push_mutations.Goals as goal
+
+pub loop-mutation-preserved : goal.loop-mutation-preserved
+loop-mutation-preserved c = each_more mutation_bytes c.args.out.now.items _ c.args.mutations.now c.loop-mutation.mutation-index c.mutation-item.result c.loop-mutation.out.items _ c.loop-mutation-test.true c.mutation-item.is c.in_ok-push_mutation.ensures c.loop-mutation.invariant
