@@ -1,17 +1,52 @@
 #!/usr/bin/env python3
-"""Runs the program memory_trials with each of its allocations failing in turn: python3 tools/refused_growths PROGRAM..
+"""Runs programs with each of their allocations failing in turn: python3 tools/refused_growths PROGRAM..
 
-Each query of it must be refused at some of them, asked again and answered as it is when none fails, with the
-transaction's writes as before. Where an allocation fails outside of the queries the program may stop. The last line is
+Each line of memory_trials and of commit_trials but the last tells of something for which memory must run out at some
+of them: it is done again then, 'again ' stands before the line, and all else is as it is when none fails. Where an
+allocation fails elsewhere the program may stop. A program 'recordctl' runs the scripts of cases/memory.steps, and must
+print what it prints when none fails, or the first lines of that, or none, and 'out of memory'. The last line is
 'N passed, M failed', where each allocation counts; where there is no C compiler ('cc') one failure is counted.
 """
 import os
 import subprocess
 import sys
 import tempfile
+from concurrent.futures import ThreadPoolExecutor
+from dataclasses import dataclass
 
 HERE = os.path.dirname(os.path.realpath(__file__))
+sys.path.insert(0, os.path.join(os.path.dirname(HERE), "program_tests"))
+from cases import script_cases  # noqa: E402  (found by the line above)
+
 AGAIN = "again "
+OUT_OF_MEMORY = "out of memory\n"
+SCRIPTS = "memory.steps"
+SECONDS = 60
+COUNT_BYTES = 8
+
+
+@dataclass
+class Trial:
+    """A program with what it is given; the lines that it must print when nothing fails, if they are known."""
+
+    program: str
+    words: tuple = ()
+    given: str = ""
+    wanted: str | None = None
+    shows: str = ""
+
+    def __str__(self):
+        return f"{self.program}: {self.shows}" if self.shows else self.program
+
+
+@dataclass
+class Run:
+    """What a run printed, its status, and how many allocations it made: 0 where they weren't counted."""
+
+    status: int
+    output: str
+    errors: str
+    count: int
 
 
 def built(folder):
@@ -25,46 +60,79 @@ def built(folder):
     return library if done.returncode == 0 else None
 
 
-def run(program, library, number):
-    """The status and the output of the program, where the allocation of this number fails; of 0, where none does. And
-    how many allocations it makes, 0 where the allocator isn't laid before that of the C library."""
-    words = {**os.environ, "LD_PRELOAD": library, "FAILS": str(number)}
-    done = subprocess.run([program], stdin=subprocess.DEVNULL, capture_output=True, env=words, text=True, timeout=60)
-    last = done.stderr.split("\n")[-1]
-    return done.returncode, done.stdout, int(last) if last.isdecimal() else 0
+def run(trial, library, number):
+    """A run whose allocation of this number fails; of 0, where none does."""
+    with tempfile.NamedTemporaryFile(dir=os.path.dirname(library)) as file:
+        file.write(bytes(COUNT_BYTES))
+        file.flush()
+        words = {**os.environ, "LD_PRELOAD": library, "FAILS": str(number), "COUNT": file.name}
+        done = subprocess.run([trial.program, *trial.words], input=trial.given, capture_output=True, env=words,
+                              text=True, timeout=SECONDS)
+        file.seek(0)
+        count = int.from_bytes(file.read(COUNT_BYTES), sys.byteorder)
+    return Run(done.returncode, done.stdout, done.stderr, count)
 
 
-def judged(wanted, status, output):
-    """Which line was asked again, if one was, and what is wrong with a run, if something is."""
-    lines, whole = output.splitlines(), wanted.splitlines()
+def judged_script(wanted, found):
+    """0 where memory ran out for a script, and what is wrong with a run of it, if something is."""
+    if (found.status, found.output, found.errors) == (0, wanted, ""):
+        return None, None
+    lines = found.output.splitlines(True)
+    told = (found.status, found.errors) == (1, OUT_OF_MEMORY) and wanted.splitlines(True)[: len(lines)] == lines
+    return 0, None if told else f"status {found.status}, {lines} and {found.errors!r}"
+
+
+def judged(wanted, found):
+    """Which line was done again, if one was, and what is wrong with a run, if something is."""
+    lines, whole = found.output.splitlines(), wanted.splitlines()
     again = [at for at, line in enumerate(lines) if line.startswith(AGAIN)]
     if not again:
-        told = whole[: len(lines)] == lines and (status == 0) == (lines == whole)
-        return None, None if told else f"status {status} and {lines}"
+        told = whole[: len(lines)] == lines and (found.status == 0) == (lines == whole)
+        return None, None if told else f"status {found.status} and {lines}"
     lines[again[0]] = lines[again[0]].removeprefix(AGAIN)
-    right = status == 0 and len(again) == 1 and lines == whole
-    return again[0], None if right else f"status {status} and {lines}, of which {again} were asked again"
+    right = found.status == 0 and len(again) == 1 and lines == whole
+    return again[0], None if right else f"status {found.status} and {lines}, of which {again} were done again"
 
 
-def tried(program, library):
-    """How many runs of a program passed and failed."""
-    status, wanted, count = run(program, library, 0)
-    if status or not count:
-        print(f"{program}: status {status} and {count} allocations where none fails")
+def judged_each(trial, library, count):
+    """For which line memory ran out, if for one, and what is wrong, of each run in which an allocation fails."""
+    def judge(number):
+        return (judged_script if trial.words else judged)(trial.wanted, run(trial, library, number))
+
+    with ThreadPoolExecutor(len(os.sched_getaffinity(0))) as pool:
+        return list(pool.map(judge, range(1, count + 1)))
+
+
+def missed(trial, told):
+    """The lines for which memory never ran out; of a script it must for one of all."""
+    met = {line for line, _ in told}
+    lines = ["all lines"] if trial.words else trial.wanted.splitlines()[:-1]
+    return [text for at, text in enumerate(lines) if at not in met]
+
+
+def tried(trial, library):
+    """How many runs passed and failed."""
+    first = run(trial, library, 0)
+    trial.wanted = first.output if trial.wanted is None else trial.wanted
+    if (first.status, first.output) != (0, trial.wanted) or not first.count:
+        print(f"{trial}: status {first.status} and {first.count} allocations where none fails")
         return 0, 1
-    failed, met = 0, {}
-    for number in range(1, count + 1):
-        line, wrong = judged(wanted, *run(program, library, number)[:2])
-        met[line] = met.get(line, 0) + 1
-        failed += bool(wrong)
-        if wrong:
-            print(f"{program}: allocation {number}: {wrong}")
-    missed = [text for at, text in enumerate(wanted.splitlines()[:-1]) if at not in met]
-    for text in missed:
-        print(f"{program}: no allocation refuses the query that is answered '{text}'")
-    refusing = [met[at] for at in sorted(it for it in met if it is not None)]
-    print(f"{program}: of {count} allocations so many refuse the queries in turn: {refusing}")
-    return count - failed, failed + len(missed)
+    told = judged_each(trial, library, first.count)
+    faults = [f"allocation {number}: {wrong}" for number, (_, wrong) in enumerate(told, 1) if wrong]
+    lacks = [f"memory never runs out for '{text}'" for text in missed(trial, told)]
+    met = sum(line is not None for line, _ in told)
+    print("\n".join(f"{trial}: {it}" for it in [*faults, *lacks, f"{first.count} allocations, {met} told as failed"]))
+    return first.count - len(faults), len(faults) + len(lacks)
+
+
+def trials_of(program):
+    """What a program is given, one after another."""
+    program = os.path.abspath(program)
+    if not os.path.basename(program).startswith("recordctl"):
+        return [Trial(program)]
+    with open(os.path.join("cases", SCRIPTS), encoding="utf-8") as file:
+        cases = script_cases(SCRIPTS, file.read())
+    return [Trial(program, tuple(it.words), it.given.decode(), it.output.decode(), it.shows) for it in cases]
 
 
 def main():
@@ -74,7 +142,7 @@ def main():
             print("no C compiler: the allocator that fails isn't built")
             counts = [(0, 1)]
         else:
-            counts = [tried(os.path.abspath(it), library) for it in sys.argv[1:]] or [(0, 1)]
+            counts = [tried(trial, library) for it in sys.argv[1:] for trial in trials_of(it)] or [(0, 1)]
     passed, failed = (sum(them) for them in zip(*counts))
     print(f"{passed} passed, {failed} failed")
     return 1 if failed else 0

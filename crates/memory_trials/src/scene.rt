@@ -1,11 +1,10 @@
-// The store that is asked, what the transaction writes before it asks, and the queries. Called by
-// `main`.
+// The store that is asked, what the transaction writes before it asks, and the queries; commands of
+// scripts. Called by `main` and `worked`.
 use kv_core::KvMap;
 use schedule::{Command, Step, perform};
 use script::script_of;
 use std::alloc::Global;
 use std::test::Fail;
-use trial_parts::Watched;
 use txn::Transaction;
 
 /// Makes the store that stands.
@@ -48,10 +47,16 @@ pub(crate) fn commands(alloc: Global, script: &str) -> Result<Vec<Command>, Fail
     Ok(commands)
 }
 
+/// The command of a script's step.
+pub(crate) fn command_of(alloc: Global, step: &str) -> Result<Command, Fail> {
+    let script = format!(in alloc; "{{\"steps\":[{step}]}}")?;
+    Ok(commands(alloc, script.as_str())?.pop().ok_or("no command")?)
+}
+
 /// Performs the commands of a script, whatever they reply: what they wrote is compared later.
 pub(crate) fn perform_all(
     alloc: Global,
-    db: &Watched,
+    db: &KvMap,
     tx: &mut Transaction,
     script: &str,
 ) -> Result<(), Fail> {
@@ -61,11 +66,11 @@ pub(crate) fn perform_all(
     Ok(())
 }
 
-/// A snapshot of the store that stands.
-pub(crate) fn stored(alloc: Global) -> Result<Watched, Fail> {
-    let db = Watched::new(KvMap::new(alloc));
+/// The store that stands.
+pub(crate) fn stored(alloc: Global) -> Result<KvMap, Fail> {
+    let db = KvMap::new(alloc);
     let mut tx = Transaction::begin(alloc, 0);
     perform_all(alloc, &db, &mut tx, MADE)?;
     let request = tx.into_request();
-    Ok(Watched::new(KvMap::new(alloc).with_all(request.mutations.as_slice())?))
+    Ok(db.with_all(request.mutations.as_slice())?)
 }

@@ -2,6 +2,7 @@
 use crate::queries::filled;
 use crate::scene::command_of;
 use json_forms::rows_text;
+use kv_core::KvMap;
 use metadata::{Cells, Record};
 use plan_exec::{ExecError, execute_each, plan_for_store};
 use planner::Plan;
@@ -10,7 +11,7 @@ use record_store::Store;
 use schedule::Command;
 use std::alloc::{AllocError, Global};
 use std::test::Fail;
-use trial_parts::{Watched, alike, same};
+use trial_parts::{alike, same};
 use txn::Transaction;
 
 /// Under which key the store of commands stands.
@@ -52,7 +53,7 @@ fn asked(alloc: Global, step: &str) -> Result<Query, Fail> {
 fn planned(
     alloc: Global,
     tx: &mut Transaction,
-    db: &Watched,
+    db: &KvMap,
     query: &Query,
 ) -> Result<(Store, Plan), Fail> {
     let store = Store::open(alloc, &PREFIX, tx, db)?;
@@ -64,7 +65,7 @@ fn planned(
 /// The cells of the rows that are handed out before a closure takes no more.
 fn first_rows(
     alloc: Global,
-    db: &Watched,
+    db: &KvMap,
     query: &Query,
     most: usize,
 ) -> Result<(Vec<Cells>, Result<(), ExecError>), Fail> {
@@ -96,7 +97,7 @@ fn have_text(alloc: Global, rows: &[Cells], text: &str) -> Result<(), Fail> {
 /// All rows are handed out.
 fn all_are_handed_out(
     alloc: Global,
-    db: &Watched,
+    db: &KvMap,
     query: &Query,
     row: &(&str, usize, &str),
 ) -> Result<(), Fail> {
@@ -110,7 +111,7 @@ fn all_are_handed_out(
 /// Three of them alone are, where no more are taken, and then it is told that they weren't all.
 fn three_are_handed_out(
     alloc: Global,
-    db: &Watched,
+    db: &KvMap,
     query: &Query,
     row: &(&str, usize, &str),
 ) -> Result<(), Fail> {
@@ -121,7 +122,7 @@ fn three_are_handed_out(
 
 #[test]
 fn rows_are_handed_out(rt: HostRuntime) -> Result<(), Fail> {
-    let db = Watched::new(filled(rt.alloc(), 130)?);
+    let db = filled(rt.alloc(), 130)?;
     for row in &HANDED {
         let query = asked(rt.alloc(), row.0)?;
         all_are_handed_out(rt.alloc(), &db, &query, row)?;

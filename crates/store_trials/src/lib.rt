@@ -2,6 +2,8 @@
 #![tactic(auto)]
 
 #[cfg(test)]
+mod damage;
+#[cfg(test)]
 mod handed;
 #[cfg(test)]
 mod joining;
@@ -9,6 +11,8 @@ mod joining;
 mod lines;
 #[cfg(test)]
 mod queries;
+#[cfg(test)]
+mod refused_reads;
 #[cfg(test)]
 mod scene;
 #[cfg(test)]

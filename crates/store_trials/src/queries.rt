@@ -1,12 +1,13 @@
 // Queries each of whose reads is refused in turn, in a transaction that has written. Run as a test.
 use crate::scene::command_of;
+use cluster_core::ReadError;
 use kv_core::KvMap;
 use schedule::perform;
 use script::make_line;
 use std::alloc::Global;
 use std::test::Fail;
 use trial_parts::{Watched, alike, mutations_of, same, tells};
-use txn::Transaction;
+use txn::{FailAt, Snapshot, Transaction};
 
 /// The steps that make the store that stands, and those of the transaction before it queries.
 static MADE: [&str; 4] = [
@@ -85,9 +86,9 @@ static LONG: [(u32, &str, &str); 4] = [
 ];
 
 /// Performs the command of a step, which must make this line.
-fn answers(
+fn answers<S: Snapshot>(
     alloc: Global,
-    db: &Watched,
+    db: &S,
     tx: &mut Transaction,
     step: &str,
     told: &str,
@@ -101,9 +102,9 @@ fn answers(
 }
 
 /// Performs the commands of steps, whatever they reply: what they wrote is compared later.
-fn accepted(
+fn accepted<S: Snapshot>(
     alloc: Global,
-    db: &Watched,
+    db: &S,
     tx: &mut Transaction,
     steps: &[&'static str],
 ) -> Result<(), Fail> {
@@ -116,21 +117,21 @@ fn accepted(
 
 /// The store that stands.
 fn stored(alloc: Global) -> Result<KvMap, Fail> {
-    let db = Watched::new(KvMap::new(alloc));
+    let db = KvMap::new(alloc);
     let mut tx = Transaction::begin(alloc, 0);
     accepted(alloc, &db, &mut tx, &MADE)?;
     let request = tx.into_request();
-    Ok(KvMap::new(alloc).with_all(request.mutations.as_slice())?)
+    Ok(db.with_all(request.mutations.as_slice())?)
 }
 
-/// So many reads of the query are answered and the next one is refused: so is the query, and it is answered when it is
-/// performed again. The transaction's writes stay.
-fn refused_at(alloc: Global, answered: u64, row: &(&str, u64, &str)) -> Result<(), Fail> {
+/// The read of this number is refused: so is the query, and it is answered when it is performed again. The
+/// transaction's writes stay.
+fn refused_at(alloc: Global, at: u64, row: &(&str, u64, &str)) -> Result<(), Fail> {
     let (query, _, rows) = row;
-    let db = Watched::new(stored(alloc)?);
+    let map = stored(alloc)?;
     let mut tx = Transaction::begin(alloc, 0);
-    accepted(alloc, &db, &mut tx, &OWN)?;
-    db.refuse_after(answered);
+    accepted(alloc, &map, &mut tx, &OWN)?;
+    let db = FailAt::new(&map, at, ReadError::TooOld);
     answers(alloc, &db, &mut tx, query, "refused TooOld")?;
     answers(alloc, &db, &mut tx, query, rows)?;
     let request = tx.into_request();
@@ -140,8 +141,8 @@ fn refused_at(alloc: Global, answered: u64, row: &(&str, u64, &str)) -> Result<(
 
 /// Each read of a query is refused in turn.
 fn each_refused(alloc: Global, row: &(&str, u64, &str)) -> Result<(), Fail> {
-    for answered in 0..row.1 {
-        refused_at(alloc, answered, row)?;
+    for read in 0..row.1 {
+        refused_at(alloc, read + 1, row)?;
     }
     Ok(())
 }
@@ -149,12 +150,12 @@ fn each_refused(alloc: Global, row: &(&str, u64, &str)) -> Result<(), Fail> {
 /// A query takes so many reads.
 fn reads_taken(alloc: Global, row: &(&str, u64, &str)) -> Result<(), Fail> {
     let (query, reads, rows) = row;
-    let db = Watched::new(stored(alloc)?);
+    let map = stored(alloc)?;
     let mut tx = Transaction::begin(alloc, 0);
-    accepted(alloc, &db, &mut tx, &OWN)?;
-    db.refuse_after(*reads);
+    accepted(alloc, &map, &mut tx, &OWN)?;
+    let db = Watched::new(map);
     answers(alloc, &db, &mut tx, query, rows)?;
-    tells(alloc, &db.left(), "0")
+    alike(alloc, &db.reads(), reads)
 }
 
 #[test]
@@ -168,7 +169,7 @@ fn refused_queries_leave_transactions(rt: HostRuntime) -> Result<(), Fail> {
 
 /// A store of so many records.
 pub(crate) fn filled(alloc: Global, records: u32) -> Result<KvMap, Fail> {
-    let db = Watched::new(KvMap::new(alloc));
+    let db = KvMap::new(alloc);
     let mut tx = Transaction::begin(alloc, 0);
     accepted(alloc, &db, &mut tx, &MADE[..1])?;
     for key in 0..records {
@@ -176,7 +177,7 @@ pub(crate) fn filled(alloc: Global, records: u32) -> Result<KvMap, Fail> {
         answers(alloc, &db, &mut tx, step.as_str(), "saved new")?;
     }
     let request = tx.into_request();
-    Ok(KvMap::new(alloc).with_all(request.mutations.as_slice())?)
+    Ok(db.with_all(request.mutations.as_slice())?)
 }
 
 /// A query over so many records takes so many reads.

@@ -10,8 +10,7 @@ use std::alloc::Global;
 use std::mem;
 use std::test::Fail;
 use trial_parts::{
-    Watched, alike, bytes_of, cells_asked, mutations_of, pair_of, same, schema_asked, shown, tells,
-    text_of,
+    alike, bytes_of, cells_asked, mutations_of, pair_of, same, schema_asked, shown, tells, text_of,
 };
 use txn::Transaction;
 
@@ -41,6 +40,11 @@ use Step::{At, Counts, Create, New, Pair, Perform, Records, Save, Set, Written};
 
 pub(crate) type Row = (Step, &'static str, &'static str, &'static str);
 
+/// Makes the store of that schema.
+pub(crate) const CREATE: &str = r#"["create",0,{"types":[
+    {"name":"t","fields":[["k","int"],["a","int"],["b","int"]],"key":["k"]}
+]}]"#;
+
 /// The schema of the type t of whole numbers k, a and b, whose key is k.
 pub(crate) const REQUEST: &str =
     r#"{"types":[{"name":"t","fields":[["k","int"],["a","int"],["b","int"]],"key":["k"]}]}"#;
@@ -49,7 +53,7 @@ pub(crate) const REQUEST: &str =
 #[derive(Drop)]
 pub(crate) struct Scene {
     alloc: Global,
-    db: Watched,
+    db: KvMap,
     tx: Transaction,
     prefix: Bytes,
 }
@@ -145,7 +149,7 @@ impl Scene {
     fn put(&mut self, step: Step, pair: &str) -> Result<(), Fail> {
         let (key, value) = pair_of(self.alloc, pair)?;
         match step {
-            Pair => Ok(self.db.map.insert(key, value)?),
+            Pair => Ok(self.db.insert(key, value)?),
             _ => Ok(self.tx.set(key, value)?),
         }
     }
@@ -194,7 +198,7 @@ pub(crate) fn take(alloc: Global, scene: &mut Scene, row: &Row) -> Result<(), Fa
 pub(crate) fn begun(alloc: Global) -> Result<Scene, Fail> {
     Ok(Scene {
         alloc,
-        db: Watched::new(KvMap::new(alloc)),
+        db: KvMap::new(alloc),
         tx: Transaction::begin(alloc, 0),
         prefix: bytes_of(alloc, "1501")?,
     })

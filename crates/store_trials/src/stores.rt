@@ -1,14 +1,10 @@
 // Calls on stores, over pairs put there by hand, and commands performed there; what is told of
 // bytes that no store has. Run as a test.
 use crate::scene::Step::{At, Counts, Create, New, Pair, Perform, Records, Save, Set, Written};
-use crate::scene::{REQUEST, Row, begun, take};
+use crate::scene::{CREATE, REQUEST, Row, begun, take};
 use std::test::Fail;
 
-/// Makes the store of that schema, and the pair of it.
-const CREATE: &str = r#"["create",0,{"types":[
-    {"name":"t","fields":[["k","int"],["a","int"],["b","int"]],"key":["k"]}
-]}]"#;
-
+/// The pair of the schema of a store that is made by `CREATE`.
 const SCHEMA: &str =
     "150114=1501150114050515010274000505026b0015010005026100150100050262001501000005140000000500";
 
