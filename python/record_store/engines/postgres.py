@@ -18,7 +18,8 @@ from __future__ import annotations
 
 import threading
 from collections.abc import Iterator, Sequence
-from contextlib import contextmanager, suppress
+from contextlib import contextmanager
+from select import select
 from typing import Any
 
 import psycopg
@@ -27,6 +28,8 @@ from ..engine import page_of, read_of
 from ..errors import Conflict, RecordError, TooLarge, TooOld, Unavailable, Unknown
 from ..form import Mutation, Read, Want
 
+TransactionStatus = psycopg.pq.TransactionStatus
+ENDED_BY_ROLLBACK = TransactionStatus.INTRANS, TransactionStatus.INERROR
 Connection = psycopg.Connection[Any]
 COMMITTED, NEWER, SWEPT = 0, 1, 2
 KEPT, SWEEP_EACH = 10_000, 1000
@@ -123,6 +126,27 @@ def of_commit(why: psycopg.Error) -> RecordError:
     return (TooLarge if why.sqlstate.startswith(LIMIT) else Unavailable)(f"PostgreSQL: {why}")
 
 
+@contextmanager
+def at_once(connection: Connection) -> Iterator[None]:
+    """Sends what is executed within in one round trip. Where that is interrupted the connection is lost.
+
+    `psycopg` waits for answers though a part of a long command isn't sent yet, for which the server waits: so all that
+    is to be sent is sent before it waits, in the way that libpq tells of its non-blocking calls.
+    """
+    try:
+        with connection.pipeline():
+            yield
+            while connection.pgconn.flush():
+                readable, _, _ = select([connection], [connection], [])
+                if readable:
+                    connection.pgconn.consume_input()
+    except psycopg.Error:
+        raise
+    except BaseException:
+        connection.close()
+        raise
+
+
 class Postgres:
     """A PostgreSQL database, by a connection string of libpq. Its tables are made where they aren't there.
 
@@ -178,7 +202,7 @@ class PostgresSnapshot:
     def begin(self, wants: Sequence[Want]) -> list[Read]:
         """Begins to read, in one round trip with the first reads."""
         with answering():
-            with self.connection.pipeline():
+            with at_once(self.connection):
                 self.connection.execute("begin isolation level repeatable read read only")
                 clock = self.connection.execute("select version from record_clock")
                 asked = self.asked(wants)
@@ -197,7 +221,7 @@ class PostgresSnapshot:
     def read(self, wants: Sequence[Want]) -> list[Read]:
         """Reads of each range a beginning, in the direction that it asks for."""
         with answering():
-            with self.connection.pipeline():
+            with at_once(self.connection):
                 asked = self.asked(wants)
             return self.answers(wants, asked)
 
@@ -208,7 +232,7 @@ class PostgresSnapshot:
         ranges = [[begin for begin, _ in reads], [end for _, end in reads]]
         given = (self.version, *ranges, *columns, self.engine.sweep_each, self.engine.kept)
         try:
-            with self.connection.pipeline():
+            with at_once(self.connection):
                 self.connection.execute("rollback")  # ends the reads
                 self.connection.execute("begin isolation level read committed read write")
                 cursor = self.connection.execute(COMMIT, given)
@@ -227,8 +251,12 @@ class PostgresSnapshot:
         if not self.is_open:
             return
         self.is_open, connection = False, self.connection
-        with suppress(psycopg.Error):
-            if not connection.closed and connection.info.transaction_status != psycopg.pq.TransactionStatus.IDLE:
+        try:
+            if connection.info.transaction_status in ENDED_BY_ROLLBACK:
                 connection.execute("rollback")
-            if not connection.closed:
+            if connection.info.transaction_status == TransactionStatus.IDLE:
                 self.engine.give_back(connection)
+                return
+        except psycopg.Error:
+            pass
+        connection.close()
