@@ -47,7 +47,7 @@ class Closed(RecordError):
 
 
 class BadCommand(RecordError):
-    """A command isn't of its form."""
+    """A command isn't of its form, or has more than 4,000,000 bytes."""
 
 
 class OtherStore(RecordError):

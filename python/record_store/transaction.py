@@ -15,6 +15,8 @@ from .schema import Cell, Index, Record, RecordType, Schema, compact, names
 # where a store keeps its schema, and the states of its indexes: each command reads both
 SCHEMA_KEY = bytes.fromhex("150114")
 STATES = bytes.fromhex("1501150500"), bytes.fromhex("15011505ff")
+# a script has 4,000,000 bytes at most, of which some stand around its steps
+LONGEST_SCRIPT = 3_999_900
 SCHEMA_COMMANDS = {"create", "type", "index", "drop"}
 OPENING = (Want(SCHEMA_KEY, SCHEMA_KEY + b"\0", 1), Want(*STATES, 64))
 
@@ -47,11 +49,23 @@ class Transaction:
         return self.snapshot.version
 
     def perform(self, *commands: Sequence[Any]) -> list[str]:
-        """Performs commands as scripts have them, without a client, and answers the text of each reply."""
+        """Performs commands as scripts have them, without a client, and answers the text of each reply.
+
+        Where an error is raised, as by a read, none of them is performed.
+        """
         self.check_open()
-        steps = [[name, 0, *parts] for name, *parts in commands]
-        self.changes_schema |= any(step[0] in SCHEMA_COMMANDS for step in steps)
-        script = compact({"steps": steps}).encode()
+        before, replies = self.written, list[str]()
+        self.changes_schema |= any(command[0] in SCHEMA_COMMANDS for command in commands)
+        try:
+            for script in scripts([name, 0, *parts] for name, *parts in commands):
+                replies += self.replies_to(script)
+        except BaseException:
+            self.written = before
+            raise
+        return replies
+
+    def replies_to(self, script: bytes) -> list[str]:
+        """Performs the commands of a script, and answers the text of each reply."""
         while True:
             self.calls += 1
             answer = answered(drive(self.given.bytes(self.written, script)))
@@ -60,8 +74,8 @@ class Transaction:
             self.rounds += 1
             for read in self.snapshot.read(answer):
                 self.given.add(read)
-        self.written = answer.written
         self.conflicts.update(dict.fromkeys(answer.reads))
+        self.written = answer.written
         return answer.replies
 
     def check_open(self) -> None:
@@ -192,6 +206,24 @@ class Transaction:
 
     def __exit__(self, *_: object) -> None:
         self.close()
+
+
+def scripts(steps: Iterable[Sequence[Any]]) -> Iterator[bytes]:
+    """Scripts of these steps, each no longer than one may be, unless a step is by itself."""
+    part: list[str] = []
+    size = 0
+    for step in map(compact, steps):
+        if part and size + len(step) > LONGEST_SCRIPT:
+            yield script_of(part)
+            part, size = [], 0
+        part.append(step)
+        size += len(step) + 1
+    yield script_of(part)
+
+
+def script_of(steps: Sequence[str]) -> bytes:
+    """The script of these steps, each of which is JSON."""
+    return f'{{"steps":[{",".join(steps)}]}}'.encode()
 
 
 def accepted(reply: str) -> str:

@@ -72,6 +72,7 @@ ROWS = [
     (lambda tx: tx.load("loan", ("Emma",)), errors.WrongKind),
     (lambda tx: tx.load("loan", LENT | {"who": "nobody"}), LENT),
     (lambda tx: tx.ask("save", 0, "book"), BadCommand),
+    (lambda tx: tx.save("book", {"title": "x" * 4_000_000}), BadCommand),
     (lambda tx: tx.aggregate("copies_of"), errors.WrongKind),
     (lambda tx: tx.aggregate("copies_of", author="Austen", title="Emma"), errors.WrongKind),
     (lambda tx: titles(tx, AUSTEN and COPIES > 0), TypeError),
@@ -112,7 +113,29 @@ CALLS = [
     (lambda db: [it["title"] for it in db.transact(lambda tx: tx.query("book", sort="title"))],
      ["Emma", "Romola \u2603", "Silas Marner"]),
     (lambda db: unsaved(db), ["Emma", "Romola \u2603", "Silas Marner"]),
+    (lambda db: found_again(db), 30),
+    (lambda db: db.transact(half_refused), [BadCommand, None]),
+    (lambda db: db.transact(titles), ["Emma", "Romola \u2603", "Silas Marner"]),
 ]
+
+
+# records of which one script takes no more than 22
+LARGE = [EMMA | {"title": f"m{it:02}", "cover": bytes([it + 1]) * 90_000} for it in range(30)]
+
+
+def found_again(database):
+    """How many records are found as they were saved, more than one script takes; then they are gone."""
+    keys = [it["title"] for it in LARGE]
+    database.transact(lambda tx: tx.save_each("book", LARGE))
+    found = database.transact(lambda tx: tx.load_each("book", keys))
+    database.transact(lambda tx: [tx.remove("book", it) for it in keys])
+    return sum(it == wanted for it, wanted in zip(found, LARGE, strict=True))
+
+
+def half_refused(tx):
+    """What commands of two scripts come to, of which the last isn't of its form, and what the first one saved."""
+    saves = [("save", "book", BOOK.cells(it)) for it in LARGE]
+    return [told(lambda: tx.perform(*saves, ("save", "book"))), tx.load("book", LARGE[0]["title"])]
 
 
 def unsaved(database):
