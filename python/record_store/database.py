@@ -1,13 +1,14 @@
 """A record store in an engine: transactions that are tried again."""
 from __future__ import annotations
 
+import os
 import random
 import time
 from collections.abc import Callable
 from typing import TypeVar
 
 from .engine import Engine
-from .errors import AlreadyThere, Conflict, NameTaken, OtherStore, Unknown
+from .errors import AlreadyThere, Closed, Conflict, NameTaken, OtherStore, Unknown
 from .schema import Index, Schema
 from .transaction import OPENING, Transaction
 
@@ -17,21 +18,23 @@ FIRST_WAIT, LONGEST_WAIT = 0.001, 0.25
 
 
 class Database:
-    """A record store in an engine. It may be used by several threads.
+    """A record store in an engine. It may be used by several threads, and not by a process that was forked since.
 
     With a schema the store is made where there is none. A store that is there must have each of its types and indexes
     just so, and may have others: else OtherStore is raised. Without a schema it is taken as it is.
     """
 
     def __init__(self, engine: Engine, schema: Schema | None = None) -> None:
-        self.engine = engine
+        self.engine, self.process, self.is_open = engine, os.getpid(), True
         if schema is not None and not self.make(schema):
-            lacking = self.transact(lambda tx: tx.schema.lacks(schema))
-            if lacking:
+            wanted = schema
+            if lacking := self.transact(lambda tx: tx.schema.lacks(wanted)):
                 raise OtherStore(f"the store's schema lacks {', '.join(lacking)}, or has it otherwise")
 
     def begin(self) -> Transaction:
         """A transaction over the newest version. It is to be committed or closed: `with` closes it at its end."""
+        if not self.is_open or self.process != os.getpid():
+            raise Closed(Closed.__doc__)
         return Transaction(*self.engine.begin(OPENING))
 
     def transact(self, body: Callable[[Transaction], T], attempts: int = ATTEMPTS, repeatable: bool = False) -> T:
@@ -74,8 +77,10 @@ class Database:
             pass
 
     def close(self) -> None:
-        """Lets go of the engine."""
-        self.engine.close()
+        """Lets go of the engine, once; in a process that was forked it is left to the other one."""
+        if self.is_open and self.process == os.getpid():
+            self.engine.close()
+        self.is_open = False
 
     def __enter__(self) -> Database:
         return self

@@ -17,6 +17,9 @@ class Corrupt(RecordError):
         super().__init__(f"the pair at {key.hex()} isn't a record store's")
         self.key = key
 
+    def __reduce__(self) -> tuple[type[Corrupt], tuple[bytes]]:
+        return Corrupt, (self.key,)
+
 
 class Conflict(RecordError):
     """Another transaction wrote what this one has read. Nothing was written: try it again."""
@@ -43,7 +46,7 @@ class OutOfMemory(RecordError, MemoryError):
 
 
 class Closed(RecordError):
-    """The transaction has ended: nothing can be asked or committed in it any more."""
+    """The transaction or the database has ended, or is another process's: nothing can be asked of it any more."""
 
 
 class BadCommand(RecordError):

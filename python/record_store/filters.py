@@ -19,11 +19,17 @@ class Filter:
         """The filter as the record layer reads it."""
         return [it.json() if isinstance(it, Filter) else it for it in self.parts]
 
+    def joined(self, how: str, other: Filter) -> Filter:
+        """Both filters under one word, also where one of them is already: a chain of them gets no deeper."""
+        if not isinstance(other, Filter):
+            raise TypeError(f"a filter is put together with filters, and not with a {type(other).__name__}")
+        return Filter(how, *(part for it in (self, other) for part in (it.parts[1:] if it.parts[0] == how else [it])))
+
     def __and__(self, other: Filter) -> Filter:
-        return Filter("and", self, other)
+        return self.joined("and", other)
 
     def __or__(self, other: Filter) -> Filter:
-        return Filter("or", self, other)
+        return self.joined("or", other)
 
     def __invert__(self) -> Filter:
         return Filter("not", self)

@@ -9,8 +9,10 @@ from typing import Any, TypeVar, Union
 from .errors import NameTaken, RecordError, UnknownField, UnknownIndex, UnknownType, WrongKind
 from .tuples import unpacked
 
+Given = TypeVar("Given")
 Cell = Union[None, int, str, bytes]
-Record = dict[str, Cell]
+# what is answered, whose values are as their fields say
+Record = dict[str, Any]
 KINDS = {int: "int", str: "text", bytes: "bytes"}
 KIND_NUMBERS = {1: int, 2: str, 3: bytes}
 INDEX_KINDS = {1: "value", 2: "count", 3: "sum"}
@@ -20,6 +22,13 @@ LEAST, MOST = -(1 << 63), (1 << 63) - 1
 def names(given: str | Iterable[str]) -> list[str]:
     """A list of names, of which a single one may be given by itself."""
     return [given] if isinstance(given, str) else list(given)
+
+
+def several(given: Iterable[Given]) -> Iterable[Given]:
+    """A list of records or keys. A single one, whose parts would be taken for them, is a TypeError."""
+    if isinstance(given, (str, bytes, Mapping)):
+        raise TypeError(f"a list is to be given, and not a {type(given).__name__}")
+    return given
 
 
 def cell_json(cell: Cell) -> Any:
@@ -61,6 +70,8 @@ class RecordType:
 
     def cells(self, record: Mapping[str, Cell]) -> list[Any]:
         """A record's values in the order of the fields. A field that isn't there is None."""
+        if not isinstance(record, Mapping):
+            raise TypeError(f"a record is a mapping of names to values, and not a {type(record).__name__}")
         if unknown := record.keys() - self.fields.keys():
             raise UnknownField(f"{self.name} has no field {', '.join(map(repr, unknown))}")
         return [cell_json(record.get(name)) for name in self.fields]

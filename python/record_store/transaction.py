@@ -2,6 +2,7 @@
 from __future__ import annotations
 
 import json
+import os
 from collections.abc import Iterable, Iterator, Mapping, Sequence
 from typing import Any, NamedTuple
 
@@ -10,7 +11,7 @@ from .errors import Closed, Corrupt, NoStore, RecordError, refusal
 from .filters import Filter
 from .form import NOTHING_WRITTEN, Answer, Given, Read, Want, answered, mutations
 from .library import drive
-from .schema import Cell, Index, Record, RecordType, Schema, compact, names
+from .schema import Cell, Index, Record, RecordType, Schema, compact, names, several
 
 # where a store keeps its schema, and the states of its indexes: each command reads both
 SCHEMA_KEY = bytes.fromhex("150114")
@@ -38,7 +39,7 @@ class Transaction:
     def __init__(self, snapshot: Snapshot, reads: Iterable[Read]) -> None:
         self.snapshot, self.given, self.written = snapshot, Given(snapshot.version), NOTHING_WRITTEN
         self.conflicts: dict[tuple[bytes, bytes], None] = {}
-        self.changes_schema, self.is_open = False, True
+        self.changes_schema, self.is_open, self.process = False, True, os.getpid()
         self.rounds, self.calls, self.decoded = 0, 0, (b"", Schema([]))
         for read in reads:
             self.given.add(read)
@@ -51,7 +52,7 @@ class Transaction:
     def perform(self, *commands: Sequence[Any]) -> list[str]:
         """Performs commands as scripts have them, without a client, and answers the text of each reply.
 
-        Where an error is raised, as by a read, none of them is performed.
+        Where an error is raised, as by a read, none of them is performed; an interrupt ends the transaction.
         """
         self.check_open()
         before, replies = self.written, list[str]()
@@ -59,28 +60,34 @@ class Transaction:
         try:
             for script in scripts([name, 0, *parts] for name, *parts in commands):
                 replies += self.replies_to(script)
-        except BaseException:
+        except BaseException as why:
             self.written = before
+            if not isinstance(why, (RecordError, TypeError, ValueError)):
+                self.close()  # what was read may be noted in part
             raise
         return replies
 
     def replies_to(self, script: bytes) -> list[str]:
         """Performs the commands of a script, and answers the text of each reply."""
+        wanted: list[Want] = []
         while True:
             self.calls += 1
             answer = answered(drive(self.given.bytes(self.written, script)))
             if isinstance(answer, Answer):
                 break
+            if answer == wanted:
+                raise RecordError(f"the engine reads nothing of what is wanted: {wanted}")
             self.rounds += 1
-            for read in self.snapshot.read(answer):
+            wanted = answer
+            for read in self.snapshot.read(wanted):
                 self.given.add(read)
         self.conflicts.update(dict.fromkeys(answer.reads))
         self.written = answer.written
         return answer.replies
 
     def check_open(self) -> None:
-        """Raises Closed where the transaction has ended."""
-        if not self.is_open:
+        """Raises Closed where the transaction has ended, or is another process's."""
+        if not self.is_open or self.process != os.getpid():
             raise Closed(Closed.__doc__)
 
     def ask(self, *command: Any) -> str:
@@ -117,7 +124,7 @@ class Transaction:
         Where some are refused the others are saved all the same, and the first refusal is raised.
         """
         kind = self.schema.type(record_type)
-        replies = self.perform(*(("save", record_type, kind.cells(record)) for record in records))
+        replies = self.perform(*(("save", record_type, kind.cells(record)) for record in several(records)))
         return [saved_over(kind, accepted(reply)) for reply in replies]
 
     def load(self, record_type: str, key: Mapping[str, Cell] | Sequence[Cell] | Cell) -> Record | None:
@@ -127,14 +134,14 @@ class Transaction:
     def load_each(self, record_type: str, keys: Iterable[Any]) -> list[Record | None]:
         """The records of keys, in as few rounds of reads as one takes."""
         kind = self.schema.type(record_type)
-        replies = self.perform(*(("load", record_type, kind.key_cells(key)) for key in keys))
+        replies = self.perform(*(("load", record_type, kind.key_cells(key)) for key in several(keys)))
         return [found(kind, accepted(reply)) for reply in replies]
 
     def remove(self, record_type: str, key: Mapping[str, Cell] | Sequence[Cell] | Cell) -> bool:
         """Takes out the record of a key, and tells whether there was one."""
         return self.ask("remove", record_type, self.schema.type(record_type).key_cells(key)) == "removed"
 
-    def query(self, record_type: str, where: Filter | Sequence[Any] | None = None, sort: str | Iterable[str] = (),
+    def query(self, record_type: str, where: Filter | list[Any] | None = None, sort: str | Iterable[str] = (),
               reverse: bool = False) -> Iterator[Record]:
         """The records of a type that meet a filter, in the order of the fields of a sort, if there are any.
 
@@ -144,7 +151,7 @@ class Transaction:
         kind = self.schema.type(record_type)
         return rows(kind, self.ask("query", query_json(record_type, where, sort, reverse)).removeprefix("rows "))
 
-    def explain(self, record_type: str, where: Filter | Sequence[Any] | None = None,
+    def explain(self, record_type: str, where: Filter | list[Any] | None = None,
                 sort: str | Iterable[str] = (), reverse: bool = False) -> str:
         """The plan of a query."""
         return self.ask("plan", query_json(record_type, where, sort, reverse)).removeprefix("plan ")
@@ -197,9 +204,10 @@ class Transaction:
             self.close()
 
     def close(self) -> None:
-        """Ends the transaction, if it is open. What isn't committed is dropped."""
+        """Ends the transaction, if it is open and this process's. What isn't committed is dropped."""
         self.is_open = False
-        self.snapshot.close()
+        if self.process == os.getpid():
+            self.snapshot.close()
 
     def __enter__(self) -> Transaction:
         return self
@@ -252,7 +260,7 @@ def rows(kind: RecordType, text: str) -> Iterator[Record]:
         yield kind.record(cells)
 
 
-def query_json(record_type: str, where: Filter | Sequence[Any] | None, sort: str | Iterable[str],
+def query_json(record_type: str, where: Filter | list[Any] | None, sort: str | Iterable[str],
                reverse: bool) -> dict[str, Any]:
     """A query as the record layer reads it."""
     query: dict[str, Any] = {"type": record_type}

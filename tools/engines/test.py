@@ -25,7 +25,8 @@ ROOT = os.path.dirname(os.path.dirname(HERE))
 PYTHON, PACKAGES = "/usr/bin/python3", ["etcd-server", "postgresql", "python3-psycopg", "python3-pip"]
 SECONDS = 900
 SEEDS = range(200)
-NAMES = ("scripts", "random", "interface", "rules", "binding", "dropped", "documents", "races", "kills", "calls")
+NAMES = ("scripts", "random", "interface", "misuse", "rules", "binding", "dropped", "documents", "races", "kills",
+         "calls")
 
 
 def prepare(folder):
@@ -117,6 +118,12 @@ class Tests:
         for name, opened in self.engines("interface").items():
             self.note(f"the calls of the package over {name}", list(interface.wrong_calls(opened())),
                       f"{len(interface.ROWS) + len(interface.CALLS)} rows")
+
+    def test_misuse(self):
+        """What a program may do to a database that it shouldn't comes to what is said of it."""
+        import misuse
+        for name, opened in self.engines("misuse").items():
+            self.note(f"misuse over {name}", list(misuse.different(opened())), f"{len(misuse.ROWS)} rows")
 
     def test_rules(self):
         """Each engine keeps the rule of a commit, and engines that don't are found out."""

@@ -18,6 +18,7 @@ from __future__ import annotations
 import base64
 import http.client
 import json
+import re
 import threading
 import time
 from collections.abc import Iterable, Sequence
@@ -33,6 +34,7 @@ READS, WAIT = 100, 0.05
 # codes of the gateway's errors: what isn't well formed, and what there is no room for, neither of which is made
 INVALID, EXHAUSTED = 3, 8
 TOO_MANY = "too many operations", "too large", "larger than max"
+MEMBER = re.compile(r"[^/\s]+:\d+")
 NO_ANSWER = OSError, http.client.HTTPException, ValueError
 Range = tuple[bytes, bytes]
 
@@ -62,6 +64,8 @@ class Etcd:
     def __init__(self, members: Sequence[str], prefix: bytes = b"records/", timeout: float = 5,
                  patience: float = 30) -> None:
         self.members, self.prefix, self.timeout, self.patience = list(members), prefix, timeout, patience
+        if wrong := [it for it in self.members or [""] if not MEMBER.fullmatch(it)]:
+            raise ValueError(f"members are given as a list of host:port, and not as {wrong[0]!r}")
         self.own = threading.local()
 
     def begin(self, wants: Sequence[Want]) -> tuple[EtcdSnapshot, list[Read]]:

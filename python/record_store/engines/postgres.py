@@ -16,6 +16,7 @@ table's index: a commit of a longer one is TooLarge. How long a server may be si
 """
 from __future__ import annotations
 
+import sys
 import threading
 from collections.abc import Iterator, Sequence
 from contextlib import contextmanager
@@ -133,6 +134,7 @@ def at_once(connection: Connection) -> Iterator[None]:
     `psycopg` waits for answers though a part of a long command isn't sent yet, for which the server waits: so all that
     is to be sent is sent before it waits, in the way that libpq tells of its non-blocking calls.
     """
+    outer = sys.exc_info()[1]
     try:
         with connection.pipeline():
             yield
@@ -140,10 +142,13 @@ def at_once(connection: Connection) -> Iterator[None]:
                 readable, _, _ = select([connection], [connection], [])
                 if readable:
                     connection.pgconn.consume_input()
-    except psycopg.Error:
-        raise
-    except BaseException:
-        connection.close()
+    except BaseException as why:
+        interrupt: BaseException | None = why
+        while interrupt is not outer and isinstance(interrupt, Exception):
+            interrupt = interrupt.__context__  # what an interrupt breaks off in `psycopg` may end in another error
+        if interrupt is not None and interrupt is not outer:
+            connection.close()
+            raise interrupt
         raise
 
 
@@ -155,7 +160,7 @@ class Postgres:
 
     def __init__(self, conninfo: str, sweep_each: int = SWEEP_EACH, kept: int = KEPT) -> None:
         self.conninfo, self.sweep_each, self.kept = conninfo, sweep_each, kept
-        self.lock = threading.Lock()
+        self.lock, self.is_open = threading.Lock(), True
         self.free: list[Connection] = []
         with answering(), self.connected() as connection:
             connection.execute("begin")
@@ -184,11 +189,15 @@ class Postgres:
     def give_back(self, connection: Connection) -> None:
         """Takes back a connection that no transaction uses any more."""
         with self.lock:
-            self.free.append(connection)
+            if self.is_open:
+                self.free.append(connection)
+                return
+        connection.close()
 
     def close(self) -> None:
-        """Closes the connections that no transaction uses."""
+        """Closes the connections that no transaction uses, and each other one when its transaction ends."""
         with self.lock:
+            self.is_open = False
             while self.free:
                 self.free.pop().close()
 

@@ -10,6 +10,7 @@ as its disk keeps what it was told to sync. A process that forks opens the file 
 """
 from __future__ import annotations
 
+import os
 import sqlite3
 import threading
 import time
@@ -51,9 +52,10 @@ class Sqlite:
     versions the rows are swept of keys that were cleared more than `kept` versions ago.
     """
 
-    def __init__(self, path: str, timeout: float = 60, sweep_each: int = SWEEP_EACH, kept: int = KEPT) -> None:
+    def __init__(self, path: str | os.PathLike[str], timeout: float = 60, sweep_each: int = SWEEP_EACH,
+                 kept: int = KEPT) -> None:
         self.path, self.timeout, self.sweep_each, self.kept = path, timeout, sweep_each, kept
-        self.lock = threading.Lock()
+        self.lock, self.is_open = threading.Lock(), True
         self.free: list[sqlite3.Connection] = []
         with answering():
             self.free.append(self.prepared(self.connected()))
@@ -94,11 +96,15 @@ class Sqlite:
     def give_back(self, connection: sqlite3.Connection) -> None:
         """Takes back a connection that no transaction uses any more."""
         with self.lock:
-            self.free.append(connection)
+            if self.is_open:
+                self.free.append(connection)
+                return
+        connection.close()
 
     def close(self) -> None:
-        """Closes the connections that no transaction uses."""
+        """Closes the connections that no transaction uses, and each other one when its transaction ends."""
         with self.lock:
+            self.is_open = False
             while self.free:
                 self.free.pop().close()
 
