@@ -104,8 +104,10 @@ static void try_memory(uint8_t *out) {
             uint32_t status = record_drive(call->given, call->given_len, out, ROOM, &written);
             int reached = left < 0;
             left = -1;
-            if (!reached)
+            if (!reached) {
+                note(nth > 0, "no allocation came by here", place);
                 break;
+            }
             int is_whole = status == RECORD_ANSWERED && written == call->wanted_len
                 && memcmp(out, call->wanted, written) == 0;
             note(held == 0 && (is_whole || (status == RECORD_OUT_OF_MEMORY && written == 0)), "memory", place);
@@ -148,8 +150,11 @@ int main(int argc, char **argv) {
         return 2;
     while (count < MOST && (calls[count].given = read_bytes(file, &calls[count].given_len))) {
         calls[count].wanted = read_bytes(file, &calls[count].wanted_len);
-        count++;
+        if (!calls[count++].wanted)
+            return 2;
     }
+    if (!count || fgetc(file) != EOF)
+        return 2;
     fclose(file);
     uint8_t *out = __real_malloc(ROOM);
     held = 0;
