@@ -9,7 +9,7 @@ import random
 import signal
 import threading
 from collections.abc import Callable, Iterator, Sequence
-from contextlib import suppress
+from contextlib import closing, suppress
 from decimal import Decimal
 from enum import IntEnum
 from functools import partial, reduce
@@ -21,7 +21,8 @@ from interface import told
 from record_store import BadCommand, Closed, Corrupt, Database, RecordError, RecordType, Schema, Transaction, Unknown
 from record_store import count_index, errors, field, sum_index, value_index
 from record_store.engine import Engine, Snapshot
-from record_store.form import Mutation, Read, Want
+from record_store.engines.etcd import Etcd
+from record_store.form import CLEAR, SET, Mutation, Read, Want
 
 # texts in the order of their code points, which is that of their bytes in UTF-8
 TEXTS = ["", "\0", "\0\0", "\0\x01", "a", "a\0", "a\0b", "e\u0301", "z", "\x7f", "\x80", "\u00e9", "\u2028", "\ud7ff",
@@ -132,6 +133,26 @@ def cut_off(database: Database) -> list[Any]:
         return [told(lambda: tx.load("row", 4)), told(tx.commit), database.transact(lambda other: other.load("row", 3))]
 
 
+def cut_commit(database: Database) -> list[Any]:
+    """What is there of a commit that is interrupted after its first write, over a key that is written before."""
+    engine, key = database.engine, Want(b"zz", b"zz\xff", 9)
+
+    def writes() -> Iterator[Mutation]:
+        yield Mutation(SET, b"zz1", b"new")
+        yield Mutation(CLEAR, b"zz2", b"zz3")
+        raise KeyboardInterrupt
+
+    def commit(mutations: Any) -> list[tuple[bytes, bytes]]:
+        snapshot, _ = engine.begin([])
+        with closing(snapshot), suppress(KeyboardInterrupt):
+            snapshot.commit([], mutations, {})
+        other, (read,) = engine.begin([key])
+        other.close()
+        return read.pairs
+
+    return [commit([Mutation(SET, b"zz2", b"old")]), commit(writes()), commit([Mutation(CLEAR, b"zz", b"zz\xff")])]
+
+
 def forked(database: Database) -> list[Any]:
     """What a process that forks within a transaction is told, and what its parent's transaction comes to."""
     with database.begin() as tx:
@@ -236,7 +257,15 @@ def pickled() -> list[Any]:
 
 
 FIELD: Any = field("n")
+MEMBERS: list[Any] = ["127.0.0.1:2379", [], ["localhost"], ["http://127.0.0.1:2379"], ["127.0.0.1:2379", ""]]
 CELLS: list[dict[str, Any]] = [{"n": "1"}, {"n": b"1"}, {"group": 1}, {"group": b"x"}]
+
+
+def etcd(members: Any, _: Database) -> Etcd:
+    """The engine for etcd over these members, which aren't asked for anything."""
+    return Etcd(members)
+
+
 FULL = {"key": 9, "group": None, "n": None}
 ROWS: list[Row] = [
     ("texts at their edges", lambda db: in_order(db, "text", TEXTS), TEXTS),
@@ -279,11 +308,13 @@ ROWS: list[Row] = [
     ("threads that share a database", lambda db: [db.transact(emptied), shared(db)], [None, THREADS * TURNS]),
     ("interrupts", lambda db: [db.transact(emptied), interrupted(db)], [None, True]),
     ("an interrupt within a read", lambda db: [db.transact(emptied), *cut_off(db)], [None, Closed, Closed, None]),
+    ("an interrupt within a commit", cut_commit, [[(b"zz2", b"old")], [(b"zz2", b"old")], []]),
     ("a fork within a transaction", forked, [0, {"key": 5, "group": None, "n": 1}, True]),
     ("what is closed twice", closed, [None, None, Closed, None, None, None, Closed, Closed]),
     ("an outcome that isn't told", lambda db: untold(db, False), [Unknown, 1, 1]),
     ("an outcome that isn't told, repeatable", lambda db: untold(db, True), [None, 2, 2]),
     ("an engine that reads nothing", stuck, RecordError),
+    *((f"members of etcd as {it!r}", partial(etcd, it), ValueError) for it in MEMBERS),
     ("errors in bytes", lambda db: pickled(), []),
 ]
 

@@ -84,6 +84,17 @@ class Memory:
             self.put(mutation.first, mutation.second)
 
 
+    def undo(self) -> None:
+        """Takes back what was written at the newest version, as where a commit is interrupted."""
+        for values in self.values.values():
+            if values and values[-1][0] == self.version:
+                values.pop()
+        self.values = {key: values for key, values in self.values.items() if values}
+        self.keys = sorted(self.values)
+        self.cleared = deque(it for it in self.cleared if it[0] < self.version)
+        self.version -= 1
+
+
 class MemorySnapshot:
     """A version of a database in memory."""
 
@@ -116,8 +127,12 @@ class MemorySnapshot:
                 if any(engine.values[key][-1][0] > self.version for key in engine.keys_in(begin, end)):
                     raise Conflict("another transaction wrote what was read")
             engine.version += 1
-            for mutation in mutations:
-                engine.apply(mutation)
+            try:
+                for mutation in mutations:
+                    engine.apply(mutation)
+            except BaseException:
+                engine.undo()
+                raise
             engine.sweep()
             return engine.version
 
