@@ -27,7 +27,7 @@ Requires-Python: >=3.10
 """
 
 
-def archive():
+def archive() -> tuple[str, str]:
     """The static library, and what is said of it."""
     if named := os.environ.get("RECORD_ARCHIVE"):
         return named, "the one that RECORD_ARCHIVE names"
@@ -39,7 +39,7 @@ def archive():
                             "proves nothing, or `rt lib` in crates/record_c")
 
 
-def heap(path):
+def heap(path: str) -> list[str]:
     """What gives the record layer memory, where the static library lacks it: the toolchain's part over malloc."""
     listed = subprocess.run(["nm", "--defined-only", path], capture_output=True, text=True, check=True).stdout
     if " T rattle_alloc\n" in listed:
@@ -48,7 +48,7 @@ def heap(path):
     return [os.path.join(os.path.dirname(told.strip()), "c", "liblibc_c.a")]
 
 
-def link(to):
+def link(to: str) -> str:
     """Links the shared object, of which only `record_drive` can be seen, and answers what is said of its archive."""
     path, what = archive()
     print(f"the record layer is {what}: {path}")
@@ -61,18 +61,18 @@ def link(to):
     return what
 
 
-def tag():
+def tag() -> str:
     """The wheel's tag: any Python 3, on this platform."""
     return "py3-none-" + sysconfig.get_platform().replace("-", "_").replace(".", "_")
 
 
-def line(path, data):
+def line(path: str, data: bytes) -> str:
     """The line of a file in the wheel's record."""
     digest = base64.urlsafe_b64encode(hashlib.sha256(data).digest()).rstrip(b"=").decode()
     return f"{path},sha256={digest},{len(data)}\n"
 
 
-def build_wheel(wheel_directory, config_settings=None, metadata_directory=None):
+def build_wheel(wheel_directory: str, config_settings: object = None, metadata_directory: object = None) -> str:
     """Builds the wheel into a folder, and answers its name."""
     files = {}
     for path in sorted(glob.glob(os.path.join(HERE, PACKAGE, "**", "*.py"), recursive=True)):

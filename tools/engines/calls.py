@@ -8,7 +8,7 @@ HERE = os.path.dirname(os.path.abspath(__file__))
 ROOT = os.path.dirname(os.path.dirname(HERE))
 sys.path.append(os.path.join(ROOT, "python"))
 import build_wheel_here
-from record_store import transaction
+from record_store import library, transaction
 from record_store.engines.memory import Memory
 import scripts
 
@@ -16,28 +16,29 @@ import scripts
 CALLS, STEPS = 12, 60
 
 
-def corpus():
+def corpus() -> dict[bytes, bytes]:
     """Calls and their answers, as the scripts make them, whose replies are held against the program's elsewhere."""
-    found, plain = {}, transaction.drive
+    found: dict[bytes, bytes] = {}
+    plain = library.drive
     for _, steps, _, wanted in scripts.suited():
         if len(steps) > STEPS:
             continue
-        noted = []
+        noted: list[tuple[bytes, bytes]] = []
 
-        def drive(given, noted=noted):
+        def drive(given: bytes, noted: list[tuple[bytes, bytes]] = noted) -> bytes:
             noted.append((given, plain(given)))
             return noted[-1][1]
 
-        transaction.drive = drive
+        vars(transaction)["drive"] = drive
         try:
             list(scripts.differences(Memory(), steps, wanted))
         finally:
-            transaction.drive = plain
+            vars(transaction)["drive"] = plain
         found.update(noted[:: max(1, len(noted) // CALLS)])
     return found
 
 
-def called(folder):
+def called(folder: str) -> tuple[int, list[str]]:
     """Compiles the program and has it go over the corpus: its status, and its last line."""
     path, _ = build_wheel_here.archive()
     words = ["cc", "-std=c11", "-Wall", "-Wextra", "-Werror", "-O2", "-pthread",

@@ -3,6 +3,7 @@ import os
 import re
 import subprocess
 import sys
+from collections.abc import Iterator
 
 ROOT = os.path.dirname(os.path.dirname(os.path.dirname(os.path.abspath(__file__))))
 BLOCK = re.compile(r"^```python\n(.*?)^```", re.M | re.S)
@@ -11,7 +12,7 @@ EMMA = "[{'title': 'Emma', 'copies': 3}]\n"
 BLOCKS = [("README.md", EMMA), ("python/README.md", EMMA)]
 
 
-def printed(path, folder):
+def printed(path: str, folder: str) -> str:
     """What the lines of a document print, or the error that ends them."""
     with open(os.path.join(ROOT, path), encoding="utf-8") as file:
         lines = "".join(BLOCK.findall(file.read()))
@@ -20,7 +21,7 @@ def printed(path, folder):
     return ran.stdout + ran.stderr
 
 
-def different(folder):
+def different(folder: str) -> Iterator[str]:
     """What documents print otherwise than they are said to, where they are run twice in one folder."""
     for number, (path, wanted) in enumerate(BLOCKS * 2):
         found = printed(path, f"{folder}/documents{number % len(BLOCKS)}")

@@ -1,8 +1,12 @@
 """The calls of the Python package, in one transaction after another: each row a call, and what it answers or raises."""
+from collections.abc import Callable, Iterator
 from contextlib import suppress
+from functools import partial
+from typing import Any
 
-from record_store import BadCommand, Closed, Corrupt, Database, RecordError, RecordType, Refused, Schema, errors
-from record_store import count_index, field, sum_index, value_index
+from record_store import BadCommand, Closed, Corrupt, Database, RecordError, RecordType, Refused, Schema, Transaction
+from record_store import count_index, errors, field, sum_index, value_index
+from record_store.engine import Engine
 from record_store.form import SET, Mutation
 from record_store.library import drive
 from record_store.transaction import SCHEMA_KEY
@@ -12,19 +16,19 @@ LOAN = RecordType("loan", {"title": str, "day": int, "who": str}, ("title", "day
 TAG = RecordType("tag", {"word": str}, "word")
 BOOKS = Schema([BOOK, LOAN], [value_index("by_author", "book", "author"), count_index("books", "book"),
                               sum_index("copies_of", "book", "author", summed="copies")])
-EMMA = {"title": "Emma", "author": "Austen", "copies": 3, "cover": b"\x00\xff"}
-PERSUASION = {"title": "Persuasion", "author": "Austen", "copies": -1, "cover": None}
+EMMA: dict[str, Any] = {"title": "Emma", "author": "Austen", "copies": 3, "cover": b"\x00\xff"}
+PERSUASION: dict[str, Any] = {"title": "Persuasion", "author": "Austen", "copies": -1, "cover": None}
 ROMOLA = {"title": "Romola \u2603", "author": None, "copies": 2**63 - 1, "cover": b""}
-LENT = {"title": "Emma", "day": 7, "who": "x"}
+LENT: dict[str, Any] = {"title": "Emma", "day": 7, "who": "x"}
 AUSTEN, COPIES = field("author") == "Austen", field("copies")
 
 
-def titles(tx, *query, **how):
+def titles(tx: Transaction, *query: Any, **how: Any) -> list[Any]:
     return [it["title"] for it in tx.query("book", *query, **how)]
 
 
 # a call in a transaction of its own, and what it answers, or the error that it raises
-ROWS = [
+ROWS: list[tuple[Callable[[Any], Any], Any]] = [
     (lambda tx: tx.save("book", EMMA), None),
     (lambda tx: tx.save_each("book", [PERSUASION, ROMOLA, EMMA | {"copies": 4}]), [None, None, EMMA]),
     (lambda tx: tx.save("book", {"title": "Silas Marner", "author": "Eliot"}), None),
@@ -99,7 +103,7 @@ ROWS = [
 
 
 # calls of a database, and what they answer or raise
-CALLS = [
+CALLS: list[tuple[Callable[[Any], Any], Any]] = [
     (lambda db: db.make(BOOKS), False),
     (lambda db: db.make(Schema([TAG])), False),
     (lambda db: Database(db.engine, Schema([LOAN])).transact(lambda tx: tx.load("loan", ("Emma", 7))), LENT),
@@ -120,10 +124,10 @@ CALLS = [
 
 
 # records of which one script takes no more than 22
-LARGE = [EMMA | {"title": f"m{it:02}", "cover": bytes([it + 1]) * 90_000} for it in range(30)]
+LARGE: list[dict[str, Any]] = [EMMA | {"title": f"m{it:02}", "cover": bytes([it + 1]) * 90_000} for it in range(30)]
 
 
-def found_again(database):
+def found_again(database: Database) -> int:
     """How many records are found as they were saved, more than one script takes; then they are gone."""
     keys = [it["title"] for it in LARGE]
     database.transact(lambda tx: tx.save_each("book", LARGE))
@@ -132,22 +136,23 @@ def found_again(database):
     return sum(it == wanted for it, wanted in zip(found, LARGE, strict=True))
 
 
-def half_refused(tx):
+def half_refused(tx: Transaction) -> list[Any]:
     """What commands of two scripts come to, of which the last isn't of its form, and what the first one saved."""
     saves = [("save", "book", BOOK.cells(it)) for it in LARGE]
-    return [told(lambda: tx.perform(*saves, ("save", "book"))), tx.load("book", LARGE[0]["title"])]
+    return [told(partial(tx.perform, *saves, ("save", "book"))), tx.load("book", LARGE[0]["title"])]
 
 
-def unsaved(database):
+def unsaved(database: Database) -> list[Any]:
     """The titles where a transaction ended in an error, and another one by `with`, without a commit."""
-    for leave in (lambda: 1 // 0, lambda: None):
-        with suppress(ZeroDivisionError), database.begin() as tx:
+    leaves: list[Callable[[], object]] = [partial(next, iter(())), lambda: None]
+    for leave in leaves:
+        with suppress(StopIteration), database.begin() as tx:
             tx.save("book", {"title": "never"})
             leave()
     return database.transact(titles)
 
 
-def told(call):
+def told(call: Callable[[], Any]) -> Any:
     """What a call answers, or the type of what it raises."""
     try:
         return call()
@@ -155,12 +160,12 @@ def told(call):
         return type(why)
 
 
-def outcome(database, body):
+def outcome(database: Database, body: Callable[[Transaction], Any]) -> Any:
     """What a call in a transaction answers, or the type of what it raises."""
     return told(lambda: database.transact(body))
 
 
-def different(cases):
+def different(cases: list[tuple[Callable[[], Any], Any]]) -> Iterator[str]:
     """Of calls with what is wanted of each those that answer something else."""
     for number, (call, wanted) in enumerate(cases, 1):
         found = told(call)
@@ -168,29 +173,29 @@ def different(cases):
             yield f"row {number}: {found}, and not {wanted}"
 
 
-def retried(database):
+def retried(database: Database) -> Any:
     """How often a body is run where another transaction writes what it reads, at its first two attempts."""
-    runs = []
+    runs: list[Any] = []
 
-    def body(tx):
-        runs.append(tx.load("book", "Emma")["copies"])
+    def body(tx: Transaction) -> None:
+        runs.append((tx.load("book", "Emma") or EMMA)["copies"])
         if len(runs) < 3:
             database.transact(lambda other: other.save("book", EMMA | {"copies": 10 * len(runs)}))
         tx.save("book", EMMA | {"copies": runs[-1] + 1})
 
     database.transact(body)
-    return runs, database.transact(lambda tx: tx.load("book", "Emma")["copies"])
+    return runs, (database.transact(lambda tx: tx.load("book", "Emma")) or EMMA)["copies"]
 
 
-def wrong_calls(engine):
+def wrong_calls(engine: Engine) -> Iterator[str]:
     """What of the package's calls isn't as it is said to be."""
     if outcome(Database(engine), lambda tx: tx.state("any")) is not errors.NoStore:
         yield "there is a store before one is made"
     database = Database(engine, BOOKS)
     if database.make(BOOKS) or sorted(database.transact(lambda tx: tx.schema).types) != ["book", "loan"]:
         yield "the store isn't that of the schema"
-    yield from different([(lambda body=body: database.transact(body), wanted) for body, wanted in ROWS])
-    yield from different([(lambda call=call: call(database), wanted) for call, wanted in CALLS])
+    yield from different([(partial(database.transact, body), wanted) for body, wanted in ROWS])
+    yield from different([(partial(call, database), wanted) for call, wanted in CALLS])
     if retried(database) != ([4, 10, 20], 21):
         yield "a body that conflicts isn't run again as it should be"
     if not all(issubclass(it, Refused) and it.__doc__ for it in errors.REFUSALS.values()):

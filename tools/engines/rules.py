@@ -6,11 +6,19 @@ key in one where nothing was found, two transactions of which each writes what t
 what the other read and commits first.
 """
 import random
+import threading
+from collections.abc import Iterator, Sequence
+from contextlib import closing, suppress
 
+from record_store.engine import Engine
 from record_store.errors import Conflict, TooLarge
 from record_store.form import ADD, CLEAR, SET, Mutation, Want
 
+Pairs = Sequence[tuple[bytes, bytes]]
+
 MANY = 1 << 20
+# so many threads write one key at once, so many times
+AT_ONCE, TURNS = 4, 10
 ONE, TWO = (1).to_bytes(8, "little"), (2).to_bytes(8, "little")
 LESS = (2**64 - 1).to_bytes(8, "little")
 AA, AB, AC, B, C, Z = b"aa", b"ab", b"ac", b"b", b"c", b"z"
@@ -20,25 +28,25 @@ ZEROS = [(b"a", b"1"), (b"a\0", b""), (b"a\0\0", b"\0"), (b"a\0\xff", b"4")]
 LARGE = random.Random(7).randbytes(100_000)
 
 
-def point(key):
+def point(key: bytes) -> Want:
     return Want(key, key + b"\0", 1)
 
 
-def put(key, value=b"new"):
+def put(key: bytes, value: bytes = b"new") -> Mutation:
     return Mutation(SET, key, value)
 
 
-def clear(begin, end):
+def clear(begin: bytes, end: bytes) -> Mutation:
     return Mutation(CLEAR, begin, end)
 
 
-def add(key, operand=ONE):
+def add(key: bytes, operand: bytes = ONE) -> Mutation:
     return Mutation(ADD, key, operand)
 
 
 ALL = Want(b"a", b"b", MANY)
 # what a row shows, the pairs before, the read, what another one commits, and whether the reader may commit after that
-ROWS = [
+ROWS: list[tuple[str, Pairs, Want, list[Mutation], bool]] = [
     ("a key that was there is written", THREE, point(AB), [put(AB)], False),
     ("a key that was there is written anew with its value", THREE, point(AB), [put(AB, b"2")], False),
     ("a key that was there is cleared", THREE, point(AB), [clear(AB, AB + b"\0")], False),
@@ -66,13 +74,13 @@ ROWS = [
      False),
 ]
 # pairs that are to stand as they were put
-KEPT = [
+KEPT: list[tuple[str, Pairs]] = [
     ("keys that differ in zero bytes alone", ZEROS),
     ("a value of 100,000 bytes, and an empty one", [(AA, LARGE), (AB, b"")]),
     ("keys of 2,500 bytes", [(b"a" + LARGE[it:it + 2499], LARGE[it:it + 9]) for it in range(0, 50_000, 2499)]),
 ]
 # what a row shows, the value before, what two transactions write to one key that neither has read, and what stands then
-SUMS = [
+SUMS: list[tuple[str, bytes | None, list[Mutation], list[Mutation], bytes]] = [
     ("two add where nothing is", None, [add(C)], [add(C)], TWO),
     ("two add", ONE, [add(C)], [add(C, LESS)], ONE),
     ("one puts, one adds", ONE, [put(C, TWO)], [add(C)], (3).to_bytes(8, "little")),
@@ -84,7 +92,7 @@ SUMS = [
 ]
 
 
-def committed(engine, mutations, reads=()):
+def committed(engine: Engine, mutations: Sequence[Mutation], reads: Sequence[Want] = ()) -> int:
     """Commits writes in a transaction of their own."""
     snapshot, found = engine.begin(reads)
     known = {key: value for read in found for key, value in read.pairs}
@@ -94,19 +102,19 @@ def committed(engine, mutations, reads=()):
         snapshot.close()
 
 
-def fill(engine, pairs):
+def fill(engine: Engine, pairs: Pairs) -> None:
     """Leaves just these pairs."""
     committed(engine, [clear(b"a", Z), *(put(*it) for it in pairs)])
 
 
-def value(engine, key):
+def value(engine: Engine, key: bytes) -> bytes | None:
     """What stands at a key."""
     snapshot, (read,) = engine.begin([point(key)])
     snapshot.close()
     return dict(read.pairs).get(key)
 
 
-def may_commit(engine, want, others):
+def may_commit(engine: Engine, want: Want, others: Sequence[Mutation]) -> bool:
     """Whether a transaction that has read this may commit after another one has."""
     snapshot, (read,) = engine.begin([want])
     try:
@@ -122,7 +130,7 @@ def may_commit(engine, want, others):
         snapshot.close()
 
 
-def summed(engine, first, second):
+def summed(engine: Engine, first: Sequence[Mutation], second: Sequence[Mutation]) -> bytes | str | None:
     """What stands at a key to which two write that haven't read it, or why the second one may not."""
     older, _ = engine.begin([])
     try:
@@ -135,20 +143,20 @@ def summed(engine, first, second):
     return value(engine, C)
 
 
-def stands(engine, pairs):
+def stands(engine: Engine, pairs: Pairs) -> bool:
     """Whether just these pairs are there."""
     snapshot, (read,) = engine.begin([Want(b"a", Z, MANY)])
     snapshot.close()
     return read.pairs == sorted(pairs)
 
 
-def kept(engine, pairs):
+def kept(engine: Engine, pairs: Pairs) -> bool:
     """Whether just these pairs are there once they are put."""
     fill(engine, pairs)
     return stands(engine, pairs)
 
 
-def longest(engine):
+def longest(engine: Engine) -> bool:
     """Whether a key of 10,000 bytes is kept, or refused as too large with nothing written."""
     fill(engine, THREE)
     pairs = [*THREE, (b"a" + LARGE[:9999], b"long")]
@@ -158,7 +166,7 @@ def longest(engine):
         return stands(engine, THREE)
 
 
-def skew(engine):
+def skew(engine: Engine) -> list[bool]:
     """Whether of two transactions that each write what the other reads just the first one commits."""
     fill(engine, THREE)
     pairs = [engine.begin([point(it)]) for it in (AA, AB)]
@@ -174,7 +182,7 @@ def skew(engine):
     return told
 
 
-def ordered(engine):
+def ordered(engine: Engine) -> list[tuple[object, ...]]:
     """What reads give of a range from either end, with a limit: the part that they cover, and the pairs in it."""
     fill(engine, THREE)
     wants = [Want(b"a", b"b", 2), Want(b"a", b"b", 2, True), Want(b"a", b"b", 9), Want(b"d", b"e", 1)]
@@ -183,27 +191,53 @@ def ordered(engine):
     return [tuple(it) for it in found]
 
 
-ORDERED = [
+def winners(engine: Engine) -> list[int]:
+    """Of transactions that read one key and write it at once how many commit, time after time."""
+    fill(engine, THREE)
+    together, told = threading.Barrier(AT_ONCE), list[int]()
+
+    def write(turn: int) -> None:
+        snapshot, (read,) = engine.begin([point(AB)])
+        together.wait(60)
+        with closing(snapshot), suppress(Exception):  # whatever else is raised, it counts as no commit
+            snapshot.commit([(read.begin, read.end)], [put(AB)], dict(read.pairs))
+            told.append(turn)
+        together.wait(60)
+
+    def turns() -> None:
+        for turn in range(TURNS):
+            write(turn)
+
+    threads = [threading.Thread(target=turns) for _ in range(AT_ONCE)]
+    for thread in threads:
+        thread.start()
+    for thread in threads:
+        thread.join()
+    return [told.count(turn) for turn in range(TURNS)]
+
+
+ORDERED: list[tuple[object, ...]] = [
     (b"a", b"ab\0", THREE[:2]), (b"ab", b"b", [THREE[2], THREE[1]]), (b"a", b"b", THREE), (b"d", b"e", []),
 ]
 
 
-def broken(engine):
+def broken(engine: Engine) -> Iterator[str]:
     """What of the rule an engine breaks."""
-    for shows, pairs, want, others, wanted in ROWS:
+    for shows, pairs, want, others, may in ROWS:
         fill(engine, pairs)
-        if may_commit(engine, want, others) != wanted:
-            yield f"{shows}: the commit is {'refused' if wanted else 'made'}"
+        if may_commit(engine, want, others) != may:
+            yield f"{shows}: the commit is {'refused' if may else 'made'}"
     for shows, before, first, second, wanted in SUMS:
         fill(engine, [] if before is None else [(C, before)])
-        found = summed(engine, first, second)
-        if found != wanted:
-            yield f"{shows}: {found}, and not {wanted}"
+        if (total := summed(engine, first, second)) != wanted:
+            yield f"{shows}: {total!r}, and not {wanted!r}"
     for shows, pairs in KEPT:
         if not kept(engine, pairs):
             yield f"{shows}: they aren't read as they were put"
     if not longest(engine):
         yield "a key of 10,000 bytes is lost"
+    if (found := winners(engine)) != [1] * TURNS:
+        yield f"commits at once: so many of {AT_ONCE} are made: {found}"
     if skew(engine) != [True, False]:
         yield "two that write what the other reads"
     if ordered(engine) != ORDERED:

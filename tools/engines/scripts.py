@@ -10,15 +10,19 @@ import os
 import re
 import subprocess
 import sys
+from collections.abc import Iterator
+from typing import Any
 
 HERE = os.path.dirname(os.path.abspath(__file__))
 ROOT = os.path.dirname(os.path.dirname(HERE))
 sys.path += [os.path.join(ROOT, "tools", "program_tests"), os.path.join(ROOT, "python")]
 from cases import cases_in, example_cases
+from record_store.engine import Engine
 from record_store.errors import Conflict
 from record_store.form import NOTHING_WRITTEN
 from record_store.transaction import OPENING, Transaction
 
+Step = list[Any]
 ROLES = {"resolve", "log", "pull", "report", "lost"}
 CLIENTS = 16
 VERSIONS = re.compile(r"\b(begun|submitted|committed|conflict) \d+(?: [0-9a-f]*\.\.[0-9a-f]*)?")
@@ -26,12 +30,12 @@ VERSIONS = re.compile(r"\b(begun|submitted|committed|conflict) \d+(?: [0-9a-f]*\
 LONG = 5000
 
 
-def compared(reply):
+def compared(reply: str) -> str:
     """What of a reply is compared."""
     return VERSIONS.sub(r"\1", reply)
 
 
-def suited():
+def suited() -> list[tuple[str, list[Step], bytes, str]]:
     """The scripts that tell of no cluster of their own: what each shows, its steps, and the output that it wants."""
     found = []
     for case in [*cases_in(os.path.join(ROOT, "cases")), *example_cases(os.path.join(ROOT, "examples"))]:
@@ -50,10 +54,12 @@ def suited():
 class Clients:
     """The clients of a script, over an engine."""
 
-    def __init__(self, engine):
-        self.engine, self.open, self.submitted = engine, {}, []
+    def __init__(self, engine: Engine) -> None:
+        self.engine = engine
+        self.open: dict[int, Transaction] = {}
+        self.submitted: list[tuple[int, Transaction]] = []
 
-    def reply(self, step):
+    def reply(self, step: Step) -> str | None:
         """What a step replies, or None where that isn't compared."""
         name, client, *parts = [*step, None][:2] + step[2:]
         if name == "settle":
@@ -70,14 +76,14 @@ class Clients:
             return self.end(name, client)
         return self.open[client].perform((name, *parts))[0]
 
-    def begin(self, client):
+    def begin(self, client: int) -> str:
         """Begins a transaction."""
         if client in self.open:
             return "refused Busy"
         self.open[client] = Transaction(*self.engine.begin(OPENING))
         return "begun"
 
-    def end(self, name, client):
+    def end(self, name: str, client: int) -> str:
         """Submits a transaction, or drops it."""
         tx = self.open.pop(client)
         if name == "commit" and len(tx.written) > len(NOTHING_WRITTEN):
@@ -86,7 +92,7 @@ class Clients:
         tx.close()
         return "read only" if name == "commit" else "ok"
 
-    def settle(self):
+    def settle(self) -> str:
         """Commits what was submitted."""
         told = []
         for client, tx in self.submitted:
@@ -98,13 +104,13 @@ class Clients:
         self.submitted = []
         return ", ".join(told) or "nothing"
 
-    def close(self):
+    def close(self) -> None:
         """Ends all transactions."""
         for tx in [*self.open.values(), *(tx for _, tx in self.submitted)]:
             tx.close()
 
 
-def differences(engine, steps, wanted):
+def differences(engine: Engine, steps: list[Step], wanted: str) -> Iterator[tuple[int, Step, str, str]]:
     """The steps whose replies differ from a program's output, each with both."""
     clients = Clients(engine)
     try:
@@ -116,6 +122,6 @@ def differences(engine, steps, wanted):
         clients.close()
 
 
-def program_output(program, text):
+def program_output(program: str, text: bytes) -> str:
     """What the program prints of a script."""
     return subprocess.run([program, "run"], input=text, capture_output=True, check=True).stdout.decode()

@@ -1,8 +1,13 @@
 """A store of books for tests: what clients do in it, and what must hold of it whatever they did."""
 import random
+import time
 from collections import Counter
+from collections.abc import Iterator, Sequence
+from functools import partial
+from typing import Any
 
-from record_store import Database, RecordType, Schema, Unknown, count_index, field, sum_index, value_index
+from record_store import Database, Index, RecordType, Schema, Transaction, Unavailable, Unknown
+from record_store import count_index, field, sum_index, value_index
 from record_store.form import Want
 
 AUTHORS = ("Austen", "Eliot", "Melville")
@@ -18,9 +23,11 @@ LATER = (count_index("books_of", "book", "author"), value_index("by_copies", "bo
 # where the entries of an index of a number stand
 ENTRIES = bytes.fromhex("15011502")
 MANY = 4096
+# a transaction by its client and number, and what was told of it
+Told = tuple[str, int, str]
 
 
-def work(tx, client, number, chance):
+def work(tx: Transaction, client: str, number: int, chance: random.Random) -> None:
     """Saves, moves or removes a book, and marks that it did."""
     title = chance.choice(TITLES)
     book = tx.load("book", title)
@@ -32,18 +39,21 @@ def work(tx, client, number, chance):
     tx.save("mark", {"client": client, "number": number})
 
 
-def run_client(database, client, count, told):
-    """Runs transactions, and adds the number of each that is acknowledged, and of each whose outcome isn't told."""
+def run_client(database: Database, client: str, count: int, told: list[Told]) -> None:
+    """Runs transactions, and adds the number of each, with what is told of it."""
     chance = random.Random(client)
     for number in range(count):
         try:
-            database.transact(lambda tx, number=number: work(tx, client, number, chance), 1000)
+            database.transact(partial(work, client=client, number=number, chance=chance), 1000)
             told.append((client, number, "committed"))
         except Unknown:
             told.append((client, number, "unknown"))
+        except Unavailable:
+            told.append((client, number, "unavailable"))
+            time.sleep(0.05)
 
 
-def wrong_of(database, told=()):
+def wrong_of(database: Database, told: Sequence[Told] = ()) -> Iterator[str]:
     """What doesn't hold of the store: indexes and totals as its records have them, and each acknowledged mark."""
     with_all = Database(database.engine)
     tx = with_all.begin()
@@ -52,20 +62,24 @@ def wrong_of(database, told=()):
         marks = {(it["client"], it["number"]) for it in tx.query("mark")}
     finally:
         tx.close()
-    committed = {(client, number) for client, number, what in told if what == "committed"}
-    if committed - marks:
-        yield f"acknowledged and lost: {sorted(committed - marks)}"
+    by_outcome: dict[str, set[tuple[str, int]]] = {"committed": set(), "unknown": set(), "unavailable": set()}
+    for client, number, what in told:
+        by_outcome[what].add((client, number))
+    if lost := by_outcome["committed"] - marks:
+        yield f"acknowledged and lost: {sorted(lost)}"
+    if made := by_outcome["unavailable"] & marks:
+        yield f"told as not written, and there: {sorted(made)}"
     if told and marks - {(client, number) for client, number, _ in told}:
         yield "marks that nobody made"
 
 
-def wrong_of_records(tx):
+def wrong_of_records(tx: Transaction) -> Iterator[str]:
     """What of the indexes isn't as all records have it, which are read by a scan."""
-    books = list(tx.query("book"))
+    books: list[dict[str, Any]] = list(tx.query("book"))
     for index in tx.schema.indexes.values():
         if tx.state(index.name) != "readable":
             continue
-        groups = Counter()
+        groups: Counter[tuple[Any, ...]] = Counter()
         for book in books:
             groups[tuple(book[it] for it in index.columns)] += book["copies"] if index.kind == "sum" else 1
         if index.kind == "value":
@@ -77,14 +91,15 @@ def wrong_of_records(tx):
                 yield f"{index.name} of {group} is {total}, and by the records {groups[group]}"
 
 
-def wrong_entries(tx, index, books, groups):
+def wrong_entries(tx: Transaction, index: Index, books: list[dict[str, Any]],
+                  groups: Counter[tuple[Any, ...]]) -> Iterator[str]:
     """What of a VALUE index isn't as the records have it: what queries find by it, and how many entries it has."""
     column = index.columns[0]
     for (key,) in groups:
         plan = tx.explain("book", field(column) == key)
         if f"IndexScan({index.name}" not in plan:
             yield f"the plan isn't by {index.name}: {plan}"
-        rows = sorted(tx.query("book", field(column) == key), key=lambda it: it["title"])
+        rows = sorted(tx.query("book", field(column) == key), key=lambda it: str(it["title"]))
         if rows != [it for it in books if it[column] == key]:
             yield f"by {index.name} {key} are {rows}"
     place = list(tx.schema.indexes).index(index.name) + 1

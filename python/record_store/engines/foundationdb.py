@@ -2,9 +2,9 @@
 
 **Rule of a commit.** FoundationDB's own: a transaction is refused where a range among its read conflict ranges was
 written after its read version. Reads are made as snapshot reads, which add no conflict range, and what the record layer
-has read is added by hand at the commit. ADD is FoundationDB's own atomic operation, so that transactions that add to
-one total don't conflict. Several commits may share a version: they are ordered by the version, and within it by their
-order in the batch.
+has read is added by hand at the commit: a range that is left out is one that others may write. ADD is FoundationDB's
+own atomic operation, so that transactions that add to one total don't conflict. Several commits may share a version:
+they are ordered by the version, and within it by their order in the batch.
 """
 from __future__ import annotations
 

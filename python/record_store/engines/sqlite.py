@@ -1,9 +1,10 @@
 """A SQLite file: durable, needs no server, and may be used by several processes of one machine.
 
 **Rule of a commit.** One commit at a time (BEGIN IMMEDIATE takes the file's only write lock), which is refused where a
-key of a range that was read has a version above the one that was read. A key that is cleared stays as a row without a
-value, with the version that cleared it, so that a deletion shows as a write does. Such rows are swept once they are old
-enough, and a commit that read a version before the sweep is refused.
+key of a range that was read has a version above the one that was read. That is tested under the lock: two that tested
+first, and took it afterwards, would both pass. A key that is cleared stays as a row without a value, with the version
+that cleared it, so that a deletion shows as a write does. Such rows are swept once they are old enough, and a commit
+that read a version before the sweep is refused.
 
 The file is in WAL mode with `synchronous=FULL`: a commit that was answered outlives the process, and the machine as far
 as its disk keeps what it was told to sync. A process that forks opens the file anew in the child.
