@@ -61,12 +61,12 @@ class Given:
 
     def add(self, read: Read) -> None:
         """Adds what was read."""
-        self.ranges.append((read.begin, read.end))
-        self.covered += packed(read.begin, read.end)
         for key, value in read.pairs:
             if key not in self.values:
-                self.values[key] = value
                 self.pairs += packed(key, value)
+                self.values[key] = value
+        self.covered += packed(read.begin, read.end)  # once all its pairs are there
+        self.ranges.append((read.begin, read.end))
 
     def bytes(self, written: bytes, commands: bytes) -> bytes:
         """The whole, with what was written so far and a script of commands."""

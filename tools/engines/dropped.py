@@ -5,12 +5,13 @@ or it drops all before the transaction begins, before it reads on, or before it 
 """
 from __future__ import annotations
 
+import os
 import random
 import socket
 import sqlite3
 import threading
 from collections.abc import Callable, Iterator, Sequence
-from contextlib import suppress
+from contextlib import closing, suppress
 from functools import partial
 from typing import TYPE_CHECKING, Any
 
@@ -189,6 +190,21 @@ def locked(path: str) -> list[Any]:
     return told
 
 
+def moved(folder: str) -> list[Any]:
+    """What a commit answers where the process works in another folder than when it opened a file by a short path, and
+    what is in that folder then."""
+    before = os.getcwd()
+    try:
+        os.chdir(folder)
+        engine = Sqlite("moved.db")
+        os.mkdir("elsewhere")
+        os.chdir("elsewhere")
+        with closing(engine), closing(engine.begin([])[0]), closing(engine.begin([])[0]) as snapshot:
+            return [snapshot.commit([], [Mutation(SET, b"k", b"v")], {}), os.listdir()]
+    finally:
+        os.chdir(before)
+
+
 def engines(tests: Tests) -> list[tuple[str, list[Row]]]:
     """For each engine its rows: what is shown, a call, and what it should be told."""
     opened = tests.engines("dropped")
@@ -205,6 +221,7 @@ def engines(tests: Tests) -> list[tuple[str, list[Row]]]:
         ("etcd", rows_of(over_etcd, "etcd")),
         ("sqlite", [("a locked file", lambda: locked(path), ["Unavailable", 1]),
                     ("a folder", lambda: Sqlite(tests.folder), "Unavailable"),
+                    ("another folder", lambda: moved(tests.folder), [1, []]),
                     ("no file", lambda: Sqlite(":memory:"), "Unavailable")]),
     ]
 

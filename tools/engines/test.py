@@ -257,10 +257,10 @@ def run_over(folder: str, options: argparse.Namespace) -> int:
 def main(parser: argparse.ArgumentParser, body: Callable[[str, argparse.Namespace], int]) -> int:
     """Runs a body with a folder and options: in Debian's Python, with the package installed in a folder of its own."""
     options = parser.parse_args()
+    signal.signal(signal.SIGTERM, lambda *_: sys.exit(1))  # which stops the servers
     if folder := os.environ.get("ENGINES_FOLDER"):
         sys.path.insert(0, HERE)
         logging.getLogger("psycopg").setLevel(logging.ERROR)  # connections are lost on purpose
-        signal.signal(signal.SIGTERM, lambda *_: sys.exit(1))
         return body(folder, options)
     folder = tempfile.mkdtemp(prefix="engines-")
     os.chmod(folder, 0o755)

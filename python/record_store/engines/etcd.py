@@ -9,6 +9,8 @@ etcd has no ADD. So where something is added to a key, what stands there now is 
 that it stands there still; where that alone fails it is done again. So two transactions that add to one total don't
 conflict, but take turns.
 
+A commit that was sent and isn't answered is Unknown, and is sent to no other member; reads are.
+
 etcd refuses a transaction of more operations than `--max-txn-ops` (128 where it isn't given): reads and writes of many
 records in one transaction need it higher. A read of a compacted revision is refused as too old. Plain HTTP alone is
 spoken, without TLS, users or passwords.

@@ -4,7 +4,8 @@
 written after its read version. Reads are made as snapshot reads, which add no conflict range, and what the record layer
 has read is added by hand at the commit: a range that is left out is one that others may write. ADD is FoundationDB's
 own atomic operation, so that transactions that add to one total don't conflict. Several commits may share a version:
-they are ordered by the version, and within it by their order in the batch.
+they are ordered by the version, and within it by their order in the batch. A commit that ends in an error which isn't
+known here to say that nothing was committed, as `commit_unknown_result`, is Unknown, and isn't made again.
 """
 from __future__ import annotations
 

@@ -12,7 +12,8 @@ before it left. A commit outlives the server as far as its `synchronous_commit` 
 
 A key has about 2,700 bytes at most, or some more where it can be compressed, since it is to fit into a page of the
 table's index: a commit of a longer one is TooLarge. How long a server may be silent is the connection string's matter
-(`connect_timeout`, `tcp_user_timeout`). A connection that was lost while no transaction used it is made anew.
+(`connect_timeout`, `tcp_user_timeout`). A connection that was lost while no transaction used it is made anew. Where one
+is lost in a commit, or the server ends it or cancels what it does, the commit is Unknown, and isn't made again.
 """
 from __future__ import annotations
 
@@ -20,7 +21,7 @@ import sys
 import threading
 from collections.abc import Iterator, Sequence
 from contextlib import contextmanager
-from select import select
+from selectors import EVENT_READ, EVENT_WRITE, DefaultSelector
 from typing import Any
 
 import psycopg
@@ -127,6 +128,15 @@ def of_commit(why: psycopg.Error) -> RecordError:
     return (TooLarge if why.sqlstate.startswith(LIMIT) else Unavailable)(f"PostgreSQL: {why}")
 
 
+def send_rest(connection: Connection) -> None:
+    """Sends what isn't sent yet, and takes meanwhile what comes."""
+    with DefaultSelector() as selector:
+        selector.register(connection, EVENT_READ | EVENT_WRITE)
+        while connection.pgconn.flush():
+            if any(events & EVENT_READ for _, events in selector.select()):
+                connection.pgconn.consume_input()
+
+
 @contextmanager
 def at_once(connection: Connection) -> Iterator[None]:
     """Sends what is executed within in one round trip. Where that is interrupted the connection is lost.
@@ -138,10 +148,8 @@ def at_once(connection: Connection) -> Iterator[None]:
     try:
         with connection.pipeline():
             yield
-            while connection.pgconn.flush():
-                readable, _, _ = select([connection], [connection], [])
-                if readable:
-                    connection.pgconn.consume_input()
+            if connection.pgconn.flush():
+                send_rest(connection)
     except BaseException as why:
         interrupt: BaseException | None = why
         while interrupt is not outer and isinstance(interrupt, Exception):

@@ -7,7 +7,8 @@ that cleared it, so that a deletion shows as a write does. Such rows are swept o
 that read a version before the sweep is refused.
 
 The file is in WAL mode with `synchronous=FULL`: a commit that was answered outlives the process, and the machine as far
-as its disk keeps what it was told to sync. A process that forks opens the file anew in the child.
+as its disk keeps what it was told to sync. A commit is Unknown where COMMIT itself fails. A process that forks opens
+the file anew in the child.
 """
 from __future__ import annotations
 
@@ -55,7 +56,9 @@ class Sqlite:
 
     def __init__(self, path: str | os.PathLike[str], timeout: float = 60, sweep_each: int = SWEEP_EACH,
                  kept: int = KEPT) -> None:
-        self.path, self.timeout, self.sweep_each, self.kept = path, timeout, sweep_each, kept
+        # whole, since later connections may be made from another folder; SQLite's own names are no paths
+        self.path = os.fspath(path) if path in ("", ":memory:") else os.path.abspath(path)
+        self.timeout, self.sweep_each, self.kept = timeout, sweep_each, kept
         self.lock, self.is_open = threading.Lock(), True
         self.free: list[sqlite3.Connection] = []
         with answering():
