@@ -1,0 +1,71 @@
+"""A transaction: what it sees, what it has read and written, and the commands that it has done."""
+import keys
+from commands import COMMANDS
+from keys import JUST_AFTER, Range
+from schemas import Refused
+
+
+class Transaction:
+    """What a client does at a read version; `ask` refuses a range that its servers can't tell."""
+
+    def __init__(self, version, view, ask):
+        self.version, self.view, self.ask = version, view, ask
+        self.reads, self.writes, self.done, self.planned = [], [], [], None
+
+    def keep(self, range_):
+        """Notes a range as read, once."""
+        if range_ not in self.reads:
+            self.reads.append(range_)
+
+    def read_range(self, range_):
+        """Reads all of a range."""
+        self.ask(range_, self.version)
+        self.keep(range_)
+
+    def read(self, place):
+        """Reads one thing."""
+        self.read_range(keys.point(place))
+
+    def open(self):
+        """Reads the schema and the states of indexes."""
+        self.read(keys.SCHEMA)
+        self.read_range(keys.STATES)
+
+    def scan(self, range_, pairs, limit, reverse):
+        """The first pairs of a range, or the last ones; what decides them is the range through the last of these."""
+        self.ask(range_, self.version)
+        found = [it for it in pairs if range_.has(it[0])]
+        found = found[::-1][:limit] if reverse else found[:limit]
+        self.keep(range_ if len(found) < limit else through(range_, found[-1][0], reverse))
+        return found
+
+    def write(self, writes):
+        """Notes what is written; refused with the first limit that is broken."""
+        refusal = next((it for it in (write.refusal() for write in writes) if it), None)
+        if refusal:
+            raise Refused(refusal)
+        self.writes += writes
+
+    def perform(self, kind, *parts):
+        """The reply to a command, which is done where it isn't refused."""
+        try:
+            reply = COMMANDS[kind](self, *parts)
+        except Refused as why:
+            return f"refused {why}"
+        self.done.append((kind, parts, reply))
+        return reply
+
+
+def through(range_, last, reverse):
+    """The part of a range up to the last thing that was found in it."""
+    return Range(last, range_.end) if reverse else Range(range_.begin, last + JUST_AFTER)
+
+
+def applied(store, done):
+    """A store after a transaction's commands, each of which must have the same reply there."""
+    tx = Transaction(None, store.copy(), lambda range_, version: None)
+    for kind, parts, reply in done:
+        again = tx.perform(kind, *parts)
+        if again != reply:
+            raise AssertionError(f"{kind} {parts} replied {reply}, and {again} just before its own version")
+    return tx.view
