@@ -176,7 +176,7 @@ def save(tx, name, given):
     old = view.records.get((of.number, cells))
     read_built(tx, of, cells)
     tx.write([record_write(of, record), *kept_changes(view, of, old, record)])
-    view.records[of.number, cells] = record
+    view.put(of, cells, record)
     return "saved new" if old is None else f"saved over {cells_text(old)}"
 
 
@@ -200,7 +200,7 @@ def remove(tx, name, given):
         return "none"
     read_built(tx, of, cells)
     tx.write([Write(keys.point(place)), *kept_changes(view, of, old, None)])
-    del view.records[of.number, cells]
+    view.put(of, cells, None)
     return "removed"
 
 

@@ -1,7 +1,8 @@
 """The database's roles: which version a request gets, whether it is committed, and which versions can be read."""
+from bisect import bisect_left
 from dataclasses import dataclass, field
 
-from keys import Range, common, meet
+from keys import Range, common, meet, point
 from schemas import Refused
 from splits import owned
 from store import Store
@@ -21,6 +22,16 @@ class Request:
     done: list
     # for each resolver that has answered the cause of its refusal, or None
     causes: dict = field(default_factory=dict)
+
+    def __post_init__(self):
+        self.points = sorted(it.begin for it in self.writes if it == point(it.begin))
+        self.wide = [it for it in self.writes if it != point(it.begin)]
+
+    def wrote_in(self, range_):
+        """Whether it wrote something in a range."""
+        at = bisect_left(self.points, range_.begin)
+        is_hit = at < len(self.points) and self.points[at] < range_.end
+        return is_hit or any(meet(range_, it) for it in self.wide)
 
     def is_committed(self):
         return not any(self.causes.values())
@@ -75,7 +86,7 @@ class Database:
         if last - tx.version > self.window:
             raise Refused("TooOld")
         writes = [it.range for it in tx.writes]
-        self.requests.append(Request(client, tx.version, tx.reads, writes, tx.done))
+        self.requests.append(Request(client, tx.version, list(tx.reads), writes, tx.done))
         return last + 1
 
     def resolve(self, resolver):
@@ -93,7 +104,7 @@ class Database:
         newer = [it for it in range(request.version - self.start, at) if self.requests[it].causes[resolver] is None]
         for range_ in request.reads:
             part = common(range_, own)
-            meeting = [it for it in newer if any(meet(part, write) for write in self.requests[it].writes)]
+            meeting = [it for it in newer if self.requests[it].wrote_in(part)]
             if meeting:
                 return self.start + meeting[-1] + 1, range_
         return None

@@ -54,8 +54,9 @@ def forgetful_scan(right):
     """A scan that keeps only what is before the last thing that it found."""
     def scan(tx, range_, pairs, limit, reverse):
         found = right(tx, range_, pairs, limit, reverse)
-        if found and not reverse and len(found) < limit and range_ in tx.reads:
-            tx.reads[tx.reads.index(range_)] = Range(range_.begin, found[-1][0] + JUST_AFTER)
+        if found and not reverse and len(found) < limit:
+            part = Range(range_.begin, found[-1][0] + JUST_AFTER)
+            tx.reads = {part if it == range_ else it: None for it in tx.reads}
         return found
     return scan
 
@@ -63,10 +64,10 @@ def forgetful_scan(right):
 def silent_load(right):
     """A load that keeps nothing as read where there is no record."""
     def load(tx, name, given):
-        reads = list(tx.reads)
+        reads = dict(tx.reads)
         reply = right(tx, name, given)
         if reply == "none":
-            tx.reads[:] = [*reads, *(it for it in tx.reads if it not in reads)][:max(len(reads), 2)]
+            tx.reads = {it: None for it in list(tx.reads)[:max(len(reads), 2)]}
         return reply
     return load
 
@@ -121,10 +122,10 @@ def trusting_cause(right):
     def cause(self, resolver, at):
         refused = [it for it in self.requests[:at] if not it.is_committed() and it.causes[resolver] is None]
         for it in refused:
-            it.writes, it.kept = [], it.writes
+            it.causes[resolver] = it.cause()
         found = right(self, resolver, at)
         for it in refused:
-            it.writes = it.kept
+            it.causes[resolver] = None
         return found
     return cause
 

@@ -33,9 +33,10 @@ class Maker(Values):
         self.scene = self.chance.choices(list(SHARES), list(SHARES.values()))[0]
         self.kinds = SCENES[self.scene]
         self.has_roles, self.is_large = self.likely(0.25), self.likely(0.03)
+        self.long_share = self.pick([0, 0, 0, 0.02])
         self.clients = self.pick([[0, 1], [0, 1, 2], [0, 1, 2], [0, 1, 2, 15]])
         self.steps, self.open, self.planned = [], set(), set()
-        self.asked = self.schema()
+        self.asked = self.large_schema() if self.is_large else self.schema()
         self.types, self.indexes = list(self.asked["types"]), list(self.asked["indexes"])
         self.guesses = {it["name"]: "readable" for it in self.indexes}
         self.config = self.configuration()
@@ -83,6 +84,8 @@ class Maker(Values):
         """A client makes the store with some records, mostly in a transaction of its own, and indexes to be built."""
         if self.likely(0.02):
             return
+        if self.likely(0.06):
+            self.abandoned()
         self.begin(0)
         self.add("create", 0, self.asked)
         for _ in range(self.pick([80, 140]) if self.is_large else self.pick([0, 2, 4, 8])):
@@ -91,6 +94,16 @@ class Maker(Values):
             self.indexes_to_build(0)
         if self.likely(0.93):
             self.finish(0, 0.98)
+
+    def abandoned(self):
+        """Plans are kept of a store that comes to nothing, with the same types, others or more indexes."""
+        types = [self.type("t") if self.likely(0.4) else it for it in self.types]
+        indexes = [it for it in self.indexes if self.likely(0.7) and types == self.types]
+        self.add("begin", 0)
+        self.add("create", 0, {"types": types, "indexes": indexes + [self.index("w", types[0])]})
+        self.add("plan", 0, self.query(types[0], [it for it in indexes if it["type"] == "t"], 0))
+        self.add("abandon", 0)
+        self.planned.add(0)
 
     def indexes_to_build(self, client):
         """Some new indexes over records, which are to be built."""
@@ -209,10 +222,10 @@ class Maker(Values):
         of = self.pick(self.types)
         cells = self.cells(of)
         kinds = [kind for (_, kind), _ in zip(of["fields"], cells)]
-        if "text" in kinds and self.likely(0.004):
+        if "text" in kinds and self.likely(self.long_share):
             cells[kinds.index("text")] = "x" * self.pick(LONG_TEXTS)
-        if self.is_large:
-            cells = [self.chance.randrange(200) if kind == "int" else it for it, kind in zip(cells, kinds)]
+        if self.is_large and kinds[:1] == ["int"]:
+            cells[0] = self.chance.randrange(200)
         self.add("save", client, of["name"] if self.likely(0.99) else "none", cells)
 
     def by_key(self, client, kind):
@@ -270,7 +283,11 @@ class Maker(Values):
         self.add(kind.removeprefix("wrong_"), client, made)
 
     def build(self, client):
-        self.add("build", client, self.index_name("write-only"), self.pick([0, *[1, 2, 2, 3, 100] * 4]))
+        """A step of a builder, perhaps the last one."""
+        name = self.index_name("write-only")
+        self.add("build", client, name, self.pick([0, *[1, 2, 2, 3, 70, 100] * 4]))
+        if self.likely(0.25):
+            self.marked("readable", client, name)
 
     def aggregate(self, client):
         """The total of a group, mostly of a COUNT or a SUM."""

@@ -32,14 +32,26 @@ class Store:
     records: dict = field(default_factory=dict)
     states: dict = field(default_factory=dict)
     built: dict = field(default_factory=dict)
+    # the records of a type in order, while none of any type is changed
+    sorted: dict = field(default_factory=dict)
 
     def copy(self):
-        return Store(self.schema, dict(self.records), dict(self.states), dict(self.built))
+        return Store(self.schema, dict(self.records), dict(self.states), dict(self.built), dict(self.sorted))
+
+    def put(self, of, cells, record):
+        """Puts a record at its key cells; None takes out what is there."""
+        self.sorted = {}
+        if record is None:
+            del self.records[of.number, cells]
+        else:
+            self.records[of.number, cells] = record
 
     def record_pairs(self, of):
         """The records of a type with their places, in order."""
-        return sorted((keys.record_key(number, cells), record)
-                      for (number, cells), record in self.records.items() if number == of.number)
+        if of.number not in self.sorted:
+            self.sorted[of.number] = sorted((keys.record_key(number, cells), record)
+                                            for (number, cells), record in self.records.items() if number == of.number)
+        return self.sorted[of.number]
 
     def entry_pairs(self, of, index):
         """The entries that the records define of a VALUE index, in order, each with the key cells that it leads to."""

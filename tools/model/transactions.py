@@ -10,12 +10,13 @@ class Transaction:
 
     def __init__(self, version, view, ask):
         self.version, self.view, self.ask = version, view, ask
-        self.reads, self.writes, self.done, self.planned = [], [], [], None
+        # the ranges read in order, each once
+        self.reads = {}
+        self.writes, self.done, self.planned = [], [], None
 
     def keep(self, range_):
         """Notes a range as read, once."""
-        if range_ not in self.reads:
-            self.reads.append(range_)
+        self.reads.setdefault(range_)
 
     def read_range(self, range_):
         """Reads all of a range."""

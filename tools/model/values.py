@@ -43,7 +43,7 @@ class Values:
     def key_cells(self, of, wrong=0.01):
         """The key cells of a type."""
         kinds = dict(of["fields"])
-        cells = [self.cell(kinds[name], wrong, wrong) for name in of["key"]]
+        cells = [self.cell(kinds[name], wrong / 2, wrong / 2) for name in of["key"]]
         return cells + [0] if self.likely(wrong) else cells
 
     def type(self, name):
@@ -63,8 +63,24 @@ class Values:
         index = {"name": name, "kind": kind, "type": of["name"], "columns": columns}
         return {**index, "summed": self.pick(whole)} if kind == SUM else index
 
+    def large_schema(self):
+        """A type of many records, with indexes that have many entries for a value."""
+        of = {"name": "t", "fields": [["k", "int"], ["a", "int"], ["b", self.pick(list(KINDS))]], "key": ["k"]}
+        columns = [["a"], ["b"], self.pick([["a", "b"], ["b", "a"], ["a", "k"]])]
+        indexes = [{"name": f"i{at}", "kind": VALUE, "type": "t", "columns": it} for at, it in enumerate(columns)]
+        return {"types": [of], "indexes": indexes[:self.chance.randint(1, 3)] + [self.index("i3", of)]}
+
+    def many(self):
+        """As many types and indexes as there may be, or nearly."""
+        types = [self.type(f"t{it}") for it in range(self.pick([31, 32, 33]))]
+        of = {"name": "t", "fields": [["k", "int"], ["a", "int"]], "key": ["k"]}
+        indexes = [self.index(f"m{it}", of) for it in range(self.pick([62, 63, 64, 65]))]
+        return self.pick([{"types": types, "indexes": []}, {"types": [of], "indexes": indexes}])
+
     def schema(self):
         """Some types, and indexes over them."""
+        if self.likely(0.01):
+            return self.many()
         types = [self.type(name) for name in self.pick([["t"], ["t"], ["t", "u"]])]
         count = self.pick([0, 1, 2, 3, 5])
         return {"types": types, "indexes": [self.index(f"i{it}", self.pick(types)) for it in range(count)]}
