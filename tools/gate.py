@@ -7,8 +7,9 @@
    the same texts, nor where nothing near it has changed, but for a tenth of these; with --whole all are. The lines that
    the record takes are printed as they come, so that a run that is cut short has told them.
 3. Beside it too: the tools' own tests, and the house's rules over the files as they stand (tools/house_rules).
-4. The cases of cases/, the examples and the program's edge, against both built programs (tools/program_tests), and
-   the programs whose allocations fail in turn (tools/refused_growths).
+4. The cases of cases/, the examples and the program's edge, against both built programs (tools/program_tests), the
+   programs whose allocations fail in turn (tools/refused_growths), and random scripts of which a model tells what both
+   programs must reply (tools/model).
 
 The last line is 'N passed, M failed', and the status is 0 where M is 0.
 """
@@ -24,8 +25,9 @@ import time
 
 PROGRAMS = ["crates/recordctl/out/recordctl", "crates/recordctl/out/recordctl.by-rattle"]
 FAILING = [f"crates/{it}/out/{it}{end}" for it in ("memory_trials", "commit_trials") for end in ("", ".by-rattle")]
-TESTED_TOOLS = ("wrong_bodies", "house_rules", "quick_build")
-PROGRAM_TESTS = (("the program", "program_tests", PROGRAMS), ("want of memory", "refused_growths", FAILING + PROGRAMS))
+TESTED_TOOLS = ("wrong_bodies", "house_rules", "quick_build", "model")
+PROGRAM_TESTS = (("the program", "program_tests", PROGRAMS), ("want of memory", "refused_growths", FAILING + PROGRAMS),
+                 ("the model", "model", PROGRAMS))
 COUNTED = re.compile(r"(\d+) (?:passed|refused), (\d+) (?:failed|not)")
 # what the wrong bodies' tool says of each of its checks
 CHECKED = re.compile(r"\w+: (?:proved without edits|a round of \d+, \d+ told|\w+ alone): .*\n")

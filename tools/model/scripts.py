@@ -45,7 +45,7 @@ class Maker(Values):
         """The configuration of the script."""
         config = {"window": self.pick([1, 2, 3, 5])} if self.likely(0.12) else {}
         if self.likely(0.1):
-            config["start"] = self.pick([7, 2**63, 2**64 - 4, 2**64 - 6, 2**64 - 1])
+            config["start"] = self.pick([7, 7, 2**63, 2**64 - 4, 2**64 - 6, 2**64 - 8, 2**64 - 1])
         if self.likely(0.3):
             config["resolver_splits"] = self.splits()
         if self.has_roles and self.likely(0.6):
@@ -92,8 +92,11 @@ class Maker(Values):
             self.save(0)
         if self.scene == "builders" or self.likely(0.1):
             self.indexes_to_build(0)
-        if self.likely(0.93):
-            self.finish(0, 0.98)
+        if self.likely(0.95):
+            self.open.discard(0)
+            self.add("commit" if self.likely(0.99) else "abandon", 0)
+            if self.likely(0.98):
+                self.add("settle")
 
     def abandoned(self):
         """Plans are kept of a store that comes to nothing, with the same types, others or more indexes."""

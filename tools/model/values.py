@@ -5,7 +5,8 @@ from replies import cell_given
 from schemas import COUNT, KINDS, SUM, VALUE
 
 NUMBERS = [0, 1, 2, 3, 4, 5, 6, 7, -1, -2, 127, 255, 256, -255, -256, 65535, 65536, 2**62, 2**63 - 1, -2**63]
-TEXTS = ["", "a", "a\0", "a\0b", "a\x01", "ab", "b", "\x7f", "é", "日本", "\uffff", "\U0001f600", "zz\"\\\n"]
+TEXTS = ["", "a", "a\0", "a\0b", "a\x01", "ab", "b", "\x7f", "é", "日本", "\uffff", "\U0001f600", "zz\"\\\n", "\x1f\b",
+         "\u2028"]
 STRINGS = [b"", b"\0", b"\0\xff", b"\xff", b"\xff\xff", b"\xff\0", b"a", b"a\0", b"ab", b"\x01\x02"]
 POOLS = {"int": NUMBERS, "text": TEXTS, "bytes": STRINGS}
 FIELDS = ["k", "a", "b", "s", "y", "z"]
