@@ -5,11 +5,13 @@ from filters import check, query_of
 from keys import FIRST, JUST_AFTER, Range
 from planning import plan_of
 from replies import cells_of, cells_text, rows_text
-from schemas import KINDS, VALUE, Refused, schema_of, with_index, with_type, without_index
+from schemas import KINDS, VALUE, Refused, schema_bytes, schema_of, with_index, with_type, without_index
 from store import (DISABLED, READABLE, WRITE_ONLY, Write, changes, cleared_index, first_gap, kept_changes,
                    record_write)
 
-SCHEMA_WRITE = Write(keys.point(keys.SCHEMA), 0)
+def schema_write(schema):
+    """The write of a schema."""
+    return Write(keys.point(keys.SCHEMA), len(schema_bytes(schema)))
 
 
 def opened(tx):
@@ -45,7 +47,7 @@ def create(tx, asked):
     tx.open()
     if tx.view.schema is not None:
         raise Refused("AlreadyThere")
-    tx.write([SCHEMA_WRITE])
+    tx.write([schema_write(schema)])
     tx.view.schema = schema
     tx.view.states = {it.number: READABLE for it in schema.indexes}
     return "ok"
@@ -54,7 +56,7 @@ def create(tx, asked):
 def add_type(tx, asked):
     view = opened(tx)
     schema = with_type(view.schema, asked)
-    tx.write([SCHEMA_WRITE])
+    tx.write([schema_write(schema)])
     view.schema = schema
     return "ok"
 
@@ -67,7 +69,7 @@ def add_index(tx, asked):
     of = schema.types[index.type - 1]
     found = tx.scan(keys.records_of(of.number), view.record_pairs(of), 1, False)
     state = DISABLED if found else READABLE
-    tx.write([SCHEMA_WRITE] + [Write(keys.point(keys.state_key(index.number)), 2)] * bool(found))
+    tx.write([schema_write(schema)] + [Write(keys.point(keys.state_key(index.number)), 2)] * bool(found))
     view.schema = schema
     view.states[index.number] = state
     return state
@@ -76,8 +78,9 @@ def add_index(tx, asked):
 def drop(tx, name):
     view = opened(tx)
     index = view.schema.index_named(name)
-    tx.write([SCHEMA_WRITE, Write(keys.point(keys.state_key(index.number))), *cleared_index(index.number)])
-    view.schema = without_index(view.schema, index)
+    schema = without_index(view.schema, index)
+    tx.write([schema_write(schema), Write(keys.point(keys.state_key(index.number))), *cleared_index(index.number)])
+    view.schema = schema
     del view.states[index.number]
     view.built.pop(index.number, None)
     return "ok"

@@ -265,6 +265,8 @@ MISTAKES = [
     Mistake("a total is told that is being built", COMMANDS, "aggregate", told_early),
     Mistake("a total isn't cut to 64 bits", store.Store, "total", unlimited),
     Mistake("a scan goes on reading behind its last batch", course, "BATCH", lambda right: 63),
+    Mistake("a cleared range's end isn't in the size", store.Write, "size",
+            lambda right: lambda write: len(write.range.begin.spelled) + (write.length or 0)),
     Mistake("an intersection leaves a conjunct out", planning, "with_residual",
             lambda right: lambda node, parts, used: right(node, parts[:2], used)),
     Mistake("a writer reads another built range than its own", commands, "read_built", reader_of_first),

@@ -2,6 +2,8 @@
 import re
 from typing import NamedTuple
 
+from keys import element
+
 NAME = re.compile(r"[a-zA-Z0-9_]{1,32}")
 KINDS = {"int": int, "text": str, "bytes": bytes}
 MOST_TYPES, MOST_FIELDS, MOST_KEY_FIELDS, MOST_INDEXES, MOST_COLUMNS, LAST_INDEX = 32, 32, 8, 64, 8, 65535
@@ -130,6 +132,29 @@ def with_index(schema, asked):
 def without_index(schema, index):
     """The schema without an index, whose number isn't given again."""
     return schema._replace(indexes=tuple(it for it in schema.indexes if it != index))
+
+
+def nested(things):
+    """The spelling of things as one that others have within them."""
+    return b"\x05" + b"".join(spelled_within(it) for it in things) + b"\0"
+
+
+def spelled_within(thing):
+    """The spelling of a part of a nested thing."""
+    if isinstance(thing, (tuple, list)):
+        return nested(thing)
+    return b"\0\xff" if thing is None else element(thing).spelled
+
+
+def schema_bytes(schema):
+    """What a schema is written as."""
+    kinds = [*KINDS]
+    types = [(it.number, it.name, [(name, kinds.index(kind) + 1) for name, kind in it.fields], it.key)
+             for it in schema.types]
+    indexes = [(it.number, it.name, [VALUE, COUNT, SUM].index(it.kind) + 1, it.type, it.columns, it.summed)
+               for it in schema.indexes]
+    parts = (1, len(types), schema.last, types, indexes)
+    return b"".join(spelled_within(it) for it in parts)
 
 
 def schema_of(asked):

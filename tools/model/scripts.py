@@ -66,12 +66,26 @@ class Maker(Values):
 
     def script(self):
         """The script."""
+        if self.likely(0.002):
+            return self.heavy_script()
         self.begin_store()
         turn = self.pick([self.round, self.round, self.turns])
         for _ in range(self.pick([2, 4, 5])):
             turn()
         self.end()
         return {"config": self.config, "steps": self.steps} if self.config else {"steps": self.steps}
+
+    def heavy_script(self):
+        """A transaction that writes as much as it may, or more."""
+        self.add("begin", 0)
+        self.add("create", 0, self.heavy_schema())
+        for longest in [9_950] * 45 + [990] * 12 + [90] * 12 + [9] * 12:
+            length = self.chance.randint(longest * 9 // 10, longest)
+            self.add("save", 0, "t", [self.pick([1, 2]), self.pick("xyz") * length, self.chance.randrange(300)])
+        self.add(self.pick(["drop", "disable"]), 0, "h0")
+        self.add("remove", 0, "t", [1])
+        self.add("commit", 0)
+        return {"steps": self.steps + [["settle"], ["begin", 9], ["query", 9, {"type": "t"}]]}
 
     def add(self, *step):
         self.steps.append(list(step))

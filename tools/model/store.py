@@ -7,7 +7,7 @@ from keys import AFTER, Cut, Range, position
 from schemas import VALUE, Schema
 
 READABLE, WRITE_ONLY, DISABLED = "readable", "write-only", "disabled"
-LONGEST_KEY, LONGEST_VALUE = 10_000, 100_000
+LONGEST_KEY, LONGEST_VALUE, LARGEST = 10_000, 100_000, 10_000_000
 
 
 class Write(NamedTuple):
@@ -16,12 +16,19 @@ class Write(NamedTuple):
     range: Range
     length: int | None = None
 
-    def refusal(self):
-        """The limit that it breaks, or None."""
+    def size(self):
+        """What it adds to its transaction's size."""
+        begin, end = (len(it.spelled) for it in self.range)
+        return begin + (end if self.length is None else self.length)
+
+    def refusal(self, before):
+        """The limit that it breaks behind writes of such a size, or None."""
         begin, end = (len(it.spelled) for it in self.range)
         if begin > LONGEST_KEY or (self.length is None and end > LONGEST_KEY + 1):
             return "KeyTooLarge"
-        return "ValueTooLarge" if (self.length or 0) > LONGEST_VALUE else None
+        if (self.length or 0) > LONGEST_VALUE:
+            return "ValueTooLarge"
+        return "TransactionTooLarge" if before + self.size() > LARGEST else None
 
 
 @dataclass

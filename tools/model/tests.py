@@ -6,11 +6,11 @@ import sys
 import unittest
 
 from comparing import Difference, difference, model_replies, shrunk
-from examples import EXAMPLES
+from examples import EXAMPLES, S
 from filters import truth
 from keys import AFTER, FIRST, JUST_AFTER, Cut, before_beginning, behind_beginning, element, elements, key
 from mistakes import MISTAKES, made
-from schemas import Type
+from schemas import Type, schema_bytes, schema_of
 from scripts import script_of
 from splits import cut_of
 from values import NUMBERS, STRINGS, TEXTS
@@ -30,6 +30,8 @@ TRUTHS = [
     (["or", ["=", "a", 5], ["null", "a"]], (1, 0, 1)), (["or", ["=", "a", 5], ["=", "a", 4]], (None, 1, 1)),
     (["and", ["=", "a", 5], ["or"]], (0, 0, 0)), (["not", ["and", ["=", "a", 4], ["=", "a", 4]]], (None, 0, 1)),
 ]
+# what the schema S is written as
+WRITTEN = "1501150114050515010274000505026b0015010005026100150100050262001501000005140000000500"
 # splits that spell no whole place, and between which places they stand
 SPLITS = [
     ("15", None, key(0)), ("1501", None, key(0)), ("16", key(6, 99, "z"), None), ("1501150500", key(5), key(5, 1)),
@@ -65,6 +67,7 @@ class Places(unittest.TestCase):
                              (b"foo\0bar", "01666f6f00ff62617200")]:
             self.assertEqual(element(cell).spelled.hex(), wanted)
         self.assertEqual(elements(()), Cut((), b""))
+        self.assertEqual(schema_bytes(schema_of(S)).hex(), WRITTEN)
 
 
 def single(cuts):

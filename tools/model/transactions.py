@@ -1,4 +1,6 @@
 """A transaction: what it sees, what it has read and written, and the commands that it has done."""
+from itertools import accumulate
+
 import keys
 from commands import COMMANDS
 from keys import JUST_AFTER, Range
@@ -12,7 +14,7 @@ class Transaction:
         self.version, self.view, self.ask = version, view, ask
         # the ranges read in order, each once
         self.reads = {}
-        self.writes, self.done, self.planned = [], [], None
+        self.writes, self.size, self.done, self.planned = [], 0, [], None
 
     def keep(self, range_):
         """Notes a range as read, once."""
@@ -42,10 +44,12 @@ class Transaction:
 
     def write(self, writes):
         """Notes what is written; refused with the first limit that is broken."""
-        refusal = next((it for it in (write.refusal() for write in writes) if it), None)
+        ends = list(accumulate((it.size() for it in writes), initial=self.size))
+        refusal = next((it for it in (write.refusal(before) for write, before in zip(writes, ends)) if it), None)
         if refusal:
             raise Refused(refusal)
         self.writes += writes
+        self.size = ends[-1]
 
     def perform(self, kind, *parts):
         """The reply to a command, which is done where it isn't refused."""

@@ -78,6 +78,13 @@ class Values:
         indexes = [self.index(f"m{it}", of) for it in range(self.pick([62, 63, 64, 65]))]
         return self.pick([{"types": types, "indexes": []}, {"types": [of], "indexes": indexes}])
 
+    def heavy_schema(self):
+        """A type with a text that stands in many indexes."""
+        of = {"name": "t", "fields": [["k", "int"], ["s", "text"], ["a", "int"]], "key": ["k"]}
+        columns = [self.pick([["s"], ["s", "a"], ["a", "s"]]) for _ in range(self.chance.randint(9, 12))]
+        return {"types": [of], "indexes": [{"name": f"h{at}", "kind": VALUE, "type": "t", "columns": it}
+                                           for at, it in enumerate(columns)]}
+
     def schema(self):
         """Some types, and indexes over them."""
         if self.likely(0.01):
