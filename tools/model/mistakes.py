@@ -1,5 +1,6 @@
 """Mistakes that are put into the model, one at a time, to see that random scripts find each of them."""
 from contextlib import contextmanager
+from dataclasses import replace
 from typing import NamedTuple
 
 import commands
@@ -120,12 +121,11 @@ def oldest_seen(right):
 def trusting_cause(right):
     """A resolver that counts requests to which it agreed only where all agreed."""
     def cause(self, resolver, at):
-        refused = [it for it in self.requests[:at] if not it.is_committed() and it.causes[resolver] is None]
-        for it in refused:
-            it.causes[resolver] = it.cause()
+        requests = list(self.requests)
+        silent = [it for it in range(at) if not requests[it].is_committed()]
+        self.requests = [replace(it, writes=[]) if number in silent else it for number, it in enumerate(requests)]
         found = right(self, resolver, at)
-        for it in refused:
-            it.causes[resolver] = None
+        self.requests = requests
         return found
     return cause
 

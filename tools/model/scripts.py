@@ -34,7 +34,8 @@ class Maker(Values):
         self.kinds = SCENES[self.scene]
         self.has_roles, self.is_large = self.likely(0.25), self.likely(0.03)
         self.long_share = self.pick([0, 0, 0, 0.02])
-        self.clients = self.pick([[0, 1], [0, 1, 2], [0, 1, 2], [0, 1, 2, 15]])
+        self.is_long = self.likely(0.01)
+        self.clients = list(range(16)) if self.is_long else self.pick([[0, 1], [0, 1, 2], [0, 1, 2], [0, 1, 2, 15]])
         self.steps, self.open, self.planned = [], set(), set()
         self.asked = self.large_schema() if self.is_large else self.schema()
         self.types, self.indexes = list(self.asked["types"]), list(self.asked["indexes"])
@@ -70,7 +71,7 @@ class Maker(Values):
             return self.heavy_script()
         self.begin_store()
         turn = self.pick([self.round, self.round, self.turns])
-        for _ in range(self.pick([2, 4, 5])):
+        for _ in range(self.pick([15, 30]) if self.is_long else self.pick([2, 4, 5])):
             turn()
         self.end()
         return {"config": self.config, "steps": self.steps} if self.config else {"steps": self.steps}
@@ -131,15 +132,16 @@ class Maker(Values):
     def round(self):
         """Clients begin together, work in turns, commit one after another, and all is settled."""
         busy = [it for it in self.clients if self.likely(0.85)]
-        for client in busy:
-            if client not in self.open:
-                self.begin(client)
-        for _ in range(len(busy) * self.pick([1, 2, 3, 4])):
-            self.command(self.pick(busy))
-        for client in self.chance.sample(busy, len(busy)):
-            if self.likely(0.85):
-                self.finish(client, 0.1)
+        self.each(self.begin, [it for it in busy if it not in self.open])
+        self.each(self.command, self.chance.choices(busy, k=len(busy) * self.pick([1, 2, 3, 4])) if busy else [])
+        ending = [it for it in self.chance.sample(busy, len(busy)) if self.likely(0.85)]
+        self.each(lambda it: self.finish(it, 0.1), ending)
         self.settle()
+
+    def each(self, make, clients):
+        """Steps of each of some clients in turn."""
+        for client in clients:
+            make(client)
 
     def settle(self):
         """All roles work, all at once or step by step."""
@@ -324,8 +326,7 @@ class Maker(Values):
         """All is settled, and a client asks for all that there is."""
         self.add("settle")
         self.add("begin", 9)
-        for of in self.types:
-            self.add("query", 9, {"type": of["name"]})
+        self.steps += [["query", 9, {"type": it["name"]}] for it in self.types]
         for index in self.indexes:
             self.asked_of(index)
 

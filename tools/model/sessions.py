@@ -43,18 +43,19 @@ class Session:
 
     def settle(self):
         """Rounds of all roles, until a round has nothing to do."""
-        told, is_on = [], True
-        while is_on:
-            done = self.round()
-            is_on = any(it not in (False, "nothing") for it in done)
-            told += [it for it in done if it is not True and it not in (False, "nothing")]
+        told = []
+        while self.round(told):
+            pass
         return ", ".join(told) or "nothing"
 
-    def round(self):
-        """What one step of each role does."""
+    def round(self, told):
+        """A step of each role, with what is told to a client; whether there was something to do."""
         database = self.database
-        return [*map(database.resolve, range(len(database.resolvers))), *map(database.log, range(len(database.logged))),
-                self.report(), *map(database.pull, range(len(database.servers)))]
+        done = [*map(database.resolve, range(len(database.resolvers))), *map(database.log, range(len(database.logged)))]
+        reply = self.report()
+        told += [reply] * (reply != "nothing")
+        done += [reply != "nothing", *map(database.pull, range(len(database.servers)))]
+        return any(done)
 
     def client_step(self, kind, client, *parts):
         """The reply to a step of a client."""
