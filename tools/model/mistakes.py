@@ -264,7 +264,7 @@ MISTAKES = [
     Mistake("an index over records is readable at once", COMMANDS, "index", readable_at_once),
     Mistake("a total is told that is being built", COMMANDS, "aggregate", told_early),
     Mistake("a total isn't cut to 64 bits", store.Store, "total", unlimited),
-    Mistake("a scan goes on reading behind its last batch", course, "BATCH", lambda right: 63),
+    Mistake("a batch has a pair fewer", course, "BATCH", lambda right: 63),
     Mistake("a cleared range's end isn't in the size", store.Write, "size",
             lambda right: lambda write: len(write.range.begin.spelled) + (write.length or 0)),
     Mistake("an intersection leaves a conjunct out", planning, "with_residual",

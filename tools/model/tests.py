@@ -1,4 +1,5 @@
 """Tests of the model: examples that were worked out by hand, the repository's own cases, and mistakes put into it."""
+import functools
 import itertools
 import json
 import os
@@ -106,6 +107,13 @@ def text_in(path):
         return file.read()
 
 
+def mistaken_replies(mistake, number):
+    """The replies to a script of a model with a mistake."""
+    script = script_of(1, number)
+    with made(mistake):
+        return model_replies(script)
+
+
 class Comparing(unittest.TestCase):
     """How differences are found."""
 
@@ -121,11 +129,9 @@ class Comparing(unittest.TestCase):
             self.assertEqual(found, {"steps": sorted(needed)})
 
     def test_mistakes_are_found(self):
-        scripts = [script_of(1, it) for it in range(COUNT)]
-        replies = [model_replies(it) for it in scripts]
+        right = functools.cache(lambda number: model_replies(script_of(1, number)))
         for mistake in MISTAKES:
-            with made(mistake):
-                is_found = any(difference(wanted, model_replies(it)) for it, wanted in zip(scripts, replies))
+            is_found = any(difference(right(it), mistaken_replies(mistake, it)) for it in range(COUNT))
             self.assertTrue(is_found, mistake.name)
 
     def test_the_model_keeps_its_own_laws(self):
