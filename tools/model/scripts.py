@@ -67,8 +67,6 @@ class Maker(Values):
 
     def script(self):
         """The script."""
-        if self.likely(0.002):
-            return self.heavy_script()
         self.begin_store()
         turn = self.pick([self.round, self.round, self.turns])
         for _ in range(self.pick([15, 30]) if self.is_long else self.pick([2, 4, 5])):
@@ -347,4 +345,5 @@ def deep(levels):
 
 def script_of(seed, number):
     """The script of a number."""
-    return Maker(f"{seed} {number}").script()
+    maker = Maker(f"{seed} {number}")
+    return maker.heavy_script() if number % 500 == 250 else maker.script()
