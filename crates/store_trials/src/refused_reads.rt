@@ -28,19 +28,33 @@ fn tried(
     Ok((line, failing.reads() >= at))
 }
 
+/// The line tells this.
+fn is_told(alloc: Global, line: &str, told: &str) -> Result<(), Fail> {
+    let wanted = format!(in alloc; "1 {told}\n")?;
+    same(line, wanted.as_str())
+}
+
 /// Each read of a command is refused in turn, and so is the command; then it is told this.
-fn ask(alloc: Global, session: &mut Session, row: &Worked) -> Result<(), Fail> {
-    let (_, client, step, told) = row;
-    let command = command_of(alloc, step)?;
+fn each_refused(
+    alloc: Global,
+    session: &mut Session,
+    client: usize,
+    command: &Command,
+    told: &str,
+) -> Result<(), Fail> {
     for at in 1..MOST_READS {
-        let (line, is_refused) = tried(alloc, session, *client, &command, at)?;
+        let (line, is_refused) = tried(alloc, session, client, command, at)?;
         if !is_refused {
-            let wanted = format!(in alloc; "1 {told}\n")?;
-            return same(line.as_str(), wanted.as_str());
+            return is_told(alloc, line.as_str(), told);
         }
         same(line.as_str(), "1 refused FutureVersion\n")?;
     }
     Err(Fail::from("it reads without end"))
+}
+
+fn ask(alloc: Global, session: &mut Session, row: &Worked) -> Result<(), Fail> {
+    let command = command_of(alloc, row.2)?;
+    each_refused(alloc, session, row.1, &command, row.3)
 }
 
 fn take(alloc: Global, session: &mut Session, row: &Worked) -> Result<(), Fail> {
