@@ -1,4 +1,11 @@
 // What a host tells, from bytes. Called by `drive_bytes`.
+ghost use Rattle.std.specs.Prelude.{◌≡◌, ◌++◌, List, ℕ, IfOk};
+ghost use Rattle.kv_core.specs.Range.{covers};
+ghost use Rattle.script.specs.Script.{IsScript};
+ghost use Rattle.cluster_core.specs.declared.answers.Config.{Config};
+ghost use Rattle.schedule.specs.declared.step.Step.{Step as StepValue};
+ghost use Rattle.drive_form.specs.Spelled.{AreCommands, IsGiven, counted, mutation_bytes, pair_bytes, range_bytes};
+
 use crate::error::FormError;
 use crate::reading::Reader;
 use drive::Given;
@@ -10,7 +17,9 @@ use std::alloc::{AllocError, Global};
 /// The number of this form, which is its first byte.
 const FORM: u8 = 1;
 
-fn ranges_of(alloc: Global, reader: &mut Reader<'_>) -> Result<Vec<KeyRange>, FormError> {
+fn ranges_of(alloc: Global, reader: &mut Reader<'_>) -> Result<Vec<KeyRange>, FormError>
+    ensures { IfOk result (λ ranges. reader.old.rest.now ≡ counted range_bytes ranges.items ++ reader.new.rest.now) }
+{
     let count = reader.count()?;
     let mut ranges = Vec::new(alloc);
     for _ in 0..count {
@@ -20,7 +29,9 @@ fn ranges_of(alloc: Global, reader: &mut Reader<'_>) -> Result<Vec<KeyRange>, Fo
 }
 
 /// The keys of ranges.
-fn coverage_of(alloc: Global, ranges: &[KeyRange]) -> Result<Coverage, AllocError> {
+fn coverage_of(alloc: Global, ranges: &[KeyRange]) -> Result<Coverage, AllocError>
+    ensures { IfOk result (λ covered. (key : List ℕ) → covers covered key ≡ covers ranges.now key) }
+{
     let mut covered = Coverage::new(alloc);
     for range in ranges {
         covered.add(range)?;
@@ -28,13 +39,17 @@ fn coverage_of(alloc: Global, ranges: &[KeyRange]) -> Result<Coverage, AllocErro
     Ok(covered)
 }
 
-fn pair_of(alloc: Global, reader: &mut Reader<'_>) -> Result<Pair, FormError> {
+fn pair_of(alloc: Global, reader: &mut Reader<'_>) -> Result<Pair, FormError>
+    ensures { IfOk result (λ pair. reader.old.rest.now ≡ pair_bytes pair ++ reader.new.rest.now) }
+{
     let key = reader.bytes(alloc)?;
     let value = reader.bytes(alloc)?;
     Ok((key, value))
 }
 
-fn pairs_of(alloc: Global, reader: &mut Reader<'_>) -> Result<Vec<Pair>, FormError> {
+fn pairs_of(alloc: Global, reader: &mut Reader<'_>) -> Result<Vec<Pair>, FormError>
+    ensures { IfOk result (λ pairs. reader.old.rest.now ≡ counted pair_bytes pairs.items ++ reader.new.rest.now) }
+{
     let count = reader.count()?;
     let mut pairs = Vec::new(alloc);
     for _ in 0..count {
@@ -43,7 +58,9 @@ fn pairs_of(alloc: Global, reader: &mut Reader<'_>) -> Result<Vec<Pair>, FormErr
     Ok(pairs)
 }
 
-fn mutation_of(alloc: Global, reader: &mut Reader<'_>) -> Result<Mutation, FormError> {
+fn mutation_of(alloc: Global, reader: &mut Reader<'_>) -> Result<Mutation, FormError>
+    ensures { IfOk result (λ one. reader.old.rest.now ≡ mutation_bytes one ++ reader.new.rest.now) }
+{
     match reader.byte()? {
         0 => Ok(Mutation::Set {
             key: reader.bytes(alloc)?,
@@ -58,7 +75,9 @@ fn mutation_of(alloc: Global, reader: &mut Reader<'_>) -> Result<Mutation, FormE
     }
 }
 
-fn written_of(alloc: Global, reader: &mut Reader<'_>) -> Result<Vec<Mutation>, FormError> {
+fn written_of(alloc: Global, reader: &mut Reader<'_>) -> Result<Vec<Mutation>, FormError>
+    ensures { IfOk result (λ all. reader.old.rest.now ≡ counted mutation_bytes all.items ++ reader.new.rest.now) }
+{
     let count = reader.count()?;
     let mut written = Vec::new(alloc);
     for _ in 0..count {
@@ -67,11 +86,12 @@ fn written_of(alloc: Global, reader: &mut Reader<'_>) -> Result<Vec<Mutation>, F
     Ok(written)
 }
 
-/// The commands of a script, all whose steps are commands.
-fn commands_of(alloc: Global, text: &[u8]) -> Result<Vec<Command>, FormError> {
-    let script = script_of(alloc, text)?;
+/// The commands of these steps, where all are commands.
+fn commands_in(alloc: Global, steps: Vec<Step>) -> Result<Vec<Command>, FormError>
+    ensures { IfOk result (λ commands. AreCommands steps.items commands.items) }
+{
     let mut commands = Vec::new(alloc);
-    for step in script.steps {
+    for step in steps {
         let Step::Perform(_, command) = step else {
             return Err(FormError::BadCommand);
         };
@@ -80,8 +100,20 @@ fn commands_of(alloc: Global, text: &[u8]) -> Result<Vec<Command>, FormError> {
     Ok(commands)
 }
 
+/// The commands of a script, all whose steps are commands.
+fn commands_of(alloc: Global, text: &[u8]) -> Result<Vec<Command>, FormError>
+    ensures { IfOk result (λ commands. (config : Config) × (steps : List StepValue)
+        × IsScript text.now config steps × AreCommands steps commands.items) }
+{
+    let script = script_of(alloc, text)?;
+    let commands = commands_in(alloc, script.steps)?;
+    Ok(commands)
+}
+
 /// What a host tells.
-pub fn given_of(alloc: Global, bytes: &[u8]) -> Result<Given, FormError> {
+pub fn given_of(alloc: Global, bytes: &[u8]) -> Result<Given, FormError>
+    ensures { IfOk result (IsGiven bytes.now) }
+{
     let mut reader = Reader::new(bytes);
     if reader.byte()? != FORM {
         return Err(FormError::BadForm);

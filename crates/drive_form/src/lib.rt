@@ -7,6 +7,9 @@ mod error;
 mod given_bytes;
 mod reading;
 
+ghost use Rattle.std.specs.Prelude.{IfOk};
+ghost use Rattle.drive_form.specs.Spelled.{IsBytesAnswer};
+
 pub use answer_bytes::answer_of;
 use drive::drive;
 pub use error::FormError;
@@ -14,7 +17,9 @@ pub use given_bytes::given_of;
 use std::alloc::Global;
 
 /// Reads what a host tells, performs its commands, and makes the bytes of the answer.
-pub fn drive_bytes(alloc: Global, given: &[u8]) -> Result<Vec<u8>, FormError> {
+pub fn drive_bytes(alloc: Global, given: &[u8]) -> Result<Vec<u8>, FormError>
+    ensures { IfOk result (λ bytes. IsBytesAnswer given.now bytes.items) }
+{
     let given = given_of(alloc, given)?;
     let driven = drive(alloc, &given)?;
     let bytes = answer_of(alloc, &driven)?;
