@@ -67,7 +67,7 @@ pub record IsGiven (bytes : List ℕ) (given : Given) : Type 0 where
   pub commands : AreCommands steps given.commands.items
 
 -- bytes tell the answer: 0 and what is wanted; or 1, a text for each reply, what was read, and all that is written
-pub record IsToldDone (answer : Rattle.drive.specs.declared.answering.Answer.Answer) (bytes : List ℕ) : Type 0 where
+pub record IsDoneBytes (answer : Rattle.drive.specs.declared.answering.Answer.Answer) (bytes : List ℕ) : Type 0 where
   pub texts : List (List ℕ)
   pub each : length texts ≡ length answer.replies.items
   pub spelled :
@@ -75,9 +75,9 @@ pub record IsToldDone (answer : Rattle.drive.specs.declared.answering.Answer.Ans
       ≡ 1 ∷ counted sized texts ++ counted range_bytes answer.request.reads
       ++ counted mutation_bytes answer.request.mutations
 
-abbrev pub IsTold : Driven → List ℕ → Type 0
-IsTold (Wants wants) bytes = bytes ≡ 0 ∷ counted want_bytes wants.items
-IsTold (Done answer) bytes = IsToldDone answer bytes
+abbrev pub IsDrivenBytes : Driven → List ℕ → Type 0
+IsDrivenBytes (Wants wants) bytes = bytes ≡ 0 ∷ counted want_bytes wants.items
+IsDrivenBytes (Done answer) bytes = IsDoneBytes answer bytes
 
 -- bytes tell what a call comes to that other bytes tell of
 pub record IsBytesAnswer (told bytes : List ℕ) : Type 0 where
@@ -85,4 +85,4 @@ pub record IsBytesAnswer (told bytes : List ℕ) : Type 0 where
   pub read : IsGiven told given
   pub driven : Driven
   pub answered : IsDriven given driven
-  pub written : IsTold driven bytes
+  pub written : IsDrivenBytes driven bytes

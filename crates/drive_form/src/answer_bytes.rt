@@ -1,7 +1,8 @@
 // The answer to a host, as bytes. Called by `drive_bytes`.
 ghost use Rattle.std.specs.Prelude.{◌≡◌, ◌∷◌, ◌++◌, ℕ, List, length, IfOk, OnOk};
 ghost use Rattle.std.specs.Int.{w32, to_le_bytes};
-ghost use Rattle.drive_form.specs.Spelled.{IsTold, IsToldDone, counted, mutation_bytes, range_bytes, sized, want_bytes};
+ghost use Rattle.drive_form.specs.Spelled.{IsDrivenBytes, IsDoneBytes, counted};
+ghost use Rattle.drive_form.specs.Spelled.{mutation_bytes, range_bytes, sized, want_bytes};
 
 use drive::{Answer, Driven, Want};
 use kv_core::{KeyRange, Mutation};
@@ -117,7 +118,8 @@ fn push_replies(alloc: Global, out: &mut Vec<u8>, replies: &[Reply]) -> Result<(
 
 /// The replies, what was read, and all that is written.
 fn push_answer(alloc: Global, out: &mut Vec<u8>, answer: &Answer) -> Result<(), AllocError>
-    ensures { OnOk result ((texts : List (List ℕ)) × (length texts ≡ length answer.now.replies.items)
+    ensures { OnOk result ((texts : List (List ℕ))
+        × (length texts ≡ length answer.now.replies.items)
         × (out.new.items ≡ out.old.items ++ (counted sized texts
         ++ (counted range_bytes answer.now.request.reads
         ++ counted mutation_bytes answer.now.request.mutations)))) }
@@ -129,7 +131,7 @@ fn push_answer(alloc: Global, out: &mut Vec<u8>, answer: &Answer) -> Result<(), 
 
 /// The bytes that tell a host what a call came to.
 pub fn answer_of(alloc: Global, driven: &Driven) -> Result<Vec<u8>, AllocError>
-    ensures { IfOk result (λ bytes. IsTold driven.now bytes.items) }
+    ensures { IfOk result (λ bytes. IsDrivenBytes driven.now bytes.items) }
 {
     let mut out = Vec::new(alloc);
     match driven {

@@ -4,7 +4,8 @@ ghost use Rattle.kv_core.specs.Range.{covers};
 ghost use Rattle.script.specs.Script.{IsScript};
 ghost use Rattle.cluster_core.specs.declared.answers.Config.{Config};
 ghost use Rattle.schedule.specs.declared.step.Step.{Step as StepValue};
-ghost use Rattle.drive_form.specs.Spelled.{AreCommands, IsGiven, counted, mutation_bytes, pair_bytes, range_bytes};
+ghost use Rattle.drive_form.specs.Spelled.{AreCommands, IsGiven, counted};
+ghost use Rattle.drive_form.specs.Spelled.{mutation_bytes, pair_bytes, range_bytes};
 
 use crate::error::FormError;
 use crate::reading::Reader;
@@ -18,7 +19,8 @@ use std::alloc::{AllocError, Global};
 const FORM: u8 = 1;
 
 fn ranges_of(alloc: Global, reader: &mut Reader<'_>) -> Result<Vec<KeyRange>, FormError>
-    ensures { IfOk result (λ ranges. reader.old.rest.now ≡ counted range_bytes ranges.items ++ reader.new.rest.now) }
+    ensures { IfOk result (λ ranges. reader.old.rest.now
+        ≡ counted range_bytes ranges.items ++ reader.new.rest.now) }
 {
     let count = reader.count()?;
     let mut ranges = Vec::new(alloc);
@@ -30,7 +32,8 @@ fn ranges_of(alloc: Global, reader: &mut Reader<'_>) -> Result<Vec<KeyRange>, Fo
 
 /// The keys of ranges.
 fn coverage_of(alloc: Global, ranges: &[KeyRange]) -> Result<Coverage, AllocError>
-    ensures { IfOk result (λ covered. (key : List ℕ) → covers covered key ≡ covers ranges.now key) }
+    ensures { IfOk result (λ covered. (key : List ℕ) →
+        covers covered key ≡ covers ranges.now key) }
 {
     let mut covered = Coverage::new(alloc);
     for range in ranges {
@@ -40,7 +43,8 @@ fn coverage_of(alloc: Global, ranges: &[KeyRange]) -> Result<Coverage, AllocErro
 }
 
 fn pair_of(alloc: Global, reader: &mut Reader<'_>) -> Result<Pair, FormError>
-    ensures { IfOk result (λ pair. reader.old.rest.now ≡ pair_bytes pair ++ reader.new.rest.now) }
+    ensures { IfOk result (λ pair. reader.old.rest.now
+        ≡ pair_bytes pair ++ reader.new.rest.now) }
 {
     let key = reader.bytes(alloc)?;
     let value = reader.bytes(alloc)?;
@@ -48,7 +52,8 @@ fn pair_of(alloc: Global, reader: &mut Reader<'_>) -> Result<Pair, FormError>
 }
 
 fn pairs_of(alloc: Global, reader: &mut Reader<'_>) -> Result<Vec<Pair>, FormError>
-    ensures { IfOk result (λ pairs. reader.old.rest.now ≡ counted pair_bytes pairs.items ++ reader.new.rest.now) }
+    ensures { IfOk result (λ pairs. reader.old.rest.now
+        ≡ counted pair_bytes pairs.items ++ reader.new.rest.now) }
 {
     let count = reader.count()?;
     let mut pairs = Vec::new(alloc);
@@ -59,7 +64,8 @@ fn pairs_of(alloc: Global, reader: &mut Reader<'_>) -> Result<Vec<Pair>, FormErr
 }
 
 fn mutation_of(alloc: Global, reader: &mut Reader<'_>) -> Result<Mutation, FormError>
-    ensures { IfOk result (λ one. reader.old.rest.now ≡ mutation_bytes one ++ reader.new.rest.now) }
+    ensures { IfOk result (λ one. reader.old.rest.now
+        ≡ mutation_bytes one ++ reader.new.rest.now) }
 {
     match reader.byte()? {
         0 => Ok(Mutation::Set {
@@ -76,7 +82,8 @@ fn mutation_of(alloc: Global, reader: &mut Reader<'_>) -> Result<Mutation, FormE
 }
 
 fn written_of(alloc: Global, reader: &mut Reader<'_>) -> Result<Vec<Mutation>, FormError>
-    ensures { IfOk result (λ all. reader.old.rest.now ≡ counted mutation_bytes all.items ++ reader.new.rest.now) }
+    ensures { IfOk result (λ all. reader.old.rest.now
+        ≡ counted mutation_bytes all.items ++ reader.new.rest.now) }
 {
     let count = reader.count()?;
     let mut written = Vec::new(alloc);

@@ -45,7 +45,8 @@ impl<'a> Reader<'a> {
 
     /// The next number of 64 bits.
     pub(crate) fn number(&mut self) -> Result<u64, FormError>
-        ensures { IfOk result (λ number. self.old.rest.now ≡ to_le_bytes w64 number ++ self.new.rest.now) }
+        ensures { IfOk result (λ number. self.old.rest.now
+            ≡ to_le_bytes w64 number ++ self.new.rest.now) }
     {
         let Some((first, rest)) = self.rest.split_first_chunk::<8>() else {
             return Err(FormError::BadForm);
@@ -57,7 +58,8 @@ impl<'a> Reader<'a> {
 
     /// The next number of 32 bits, a length or a count.
     pub(crate) fn count(&mut self) -> Result<usize, FormError>
-        ensures { IfOk result (λ number. self.old.rest.now ≡ to_le_bytes w32 number ++ self.new.rest.now) }
+        ensures { IfOk result (λ number. self.old.rest.now
+            ≡ to_le_bytes w32 number ++ self.new.rest.now) }
     {
         let Some((first, rest)) = self.rest.split_first_chunk::<4>() else {
             return Err(FormError::BadForm);
@@ -81,7 +83,8 @@ impl<'a> Reader<'a> {
 
     /// The next range: its begin and its end.
     pub(crate) fn range(&mut self, alloc: Global) -> Result<KeyRange, FormError>
-        ensures { IfOk result (λ range. self.old.rest.now ≡ range_bytes range ++ self.new.rest.now) }
+        ensures { IfOk result (λ range. self.old.rest.now
+            ≡ range_bytes range ++ self.new.rest.now) }
     {
         let begin = self.bytes(alloc)?;
         let end = self.bytes(alloc)?;
