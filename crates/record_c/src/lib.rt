@@ -1,6 +1,9 @@
 //! The record layer as a function of C, over bytes. `record.h` beside this folder declares it.
 #![tactic(auto)]
 
+ghost use Rattle.std.specs.Prelude.{◌≡◌, ◌<◌, ◌≤◌, ◌++◌, length, drop};
+ghost use Rattle.record_c.specs.Answered.{IsPlaced, IsTooLong};
+
 use drive_form::{FormError, drive_bytes};
 use std::alloc::Global;
 
@@ -15,7 +18,10 @@ const BAD_FORM: u32 = 3;
 
 const BAD_COMMAND: u32 = 4;
 
-fn status_of(error: FormError) -> u32 {
+fn status_of(error: FormError) -> u32
+    ensures none { 2 ≤ result }
+    ensures known { result ≤ 4 }
+{
     match error {
         FormError::BadForm => BAD_FORM,
         FormError::BadCommand => BAD_COMMAND,
@@ -24,13 +30,16 @@ fn status_of(error: FormError) -> u32 {
 }
 
 /// Writes bytes into the room for them, where it suffices.
-fn put(bytes: &[u8], out: &mut [u8]) -> u32 {
+fn put(bytes: &[u8], out: &mut [u8]) -> u32
+    ensures few { result < 2 }
+    ensures answered { result ≡ 0 → out.new ≡ bytes.now ++ drop (length bytes.now) out.old }
+    ensures wider { result ≡ 1 → length out.old < length bytes.now }
+    ensures left { result ≡ 1 → out.new ≡ out.old }
+{
     if bytes.len() > out.len() {
         return TOO_SHORT;
     }
-    for (place, byte) in out.iter_mut().zip(bytes.iter()) {
-        *place = *byte;
-    }
+    out[..bytes.len()].copy_from_slice(bytes);
     ANSWERED
 }
 
@@ -43,7 +52,13 @@ pub extern "C" fn record_drive(
     given: &[u8],
     out: &mut [u8],
     written: &mut usize,
-) -> u32 {
+) -> u32
+    ensures answered { result ≡ 0 → IsPlaced given.now out.old out.new written.new }
+    ensures too_short { result ≡ 1 → IsTooLong given.now out.old out.new written.new }
+    ensures none { 2 ≤ result → written.new ≡ 0 }
+    ensures left { 2 ≤ result → out.new ≡ out.old }
+    ensures known { result ≤ 4 }
+{
     *written = 0;
     match drive_bytes(alloc, given) {
         Ok(bytes) => {
