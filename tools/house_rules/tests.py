@@ -224,13 +224,15 @@ class Rules(unittest.TestCase):
 
 
 # a definition for each kind of clause that names one
-NAMES = "shown own bare seen shape kept opened coded law rule apart of_type again above".split()
+NAMES = "shown own bare seen shape kept opened coded law rule apart of_type again above called".split()
 NAMED = "".join(f"-- it\npub {it} : ℕ\n\n" for it in NAMES)
 SAID = """// Said.
 ghost use Rattle.low.specs.Low.{shown, own, bare, seen, shape, kept, opened, coded, law, rule, apart, of_type, again};
+ghost use Rattle.low.specs.Low.{called};
 pub fn shown() ensures { shown } { own() }
 fn own() requires { own } {}
 pub fn bare() ensures { bare } {}
+pub extern "C" fn called() ensures { called } {}
 pub struct Low { a: u64 }
 pub struct Open {
     pub a: u64,
@@ -269,7 +271,7 @@ class Promises(unittest.TestCase):
         files = {"crates.txt": CRATES, SPEC: NAMED, SHOWN: SAID}
         self.assertEqual(self.private({**files, SOURCE: "// None.\n"}), NAMES)
         files[SOURCE] = "pub use shown::{\n    Low, Open, Rule as R,\n};\npub use shown::shown as told;\n"
-        self.assertEqual(self.private(files), ["own", "bare", "kept", "coded", "apart", "of_type", "above"])
+        self.assertEqual(self.private(files), ["own", "bare", "kept", "coded", "apart", "of_type", "above", "called"])
         # a program hands out all that is public; a crate above names a definition by that of its file
         files["crates/low/src/main.rt"] = "// Main.\nfn main() {}\n"
         self.assertEqual(self.private(files), ["own", "kept", "coded", "apart", "of_type", "above"])

@@ -6,7 +6,7 @@ from bodies import UNREAD, blanked, body_after, matching_brace, plain_name
 
 # what begins an item: hints and derivations, who may name it, its kind and its name
 HEAD = re.compile(
-    r"(?:#!?\[[^\]]*\]\s*)*(pub(?:\([a-z]+\))? )?(?:unsafe )?"
+    r"(?:#!?\[[^\]]*\]\s*)*(pub(?:\([a-z]+\))? )?(?:unsafe )?(?:extern\s+(?:\"[^\"]*\"\s+)?)?"
     r"(ghost use|ghost|struct|enum|trait|impl|fn|const|static|type|use|mod|macro_rules!)\s*(\w+)?")
 # hints to the prover, and the tests' mark
 HINT = re.compile(r"#!?\[(?:tactic|cycle|cfg)\b[^\]]*\]")
