@@ -4,6 +4,7 @@ pub mod Beginnings
 pub mod Rounds
 pub mod Counting
 pub mod Entries
+pub mod Handled
 pub mod Known
 pub mod WellFormed
 pub mod Moves

@@ -1,15 +1,15 @@
 -- Numbers of submissions, and the last ones.
-use Rattle.std.proofs.Common.{◌≡◌, ◌≢◌, ℕ, zero, suc, ◌<◌, ◌==◌, Bool, true, false, ◌&&◌, ◌||◌, List, [], ◌∷◌, ◌++◌, length, replicate, refl, ap, ◌∙◌, subst, arith}
+use Rattle.std.proofs.Common.{◌≡◌, ◌≢◌, ℕ, zero, suc, ◌+◌, ◌<◌, ◌≤◌, ◌==◌, Bool, true, false, ◌&&◌, ◌||◌, List, [], ◌∷◌, ◌++◌, length, replicate, refl, sym, ap, ◌∙◌, subst, arith}
 use Rattle.std.proofs.Common.{get_or-set_other, get_or-set_same}
 use Rattle.std.specs.Prelude.{slice_index, slice_set}
 use Rattle.std.proofs.lemmas.Bool.Decides.{nat_tests}
 use Rattle.std.proofs.lemmas.List.Folds.{list_any-append}
 use mathlib.Core.List.{IsPrefix}
+use Rattle.kv_core.specs.declared.change.CommitRequest.{CommitRequest}
 use Rattle.runtime.specs.declared.log_entry.Entry.{Entry}
-use Rattle.runtime.specs.declared.in_flight.InFlight.{InFlight}
-use Rattle.runtime.specs.declared.in_flight.InFlight.TheVariants.{Idle, Lost, Decided, Added}
-use Rattle.runtime.specs.Logs.{AreLast, has_submission}
-use Rattle.runtime.specs.CommitStates.{IsBacked, is_idle}
+use Rattle.runtime.specs.declared.trace.Trace.{Trace}
+use Rattle.runtime.specs.Logs.{AreGiven, HasEarlier, has_submission}
+use Rattle.runtime.specs.Outcomes.{next_entry}
 
 or_left : (a b : Bool) → a ≡ true → (a || b) ≡ true
 or_left true b h = refl
@@ -43,27 +43,40 @@ zero_each zero i = refl
 zero_each (suc n) zero = refl
 zero_each (suc n) (suc i) = zero_each n i
 
-pub last_first : (last : List ℕ) (n : ℕ) → last ≡ replicate n 0 → AreLast last []
-last_first last n is = record { stands = λ client above. absurd (let none : slice_index last client ≡ 0 = ap (λ (l : List ℕ). slice_index l client) is ∙ zero_each n client in omega (arith, above, none)) }
+pub given_first : (last : List ℕ) (n : ℕ) → last ≡ replicate n 0 → AreGiven last []
+given_first last n is = record { stands = λ client number above below. absurd (let none : slice_index last client ≡ 0 = ap (λ (l : List ℕ). slice_index l client) is ∙ zero_each n client in omega (arith, above, below, none)) }
 
-next_at : (last : List ℕ) (client number : ℕ) (log : List Entry) (e : Entry) → client < length last → e.client ≡ client → e.number ≡ number → AreLast last log →
-    (other : ℕ) (b : Bool) → (other == client) ≡ b → 0 < slice_index (slice_set last client number) other → has_submission other (slice_index (slice_set last client number) other) (log ++ e ∷ []) ≡ true
-next_at last client number log e inside is_client is_number are other true same above =
+-- the client's own numbers: the new one is the last entry's, and each other one was given before
+own_at : (last : List ℕ) (client number : ℕ) (log : List Entry) (e : Entry) → e.client ≡ client → e.number ≡ number → number ≡ slice_index last client + 1 → AreGiven last log →
+    (n : ℕ) (b : Bool) → (n == number) ≡ b → 0 < n → n ≤ number → has_submission client n (log ++ e ∷ []) ≡ true
+own_at last client number log e is_client is_number next are n true same above upto =
+    let eq : n ≡ number = grind (arith, nat_tests) in
+    number_of_last client n log e is_client (is_number ∙ sym eq)
+own_at last client number log e is_client is_number next are n false other above upto =
+    let apart : n ≢ number = grind (arith, nat_tests) in
+    number_begins client n log (log ++ e ∷ []) (e ∷ [], refl) (are.stands client n above (omega (arith, apart, upto, next)))
+
+given_at : (last : List ℕ) (client number : ℕ) (log : List Entry) (e : Entry) → client < length last → e.client ≡ client → e.number ≡ number → number ≡ slice_index last client + 1 → AreGiven last log →
+    (other n : ℕ) (b : Bool) → (other == client) ≡ b → 0 < n → n ≤ slice_index (slice_set last client number) other → has_submission other n (log ++ e ∷ []) ≡ true
+given_at last client number log e inside is_client is_number next are other n true same above upto =
     let eq : client ≡ other = grind (arith, nat_tests) in
     let new : slice_index (slice_set last client number) client ≡ number = get_or-set_same last client number 0 inside in
-    subst (λ (c : ℕ). has_submission c (slice_index (slice_set last client number) c) (log ++ e ∷ []) ≡ true) eq (rw new (number_of_last client number log e is_client is_number))
-next_at last client number log e inside is_client is_number are other false same above =
+    let most : n ≤ slice_index (slice_set last client number) client = subst (λ (c : ℕ). n ≤ slice_index (slice_set last client number) c) (sym eq) upto in
+    subst (λ (c : ℕ). has_submission c n (log ++ e ∷ []) ≡ true) eq (own_at last client number log e is_client is_number next are n (n == number) refl above (omega (arith, new, most)))
+given_at last client number log e inside is_client is_number next are other n false same above upto =
     let apart : other ≢ client = grind (arith, nat_tests) in
     let old : slice_index (slice_set last client number) other ≡ slice_index last other = get_or-set_other last client other number 0 apart in
-    let there : 0 < slice_index last other = omega (arith, above, old) in
-    rw old (number_begins other (slice_index last other) log (log ++ e ∷ []) (e ∷ [], refl) (are.stands other there))
+    number_begins other n log (log ++ e ∷ []) (e ∷ [], refl) (are.stands other n above (omega (arith, upto, old)))
 
-pub last_next : (last : List ℕ) (client number : ℕ) (log : List Entry) (e : Entry) → client < length last → e.client ≡ client → e.number ≡ number → AreLast last log → AreLast (slice_set last client number) (log ++ e ∷ [])
-last_next last client number log e inside is_client is_number are =
-    record { stands = λ other above. next_at last client number log e inside is_client is_number are other (other == client) refl above }
+pub given_next : (last : List ℕ) (client number : ℕ) (log : List Entry) (e : Entry) → client < length last → e.client ≡ client → e.number ≡ number → number ≡ slice_index last client + 1 → AreGiven last log → AreGiven (slice_set last client number) (log ++ e ∷ [])
+given_next last client number log e inside is_client is_number next are =
+    record { stands = λ other n above upto. given_at last client number log e inside is_client is_number next are other n (other == client) refl above upto }
 
-pub backed_idle : (last : List ℕ) (log : List Entry) (in_flight : InFlight) → is_idle in_flight ≡ true → IsBacked last log in_flight → AreLast last log
-backed_idle last log Idle idle are = are
-backed_idle last log Lost idle are = absurd (cc)
-backed_idle last log (Decided decided) idle are = absurd (cc)
-backed_idle last log (Added step) idle are = absurd (cc)
+-- ---- earlier submissions
+
+-- those of the entry that a client's next submission has
+pub earlier_next : (last : List ℕ) (client : ℕ) (request : CommitRequest) (trace : Trace) (log : List Entry) → AreGiven last log → HasEarlier log (next_entry last client request trace)
+earlier_next last client request trace log are = record { stands = λ number above below. are.stands client number above (omega (arith, below)) }
+
+pub earlier_begins : (xs ys : List Entry) (e : Entry) → IsPrefix xs ys → HasEarlier xs e → HasEarlier ys e
+earlier_begins xs ys e p has = record { stands = λ number above below. number_begins e.client number xs ys p (has.stands number above below) }

@@ -8,9 +8,12 @@ use Rattle.cluster_core.specs.declared.answers.Reported.{Reported}
 use Rattle.cluster_core.specs.declared.answers.SubmitError.{SubmitError}
 use Rattle.cluster_core.specs.declared.answers.SubmitError.TheVariants.{TooOld, VersionsExhausted}
 use Rattle.cluster_core.specs.Decision.{Cause, cause, numbered}
-use Rattle.cluster_core.specs.Roles.{PipelineState, all_handled, submit, submit_refusal, submitted, told}
+use Rattle.cluster_core.specs.Cluster.{without_servers}
+use Rattle.cluster_core.specs.Configuration.{first_pipeline}
+use Rattle.cluster_core.specs.Roles.{PipelineState, all_handled, is_caught_up, outcome, submit, submit_refusal, submitted, told}
 use Rattle.cluster_core.proofs.Growth.{later_changes_nothing}
-use Rattle.txn.specs.Holds.{verdict}
+use Rattle.txn.specs.Holds.{HeldError, first_raised, verdict}
+use Rattle.txn.specs.declared.commit.HoldError.TheVariants as holds
 use Rattle.schedule.specs.Standing.{is_told}
 use Rattle.runtime.specs.declared.log_entry.Entry.{Entry}
 use Rattle.runtime.specs.History.{Name}
@@ -20,9 +23,14 @@ use Rattle.runtime.proofs.Entries.{requests_append}
 use Rattle.std.specs.Prelude.{slice_index, slice_set, is_some}
 use mathlib.Core.List.{IsPrefix}
 use Rattle.runtime.specs.declared.trace.Trace.{Trace}
-use Rattle.runtime.specs.Outcomes.{GivesNext, decided, entry, outcome_by}
-use Rattle.runtime.specs.CommitStates.{AddsEntry, CommitView, IsHandled}
-use Rattle.cluster_core.specs.declared.answers.Reported.TheVariants as reported
+use Rattle.runtime.specs.declared.in_flight.Due.{Due}
+use Rattle.runtime.specs.declared.in_flight.InFlight.TheVariants.{Decided, Unreported}
+use Rattle.runtime.specs.CommitStates.{IsInFlight}
+use Rattle.txn.specs.Finishing.{HasGoneOn, IsUnfinished}
+use Rattle.runtime.specs.History.{submitted_entry}
+use Rattle.runtime.specs.Outcomes.{entry}
+use Rattle.txn.proofs.GoingOn.{handled_same, raised_length, still_unfinished}
+use Rattle.txn.proofs.Handling.{outcome-last}
 use Rattle.runtime.proofs.WellFormed.{pipeline_next, lawful_next, open_begins, numbered_more}
 
 told_committed : (why : Option Cause) (version : ℕ) → is_told (told why version) ≡ is_none why
@@ -101,23 +109,52 @@ taken_next n last log prefix client number request value trace p q r ms law begi
       numbered_more last client number log e inside above refl refl num,
     )
 
--- ---- what became of a request that was reported
+-- ---- a submission that isn't reported
 
-decided_told : (why : Option Cause) (version : ℕ) → outcome_by (told why version) ≡ decided why version
-decided_told None version = refl
-decided_told (Some why) version = refl
+-- what is told of the last entry of a log, once every role has handled it
+told_last : (config : Config) (log : List Entry) (e : Entry) → let p = pipeline_of config (log ++ e ∷ []) in outcome p (submitted p) ≡ told (cause_next config log e.request) (version_of config log + 1)
+told_last config log e =
+    let base = λ (qs : List CommitRequest). all_handled (record (first_pipeline config) { requests = qs }) in
+    let last : outcome (base (requests_of log ++ e.request ∷ [])) (submitted (base (requests_of log ++ e.request ∷ []))) ≡ verdict e.request (base (requests_of log ++ e.request ∷ [])) = outcome-last (record (base (requests_of log ++ e.request ∷ [])) { requests = requests_of log }) e.request in
+    subst (λ (qs : List CommitRequest). outcome (base qs) (submitted (base qs)) ≡ verdict e.request (base qs)) (sym (requests_append log (e ∷ []))) last
+    ∙ told_next config log e
 
-something_told : (why : Option Cause) (version : ℕ) → reported.NothingToDo ≡ told why version → ⊥
-something_told None version is = cc
-something_told (Some why) version is = cc
+-- it is reported
+pub due_reported : (n : Name) (log : List Entry) (due : Due) (p q : PipelineState) (r : Reported) (ms : List Mutation) → IsInFlight n log p (Unreported due) → q ≡ all_handled p → r ≡ outcome q (submitted q) →
+    ms ≡ cond (is_told r) due.mutations [] → IsInFlight n log q (Decided (record { submitted = due.submitted; mutations = ms }))
+due_reported n log due p q r ms was new is made =
+    let e : Entry = submitted_entry due.submitted in
+    let next : q ≡ pipeline_of n.config (log ++ e ∷ []) = new ∙ was.1 in
+    let told_so : r ≡ told (cause_next n.config log e.request) (version_of n.config log + 1) = is ∙ ap (λ (s : PipelineState). outcome s (submitted s)) next ∙ told_last n.config log e in
+    let own : ms ≡ cond (is_told r) e.request.mutations [] = made ∙ ap (λ own. cond (is_told r) own []) was.2 in
+    (next, logged_is n.config log e.request r ms (version_of n.config log + 1) told_so own, was.3)
 
-pub handled_by : (old new : CommitView) (e : Entry) (r : Reported) → r ≡ told (cause_next old.name.config old.log e.request) (version_of old.name.config old.log + 1) → GivesNext old.last new.last e → AddsEntry old new e → IsHandled old new e (outcome_by r)
-handled_by old new e (reported.Committed version) is gives adds =
-    let why = cause_next old.name.config old.log e.request in
-    let next : ℕ = version_of old.name.config old.log + 1 in
-    record { reason = sym (decided_told why next) ∙ ap outcome_by (sym is); numbers = gives; added = adds }
-handled_by old new e (reported.Conflict seen range) is gives adds =
-    let why = cause_next old.name.config old.log e.request in
-    let next : ℕ = version_of old.name.config old.log + 1 in
-    record { reason = sym (decided_told why next) ∙ ap outcome_by (sym is); numbers = gives; added = adds }
-handled_by old new e reported.NothingToDo is gives adds = absurd (something_told (cause_next old.name.config old.log e.request) (version_of old.name.config old.log + 1) is)
+-- some more roles have handled it
+pub due_further : (n : Name) (log : List Entry) (due : Due) (p q : PipelineState) → IsInFlight n log p (Unreported due) → HasGoneOn p q → IsInFlight n log q (Unreported due)
+due_further n log due p q was on = (still_unfinished p q was.0 on, on.0 ∙ was.1, was.2, was.3)
+
+abbrev pub Held : Name → List ℕ → List Entry → ℕ → ℕ → Trace → PipelineState → List Mutation → CommitRequest → Type 0
+Held n last log client number trace q ms request =
+    (IsUnfinished q × (all_handled q ≡ pipeline_of n.config (log ++ entry client number request trace ∷ [])) × (ms ≡ request.mutations) × IsWellFormedLog n.config (log ++ entry client number request trace ∷ []))
+    × (is_numbered (slice_set last client number) (log ++ entry client number request trace ∷ []) ≡ true)
+
+-- memory ran out after it was submitted
+pub held_next : (n : Name) (last : List ℕ) (log prefix : List Entry) (client number : ℕ) (request value : CommitRequest) (trace : Trace) (p q : PipelineState) (ms : List Mutation) →
+    IsWellFormedLog n.config log → IsPrefix prefix log → IsOpenOver n.config prefix request trace.attempts → value ≡ request → is_numbered last log ≡ true → client < length last → slice_index last client < number →
+    p ≡ pipeline_of n.config log → HeldError holds.Unknown request (without_servers p) (without_servers q) → ms ≡ request.mutations →
+    Held n last log client number trace q ms value
+held_next n last log prefix client number request value trace p q ms law begins over same num inside above old held copied =
+    let e : Entry = entry client number request trace in
+    let stands = held.1.2.stands in
+    let given : PipelineState = submit request p in
+    let more : length (p.requests ++ request ∷ []) ≡ length p.requests + 1 = length-append p.requests (request ∷ []) in
+    let caught : p.reported ≡ submitted p = subst is_caught_up (sym old) refl in
+    let now : submitted q ≡ submitted given = ap submitted stands in
+    let reported : q.reported ≡ p.reported = ap (λ (s : PipelineState). s.reported) stands in
+    let handled : all_handled q ≡ all_handled given =
+    ap all_handled stands ∙ handled_same given (first_raised held.1.0 p.resolved) (first_raised held.1.1 p.logged) (raised_length held.1.0 p.resolved) (raised_length held.1.1 p.logged) in
+    let next : all_handled q ≡ pipeline_of n.config (log ++ e ∷ []) = handled ∙ ap (λ (s : PipelineState). all_handled (submit request s)) old ∙ pipeline_next n.config log e in
+    subst (Held n last log client number trace q ms) (sym same) (
+      (omega (arith, more, caught, now, reported), next, copied, lawful_next n.config last log e law (open_begins n.config prefix log e begins over) num above (room_next n.config log p request.read_version old held.0)),
+      numbered_more last client number log e inside above refl refl num,
+    )

@@ -1,8 +1,6 @@
 -- What the rounds of a worker come to: what each performs, and which entries of its client follow from that.
-use Rattle.std.proofs.Common.{◌≡◌, ℕ, suc, ◌+◌, ◌<◌, arith, ◌≢◌, Bool, true, false, List, [], ◌∷◌, ◌++◌, Option, Some, None, inl, inr, refl, sym, ap, ◌∙◌, subst, true≢false}
+use Rattle.std.proofs.Common.{◌≡◌, ℕ, suc, ◌+◌, ◌<◌, arith, ◌≢◌, true, false, List, [], ◌∷◌, ◌++◌, Some, None, inl, inr, refl, sym, ap, ◌∙◌, subst, true≢false}
 use Rattle.std.specs.Prelude.{Result, Ok, Err}
-use Rattle.kv_core.specs.Range.{KeyRange}
-use Rattle.schedule.specs.declared.refusal.Refusal.TheVariants.{BadLimit}
 use Rattle.schedule.specs.declared.step.Command.{Command}
 use Rattle.schedule.specs.declared.step.Command.TheVariants.{Build, Readable}
 use Rattle.schedule.specs.declared.reply.Reply.{Reply}
@@ -103,11 +101,11 @@ changes_by index Marked attempts worked = ap (λ (l : List Performed). is_change
 -- ---- the commit of a round
 
 committed_by : (mid new : Knowledge) (index : List ℕ) (round : Round) (done : Done) (open_tx : OpenTransaction) → HasWorked index round open_tx.trace.attempts → Answers mid new open_tx.transaction open_tx.trace (Ok done) → Commits mid new open_tx true
-committed_by mid new index round (Committed version seen) open_tx worked a = (version, (seen.prefix.log, a.0.shows, a.0.known, a.0.last))
+committed_by mid new index round (Committed version seen) open_tx worked a = (version, (seen.prefix.log, a.0.shows.0, a.0.known, a.0.last))
 committed_by mid new index round ReadOnly open_tx worked a = absurd (true≢false (sym (changes_by index round open_tx.trace.attempts worked) ∙ a.1))
 
 refused_by : (mid new : Knowledge) (error : CommitError) (open_tx : OpenTransaction) → may_follow error ≡ true → Answers mid new open_tx.transaction open_tx.trace (Err error) → Commits mid new open_tx false
-refused_by mid new (Conflict seen range) open_tx may a = inr (seen, (range, (a.0, a.1.shows, a.1.known, a.1.last)))
+refused_by mid new (Conflict seen range) open_tx may a = inr (seen, (range, (a.0, a.1.shows.0, a.1.known, a.1.last)))
 refused_by mid new TooOld open_tx may a = inl a.1.last
 refused_by mid new VersionsExhausted open_tx may a = absurd (cc)
 refused_by mid new Unknown open_tx may a = absurd (cc)

@@ -127,10 +127,14 @@ is_numbered last log = list_all (λ e. nat_le e.number (slice_index last e.clien
 abbrev pub has_submission : ℕ → ℕ → List Entry → Bool
 has_submission client number log = list_any (λ e. (e.client == client) && (e.number == number)) log
 
--- Private: the last number of each client that has one is that of an entry in the log
-pub record AreLast (last : List ℕ) (log : List Entry) : Type 0 where
+-- the log has each earlier submission of the entry's client
+pub record HasEarlier (log : List Entry) (e : Entry) : Type 0 where
+  pub stands : (number : ℕ) → 0 < number → number < e.number → has_submission e.client number log ≡ true
+
+-- Private: the log has each submission whose number a client was given
+pub record AreGiven (last : List ℕ) (log : List Entry) : Type 0 where
   pub stands :
-      (client : ℕ) → 0 < slice_index last client → has_submission client (slice_index last client) log ≡ true
+      (client number : ℕ) → 0 < number → number ≤ slice_index last client → has_submission client number log ≡ true
 
 -- no version is left after the log, or no number for the entry: its client's last one is the last that there is, and
 -- the log has it

@@ -12,7 +12,7 @@ use Rattle.runtime.specs.declared.outcome.Outcome.{Outcome}
 use Rattle.runtime.specs.declared.outcome.Outcome.TheVariants.{Committed, Conflict, TooOld, VersionsExhausted}
 use Rattle.runtime.specs.declared.outcome.Outcome.TheVariants.{Unknown, Memory}
 use Rattle.runtime.specs.declared.trace.Trace.{Trace}
-use Rattle.runtime.specs.Logs.{IsExhausted, cause_next, version_of}
+use Rattle.runtime.specs.Logs.{HasEarlier, IsExhausted, cause_next, version_of}
 
 -- the entry of a client's submission
 abbrev pub entry : ℕ → ℕ → CommitRequest → Trace → Entry
@@ -63,12 +63,13 @@ abbrev pub EndsWith : Config → List Entry → Entry → Outcome → Type 0
 EndsWith config log e outcome =
     (before : List Entry) × (log ≡ before ++ e ∷ []) × IsReason config before e outcome
 
--- the log shows the outcome: it ends with the entry where that was decided, and else it is the reason
+-- the log shows the outcome: it ends with the entry where that was decided, and else it is the reason; and it has each
+-- earlier submission of the entry's client
 abbrev pub Shows : Config → List Entry → Entry → Outcome → Type 0
-Shows config log e (Committed version) = EndsWith config log e (Committed version)
-Shows config log e (Conflict seen range) = EndsWith config log e (Conflict seen range)
-Shows config log e TooOld = IsReason config log e TooOld
-Shows config log e VersionsExhausted = IsReason config log e VersionsExhausted
+Shows config log e (Committed version) = EndsWith config log e (Committed version) × HasEarlier log e
+Shows config log e (Conflict seen range) = EndsWith config log e (Conflict seen range) × HasEarlier log e
+Shows config log e TooOld = IsReason config log e TooOld × HasEarlier log e
+Shows config log e VersionsExhausted = IsReason config log e VersionsExhausted × HasEarlier log e
 Shows config log e Unknown = Unit {0}
 Shows config log e Memory = Unit {0}
 

@@ -81,12 +81,12 @@ pub enum CommitError {
     /// There is no version left, or no number for the submission.
     #[error("there is no version or number left")]
     VersionsExhausted,
-    /// It was submitted, and memory ran out before it was told what became of it.
+    /// It was submitted, and memory ran out before it was told what became of it. Its place in the
+    /// log is fixed, and whoever commits next finishes it.
     #[error("out of memory after the transaction was submitted")]
     Unknown,
-    /// Memory ran out before it was submitted, or after it was refused and before that could be
-    /// shown; or a submission whose outcome isn't known is in flight; or there was no open
-    /// transaction.
+    /// Memory ran out before it was submitted, also in finishing an earlier submission, or after it
+    /// was refused and before that could be shown; or there was no open transaction.
     #[error("out of memory")]
     Memory,
 }

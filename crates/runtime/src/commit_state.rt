@@ -1,20 +1,18 @@
 // The commit side, under the commit lock: one request at a time, which the pipeline orders, the
 // history records and the publisher shows. Made by `db`, used by `critical_section`.
-ghost use Rattle.std.specs.Prelude.{◌≡◌, ℕ, if◌then◌else◌, ◌+◌, ◌-◌, ◌^◌, ◌<◌, true, [], ◌∷◌, ◌++◌};
-ghost use Rattle.std.specs.Prelude.{length, slice_index};
+ghost use Rattle.std.specs.Prelude.{◌≡◌, ℕ, ◌+◌, ◌-◌, ◌^◌, ◌<◌, [], length, slice_index};
 ghost use Rattle.std.specs.Prelude.{IfOk, IfErr, IsNone, MatchResult, OnOk, Some, Err, ◌⊎◌};
-ghost use Rattle.std.specs.Bool.{OnTrue};
+ghost use Rattle.std.specs.Bool.{OnTrue, OnFalse};
 ghost use Rattle.left_right.specs.Sides.{view as knowledge};
 ghost use Rattle.cluster_core.specs.Configuration.{config_refusal};
 ghost use Rattle.cluster_core.specs.Roles.{told};
-ghost use Rattle.schedule.specs.Standing.{is_told};
-ghost use Rattle.runtime.specs.CommitStates.{commit_view, IsHandled};
+ghost use Rattle.runtime.specs.CommitStates.{IsHandled, IsOneDue, LeavesEntry, commit_view};
 ghost use Rattle.runtime.specs.History.{log_prefix};
-ghost use Rattle.runtime.specs.Logs.{IsOpenOver, cause_next, has_submission, version_of};
+ghost use Rattle.runtime.specs.Logs.{AreGiven, HasEarlier, IsOpenOver, cause_next, version_of};
 ghost use Rattle.runtime.specs.Outcomes.{GivesNext, next_entry};
 ghost use Rattle.runtime.specs.Publication.{knows};
 
-use crate::in_flight::{Decided, InFlight};
+use crate::in_flight::{Due, InFlight, logged, report};
 use crate::log_entry::{RequestView, Submitted};
 use crate::log_prefix::{LogHead, LogPrefix};
 use crate::outcome::Outcome;
@@ -23,12 +21,12 @@ use crate::published::Step;
 use crate::publisher::Publisher;
 use crate::trace::Trace;
 use cluster_core::{Config, ConfigError, Pipeline, Reported, SubmitError};
-use kv_core::{CommitRequest, Mutations};
+use kv_core::CommitRequest;
 use std::alloc::{AllocError, Global};
 use std::marker::Model;
 use std::mem::replace;
 use std::sync::Wait;
-use txn::{Commit, HoldError as TxnError};
+use txn::{Commit, HoldError as Held};
 
 /// The history has room for so many entries.
 const MOST: u64 = 1 << 60;
@@ -49,8 +47,8 @@ pub struct CommitState {
 impl Model for CommitState {
     ghost use Rattle.std.specs.Prelude.{◌≡◌, ◌++◌, true};
     ghost use Rattle.runtime.specs.History.{log_prefix};
-    ghost use Rattle.runtime.specs.Logs.{is_numbered};
-    ghost use Rattle.runtime.specs.CommitStates.{CommitView, commit_view, due_of, is_idle, IsBacked, IsInFlight};
+    ghost use Rattle.runtime.specs.Logs.{AreGiven, is_numbered};
+    ghost use Rattle.runtime.specs.CommitStates.{CommitView, commit_view, due_of, IsInFlight};
     ghost use Rattle.std.specs.Coded.{codes};
     ghost use Rattle.runtime.specs.contracts.log_entry.Entry as entries;
 
@@ -61,8 +59,7 @@ impl Model for CommitState {
     ghost view = { λ h.
         commit_view h.publisher.name h.publisher.published
         (h.publisher.published ++ h.publisher.pending)
-        (due_of h.in_flight (h.publisher.published ++ h.publisher.pending))
-        (is_idle h.in_flight) h.last.items };
+        (due_of h.in_flight (h.publisher.published ++ h.publisher.pending)) h.last.items };
 
     ghost invariant = { λ h.
         (h.head ≡ h.publisher.name.book)
@@ -71,80 +68,97 @@ impl Model for CommitState {
         h.pipeline h.in_flight
         × (is_numbered h.last.items
         (due_of h.in_flight (h.publisher.published ++ h.publisher.pending)) ≡ true)
-        × IsBacked h.last.items (h.publisher.published ++ h.publisher.pending) h.in_flight };
-}
-
-/// What the logs have of a request of which this was reported.
-fn logged(alloc: Global, reported: &Reported, mutations: Mutations) -> Mutations
-    ensures { result ≡ (if is_told reported.now then mutations else []) }
-{
-    match reported {
-        Reported::Committed(_) => mutations,
-        _ => Mutations::new(Vec::new(alloc)),
-    }
+        × AreGiven h.last.items
+        (due_of h.in_flight (h.publisher.published ++ h.publisher.pending)) };
 }
 
 impl CommitState {
+    /// Has the roles handle what isn't reported yet. One entry at most is due, and each number that
+    /// was given is that of an entry in the log or of the one that is due.
+    fn report(&mut self)
+        ensures same { self.new ≡ self.old }
+        ensures waiting { IsOneDue self.old.log self.old.due }
+        ensures given { AreGiven self.old.last self.old.due }
+    {
+        match replace(&mut self.in_flight, InFlight::Idle) {
+            InFlight::Unreported(due) => {
+                self.in_flight = report(self.alloc, &mut self.pipeline, due);
+            }
+            other => self.in_flight = other,
+        }
+    }
+
     /// Adds to the history what was reported.
     fn record(&mut self)
         ensures { self.new ≡ self.old }
     {
-        match replace(&mut self.in_flight, InFlight::Lost) {
-            InFlight::Decided(decided) => {
+        match replace(&mut self.in_flight, InFlight::Idle) {
+            InFlight::Decided(due) => {
                 let mut prefix = self.prefix.again();
-                if prefix.len() < MOST && prefix.add(&self.head, &decided.submitted) {
-                    let Decided {
+                if prefix.len() < MOST && prefix.add(&self.head, &due.submitted) {
+                    let Due {
                         submitted,
                         mutations,
-                    } = decided;
+                    } = due;
                     self.in_flight = InFlight::Added(Step {
                         submitted,
                         mutations,
                         prefix,
                     });
                 } else {
-                    self.in_flight = InFlight::Decided(decided);
+                    self.in_flight = InFlight::Decided(due);
                 }
             }
             other => self.in_flight = other,
         }
     }
 
-    /// Hands to the writer what was added.
-    fn append(&mut self)
+    /// Hands to the writer what was added, and says whether nothing is in flight then.
+    fn append(&mut self) -> bool
         ensures name { self.new.name ≡ self.old.name }
         ensures published { self.new.published ≡ self.old.published }
         ensures due { self.new.due ≡ self.old.due }
         ensures last { self.new.last ≡ self.old.last }
-        ensures idle { self.old.idle ≡ true → self.new.idle ≡ true }
-        ensures done { (self.new.log ≡ self.old.log) ⊎ (self.new.log ≡ self.old.due) }
+        ensures done { OnTrue result (self.new.log ≡ self.old.due) }
+        ensures stays { OnFalse result (self.new.log ≡ self.old.log) }
     {
-        match replace(&mut self.in_flight, InFlight::Lost) {
+        match replace(&mut self.in_flight, InFlight::Idle) {
+            InFlight::Idle => true,
             InFlight::Added(step) => {
                 let prefix = step.prefix.again();
                 match self.publisher.append(step) {
                     Ok(()) => {
                         self.prefix = prefix;
-                        self.in_flight = InFlight::Idle;
+                        true
                     }
-                    Err(step) => self.in_flight = InFlight::Added(step),
+                    Err(step) => {
+                        self.in_flight = InFlight::Added(step);
+                        false
+                    }
                 }
             }
-            other => self.in_flight = other,
+            other => {
+                self.in_flight = other;
+                false
+            }
         }
     }
 
-    /// Adds what was reported, and says whether nothing is in flight then.
+    /// Finishes what is in flight, and says whether nothing is then. Where memory runs out it has
+    /// come some way, and stays in flight.
     fn finish(&mut self) -> bool
         ensures name { self.new.name ≡ self.old.name }
         ensures published { self.new.published ≡ self.old.published }
         ensures due { self.new.due ≡ self.old.due }
         ensures last { self.new.last ≡ self.old.last }
-        ensures done { OnTrue result ((self.new.idle ≡ true) × (self.new.log ≡ self.old.due)) }
+        ensures done { OnTrue result (self.new.log ≡ self.old.due) }
+        ensures stays { OnFalse result (self.new.log ≡ self.old.log) }
+        ensures waiting { IsOneDue self.old.log self.old.due }
+        ensures given { AreGiven self.old.last self.old.due }
     {
+        self.report();
         self.record();
-        self.append();
-        matches!(self.in_flight, InFlight::Idle)
+        self.append()
     }
 
     /// The last number of a client's submissions, 0 where there is no such client.
@@ -161,8 +175,6 @@ impl CommitState {
     fn next_number(&self, client: u64) -> Result<u64, Outcome>
         ensures next { IfOk result (λ number. number ≡ slice_index self.now.last client + 1) }
         ensures client { IfOk result (λ number. client < length self.now.last) }
-        ensures backed { self.now.idle ≡ true → 0 < slice_index self.now.last client
-            → has_submission client (slice_index self.now.last client) self.now.log ≡ true }
         ensures refused { IfErr result (λ outcome. (outcome ≡ Outcome.Memory)
             ⊎ ((outcome ≡ Outcome.VersionsExhausted)
             × (slice_index self.now.last client ≡ 2 ^ 64 - 1))) }
@@ -187,16 +199,16 @@ impl CommitState {
     ) -> Result<Reported, Outcome>
         requires name { prefix.now.name ≡ self.old.name }
         requires open { IsOpenOver self.old.name.config prefix.now.log request trace.attempts }
+        requires waiting { IsOneDue self.old.log self.old.due }
+        requires earlier { HasEarlier self.old.due (next_entry self.old.last client request trace) }
         ensures told { IfOk result (λ reported.
-            reported ≡ told (cause_next self.old.name.config self.old.log request)
-            (version_of self.old.name.config self.old.log + 1)) }
+            reported ≡ told (cause_next self.old.name.config self.old.due request)
+            (version_of self.old.name.config self.old.due + 1)) }
         ensures numbers { OnOk result (GivesNext self.old.last self.new.last
             (next_entry self.old.last client request trace)) }
         ensures taken { OnOk result (
             (self.new.name ≡ self.old.name) × (self.new.published ≡ self.old.published)
-            × (self.new.log ≡ self.old.log)
-            × (self.new.due
-            ≡ self.old.log ++ next_entry self.old.last client request trace ∷ [])) }
+            × LeavesEntry self.old self.new (next_entry self.old.last client request trace)) }
         ensures refused { IfErr result (λ outcome.
             IsHandled self.old self.new (next_entry self.old.last client request trace) outcome) }
     {
@@ -218,35 +230,36 @@ impl CommitState {
         match self.pipeline.commit(request) {
             Ok(reported) => {
                 let mutations = logged(self.alloc, &reported, mutations);
-                self.in_flight = InFlight::Decided(Decided {
+                self.in_flight = InFlight::Decided(Due {
                     submitted,
                     mutations,
                 });
                 self.last[client as usize] = number;
                 Ok(reported)
             }
-            Err(TxnError::Submit(SubmitError::TooOld)) => Err(Outcome::TooOld),
-            Err(TxnError::Submit(SubmitError::VersionsExhausted)) => {
-                Err(Outcome::VersionsExhausted)
-            }
-            Err(TxnError::Submit(SubmitError::Memory)) => Err(Outcome::Memory),
-            Err(TxnError::Behind(_)) => unreachable!(),
-            Err(TxnError::Unknown) => {
-                self.in_flight = InFlight::Lost;
+            Err(Held::Submit(SubmitError::TooOld)) => Err(Outcome::TooOld),
+            Err(Held::Submit(SubmitError::VersionsExhausted)) => Err(Outcome::VersionsExhausted),
+            Err(Held::Submit(SubmitError::Memory)) => Err(Outcome::Memory),
+            Err(Held::Behind(_)) => unreachable!(),
+            Err(Held::Unknown) => {
+                self.in_flight = InFlight::Unreported(Due {
+                    submitted,
+                    mutations,
+                });
                 self.last[client as usize] = number;
                 Err(Outcome::Unknown)
             }
         }
     }
 
-    /// Has every role handle the request of a transaction over this log, adds its entry after the
-    /// last one, and tells what became of it.
+    /// Finishes what an earlier request left in flight. Then has every role handle the request of a
+    /// transaction over this log, adds its entry after the last one, and tells what became of it.
     ///
     /// The request gets the client's next number. It is refused with `TooOld` or
     /// `VersionsExhausted` as the pipeline refuses it, and with `Memory` where memory runs out
-    /// before, where there is no such client, where the transaction's log isn't a beginning of the
-    /// one here, or while a submission whose outcome isn't known is in flight. All is as before
-    /// then. After `Unknown` nothing but this entry is due, and each later request is refused.
+    /// before, also in finishing, where there is no such client, or where the transaction's log
+    /// isn't a beginning of the one here. Nothing is submitted then. After `Unknown` it stands
+    /// submitted, and its entry comes next: the next call finishes it.
     pub fn request(
         &mut self,
         client: u64,
@@ -259,6 +272,9 @@ impl CommitState {
         ensures handled { IsHandled self.old self.new
             (next_entry self.old.last client request trace) result }
     {
+        if !self.finish() {
+            return Outcome::Memory;
+        }
         match self.submit(client, prefix, request, trace) {
             Ok(reported) => {
                 if self.finish() {
@@ -274,7 +290,7 @@ impl CommitState {
     /// Shows readers all entries that were added. Where memory runs out they see what they saw.
     pub fn publish<R: Wait>(self, rt: &R) -> (CommitState, Result<(), AllocError>)
         ensures shown { MatchResult result.1
-            (λ _. result.0 ≡ commit_view self.name self.log self.log self.due self.idle self.last)
+            (λ _. result.0 ≡ commit_view self.name self.log self.log self.due self.last)
             (λ _. result.0 ≡ self) }
     {
         let CommitState {
@@ -336,7 +352,7 @@ impl CommitState {
             (error ≡ ConfigError.Memory) ⊎ (config_refusal config.now ≡ Some error)) }
         ensures config { IfOk result (λ state. state.name.config ≡ config.now) }
         ensures empty { IfOk result (λ state.
-            (state.published ≡ []) × (state.log ≡ []) × (state.idle ≡ true)) }
+            (state.published ≡ []) × (state.log ≡ []) × (state.due ≡ [])) }
         ensures clients { IfOk result (λ state. length state.last ≡ config.now.places) }
         ensures none { IfOk result (λ state. (client : ℕ) → slice_index state.last client ≡ 0) }
     {

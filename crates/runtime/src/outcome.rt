@@ -19,9 +19,9 @@ pub enum Outcome {
     TooOld,
     /// There is no version left, or no number for its client, and it wasn't submitted.
     VersionsExhausted,
-    /// It was submitted, and memory ran out before anything was told of it.
+    /// It was submitted, and memory ran out before anything was told of it. Its entry comes next.
     Unknown,
-    /// Memory ran out before it was submitted, or another submission is in flight, or there is no
+    /// Memory ran out before it was submitted, also in finishing what was in flight, or there is no
     /// such client or log here.
     Memory,
 }

@@ -51,8 +51,8 @@ fn failure_of(error: CommandError) -> Failure
     }
 }
 
-/// How an attempt ended that wasn't committed. While lost submissions aren't finished, another
-/// attempt after one doesn't help.
+/// How an attempt ended that wasn't committed. What became of one that is told as `Unknown` can't
+/// be asked, so no other one follows it.
 fn ended_of(error: &CommitError) -> Ended
     ensures { result ≡ ended_by error.now }
 {

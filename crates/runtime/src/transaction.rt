@@ -139,8 +139,9 @@ impl<E: End> Txn<'_, E> {
     /// entry, committed, and after `Conflict` one that ends with its entry, refused with that
     /// cause. `ReadOnly` submits nothing. After `TooOld` it has learnt a log that is more than the window
     /// above the transaction's, and after `VersionsExhausted` one after which no version is left,
-    /// or no number for this client. A number is given to the submission with `Committed`,
-    /// `Conflict` and `Unknown`, and in no other case.
+    /// or no number for this client. Each of these logs has all earlier submissions of this client,
+    /// also those of which `Unknown` was told. A number is given to the submission with
+    /// `Committed`, `Conflict` and `Unknown`, and in no other case.
     pub fn commit<R: Wait>(self, rt: &R) -> Result<Done, CommitError>
         ensures answer { (open_tx : _) → self.entry.client.now.begun ≡ Some open_tx →
             Answers self.entry.client.now self.exit.0.now open_tx.transaction open_tx.trace result }

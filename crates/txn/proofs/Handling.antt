@@ -42,7 +42,7 @@ all_raised [] = refl
 all_raised (clock ∷ clocks) = ap (λ rest. (clock + 1) ∷ rest) (all_raised clocks)
 
 -- each clock that a test passes
-all_past : (n : ℕ) (clocks : List ℕ) → All (λ clock. n < clock) clocks → list_all (λ clock. nat_lt n clock) clocks ≡ true
+pub all_past : (n : ℕ) (clocks : List ℕ) → All (λ clock. n < clock) clocks → list_all (λ clock. nat_lt n clock) clocks ≡ true
 all_past n [] all = refl
 all_past n (clock ∷ clocks) all =
     and_from _ _ (lt-ltb n clock (all 0 0 (omega arith))) (all_past n clocks (λ k d below. all (suc k) d (omega (arith, below))))
@@ -90,7 +90,7 @@ same_raised (clock ∷ clocks) v w next all =
     λ i. first i ∷ same_raised clocks v w next (λ k d below. all (suc k) d (omega (arith, below))) i
 
 -- what is told doesn't depend on the clocks
-told-any : (p : PipelineState) (resolved logged : List ℕ) (reported : ℕ) (entry : Option Entry) →
+pub told-any : (p : PipelineState) (resolved logged : List ℕ) (reported : ℕ) (entry : Option Entry) →
     told_of (record p { resolved = resolved; logged = logged; reported = reported }) entry ≡ told_of p entry
 told-any p resolved logged reported None = refl
 told-any p resolved logged reported (Some entry) = refl
@@ -146,6 +146,23 @@ stood-both old mid new one two = two ∙ ap (with_pipeline new.pipeline) one
 pub stood-from : (old new : ClusterState) (p : PipelineState) → new ≡ with_pipeline p old → new ≡ with_pipeline new.pipeline old
 stood-from old new p is = is ∙ ap (λ q. with_pipeline q old) (sym (ap (λ c. c.pipeline) is))
 
+-- one version more is submitted, and its entry is the last one
+pub submitted-more : (old : PipelineState) (request : CommitRequest) → submitted (submit request old) ≡ submitted old + 1
+submitted-more old request = let more : length (old.requests ++ request ∷ []) ≡ length old.requests + 1 = length-append old.requests (request ∷ []) in omega (arith, more)
+
+pub outcome-last : (old : PipelineState) (request : CommitRequest) → outcome (submit request old) (submitted (submit request old)) ≡ verdict request (submit request old)
+outcome-last old request =
+    let given = submit request old in
+    let next = submitted-more old request in
+    let place : submitted given - given.start - 1 ≡ length old.requests = omega (arith, next) in
+    let version : old.start + length old.requests + 1 ≡ submitted given = sym next in
+    let entry : slice_get (entries given) (submitted given - given.start - 1) ≡ Some (newest request given) =
+    ap (slice_get (entries given)) place
+    ∙ numbered_at given.start given.requests (length old.requests)
+    ∙ ap (option_map (entry_of given.start (length old.requests))) (last_there old.requests request)
+    ∙ ap (λ v. Some (record { version = v; request = request })) version in
+    ap (told_of given) entry
+
 -- one commit, from a state that is caught up
 module _ (old : PipelineState) (request : CommitRequest) (order : AreInOrder old) (caught : is_caught_up old) where
   abbrev given : PipelineState
@@ -155,7 +172,7 @@ module _ (old : PipelineState) (request : CommitRequest) (order : AreInOrder old
   settled = first_handled (length old.resolved) (length old.logged) given
 
   pub submitted-next : submitted (submit request old) ≡ submitted old + 1
-  submitted-next = let more : length (old.requests ++ request ∷ []) ≡ length old.requests + 1 = length-append old.requests (request ∷ []) in omega (arith, more)
+  submitted-next = submitted-more old request
 
   resolved_level : All (λ clock. clock ≡ submitted old) old.resolved
   resolved_level = λ k d below.
@@ -204,23 +221,11 @@ module _ (old : PipelineState) (request : CommitRequest) (order : AreInOrder old
       ∙ told-any given settled.resolved settled.logged settled.reported entry
       ∙ sym (told-any given (all_handled given).resolved (all_handled given).logged (all_handled given).reported entry)
 
-  -- the entry of the request is the last one
-  outcome-verdict : outcome (submit request old) (submitted (submit request old)) ≡ verdict request (submit request old)
-  outcome-verdict =
-      let place : submitted given - given.start - 1 ≡ length old.requests = omega (arith, submitted-next) in
-      let version : old.start + length old.requests + 1 ≡ submitted given = sym submitted-next in
-      let entry : slice_get (entries given) (submitted given - given.start - 1) ≡ Some (newest request given) =
-      ap (slice_get (entries given)) place
-      ∙ numbered_at given.start given.requests (length old.requests)
-      ∙ ap (option_map (entry_of given.start (length old.requests))) (last_there old.requests request)
-      ∙ ap (λ v. Some (record { version = v; request = request })) version in
-      ap (told_of given) entry
-
   -- what is told at the end is the verdict on the request
   pub verdict-done : outcome (all_handled (submit request old)) (submitted (submit request old)) ≡ verdict request (all_handled (submit request old))
   verdict-done =
       let entry = slice_get (entries given) (submitted given - given.start - 1) in
-      told-any given (all_handled given).resolved (all_handled given).logged (all_handled given).reported entry ∙ outcome-verdict
+      told-any given (all_handled given).resolved (all_handled given).logged (all_handled given).reported entry ∙ outcome-last old request
 
 -- one commit of a cluster whose pipeline is caught up
 module _ (old : ClusterState) (request : CommitRequest) (order : AreInOrder old.pipeline) (caught : is_caught_up old.pipeline) where

@@ -1,5 +1,6 @@
 pub mod Exits
 pub mod Handling
+pub mod GoingOn
 pub mod Merging
 pub mod Rounds
 pub mod OneMore

@@ -1,5 +1,6 @@
 pub mod Parts
 pub mod Holds
+pub mod Finishing
 pub mod Attempts
 pub mod Refusing
 pub mod Narrowing

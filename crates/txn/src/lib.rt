@@ -3,6 +3,8 @@
 
 mod commit;
 mod cursor;
+mod fail_at;
+mod finishing;
 mod laws;
 mod merge;
 mod own;
@@ -15,6 +17,8 @@ mod transaction;
 
 pub use commit::{Commit, HoldError};
 pub use cursor::{BATCH, RangeCursor};
+pub use fail_at::FailAt;
+pub use finishing::finish;
 pub use laws::reads_decide;
 pub use retry::{Ended, Next, Retry};
 pub use snapshot::Snapshot;

@@ -1,18 +1,20 @@
 use Rattle.std.proofs.Common.{◌≡◌, ℕ, ◌+◌, ◌<◌, arith, true, List, [], ◌∷◌, ◌++◌, length, sym, ap, ◌∙◌, refl, subst}
 use Rattle.std.specs.Prelude.{slice_index}
 use mathlib.Core.List.{IsPrefix}
+use Rattle.cluster_core.specs.Cluster.{without_servers}
 use Rattle.cluster_core.specs.Roles.{told}
 use Rattle.kv_core.specs.declared.change.CommitRequest.{CommitRequest}
 use Rattle.schedule.specs.Standing.{is_told}
+use Rattle.txn.specs.Holds.{HeldError}
+use Rattle.txn.specs.declared.commit.HoldError.{HoldError}
 use Rattle.std.specs.Prelude.{if◌then◌else◌}
 use Rattle.runtime.specs.declared.log_entry.Entry.{Entry}
 use Rattle.runtime.specs.History.{Name, Prefix}
-use Rattle.runtime.specs.Logs.{AreLast, IsWellFormedLog, IsOpenOver, is_numbered, pipeline_of, cause_next, version_of}
-use Rattle.runtime.specs.CommitStates.{CommitView, IsBacked, IsInFlight, due_of}
+use Rattle.runtime.specs.Logs.{AreGiven, IsWellFormedLog, IsOpenOver, is_numbered, pipeline_of, cause_next, version_of}
+use Rattle.runtime.specs.CommitStates.{CommitView, IsInFlight, due_of}
 use Rattle.runtime.specs.Outcomes.{entry, next_entry}
-use Rattle.runtime.proofs.WellFormed.{numbered_raised}
-use Rattle.runtime.proofs.Numbers.{last_next}
-use Rattle.runtime.proofs.Reporting.{taken_next, commit_next}
+use Rattle.runtime.proofs.Numbers.{given_next}
+use Rattle.runtime.proofs.Reporting.{taken_next, commit_next, held_next}
 use Rattle.runtime.proofs.commit_state.CommitState.submit.Goals as goal
 
 pub invariant_of-self : goal.invariant_of-self
@@ -23,24 +25,37 @@ invariant_of-self c =
     let last : List ℕ = c.self.inside.last.items in
     let old : c.self.inside.pipeline ≡ pipeline_of n.config log = subst (IsInFlight n log c.self.inside.pipeline) c.in-Idle.is i.2 in
     let num : is_numbered last log ≡ true = subst (λ f. is_numbered last (due_of f log) ≡ true) c.in-Idle.is i.3 in
+    let are : AreGiven last log = subst (λ f. AreGiven last (due_of f log)) c.in-Idle.is i.4 in
     let law : IsWellFormedLog n.config log = subst (λ (r : Prefix). IsWellFormedLog r.name.config r.log) i.1 c.len.ensures.well_formed in
     let begins : IsPrefix c.args.prefix.now.log log = subst (λ (r : Prefix). IsPrefix c.args.prefix.now.log r.log) i.1 c.if-not-begins.ensures in
     let over : IsOpenOver n.config c.args.prefix.now.log c.args.request c.args.trace.attempts = subst (λ (h : CommitView). IsOpenOver h.name.config c.args.prefix.now.log c.args.request c.args.trace.attempts) (sym c.self.view_is) c.requires.open in
-    let some = subst (λ (h : CommitView). (slice_index h.last c.args.client < c.in_ok-number.number) × (c.args.client < length h.last)) (sym c.self.view_is) (omega (arith, c.in_ok-number.ensures.next), c.in_ok-number.ensures.client) in
+    let some = subst (λ (h : CommitView). (c.in_ok-number.number ≡ slice_index h.last c.args.client + 1) × (c.args.client < length h.last)) (sym c.self.view_is) (c.in_ok-number.ensures.next, c.in_ok-number.ensures.client) in
+    let next : c.in_ok-number.number ≡ slice_index last c.args.client + 1 = some.0 in
+    let above : slice_index last c.args.client < c.in_ok-number.number = omega (arith, next) in
     let t = taken_next n last log c.args.prefix.now.log c.args.client c.in_ok-number.number c.args.request c.of.result.value c.args.trace c.self.inside.pipeline c.commit.new.self c.in-Ok.reported c.logged-mutations.result
-    law begins over c.of.ensures num some.1 some.0 old c.in-Ok.ensures.handled c.in-Ok.ensures.decided c.in-Ok.ensures.allowed
+    law begins over c.of.ensures num some.1 above old c.in-Ok.ensures.handled c.in-Ok.ensures.decided c.in-Ok.ensures.allowed
     (c.logged-mutations.ensures ∙ ap (λ ms. if is_told c.in-Ok.reported then ms else []) c.in_ok-mutations.ensures) in
-    let are : AreLast last log = subst (IsBacked last log) c.in-Idle.is i.4 in
-    (i.0, i.1, t.0, t.1, last_next last c.args.client c.in_ok-number.number log (entry c.args.client c.in_ok-number.number c.of.result.value c.args.trace) some.1 refl refl are)
+    (i.0, i.1, t.0, t.1, given_next last c.args.client c.in_ok-number.number log (entry c.args.client c.in_ok-number.number c.of.result.value c.args.trace) some.1 refl refl next are)
 
 pub invariant_of-self-in-Err-Unknown : goal.invariant_of-self-in-Err-Unknown
 invariant_of-self-in-Err-Unknown c =
     let i = c.self.invariant in
+    let n : Name = c.self.inside.publisher.name in
     let log : List Entry = c.self.inside.publisher.published ++ c.self.inside.publisher.pending in
     let last : List ℕ = c.self.inside.last.items in
+    let old : c.self.inside.pipeline ≡ pipeline_of n.config log = subst (IsInFlight n log c.self.inside.pipeline) c.in-Idle.is i.2 in
     let num : is_numbered last log ≡ true = subst (λ f. is_numbered last (due_of f log) ≡ true) c.in-Idle.is i.3 in
-    let some = subst (λ (h : CommitView). (slice_index h.last c.args.client < c.in_ok-number.number) × (c.args.client < length h.last)) (sym c.self.view_is) (omega (arith, c.in_ok-number.ensures.next), c.in_ok-number.ensures.client) in
-    (i.0, i.1, tt, numbered_raised last c.args.client c.in_ok-number.number log some.1 some.0 num, tt)
+    let are : AreGiven last log = subst (λ f. AreGiven last (due_of f log)) c.in-Idle.is i.4 in
+    let law : IsWellFormedLog n.config log = subst (λ (r : Prefix). IsWellFormedLog r.name.config r.log) i.1 c.len.ensures.well_formed in
+    let begins : IsPrefix c.args.prefix.now.log log = subst (λ (r : Prefix). IsPrefix c.args.prefix.now.log r.log) i.1 c.if-not-begins.ensures in
+    let over : IsOpenOver n.config c.args.prefix.now.log c.args.request c.args.trace.attempts = subst (λ (h : CommitView). IsOpenOver h.name.config c.args.prefix.now.log c.args.request c.args.trace.attempts) (sym c.self.view_is) c.requires.open in
+    let some = subst (λ (h : CommitView). (c.in_ok-number.number ≡ slice_index h.last c.args.client + 1) × (c.args.client < length h.last)) (sym c.self.view_is) (c.in_ok-number.ensures.next, c.in_ok-number.ensures.client) in
+    let next : c.in_ok-number.number ≡ slice_index last c.args.client + 1 = some.0 in
+    let above : slice_index last c.args.client < c.in_ok-number.number = omega (arith, next) in
+    let held = subst (λ (e : HoldError). HeldError e c.args.request (without_servers c.self.inside.pipeline) (without_servers c.commit.new.self)) c.in-Err-Unknown.field-0-is c.in-Err-Unknown.ensures.refused in
+    let t = held_next n last log c.args.prefix.now.log c.args.client c.in_ok-number.number c.args.request c.of.result.value c.args.trace c.self.inside.pipeline c.commit.new.self c.in_ok-mutations.mutations
+    law begins over c.of.ensures num some.1 above old held c.in_ok-mutations.ensures in
+    (i.0, i.1, t.0, t.1, given_next last c.args.client c.in_ok-number.number log (entry c.args.client c.in_ok-number.number c.of.result.value c.args.trace) some.1 refl refl next are)
 
 pub returns-in-Ok-clause-told : goal.returns-in-Ok-clause-told
 returns-in-Ok-clause-told c =
@@ -49,15 +64,18 @@ returns-in-Ok-clause-told c =
     let old : c.self.inside.pipeline ≡ pipeline_of n.config log = subst (IsInFlight n log c.self.inside.pipeline) c.in-Idle.is c.self.invariant.2 in
     let e : Entry = entry c.args.client c.in_ok-number.number c.args.request c.args.trace in
     let next = commit_next n.config log e c.self.inside.pipeline c.commit.new.self c.in-Ok.reported old c.in-Ok.ensures.handled c.in-Ok.ensures.decided in
-    subst (λ (h : CommitView). c.in-Ok.reported ≡ told (cause_next h.name.config h.log c.args.request) (version_of h.name.config h.log + 1)) c.self.view_is next.1
+    let due : due_of c.self.inside.in_flight log ≡ log = ap (λ f. due_of f log) c.in-Idle.is in
+    subst (λ (h : CommitView). c.in-Ok.reported ≡ told (cause_next h.name.config h.due c.args.request) (version_of h.name.config h.due + 1)) c.self.view_is
+    (subst (λ (l : List Entry). c.in-Ok.reported ≡ told (cause_next n.config l c.args.request) (version_of n.config l + 1)) (sym due) next.1)
 
 pub returns-in-Ok-clause-taken : goal.returns-in-Ok-clause-taken
 returns-in-Ok-clause-taken c =
     let n : Name = c.self.inside.publisher.name in
     let log : List Entry = c.self.inside.publisher.published ++ c.self.inside.publisher.pending in
+    let none : due_of c.self.inside.in_flight log ≡ log = ap (λ f. due_of f log) c.in-Idle.is in
     let due = log ++ entry c.args.client c.in_ok-number.number c.of.result.value c.args.trace ∷ [] in
     let made : due ≡ log ++ entry c.args.client c.in_ok-number.number c.args.request c.args.trace ∷ [] = ap (λ (r : CommitRequest). log ++ entry c.args.client c.in_ok-number.number r c.args.trace ∷ []) c.of.ensures in
     let next : due ≡ log ++ next_entry c.args.self.now.last c.args.client c.args.request c.args.trace ∷ [] = made ∙ ap (λ (number : ℕ). log ++ entry c.args.client number c.args.request c.args.trace ∷ []) c.in_ok-number.ensures.next in
     subst
-    (λ (h : CommitView). (n ≡ h.name) × (c.self.inside.publisher.published ≡ h.published) × (log ≡ h.log) × (due ≡ h.log ++ next_entry c.args.self.now.last c.args.client c.args.request c.args.trace ∷ [])) c.self.view_is
-    (refl, refl, refl, next)
+    (λ (h : CommitView). (n ≡ h.name) × (c.self.inside.publisher.published ≡ h.published) × ((log ≡ h.due) × (due ≡ h.due ++ next_entry c.args.self.now.last c.args.client c.args.request c.args.trace ∷ []))) c.self.view_is
+    (refl, refl, (sym none, next ∙ ap (λ (l : List Entry). l ++ next_entry c.args.self.now.last c.args.client c.args.request c.args.trace ∷ []) (sym none)))
