@@ -34,3 +34,4 @@ pub mod TestedIndexes
 pub mod AskedKinds
 pub mod SameTypes
 pub mod StillLawful
+mod Nulls

@@ -49,7 +49,7 @@ fills_first type stored cells fills = by_test (nat_le type.first_fields (length 
     by_test false few is = absurd (cc)
 
 -- the cells of which the value is are values of their types, as those of the record
-stored_cells : (type : TypeDefinition) (key value : List ℕ) (r : Record) (is : IsStoredAs type key value r) → AreStoredAs value is.stored
+pub stored_cells : (type : TypeDefinition) (key value : List ℕ) (r : Record) (is : IsStoredAs type key value r) → AreStoredAs value is.stored
 stored_cells type key value r is = record {
   cells = all_first IsCell is.stored (replicate (length type.fields - length is.stored) Null) (subst (All IsCell) (sym (fills_first type is.stored r.cells is.fills)) is.cells);
   has_value = is.has_value;

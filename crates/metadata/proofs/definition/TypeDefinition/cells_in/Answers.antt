@@ -11,3 +11,12 @@ pub returns-then-not-is_key-clause-none : goal.returns-then-not-is_key-clause-no
 returns-then-not-is_key-clause-none c =
     none_of_other_key _ c.args.primary_key.now c.args.value.now c.in-Some.stored c.in-Some-2.cells (rw c.in-Some.is at c.in_ok-stored.ensures.found) (sym c.in_ok-cells.ensures ∙ c.in-Some-2.is)
     (rw c.if-not-is_key.true at c.is_key.ensures)
+
+pub returns-in_default-2-clause-none : goal.returns-in_default-2-clause-none
+returns-in_default-2-clause-none c =
+    let a = c.in_default-2.is in let b = c.in_default-2.not-Some in ?
+
+pub returns-clause-found : goal.returns-clause-found
+returns-clause-found c =
+    found_stored _ c.args.primary_key.now c.args.value.now c.in-Some.stored c.in-Some-2.cells (rw c.in-Some.is at c.in_ok-stored.ensures.found) (sym c.in_ok-cells.ensures ∙ c.in-Some-2.is) c.in-Ok.ensures.made
+    (rw c.if-not-is_key.false at c.is_key.ensures)

@@ -1,0 +1,15 @@
+use Rattle.std.proofs.Common.{◌≡◌, ◌∙◌, ◌≤◌, ◌-◌, ◌++◌, ap, arith, length}
+use Rattle.metadata.proofs.Nulls.{all_nulls, one_null}
+use Rattle.metadata.proofs.cells.Cells.with_nulls.Goals as goal
+
+pub loop-preserved : goal.loop-preserved
+loop-preserved c = record {
+  cells = c.in_ok-push.ensures.items
+      ∙ one_null c.args.self c.loop.cells.items c.loop.counter (omega (arith, c.loop.auto.counter, c.len-counter.ensures)) c.loop.invariant.cells;
+  few = λ enough. let below = c.loop-test.true in omega (arith, below, enough);
+}
+
+pub returns : goal.returns
+returns c =
+    c.loop.invariant.cells
+    ∙ ap (λ l. c.args.self ++ l) (all_nulls c.args.self c.loop.counter c.args.count c.loop-test.false (omega (arith, c.loop.auto.counter, c.len-counter.ensures)) c.loop.auto.counter-end c.loop.invariant.few)
