@@ -120,3 +120,20 @@ pub length-with_firsts : (firsts : List ℕ) (types : List TypeDefinition) → l
 length-with_firsts [] types = refl
 length-with_firsts (first ∷ firsts) [] = refl
 length-with_firsts (first ∷ firsts) (type ∷ types) = ap (λ n. Prim.Native.Nat.suc n) (length-with_firsts firsts types)
+
+-- the same of types of which the numbers before it are set
+pub first_set : (firsts : List ℕ) (types grown : List TypeDefinition) (i : ℕ) (one : TypeDefinition) → i < length firsts → i < length grown → grown ≡ with_firsts (take i firsts) types → one ≡ get_or grown i one →
+    set grown i (record one { first_fields = get_or firsts i 0 }) ≡ with_firsts (take (i + 1) firsts) types
+first_set firsts types grown i one some inside is here =
+    let count : length grown ≡ length types = ap length is ∙ length-with_firsts (take i firsts) types in
+    let more : suc i ≡ i + 1 = omega arith in
+    ap (λ t. set grown i (record t { first_fields = get_or firsts i 0 })) here
+    ∙ ap (λ ts. set ts i (record (get_or ts i one) { first_fields = get_or firsts i 0 })) is
+    ∙ first_more firsts types i one some (omega (arith, inside, count))
+    ∙ ap (λ n. with_firsts (take n firsts) types) more
+
+pub first_stays : (firsts : List ℕ) (types grown : List TypeDefinition) (i : ℕ) → length grown ≤ i → grown ≡ with_firsts (take i firsts) types → grown ≡ with_firsts (take (i + 1) firsts) types
+first_stays firsts types grown i past is =
+    let count : length grown ≡ length types = ap length is ∙ length-with_firsts (take i firsts) types in
+    let more : suc i ≡ i + 1 = omega arith in
+    is ∙ first_past firsts types i (omega (arith, past, count)) ∙ ap (λ n. with_firsts (take n firsts) types) more

@@ -1,5 +1,5 @@
 use Rattle.std.proofs.Common.{◌∙◌, sym}
-use Rattle.metadata.proofs.StoredOnce.{found_stored, none_of_few, none_of_no_cells, none_of_other_key, none_of_refused}
+use Rattle.metadata.proofs.StoredOnce.{found_stored, none_of_few, none_of_other_key, none_of_refused}
 use Rattle.metadata.proofs.definition.TypeDefinition.cells_in.Goals as goal
 
 pub returns-in-Err-clause-none : goal.returns-in-Err-clause-none
@@ -14,7 +14,7 @@ returns-then-not-is_key-clause-none c =
 
 pub returns-in_default-2-clause-none : goal.returns-in_default-2-clause-none
 returns-in_default-2-clause-none c =
-    let a = c.in_default-2.is in let b = c.in_default-2.not-Some in ?
+    none_of_few _ _ c.args.value.now c.in-Some.stored (rw c.in-Some.is at c.in_ok-stored.ensures.found) (sym c.in_ok-cells.ensures ∙ c.in_default-2.is)
 
 pub returns-clause-found : goal.returns-clause-found
 returns-clause-found c =
