@@ -54,6 +54,10 @@ fn mutation_of(alloc: Global, reader: &mut Reader<'_>) -> Result<Mutation, FormE
             key: reader.bytes(alloc)?,
             operand: reader.bytes(alloc)?,
         }),
+        3 => Ok(Mutation::CompareAndClear {
+            key: reader.bytes(alloc)?,
+            operand: reader.bytes(alloc)?,
+        }),
         _ => Err(FormError::BadForm),
     }
 }

@@ -1,5 +1,5 @@
 -- A worked example of an index's entries, computed.
-use Rattle.std.proofs.Common.{◌≡◌, ℕ, List, [], ◌∷◌, None, Some, pos, refl}
+use Rattle.std.proofs.Common.{◌≡◌, ℕ, List, [], ◌∷◌, None, Some, false, pos, refl}
 use Rattle.std.specs.declared.cmp.Ordering.TheVariants.{Less}
 use Rattle.tuple_codec.specs.Spelling.{byte_count, int_spelling}
 use Rattle.kv_core.specs.Bytes.{key_cmp}

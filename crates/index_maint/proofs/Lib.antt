@@ -20,3 +20,4 @@ pub mod WholeLaw
 pub mod FirstParts
 pub mod KeptLaw
 mod SomeChanges
+pub mod AlikeRecords

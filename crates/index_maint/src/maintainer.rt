@@ -171,7 +171,15 @@ impl Maintainer for CountIndex {
     ) -> Result<(), AllocError> {
         let old = count_part(alloc, index, old)?;
         let new = count_part(alloc, index, new)?;
-        push_parts(alloc, prefix, index.number, index.clear_when_zero, old, new, mutations)
+        push_parts(
+            alloc,
+            prefix,
+            index.number,
+            index.clear_when_zero,
+            old,
+            new,
+            mutations,
+        )
     }
 }
 

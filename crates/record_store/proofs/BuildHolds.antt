@@ -94,9 +94,11 @@ module _ (prefix : List ℕ) (m : Map) (store : Store) (index : IndexDefinition)
         schema =
             leaves (schema_key prefix) (not_entry prefix index.number 0 [] (schema_key prefix) refl (itself (schema_key prefix))) (not_range prefix index.number 0 [] (schema_key prefix) refl (itself (schema_key prefix)))
             ∙ holds.schema;
-        records = λ bytes.
+        records =
+            kept_records prefix store.records m last
+            (λ bytes.
             let at = place prefix 1 ++ bytes in
-            leaves at (not_entry prefix index.number 1 [] at refl (bytes, refl)) (not_range prefix index.number 1 [] at refl (bytes, refl)) ∙ holds.records bytes;
+            leaves at (not_entry prefix index.number 1 [] at refl (bytes, refl)) (not_range prefix index.number 1 [] at refl (bytes, refl))) holds.records;
         entries =
             all_with_one (λ (i : IndexDefinition). HasIndex prefix store.records m i (store.status i.number)) (λ (i : IndexDefinition). HasIndex prefix store.records last i ((built store index.number range).status i.number)) store.schema.indexes index
             there.0 there.1 there.2 apart holds.entries other_entries own_entries;

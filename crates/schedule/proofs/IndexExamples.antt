@@ -45,7 +45,7 @@ field name = record { name = name; kind = kind.Int }
 
 -- a VALUE index of this name over columns of a type
 abbrev asked : List ℕ → List ℕ → List (List ℕ) → IndexRequest
-asked name type_name columns = record { name = name; kind = Value; type_name = type_name; columns = columns; summed = None }
+asked name type_name columns = record { name = name; kind = Value; type_name = type_name; columns = columns; summed = None; clear_when_zero = false }
 
 -- the type t of whole numbers k, a, b with key k, and an index a on its field a
 abbrev create : Command
