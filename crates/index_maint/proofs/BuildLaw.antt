@@ -28,7 +28,8 @@ use Rattle.index_maint.specs.Layout.{entries_prefix}
 use Rattle.index_maint.specs.Totals.{Clearing, HasTotals, IsGroup, IsTotal, Share, count_clears, count_share, difference, group_key, group_of, part_of, same_group, sum_clears, sum_share, total, total_changes}
 use Rattle.index_maint.proofs.RecordLists.{all_filter}
 use Rattle.index_maint.proofs.SomeEntries.{IsBetween, entries_at, nothing_stands, tells_only, tells_those, told}
-use Rattle.index_maint.proofs.TotalLaw.{CountsOnes, count_ones, no_part, none_weighs, one_left, part_comes, parts_left, same_group_key, sum_ones, total_is, value_after_all-append, weighs_none, weight}
+use Rattle.index_maint.proofs.TotalLaw.{CountsOnes, count_ones, none_weighs, sum_ones, weighs_none}
+use Rattle.index_maint.proofs.TotalParts.{no_part, one_left, part_comes, parts_left, same_group_key, total_is, value_after_all-append, weight}
 use Rattle.index_maint.proofs.ValueLaw.{has_entry, is_entry_key, there}
 
 -- ---- totals: what each record of the range counts is added

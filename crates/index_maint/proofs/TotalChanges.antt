@@ -24,7 +24,8 @@ use Rattle.metadata.specs.Record.{Record}
 use Rattle.metadata.specs.Records.{of_type}
 use Rattle.index_maint.specs.Laws.{OnlyChanges}
 use Rattle.index_maint.specs.Totals.{Clearing, HasTotals, IsTotal, Part, Share, add_amount, clear_zero, difference, group_key, group_of, part_changes, part_of, same_group, take_amount, total, total_changes}
-use Rattle.index_maint.proofs.TotalLaw.{AreCells, CountsOnes, added-total, are_cells, new_storable, number_of-total, old_storable, one_left, same_group-equal, same_group-itself, same_group_key, take_left, value_after_all-append}
+use Rattle.index_maint.proofs.TotalLaw.{CountsOnes}
+use Rattle.index_maint.proofs.TotalParts.{AreCells, added-total, are_cells, new_storable, number_of-total, old_storable, one_left, same_group-equal, same_group-itself, same_group_key, take_left, value_after_all-append}
 
 -- ---- one amount
 

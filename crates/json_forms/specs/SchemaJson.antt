@@ -82,7 +82,8 @@ abbrev pub json_index_of_kind : IndexKind → Data → Option IndexRequest
 json_index_of_kind kind d =
     if has_only (index_keys kind) d then
     option_and_then (λ name. option_and_then (λ type_name. option_and_then (λ columns.
-    option_and_then (λ summed. option_map (λ clears.
+    option_and_then (λ summed.
+    option_map (λ clears.
     record {
       name = name;
       kind = kind;
@@ -91,7 +92,8 @@ json_index_of_kind kind d =
       summed = summed;
       clear_when_zero = clears;
     })
-    (clears_in kind d)) (summed_in kind d)) (member_in names_in (codes "columns") d)) (member_in as_str (codes "type") d))
+    (clears_in kind d)) (summed_in kind d)) (member_in names_in (codes "columns") d))
+    (member_in as_str (codes "type") d))
     (member_in as_str (codes "name") d)
     else None
 

@@ -1,5 +1,6 @@
 -- The bytes that a record is stored in: its primary key's pack, and the pack of its first cells.
-use Rattle.std.specs.Prelude.{◌≡◌, ℕ, ◌-◌, nat_le, if◌then◌else◌, List, ◌++◌, length, replicate, All, Ok, Option, Some, None}
+use Rattle.std.specs.Prelude.{◌≡◌, ℕ, ◌-◌, nat_le, if◌then◌else◌, List, ◌++◌, length, replicate, All, Ok, Option}
+use Rattle.std.specs.Prelude.{Some, None}
 use Rattle.tuple_codec.specs.Spelling.{spelling}
 use Rattle.metadata.specs.declared.cells.Cell.{Cell}
 use Rattle.metadata.specs.declared.cells.Cell.TheVariants.{Null}

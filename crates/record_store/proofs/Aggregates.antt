@@ -30,7 +30,7 @@ use Rattle.metadata.specs.Records.{of_type}
 use Rattle.metadata.specs.Schema.{Schema, find_index, kind_at, type_at}
 use Rattle.index_maint.specs.Kept.{HasDefined, HasKept}
 use Rattle.index_maint.specs.Totals.{IsGroup, IsTotal, as_signed, count_share, group_key, group_of, same_group, sum_share}
-use Rattle.index_maint.proofs.TotalLaw.{number_of-total}
+use Rattle.index_maint.proofs.TotalParts.{number_of-total}
 use Rattle.record_store.specs.declared.error.StoreError.{StoreError}
 use Rattle.record_store.specs.declared.error.StoreError.TheVariants.{Memory, Read, Write, Corrupt, Refused, NoStore, AlreadyThere, OtherSchema, NotAggregate, NotReadable, WrongState, NotBuilt}
 use Rattle.record_store.specs.Store.{Store, built_of, state_in, state_of}

@@ -1,6 +1,6 @@
 -- The serial store: a schema, records by primary key, and the status of each index, as values.
-use Rattle.std.specs.Prelude.{ℕ, ◌-◌, ◌==◌, not, List, [], ◌∷◌, ◌++◌, Option, Some, None, length, replicate, unwrap_or, filter}
-use Rattle.std.specs.Prelude.{map, if◌then◌else◌}
+use Rattle.std.specs.Prelude.{ℕ, ◌-◌, ◌==◌, not, List, [], ◌∷◌, ◌++◌, Option, Some, None, length, replicate}
+use Rattle.std.specs.Prelude.{unwrap_or, filter, map, if◌then◌else◌}
 use Rattle.std.specs.Option.{option_map}
 use Rattle.tuple_codec.specs.Item.{Item}
 use Rattle.kv_core.specs.Range.{KeyRange}

@@ -18,7 +18,7 @@ use Rattle.metadata.specs.declared.index.State as index_state
 use Rattle.metadata.specs.declared.index.State.TheVariants as state
 use Rattle.metadata.specs.declared.refusal.Refusal.{Refusal}
 use Rattle.metadata.specs.Asked.{schema_asked}
-use Rattle.metadata.specs.Change.{add_type}
+use Rattle.metadata.specs.Change.{add_field, add_type}
 use Rattle.metadata.specs.Entries.{IndexEntry}
 use Rattle.metadata.specs.IndexChange.{new_index}
 use Rattle.metadata.specs.Layout.{entries_prefix, entry_key, record_key}
@@ -47,6 +47,7 @@ use Rattle.record_store.proofs.Held.{under}
 use Rattle.index_maint.specs.Parts.{first_part}
 use Rattle.online_builder.specs.Stepping.{step_footprint, step_writes}
 use Rattle.schedule.specs.declared.step.Command.{Command}
+use Rattle.schedule.specs.declared.step.Command.TheVariants as commands
 use Rattle.schedule.specs.declared.step.Command.TheVariants.{Create, «Type», Save, Load, Remove, Query, Plan, Execute, Index, Drop, Disable, WriteOnly, Readable, Build, State, Aggregate}
 use Rattle.schedule.specs.Layout.{store_prefix}
 use Rattle.schedule.specs.Query.{opened_as}
@@ -279,6 +280,8 @@ write_only_there states (Some own) index is = by_state (Rattle.record_store.spec
 store_such : (m : Map) (store : Store) (command : Command) → WriteOnlySuch (MayWriteIn store command) (footprint_writes m (Some store) command)
 store_such m store (Create request) = tt
 store_such m store («Type» request) = asked_such (MayWriteIn store («Type» request)) (type_footprint (opened_as store)) (by_schema (add_type store.schema request)) m store (λ schema is. (refl, tt))
+store_such m store (commands.Field name field) =
+    asked_such (MayWriteIn store (commands.Field name field)) (type_footprint (opened_as store)) (by_schema (add_field store.schema name field)) m store (λ schema is. (refl, tt))
 store_such m store (Save type cells) =
     asked_such (MayWriteIn store (Save type cells)) (save_footprint (opened_as store)) (by_schema (record_of store.schema type cells)) m store
     (λ r is. wider (MayWriteWriting store (primary_key r)) (MayWriteIn store (Save type cells)) (λ key may. (r, by_schema_ok (record_of store.schema type cells) r is, may)) (save_writes store_prefix store r) (saved_such store r))
@@ -326,6 +329,7 @@ footprint_such : (m : Map) (serial : Serial) (command : Command) → WriteOnlySu
 footprint_such m (Some store) command = store_such m store command
 footprint_such m None (Create request) = schema_such (schema_asked request) request
 footprint_such m None («Type» request) = tt
+footprint_such m None (commands.Field name field) = tt
 footprint_such m None (Save type cells) = tt
 footprint_such m None (Load type cells) = tt
 footprint_such m None (Remove type cells) = tt
