@@ -1,10 +1,10 @@
 -- A lawful schema with a field appended to one of its types is lawful.
-use Rattle.std.proofs.Common.{◌≡◌, ◌≤◌, ◌<◌, ◌+◌, ℕ, Bool, true, false, not, cond, ◌&&◌, ◌||◌, ◌==◌, zero, suc, List, [], ◌∷◌, ◌++◌, Option, Some, None, Result, Ok, Err, inl, inr, length, map, refl, sym, ap, subst, ◌∙◌, arith}
+use Rattle.std.proofs.Common.{◌≡◌, ◌≤◌, ◌<◌, ◌+◌, ℕ, Bool, true, false, not, cond, ◌&&◌, ◌==◌, zero, suc, List, [], ◌∷◌, ◌++◌, Option, Some, None, Result, Ok, Err, length, map, refl, sym, ap, subst, ◌∙◌, arith}
 use Rattle.std.specs.Prelude.{find, is_some, nat_le, nat_lt, slice_get}
 use Rattle.std.specs.List.{list_all}
 use Rattle.std.specs.Option.{option_map, option_map_or}
 use Rattle.std.specs.Str.{bytes_eq}
-use Rattle.std.proofs.lemmas.Bool.{cases_Bool, le-leb, leb-true, lt-ltb, ltb-false, ltb-true, true≢false}
+use Rattle.std.proofs.lemmas.Bool.{le-leb, leb-true, lt-ltb, ltb-false, ltb-true, true≢false}
 use Rattle.std.proofs.lemmas.List.{append_assoc, append-nil, length-append, map-append}
 use Rattle.metadata.specs.declared.definition.Field.{Field}
 use Rattle.metadata.specs.declared.definition.TypeDefinition.{TypeDefinition}
@@ -12,9 +12,9 @@ use Rattle.metadata.specs.declared.definition.TypeRequest.{TypeRequest}
 use Rattle.metadata.specs.declared.index.IndexDefinition.{IndexDefinition}
 use Rattle.metadata.specs.declared.refusal.Refusal.{Refusal}
 use Rattle.metadata.specs.declared.refusal.Refusal.TheVariants.{BadName, NameTaken, TooMany, UnknownType}
-use Rattle.metadata.specs.Change.{add_field, add_types, append_refusal, appended, appended_at, empty_schema, field_refusal, first_test_refusal, has_twice, is_name, places_of, type_asked, type_refusal, types_alone, with_field, with_type}
-use Rattle.metadata.specs.IndexChange.{is_int, is_shaped}
-use Rattle.metadata.specs.Lawful.{IsLawfulSchema, at_once, has_good_indexes, is_grown, is_index, is_index_over}
+use Rattle.metadata.specs.Change.{add_field, add_types, append_refusal, appended, appended_at, empty_schema, field_refusal, first_test_refusal, has_twice, is_name, type_asked, type_refusal, types_alone, with_field, with_type}
+use Rattle.metadata.specs.IndexChange.{is_int}
+use Rattle.metadata.specs.Lawful.{IsLawfulSchema, at_once, is_grown, is_index, is_index_over}
 use Rattle.metadata.specs.Schema.{Schema, find_type, kind_at, place_of, type_at}
 use Rattle.metadata.proofs.Alike.{asked-alike, refusal-alike, type_names}
 use Rattle.metadata.proofs.FieldAsked.{places-push, refusal-push, with_one}

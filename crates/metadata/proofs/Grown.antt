@@ -1,10 +1,10 @@
 -- What stands of the types of a lawful schema, whose fields may have come later.
-use Rattle.std.proofs.Common.{◌≡◌, ◌≤◌, ◌<◌, ◌+◌, ◌^◌, ℕ, Bool, true, false, not, cond, ◌&&◌, ◌==◌, List, [], ◌∷◌, Option, Some, None, Ok, zero, suc, get_or, set, take, length, map, refl, sym, ap, subst, ◌∙◌, arith}
+use Rattle.std.proofs.Common.{◌≡◌, ◌≤◌, ◌<◌, ◌+◌, ℕ, Bool, true, false, not, ◌==◌, List, [], ◌∷◌, Some, zero, suc, get_or, set, take, length, map, refl, sym, ap, ◌∙◌, arith}
 use Rattle.std.specs.Prelude.{nat_le, nat_lt}
 use Rattle.std.specs.List.{AllByRecursion, list_all, list_any}
 use Rattle.std.specs.Option.{option_map, option_and_then}
 use Rattle.std.proofs.lemmas.Bool.{eqb-true, leb-true, true≢false}
-use Rattle.tuple_codec.specs.Item.{AreItems, IsItem, items_from, items_list}
+use Rattle.tuple_codec.specs.Item.{AreItems, IsItem, items_from}
 use Rattle.metadata.specs.declared.definition.TypeDefinition.{TypeDefinition}
 use Rattle.metadata.specs.Change.{types_alone}
 use Rattle.metadata.specs.Lawful.{IsLawfulSchema, at_once, is_grown}
@@ -12,7 +12,7 @@ use Rattle.metadata.specs.Reading.{all_read, first_of, request_of, with_firsts}
 use Rattle.metadata.specs.Schema.{Schema}
 use Rattle.metadata.specs.Written.{type_item}
 use Rattle.metadata.proofs.IndexItems.{IsSmall, small_back}
-use Rattle.metadata.proofs.MadeSchemas.{AreNumbered, made_items, made_numbered, made_small}
+use Rattle.metadata.proofs.MadeSchemas.{AreNumbered, made_numbered, made_small}
 use Rattle.metadata.proofs.ReadBack.{neither}
 use Rattle.metadata.proofs.WrittenItems.{both}
 

@@ -1,5 +1,5 @@
 -- What a change of a schema's parts leaves is lawful.
-use Rattle.std.proofs.Common.{◌≡◌, ℕ, ◌+◌, ◌==◌, not, List, [], ◌∷◌, ◌++◌, Some, None, Result, Ok, Err, OnOk, OnErr, refl, sym, ap, subst, ◌∙◌, length}
+use Rattle.std.proofs.Common.{◌≡◌, ℕ, ◌+◌, ◌==◌, not, List, [], ◌∷◌, ◌++◌, Some, None, Result, Ok, Err, OnOk, OnErr, sym, ap, subst, ◌∙◌, length}
 use Rattle.std.specs.List.{filter}
 use Rattle.metadata.specs.declared.definition.Field.{Field}
 use Rattle.metadata.specs.declared.definition.TypeDefinition.{TypeDefinition}

@@ -1,6 +1,6 @@
 -- The written form of a lawful schema is a tuple, from which the schema is read again.
-use Rattle.std.proofs.Common.{◌≡◌, ◌≤◌, ◌<◌, ◌^◌, ℕ, Bool, true, false, cond, ◌&&◌, List, Option, Some, None, Ok, length, map, refl, sym, ap, subst, ◌∙◌, arith}
-use Rattle.std.specs.Prelude.{◌==◌, ◌||◌, not, nat_lt}
+use Rattle.std.proofs.Common.{◌≡◌, ◌≤◌, ◌<◌, ◌^◌, ℕ, Bool, true, false, cond, ◌&&◌, List, Some, None, Ok, length, map, refl, sym, ap, subst, ◌∙◌, arith}
+use Rattle.std.specs.Prelude.{◌==◌, not, nat_lt}
 use Rattle.std.specs.List.{AllByRecursion, list_all, list_any}
 use Rattle.std.specs.Option.{option_map, option_and_then, option_map_or}
 use Rattle.std.specs.Result.{result_ok}
@@ -12,7 +12,7 @@ use Rattle.metadata.specs.declared.definition.TypeRequest.{TypeRequest}
 use Rattle.metadata.specs.declared.index.IndexDefinition.{IndexDefinition}
 use Rattle.metadata.specs.Change.{schema_of, types_alone}
 use Rattle.metadata.specs.Lawful.{IsLawfulSchema, at_once, has_good_indexes, is_grown, is_index}
-use Rattle.metadata.specs.Reading.{all_read, asked_in, first_of, firsts_in, grown_in, if_good, index_of, indexes_in, is_second, item_number, read_at, request_of, small_of, tuple_schema, types_in, with_firsts}
+use Rattle.metadata.specs.Reading.{all_read, asked_in, first_of, firsts_in, grown_in, if_good, index_of, indexes_in, item_number, read_at, request_of, small_of, tuple_schema, types_in, with_firsts}
 use Rattle.metadata.specs.Schema.{Schema}
 use Rattle.metadata.specs.Written.{form_number, index_item, number_item, type_item, wants_second, written}
 use Rattle.metadata.proofs.Grown.{asked_alike, firsts_back, firsts_set, items-at_once, lawful_small, none_appended, types_are}

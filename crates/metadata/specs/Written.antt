@@ -1,6 +1,6 @@
 -- The written form of a schema: a tuple, and the pack of it.
 use Rattle.std.specs.Prelude.{◌≡◌, ℕ, pos, Bool, not, ◌||◌, ◌==◌, if◌then◌else◌, Option, Some, None}
-use Rattle.std.specs.Prelude.{List, [], ◌∷◌, ◌++◌, map, length}
+use Rattle.std.specs.Prelude.{List, [], ◌∷◌, map, length}
 use Rattle.std.specs.List.{list_any}
 use Rattle.tuple_codec.specs.Item.{Item, bool, int, text, nested, null, items_from}
 use Rattle.tuple_codec.specs.Spelling.{Spells, spelling}

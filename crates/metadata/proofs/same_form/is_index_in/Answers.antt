@@ -1,4 +1,4 @@
-use Rattle.std.proofs.Common.{◌≡◌, ◌∙◌, ◌++◌, ◌∷◌, [], Bool, List, ap, false, not, sym, true}
+use Rattle.std.proofs.Common.{◌∙◌, ◌∷◌, [], ap, false, sym}
 use Rattle.std.proofs.lemmas.Bool.{true≢false}
 use Rattle.std.proofs.lemmas.List.{map-append}
 use Rattle.tuple_codec.specs.Elements.{item_in, items_in}

@@ -1,8 +1,7 @@
-use Rattle.std.proofs.Common.{◌≡◌, ◌∙◌, ◌++◌, ◌∷◌, [], Bool, List, ap, false, not, sym, true}
+use Rattle.std.proofs.Common.{◌∙◌, ◌∷◌, [], ap, false, sym}
 use Rattle.std.proofs.lemmas.Bool.{true≢false}
 use Rattle.std.proofs.lemmas.List.{map-append}
 use Rattle.tuple_codec.specs.Elements.{item_in, items_in}
-use Rattle.tuple_codec.specs.Item.{bool as truth}
 use Rattle.metadata.specs.Written.{number_item, type_parts}
 use Rattle.metadata.proofs.ToldForm.{pushed_same}
 use Rattle.metadata.proofs.same_form.is_type_in.Goals as goal

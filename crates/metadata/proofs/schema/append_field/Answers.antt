@@ -1,4 +1,4 @@
-use Rattle.std.proofs.Common.{◌≡◌, ◌∙◌, arith, sym}
+use Rattle.std.proofs.Common.{◌∙◌, arith, sym}
 use Rattle.std.proofs.lemmas.Result.{on_ok_weaker}
 use Rattle.metadata.proofs.Appending.{appended_past, appended_set}
 use Rattle.metadata.proofs.schema.append_field.Goals as goal

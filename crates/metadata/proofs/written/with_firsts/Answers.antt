@@ -1,4 +1,4 @@
-use Rattle.std.proofs.Common.{◌≡◌, ◌∙◌, ap, arith}
+use Rattle.std.proofs.Common.{◌∙◌, ap, arith}
 use Rattle.metadata.proofs.Grown.{first_set, first_stays}
 use Rattle.metadata.proofs.written.with_firsts.Goals as goal
 use Rattle.metadata.proofs.written.with_firsts.Goals.{then-place-len, else-place-len}

@@ -1,4 +1,4 @@
-use Rattle.std.proofs.Common.{◌≡◌, ◌∙◌, ◌≤◌, ◌-◌, ◌++◌, ap, arith, length}
+use Rattle.std.proofs.Common.{◌≡◌, ◌∙◌, ◌++◌, ap, arith, length}
 use Rattle.metadata.proofs.Nulls.{all_nulls, one_null}
 use Rattle.metadata.proofs.cells.Cells.with_nulls.Goals as goal
 
