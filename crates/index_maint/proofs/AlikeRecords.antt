@@ -71,6 +71,9 @@ built_alike built = filter_alike (λ r. has_position built (position r)) (λ r s
 
 -- ---- entries
 
+abbrev map_of : List (List ℕ × List ℕ) → Map
+map_of pairs = from_entries pairs
+
 entries_alike : (prefix : List ℕ) (index : IndexDefinition) (records others : List Record) → AreAllAlike records others → entry_pairs prefix index records ≡ entry_pairs prefix index others
 entries_alike prefix index records others all =
     ap (map (entry_pair prefix index.number))
@@ -111,7 +114,7 @@ totals_alike share clears same prefix index records others m all has = record {
 -- ---- by kind and state
 
 defined_alike : (kind : IndexKind) (prefix : List ℕ) (index : IndexDefinition) (records others : List Record) (m : Map) → AreAllAlike records others → HasDefined kind prefix index records m → HasDefined kind prefix index others m
-defined_alike Value prefix index records others m all has = λ bytes. has bytes ∙ ap (λ pairs. get (from_entries pairs) (entries_prefix prefix index.number ++ bytes)) (entries_alike prefix index records others all)
+defined_alike Value prefix index records others m all has = λ bytes. has bytes ∙ ap (λ pairs. get (map_of pairs) (entries_prefix prefix index.number ++ bytes)) (entries_alike prefix index records others all)
 defined_alike Count prefix index records others m all has = totals_alike count_share count_clears count_alike prefix index records others m all has
 defined_alike Sum prefix index records others m all has = totals_alike sum_share sum_clears sum_share_alike prefix index records others m all has
 
@@ -119,10 +122,10 @@ part_alike : (kind : IndexKind) (prefix : List ℕ) (index : IndexDefinition) (b
     HasPart kind prefix index built records m → HasPart kind prefix index built others m
 part_alike Value prefix index built records others m all has = record {
   only = λ rest value is.
-      ap (λ pairs. get (from_entries pairs) (entries_prefix prefix index.number ++ rest)) (sym (entries_alike prefix index records others all)) ∙ has.only rest value is;
+      ap (λ pairs. get (map_of pairs) (entries_prefix prefix index.number ++ rest)) (sym (entries_alike prefix index records others all)) ∙ has.only rest value is;
   at_built = λ rest value is.
       has.at_built rest value
-      (ap (λ pairs. get (from_entries pairs) (entries_prefix prefix index.number ++ rest)) (entries_alike prefix index (built_records built records) (built_records built others) (built_alike built records others all)) ∙ is);
+      (ap (λ pairs. get (map_of pairs) (entries_prefix prefix index.number ++ rest)) (entries_alike prefix index (built_records built records) (built_records built others) (built_alike built records others all)) ∙ is);
 }
 part_alike Count prefix index built records others m all has = totals_alike count_share count_clears count_alike prefix index (built_records built records) (built_records built others) m (built_alike built records others all) has
 part_alike Sum prefix index built records others m all has = totals_alike sum_share sum_clears sum_share_alike prefix index (built_records built records) (built_records built others) m (built_alike built records others all) has
