@@ -26,7 +26,7 @@ use Rattle.metadata.proofs.StoredCells.{value_spells}
 use Rattle.metadata.proofs.StoredOnce.{filled_cells, made_is, stored_cells}
 use Rattle.planner.specs.Layout.{column_kinds, entry_primary_key, is_entry, is_primary_key, keyed, stored_record}
 use Rattle.planner.specs.Pack.{unpack}
-use Rattle.planner.specs.ReadBack.{AreOfEntry, CellsAreReadBack, EntriesAreReadBack, IsPairOf, RecordsAreReadBack, TuplesAreReadBack}
+use Rattle.planner.specs.ReadBack.{AreOfEntry, CellsAreReadBack, EntriesAreReadBack, IsStoredPair, RecordsAreReadBack, TuplesAreReadBack}
 use Rattle.planner.proofs.CodecLaws.{reads_back}
 use Rattle.planner.proofs.Lists.{all_each}
 use Rattle.planner.proofs.RisingKeys.{IsEntryWith, entry_key, entry_read}
@@ -51,14 +51,14 @@ cells_back bytes cells = (packed_so bytes cells, λ stored. unpack_spelled (item
 
 -- the record of cells, where the key is its key
 at_key : (prefix : List ℕ) (t : TypeDefinition) (pair : Pair) (r : Record) (stored cells : List Cell) → AreStoredAs pair.1 stored → filled t stored ≡ Some cells →
-    option_and_then (keyed prefix pair.0) (result_ok (record_in t cells)) ≡ Some r → IsPairOf prefix t pair r
+    option_and_then (keyed prefix pair.0) (result_ok (record_in t cells)) ≡ Some r → IsStoredPair prefix t pair r
 at_key prefix t pair r stored cells are fills e = by_made (record_in t cells) refl e
   where
-    by_key : (found : Record) (b : Bool) → record_in t cells ≡ Ok found → bytes_eq pair.0 (record_key prefix (primary_key found)) ≡ b → cond b (Some found) None ≡ Some r → IsPairOf prefix t pair r
+    by_key : (found : Record) (b : Bool) → record_in t cells ≡ Ok found → bytes_eq pair.0 (record_key prefix (primary_key found)) ≡ b → cond b (Some found) None ≡ Some r → IsStoredPair prefix t pair r
     by_key found false made same is = absurd (none-some r is)
     by_key found true made same is =
         let its_cells : cells ≡ found.cells = ap (λ (x : Record). x.cells) (made_is t cells found made) in
-        subst (IsPairOf prefix t pair) (same_Some found r is) (record {
+        subst (IsStoredPair prefix t pair) (same_Some found r is) (record {
           key = (bytes_eq-Decides pair.0 (record_key prefix (primary_key found))).0 same;
           stored = record {
             made = ap (record_in t) (sym its_cells) ∙ made;
@@ -70,24 +70,24 @@ at_key prefix t pair r stored cells are fills e = by_made (record_in t cells) re
           };
         })
 
-    by_made : (res : Result Record Refusal) → record_in t cells ≡ res → option_and_then (keyed prefix pair.0) (result_ok res) ≡ Some r → IsPairOf prefix t pair r
+    by_made : (res : Result Record Refusal) → record_in t cells ≡ res → option_and_then (keyed prefix pair.0) (result_ok res) ≡ Some r → IsStoredPair prefix t pair r
     by_made (Ok found) made is = by_key found (bytes_eq pair.0 (record_key prefix (primary_key found))) made refl is
     by_made (Err refusal) made is = absurd (none-some r is)
 
-read_record : (prefix : List ℕ) (t : TypeDefinition) (pair : Pair) (r : Record) → stored_record prefix t pair ≡ Some r → IsPairOf prefix t pair r
+read_record : (prefix : List ℕ) (t : TypeDefinition) (pair : Pair) (r : Record) → stored_record prefix t pair ≡ Some r → IsStoredPair prefix t pair r
 read_record prefix t pair r e = by_cells (unpack pair.1) refl e
   where
     by_filled : (stored : List Cell) (o : Option (List Cell)) → AreStoredAs pair.1 stored → filled t stored ≡ o → option_and_then (keyed prefix pair.0) (option_and_then (λ cells. result_ok (record_in t cells)) o) ≡ Some r →
-        IsPairOf prefix t pair r
+        IsStoredPair prefix t pair r
     by_filled stored None are fills is = absurd (none-some r is)
     by_filled stored (Some cells) are fills is = at_key prefix t pair r stored cells are fills is
 
-    by_cells : (o : Option (List Cell)) → unpack pair.1 ≡ o → option_and_then (keyed prefix pair.0) (option_and_then (λ cells. result_ok (record_in t cells)) (option_and_then (filled t) o)) ≡ Some r → IsPairOf prefix t pair r
+    by_cells : (o : Option (List Cell)) → unpack pair.1 ≡ o → option_and_then (keyed prefix pair.0) (option_and_then (λ cells. result_ok (record_in t cells)) (option_and_then (filled t) o)) ≡ Some r → IsStoredPair prefix t pair r
     by_cells None un is = absurd (none-some r is)
     by_cells (Some stored) un is = by_filled stored (filled t stored) (packed_so pair.1 stored un) refl is
 
 -- a pair of a record is read as it
-pub record_reads : (prefix : List ℕ) (t : TypeDefinition) (pair : Pair) (r : Record) → IsPairOf prefix t pair r → stored_record prefix t pair ≡ Some r
+pub record_reads : (prefix : List ℕ) (t : TypeDefinition) (pair : Pair) (r : Record) → IsStoredPair prefix t pair r → stored_record prefix t pair ≡ Some r
 record_reads prefix t pair r is =
     let s = is.stored in
     ap (λ o. option_and_then back (option_and_then (λ cells. result_ok (record_in t cells)) (option_and_then (filled t) o))) ((cells_back pair.1 s.stored).1 (stored_cells t (spelling (primary_key r)) pair.1 r s))

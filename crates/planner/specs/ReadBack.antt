@@ -23,7 +23,7 @@ abbrev pub CellsAreReadBack : Type 0
 CellsAreReadBack = (bytes : List ℕ) (cells : List Cell) → (unpack bytes ≡ Some cells) ↔ AreStoredAs bytes cells
 
 -- a pair of a record of the type: its key, and a value that the record is stored as
-pub record IsPairOf (prefix : List ℕ) (t : TypeDefinition) (pair : Pair) (r : Record) : Type 0 where
+pub record IsStoredPair (prefix : List ℕ) (t : TypeDefinition) (pair : Pair) (r : Record) : Type 0 where
   pub key : pair.0 ≡ record_key prefix (primary_key r)
   pub stored : IsStoredAs t (spelling (primary_key r)) pair.1 r
 
@@ -31,7 +31,7 @@ pub record IsPairOf (prefix : List ℕ) (t : TypeDefinition) (pair : Pair) (r : 
 abbrev pub RecordsAreReadBack : Type 0
 RecordsAreReadBack =
     (prefix : List ℕ) (t : TypeDefinition) (pair : Pair) (r : Record) →
-    (stored_record prefix t pair ≡ Some r) ↔ IsPairOf prefix t pair r
+    (stored_record prefix t pair ≡ Some r) ↔ IsStoredPair prefix t pair r
 
 -- the cells of an entry, which the codec packs: one for each column, null or of its kind, and a primary key of the type
 pub record AreOfEntry (t : TypeDefinition) (i : IndexDefinition) (columns key : List Cell) : Type 0 where

@@ -1,6 +1,6 @@
 -- The cells of a record of a schema fill it: none is left out.
 use Rattle.std.proofs.Common.{◌≡◌, ◌≤◌, ◌-◌, ℕ, Bool, true, false, cond, ◌==◌, List, [], ◌∷◌, ◌++◌, append-nil, Option, Some, None, Ok, length, refl, sym, ap, ◌∙◌, arith}
-use Rattle.std.specs.Prelude.{nat_le, replicate}
+use Rattle.std.specs.Prelude.{nat_le, nat_lt, replicate}
 use Rattle.std.specs.List.{find, list_all}
 use Rattle.std.proofs.lemmas.Bool.{and_parts, le-leb, leb-true, true≢false}
 use Rattle.std.proofs.lemmas.List.{length-map}
@@ -51,7 +51,7 @@ pub all_filled : (schema : Schema) (r : Record) → IsLawfulSchema schema → Is
 all_filled schema r lawful typed =
     let own = own_type schema r lawful typed in
     let grown = typed_grown schema r.definition lawful own.0 in
-    let low = leb-true r.definition.first_fields (length r.definition.fields) (and_parts (nat_le r.definition.first_fields (length r.definition.fields)) (list_all (λ place. Rattle.std.specs.Prelude.nat_lt place r.definition.first_fields) r.definition.key) grown).0 in
+    let low = leb-true r.definition.first_fields (length r.definition.fields) (and_parts (nat_le r.definition.first_fields (length r.definition.fields)) (list_all (λ place. nat_lt place r.definition.first_fields) r.definition.key) grown).0 in
     let count = made_length r.definition r own.1 in
     let none : length r.definition.fields - length r.cells ≡ 0 = omega (arith, count) in
     ap (λ b. cond b (Some (r.cells ++ replicate (length r.definition.fields - length r.cells) Null)) None) (le-leb r.definition.first_fields (length r.cells) (omega (arith, low, count)))

@@ -6,7 +6,7 @@ use Rattle.std.specs.FinMap.{get}
 use Rattle.std.specs.Ordering.{is_lt}
 use Rattle.std.specs.Str.{bytes_eq}
 use Rattle.std.proofs.lemmas.Bool.{and_parts, le-leb, leb-true, true≢false}
-use Rattle.std.proofs.lemmas.List.{length-append, map-append}
+use Rattle.std.proofs.lemmas.List.{length-append, map-append, replicate-append-replicate}
 use Rattle.std.proofs.lemmas.List.Elements.{All-append, All-replicate}
 use Rattle.tuple_codec.specs.Item.{Item, IsTuple, int}
 use Rattle.tuple_codec.specs.Order.{tuple_cmp}
@@ -18,6 +18,7 @@ use Rattle.metadata.specs.declared.cells.Cell.TheVariants.{Null}
 use Rattle.metadata.specs.declared.cells.Kind.{Kind}
 use Rattle.metadata.specs.declared.definition.Field.{Field}
 use Rattle.metadata.specs.declared.definition.TypeDefinition.{TypeDefinition}
+use Rattle.metadata.specs.declared.index.IndexDefinition.{IndexDefinition}
 use Rattle.metadata.specs.declared.refusal.Refusal.{Refusal}
 use Rattle.metadata.specs.declared.refusal.Refusal.TheVariants.{UnknownType}
 use Rattle.metadata.specs.Cell.{IsCell, all_fit, cell_at, cells_at, fits, is_null}
@@ -60,10 +61,6 @@ type_grows name field number (t ∷ types) type found = by_name (bytes_eq t.name
 
     same : (t : TypeDefinition) → Grows t t
     same t = record { more = []; number = refl; key = refl; first = refl; fields = sym (append-nil t.fields) }
-
-    itself_found : (b : Bool) → (t.number == number) ≡ b → cond b (Some t) (type_at types number) ≡ Some type → b ≡ true → t ≡ type
-    itself_found true is some one = let same : t ≡ type = cc in same
-    itself_found false is some one = absurd (true≢false (sym one))
 
     by_name : (b c : Bool) → (t.number == number) ≡ c → cond c (Some t) (type_at types number) ≡ Some type →
         (type_at types number ≡ Some type → (new : TypeDefinition) × (type_at later number ≡ Some new) × Grows type new) →
@@ -174,46 +171,50 @@ module _ (old new : TypeDefinition) (grows : Grows old new) (r : Record) (its : 
   fills : (stored : List Cell) → filled old stored ≡ Some r.cells → filled new stored ≡ Some all_cells
   fills stored is = by_test (nat_le old.first_fields (length stored)) refl is
     where
-      nulls : ℕ
-      nulls = length old.fields - length stored
-
-      first : stored ++ replicate nulls Null ≡ r.cells
+      first : stored ++ replicate (length old.fields - length stored) Null ≡ r.cells
       first = fills_first old stored r.cells is
 
       low : length stored ≤ length old.fields
-      low = let sum = length-append stored (replicate nulls Null) in let all = ap length first in omega (arith, sum, all, count)
+      low = let sum = length-append stored (replicate (length old.fields - length stored) Null) in let all = ap length first in omega (arith, sum, all, count)
 
-      sums : nulls + length grows.more ≡ length new.fields - length stored
+      sums : length old.fields - length stored + length grows.more ≡ length new.fields - length stored
       sums = let longer = ap length grows.fields in let sum = length-append old.fields grows.more in omega (arith, low, longer, sum)
 
-      by_test : (b : Bool) → nat_le old.first_fields (length stored) ≡ b → ◌≡◌ {A = Option (List Cell)} (cond b (Some (stored ++ replicate nulls Null)) None) (Some r.cells) → filled new stored ≡ Some all_cells
+      by_test : (b : Bool) → nat_le old.first_fields (length stored) ≡ b → ◌≡◌ {A = Option (List Cell)} (cond b (Some (stored ++ replicate (length old.fields - length stored) Null)) None) (Some r.cells) → filled new stored ≡ Some all_cells
       by_test false few is = absurd (cc)
       by_test true enough is =
           ap (λ b. cond b (Some (stored ++ replicate (length new.fields - length stored) Null)) None) (ap (λ n. nat_le n (length stored)) grows.first ∙ enough)
           ∙ ap (λ n. Some (stored ++ replicate n Null)) (sym sums)
-          ∙ ap (λ l. Some (stored ++ l)) (sym (Rattle.std.proofs.lemmas.List.replicate-append-replicate nulls (length grows.more) Null))
-          ∙ ap Some (sym (append_assoc stored (replicate nulls Null) (replicate (length grows.more) Null)) ∙ ap (λ l. l ++ replicate (length grows.more) Null) first ∙ sym cells_are)
+          ∙ ap (λ l. Some (stored ++ l)) (sym (replicate-append-replicate (length old.fields - length stored) (length grows.more) Null))
+          ∙ ap Some (sym (append_assoc stored (replicate (length old.fields - length stored) Null) (replicate (length grows.more) Null)) ∙ ap (λ l. l ++ replicate (length grows.more) Null) first ∙ sym cells_are)
 
 -- ---- the records
+
+-- what stands of a record and of the same one in the schema with a field more
+record Grown (next : Schema) (prefix : List ℕ) (m : Map) (r s : Record) : Type 0 where
+  alike : AreAlike r s
+  typed : IsOfSchema next s
+  storable : IsStorable s
+  has : HasRecord prefix m s
+
+-- so it does of all records
+record AllGrown (next : Schema) (prefix : List ℕ) (m : Map) (records : List Record) : Type 0 where
+  alike : AreAllAlike records (map (grown next) records)
+  typed : AllByRecursion (IsOfSchema next) (map (grown next) records)
+  storable : AllByRecursion IsStorable (map (grown next) records)
+  has : AllByRecursion (HasRecord prefix m) (map (grown next) records)
 
 module _ (schema : Schema) (name : List ℕ) (field : Field) (lawful : IsLawfulSchema schema) (made : IsLawfulSchema (with_field schema name field)) where
   abbrev next : Schema
   next = with_field schema name field
 
-  -- what stands of a record and of the same one with a field more
-  record Grown (prefix : List ℕ) (m : Map) (r s : Record) : Type 0 where
-    alike : AreAlike r s
-    typed : IsOfSchema next s
-    storable : IsStorable s
-    has : HasRecord prefix m s
-
-  one_grown : (prefix : List ℕ) (m : Map) (r : Record) → IsOfSchema schema r → IsStorable r → HasRecord prefix m r → Grown prefix m r (grown next r)
+  one_grown : (prefix : List ℕ) (m : Map) (r : Record) → IsOfSchema schema r → IsStorable r → HasRecord prefix m r → Grown next prefix m r (grown next r)
   one_grown prefix m r typed can has =
       let own = own_type schema r lawful typed in
       let new = type_grows name field r.definition.number schema.types r.definition own.0 in
-      subst (Grown prefix m r) (ap (λ o. elim o [ Some type ↦ grown_as type r | None ↦ r ]) (sym new.1)) (record {
+      subst (Grown next prefix m r) (ap (λ (o : Option TypeDefinition). elim o [ Some type ↦ grown_as type r | None ↦ r ]) (sym new.1)) (record {
         alike = alike r.definition new.0 new.2 r refl own.1;
-        typed = ap (λ t. elim t [ None ↦ Err UnknownType | Some one ↦ record_in one (grown_as new.0 r).cells ]) (typed_named next new.0 made (ap (type_at next.types) (new.2.number) ∙ new.1)) ∙ new_made r.definition new.0 new.2 r refl own.1;
+        typed = ap (λ (t : Option TypeDefinition). elim t [ None ↦ Err UnknownType | Some one ↦ record_in one (grown_as new.0 r).cells ]) (typed_named next new.0 made (ap (type_at next.types) (new.2.number) ∙ new.1)) ∙ new_made r.definition new.0 new.2 r refl own.1;
         storable = storable r.definition new.0 new.2 r refl own.1 can;
         has = record {
           stored = has.stored;
@@ -222,14 +223,7 @@ module _ (schema : Schema) (name : List ℕ) (field : Field) (lawful : IsLawfulS
         };
       })
 
-  -- so do those of all records
-  record AllGrown (prefix : List ℕ) (m : Map) (records : List Record) : Type 0 where
-    alike : AreAllAlike records (map (grown next) records)
-    typed : AllByRecursion (IsOfSchema next) (map (grown next) records)
-    storable : AllByRecursion IsStorable (map (grown next) records)
-    has : AllByRecursion (HasRecord prefix m) (map (grown next) records)
-
-  all_grown : (prefix : List ℕ) (m : Map) (records : List Record) → AllByRecursion (IsOfSchema schema) records → AllByRecursion IsStorable records → AllByRecursion (HasRecord prefix m) records → AllGrown prefix m records
+  all_grown : (prefix : List ℕ) (m : Map) (records : List Record) → AllByRecursion (IsOfSchema schema) records → AllByRecursion IsStorable records → AllByRecursion (HasRecord prefix m) records → AllGrown next prefix m records
   all_grown prefix m [] typed can has = record { alike = tt; typed = tt; storable = tt; has = tt }
   all_grown prefix m (r ∷ records) typed can has =
       let one = one_grown prefix m r typed.0 can.0 has.0 in
@@ -265,20 +259,20 @@ module _ (prefix : List ℕ) (m : Map) (store : Store) (name : List ℕ) (field 
   abbrev schema : Schema
   schema = with_field store.schema name field
 
-  then : Map
+  abbrev then : Map
   then = after (Set (schema_key prefix) (schema_bytes schema)) m
 
   leaves : (n : ℕ) (ns : List Item) (bytes : List ℕ) → (nat_lt 0 7 && (nat_lt n 7 && not (n == 0))) ≡ true → get then (subspace_key prefix (int (pos n) ∷ ns) ++ bytes) ≡ get m (subspace_key prefix (int (pos n) ∷ ns) ++ bytes)
   leaves n ns bytes differ =
       set_leaves m (schema_key prefix) (schema_bytes schema) (subspace_key prefix (int (pos n) ∷ ns) ++ bytes) (other_place prefix 0 [] n ns (subspace_key prefix (int (pos n) ∷ ns) ++ bytes) differ (bytes, refl))
 
-  all : AllGrown store.schema name field holds.lawful.schema made prefix then store.records
+  all : AllGrown schema prefix then store.records
   all =
       all_grown store.schema name field holds.lawful.schema made prefix then store.records holds.lawful.typed holds.lawful.storable
       (each_kept prefix store.records m then (λ bytes. leaves 1 [] bytes refl) holds.records.each)
 
   -- the indexes over the records are those over the ones with a field more
-  indexes_grown : (status : ℕ → Status) (indexes : List Rattle.metadata.specs.declared.index.IndexDefinition.IndexDefinition) → AllByRecursion (λ index. HasIndex prefix store.records then index (status index.number)) indexes →
+  indexes_grown : (status : ℕ → Status) (indexes : List IndexDefinition) → AllByRecursion (λ index. HasIndex prefix store.records then index (status index.number)) indexes →
       AllByRecursion (λ index. HasIndex prefix (map (grown schema) store.records) then index (status index.number)) indexes
   indexes_grown status [] has = tt
   indexes_grown status (index ∷ indexes) has = (
@@ -287,7 +281,7 @@ module _ (prefix : List ℕ) (m : Map) (store : Store) (name : List ℕ) (field 
   )
 
   -- FIELD: with the new schema's pair put, the map holds the store with the field
-  pub widened_holds : Holds prefix then (Some (widened store schema))
+  pub widened_holds : Holds prefix (after (Set (schema_key prefix) (schema_bytes (with_field store.schema name field))) m) (Some (widened store (with_field store.schema name field)))
   widened_holds = record {
     lawful = record { schema = made; typed = all.typed; ordered = ordered_alike store.records (map (grown schema) store.records) all.alike holds.lawful.ordered; storable = all.storable };
     schema = set_there m (schema_key prefix) (schema_bytes schema);
