@@ -33,9 +33,7 @@ use Rattle.metadata.specs.Entries.{entry_of}
 use Rattle.metadata.specs.Layout.{Pair, entries_prefix, entry_pair, record_key, records_prefix}
 use Rattle.planner.specs.Layout.{primary_cells, stored_record, keyed, entry_primary_key, column_kinds, is_entry}
 use Rattle.planner.specs.Layout.{is_primary_key}
-use Rattle.std.specs.Result.{result_ok}
 use Rattle.metadata.specs.Cell.{all_fit, cell_at, cells_at, is_word, item_of}
-use Rattle.metadata.specs.Record.{record_in}
 use Rattle.planner.proofs.Made.{made_type, made_fits, fit_at}
 use Rattle.planner.specs.Match.{name_at}
 use Rattle.planner.specs.Meaning.{fetched}

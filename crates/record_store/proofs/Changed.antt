@@ -1,25 +1,20 @@
 -- What a map holds after a change of a store.
 use Rattle.std.proofs.Common.{◌≡◌, ℕ, Bool, true, false, not, ◌&&◌, ◌==◌, cond, List, [], ◌∷◌, ◌++◌, refl, sym, ap, subst, ◌∙◌, Some, None, map, pos}
 use Rattle.std.specs.Prelude.{nat_lt}
-use Rattle.std.specs.declared.cmp.Ordering.{Ordering}
-use Rattle.std.specs.declared.cmp.Ordering.TheVariants.{Less, Equal, Greater}
 use Rattle.std.specs.List.{AllByRecursion}
-use Rattle.std.specs.BTreeMap.{insert_entry}
-use Rattle.std.specs.Ordering.{is_eq, match_ordering}
+use Rattle.std.specs.Ordering.{is_eq}
 use Rattle.std.specs.FinMap.{get}
 use Rattle.tuple_codec.specs.Item.{Item, IsTuple, int}
 use Rattle.tuple_codec.specs.Spelling.{spelling}
 use Rattle.tuple_codec.specs.Subspace.{subspace_key}
-use Rattle.tuple_codec.specs.Order.{tuple_cmp}
 use Rattle.kv_core.specs.Bytes.{key_cmp}
 use Rattle.kv_core.specs.Map.{Map, after}
-use Rattle.kv_core.specs.Range.{point, entries_outside}
+use Rattle.kv_core.specs.Range.{point}
 use Rattle.kv_core.specs.declared.change.Mutation.{Mutation}
 use Rattle.kv_core.specs.declared.change.Mutation.TheVariants.{Set, ClearRange}
 use Rattle.kv_core.proofs.Changes.{same-after}
 use Rattle.kv_core.proofs.Order.{tied_keys}
-use Rattle.kv_core.proofs.Pairs.{contains-point-is}
-use Rattle.kv_core.proofs.Stored.{get-stored, stored, stored-set, stored-cleared}
+use Rattle.kv_core.proofs.Stored.{get-stored, stored}
 use Rattle.metadata.specs.declared.index.IndexDefinition.{IndexDefinition}
 use Rattle.metadata.specs.Record.{Record, primary_key}
 use Rattle.metadata.specs.Records.{AreOrdered, IsStorable, has_primary_key, with_record, without_record}

@@ -27,7 +27,7 @@ use Rattle.metadata.specs.declared.index.IndexDefinition.{IndexDefinition}
 use Rattle.metadata.specs.Cell.{items_of}
 use Rattle.metadata.specs.Lawful.{IsLawfulSchema}
 use Rattle.metadata.specs.Record.{Record, key_items, primary_key, record_in, record_of}
-use Rattle.metadata.specs.Records.{IsStorable, has_primary_key, of_type, record_at}
+use Rattle.metadata.specs.Records.{IsStorable, has_primary_key, record_at}
 use Rattle.metadata.specs.Schema.{Schema, find_type, type_at}
 use Rattle.metadata.specs.Stored.{IsOfNoRecord, IsStoredAs, IsTypeOf, filled}
 use Rattle.metadata.proofs.StoredApart.{named_typed, storable}

@@ -1,11 +1,11 @@
 -- A map that holds a store holds it with a field appended to one of its types, once the new schema is put.
-use Rattle.std.proofs.Common.{◌≡◌, ◌⊎◌, inl, inr, ◌+◌, ◌-◌, ◌≤◌, ◌==◌, ℕ, zero, suc, Bool, true, false, not, cond, ◌&&◌, List, [], ◌∷◌, ◌++◌, append-nil, append_assoc, length, map, Option, Some, None, Ok, Err, Result, refl, sym, ap, subst, ◌∙◌, arith, IsTrue, pos}
+use Rattle.std.proofs.Common.{◌≡◌, ◌⊎◌, ◌+◌, ◌-◌, ◌≤◌, ◌==◌, ℕ, zero, suc, Bool, true, false, not, cond, ◌&&◌, List, [], ◌∷◌, ◌++◌, append-nil, append_assoc, length, map, Option, Some, None, Ok, Err, Result, refl, sym, ap, subst, ◌∙◌, arith, IsTrue, pos}
 use Rattle.std.specs.Prelude.{All, nat_le, nat_lt, replicate}
-use Rattle.std.specs.List.{AllByRecursion, find, list_all, list_any, slice_get}
+use Rattle.std.specs.List.{AllByRecursion, list_any}
 use Rattle.std.specs.FinMap.{get}
 use Rattle.std.specs.Ordering.{is_lt}
 use Rattle.std.specs.Str.{bytes_eq}
-use Rattle.std.proofs.lemmas.Bool.{and_parts, le-leb, leb-true, true≢false}
+use Rattle.std.proofs.lemmas.Bool.{and_parts, true≢false}
 use Rattle.std.proofs.lemmas.List.{length-append, map-append, replicate-append-replicate}
 use Rattle.std.proofs.lemmas.List.Elements.{All-append, All-replicate}
 use Rattle.tuple_codec.specs.Item.{Item, IsTuple, int}
@@ -24,19 +24,19 @@ use Rattle.metadata.specs.declared.refusal.Refusal.TheVariants.{UnknownType}
 use Rattle.metadata.specs.Cell.{IsCell, all_fit, cell_at, cells_at, fits, is_null}
 use Rattle.metadata.specs.Change.{add_field, appended, appended_at, field_refusal, with_field}
 use Rattle.metadata.specs.Lawful.{IsLawfulSchema}
-use Rattle.metadata.specs.Record.{Record, key_items, primary_key, record_in, record_of}
+use Rattle.metadata.specs.Record.{Record, key_items, primary_key, record_in}
 use Rattle.metadata.specs.Records.{AreOrdered, IsStorable}
 use Rattle.metadata.specs.Schema.{Schema, field_kinds, type_at}
-use Rattle.metadata.specs.Stored.{IsTypeOf, filled}
+use Rattle.metadata.specs.Stored.{filled}
 use Rattle.metadata.specs.Written.{schema_bytes}
 use Rattle.metadata.proofs.StoredOnce.{fills_first}
 use Rattle.index_maint.specs.KeptLaws.{AreAlike, AreAllAlike}
 use Rattle.index_maint.proofs.AlikeRecords.{kept_of_alike}
-use Rattle.record_store.specs.Store.{Store, Status, built_by, extended, grown, grown_as, state_by, widened}
+use Rattle.record_store.specs.Store.{Store, Status, built_by, grown, grown_as, state_by, widened}
 use Rattle.record_store.specs.Layout.{place, record_key, schema_key}
-use Rattle.record_store.specs.Holds.{HasRecord, HasRecords, Holds, IsNoRecord, IsOfSchema}
+use Rattle.record_store.specs.Holds.{HasRecord, Holds, IsNoRecord, IsOfSchema}
 use Rattle.record_store.proofs.Filling.{made_length}
-use Rattle.record_store.proofs.Kept.{HasIndex, each_kept, itself, kept_indexes, kept_ranges, no_entry_at, other_place, set_leaves, set_there}
+use Rattle.record_store.proofs.Kept.{HasIndex, each_kept, kept_indexes, kept_ranges, other_place, set_leaves, set_there}
 use Rattle.record_store.proofs.NamedTypes.{typed_named}
 use Rattle.record_store.proofs.RecordPairs.{own_type}
 

@@ -18,7 +18,7 @@ use Rattle.record_store.specs.Layout.{record_value, type_range}
 use Rattle.schedule.specs.declared.step.Command.{Command}
 use Rattle.schedule.specs.declared.step.Command.TheVariants.{Create, Save, Remove, Index, Drop, Disable, Readable, State, WriteOnly}
 use Rattle.schedule.specs.declared.reply.Reply.TheVariants as answers
-use Rattle.schedule.specs.declared.reply.Reply.TheVariants.{Done, SavedNew, SavedOver, Refused}
+use Rattle.schedule.specs.declared.reply.Reply.TheVariants.{Done, SavedNew, Refused}
 use Rattle.schedule.specs.Layout.{store_prefix}
 use Rattle.schedule.specs.Reach.{opened_in, own_reading, writes}
 use Rattle.schedule.specs.Serve.{effects}

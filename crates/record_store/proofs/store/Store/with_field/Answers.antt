@@ -1,4 +1,4 @@
-use Rattle.std.proofs.Common.{◌∙◌, Ok, ap, subst, sym}
+use Rattle.std.proofs.Common.{◌∙◌, ap, subst, sym}
 use Rattle.metadata.specs.Change.{add_field}
 use Rattle.metadata.specs.Lawful.{IsLawfulSchema}
 use Rattle.metadata.proofs.FieldAdded.{field_lawful}
