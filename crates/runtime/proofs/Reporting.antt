@@ -18,14 +18,15 @@ use Rattle.schedule.specs.Standing.{is_told}
 use Rattle.runtime.specs.declared.log_entry.Entry.{Entry}
 use Rattle.runtime.specs.History.{Name}
 use Rattle.runtime.specs.Logs.{requests_of, version_of, pipeline_of, cause_next, logged_next, IsWellFormedLog, IsOpenOver}
-use Rattle.runtime.specs.Logs.{is_numbered}
+use Rattle.runtime.specs.Logs.{count_of, is_numbered}
 use Rattle.runtime.proofs.Entries.{requests_append}
 use Rattle.std.specs.Prelude.{slice_index, slice_set, is_some}
 use mathlib.Core.List.{IsPrefix}
 use Rattle.runtime.specs.declared.trace.Trace.{Trace}
 use Rattle.runtime.specs.declared.in_flight.Due.{Due}
 use Rattle.runtime.specs.declared.in_flight.InFlight.TheVariants.{Decided, Unreported}
-use Rattle.runtime.specs.CommitStates.{IsInFlight}
+use Rattle.runtime.specs.CommitStates.{IsInFlight, reported_version}
+use Rattle.runtime.specs.Submissions.{version_next}
 use Rattle.txn.specs.Finishing.{HasGoneOn, IsUnfinished}
 use Rattle.runtime.specs.History.{submitted_entry}
 use Rattle.runtime.specs.Outcomes.{entry}
@@ -54,6 +55,14 @@ commit_next config log e p q r old new is =
 pub logged_is : (config : Config) (log : List Entry) (request : CommitRequest) (r : Reported) (ms : List Mutation) (version : ℕ) → r ≡ told (cause_next config log request) version →
     ms ≡ cond (is_told r) request.mutations [] → ms ≡ logged_next config log request
 logged_is config log request r ms version is made = made ∙ ap (λ b. cond b request.mutations []) (ap is_told is ∙ told_committed (cause_next config log request) version)
+
+-- and the version that is published of it
+version_told : (why : Option Cause) (version : ℕ) → reported_version (told why version) ≡ cond (is_none why) version 0
+version_told None version = refl
+version_told (Some why) version = refl
+
+pub version_is : (config : Config) (log : List Entry) (request : CommitRequest) (r : Reported) → r ≡ told (cause_next config log request) (version_of config log + 1) → reported_version r ≡ version_next config log request
+version_is config log request r is = ap reported_version is ∙ version_told (cause_next config log request) (version_of config log + 1)
 
 -- there was a version for it
 room_by : (a b : Bool) → cond a (cond b (Some TooOld) None) (Some VersionsExhausted) ≡ None → a ≡ true
@@ -92,20 +101,20 @@ refused_last config log p read_version is below why =
 
 -- ---- the locked state after a request was reported
 
-abbrev pub Taken : Name → List ℕ → List Entry → ℕ → ℕ → Trace → PipelineState → List Mutation → CommitRequest → Type 0
-Taken n last log client number trace q ms request =
-    ((q ≡ pipeline_of n.config (log ++ entry client number request trace ∷ [])) × (ms ≡ logged_next n.config log request) × IsWellFormedLog n.config (log ++ entry client number request trace ∷ []))
+abbrev pub Taken : Name → List ℕ → List Entry → ℕ → ℕ → Trace → PipelineState → List Mutation → ℕ → CommitRequest → Type 0
+Taken n last log client number trace q ms version request =
+    ((q ≡ pipeline_of n.config (log ++ entry client number request trace ∷ [])) × (ms ≡ logged_next n.config log request) × (version ≡ version_next n.config log request) × IsWellFormedLog n.config (log ++ entry client number request trace ∷ []))
     × (is_numbered (slice_set last client number) (log ++ entry client number request trace ∷ []) ≡ true)
 
-pub taken_next : (n : Name) (last : List ℕ) (log prefix : List Entry) (client number : ℕ) (request value : CommitRequest) (trace : Trace) (p q : PipelineState) (r : Reported) (ms : List Mutation) →
-    IsWellFormedLog n.config log → IsPrefix prefix log → IsOpenOver n.config prefix request trace.attempts → value ≡ request → is_numbered last log ≡ true → client < length last → slice_index last client < number →
-    p ≡ pipeline_of n.config log → q ≡ all_handled (submit request p) → r ≡ verdict request q → is_some (submit_refusal p request.read_version) ≡ false → ms ≡ cond (is_told r) request.mutations [] →
-    Taken n last log client number trace q ms value
-taken_next n last log prefix client number request value trace p q r ms law begins over same num inside above old new told_so allowed made =
+pub taken_next : (n : Name) (last : List ℕ) (log prefix : List Entry) (client number : ℕ) (request value : CommitRequest) (trace : Trace) (p q : PipelineState) (r : Reported) (ms : List Mutation) (version : ℕ) →
+    IsWellFormedLog n.config log → IsPrefix prefix log → IsOpenOver n.config prefix request trace.attempts → value ≡ request → is_numbered last log ≡ true → client < length last → slice_index last client < number → number ≡ count_of client log + 1 →
+    p ≡ pipeline_of n.config log → q ≡ all_handled (submit request p) → r ≡ verdict request q → is_some (submit_refusal p request.read_version) ≡ false → ms ≡ cond (is_told r) request.mutations [] → version ≡ reported_version r →
+    Taken n last log client number trace q ms version value
+taken_next n last log prefix client number request value trace p q r ms version law begins over same num inside above turn old new told_so allowed made versioned =
     let e : Entry = entry client number request trace in
     let next = commit_next n.config log e p q r old new told_so in
-    subst (Taken n last log client number trace q ms) (sym same) (
-      (next.0, logged_is n.config log request r ms (version_of n.config log + 1) next.1 made, lawful_next n.config last log e law (open_begins n.config prefix log e begins over) num above (room_next n.config log p request.read_version old (none_by (submit_refusal p request.read_version) allowed))),
+    subst (Taken n last log client number trace q ms version) (sym same) (
+      (next.0, logged_is n.config log request r ms (version_of n.config log + 1) next.1 made, versioned ∙ version_is n.config log request r next.1, lawful_next n.config last log e law (open_begins n.config prefix log e begins over) num above turn (room_next n.config log p request.read_version old (none_by (submit_refusal p request.read_version) allowed))),
       numbered_more last client number log e inside above refl refl num,
     )
 
@@ -120,14 +129,14 @@ told_last config log e =
     ∙ told_next config log e
 
 -- it is reported
-pub due_reported : (n : Name) (log : List Entry) (due : Due) (p q : PipelineState) (r : Reported) (ms : List Mutation) → IsInFlight n log p (Unreported due) → q ≡ all_handled p → r ≡ outcome q (submitted q) →
-    ms ≡ cond (is_told r) due.mutations [] → IsInFlight n log q (Decided (record { submitted = due.submitted; mutations = ms }))
-due_reported n log due p q r ms was new is made =
+pub due_reported : (n : Name) (log : List Entry) (due : Due) (p q : PipelineState) (r : Reported) (ms : List Mutation) (version : ℕ) → IsInFlight n log p (Unreported due) → q ≡ all_handled p → r ≡ outcome q (submitted q) →
+    ms ≡ cond (is_told r) due.mutations [] → version ≡ reported_version r → IsInFlight n log q (Decided (record { submitted = due.submitted; mutations = ms }) version)
+due_reported n log due p q r ms version was new is made versioned =
     let e : Entry = submitted_entry due.submitted in
     let next : q ≡ pipeline_of n.config (log ++ e ∷ []) = new ∙ was.1 in
     let told_so : r ≡ told (cause_next n.config log e.request) (version_of n.config log + 1) = is ∙ ap (λ (s : PipelineState). outcome s (submitted s)) next ∙ told_last n.config log e in
     let own : ms ≡ cond (is_told r) e.request.mutations [] = made ∙ ap (λ own. cond (is_told r) own []) was.2 in
-    (next, logged_is n.config log e.request r ms (version_of n.config log + 1) told_so own, was.3)
+    (next, logged_is n.config log e.request r ms (version_of n.config log + 1) told_so own, versioned ∙ version_is n.config log e.request r told_so, was.3)
 
 -- some more roles have handled it
 pub due_further : (n : Name) (log : List Entry) (due : Due) (p q : PipelineState) → IsInFlight n log p (Unreported due) → HasGoneOn p q → IsInFlight n log q (Unreported due)
@@ -140,10 +149,10 @@ Held n last log client number trace q ms request =
 
 -- memory ran out after it was submitted
 pub held_next : (n : Name) (last : List ℕ) (log prefix : List Entry) (client number : ℕ) (request value : CommitRequest) (trace : Trace) (p q : PipelineState) (ms : List Mutation) →
-    IsWellFormedLog n.config log → IsPrefix prefix log → IsOpenOver n.config prefix request trace.attempts → value ≡ request → is_numbered last log ≡ true → client < length last → slice_index last client < number →
+    IsWellFormedLog n.config log → IsPrefix prefix log → IsOpenOver n.config prefix request trace.attempts → value ≡ request → is_numbered last log ≡ true → client < length last → slice_index last client < number → number ≡ count_of client log + 1 →
     p ≡ pipeline_of n.config log → HeldError holds.Unknown request (without_servers p) (without_servers q) → ms ≡ request.mutations →
     Held n last log client number trace q ms value
-held_next n last log prefix client number request value trace p q ms law begins over same num inside above old held copied =
+held_next n last log prefix client number request value trace p q ms law begins over same num inside above turn old held copied =
     let e : Entry = entry client number request trace in
     let stands = held.1.2.stands in
     let given : PipelineState = submit request p in
@@ -155,6 +164,6 @@ held_next n last log prefix client number request value trace p q ms law begins 
     ap all_handled stands ∙ handled_same given (first_raised held.1.0 p.resolved) (first_raised held.1.1 p.logged) (raised_length held.1.0 p.resolved) (raised_length held.1.1 p.logged) in
     let next : all_handled q ≡ pipeline_of n.config (log ++ e ∷ []) = handled ∙ ap (λ (s : PipelineState). all_handled (submit request s)) old ∙ pipeline_next n.config log e in
     subst (Held n last log client number trace q ms) (sym same) (
-      (omega (arith, more, caught, now, reported), next, copied, lawful_next n.config last log e law (open_begins n.config prefix log e begins over) num above (room_next n.config log p request.read_version old held.0)),
+      (omega (arith, more, caught, now, reported), next, copied, lawful_next n.config last log e law (open_begins n.config prefix log e begins over) num above turn (room_next n.config log p request.read_version old held.0)),
       numbered_more last client number log e inside above refl refl num,
     )

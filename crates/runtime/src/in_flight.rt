@@ -2,7 +2,7 @@
 // `commit_state`.
 ghost use Rattle.std.specs.Prelude.{◌≡◌, List, [], ◌∷◌, ◌++◌, if◌then◌else◌};
 ghost use Rattle.schedule.specs.Standing.{is_told};
-ghost use Rattle.runtime.specs.CommitStates.{IsInFlight, due_of};
+ghost use Rattle.runtime.specs.CommitStates.{IsInFlight, due_of, reported_version};
 ghost use Rattle.txn.specs.Finishing.{IsUnfinished};
 ghost use Rattle.runtime.specs.History.{Name, submitted_entry};
 ghost use Rattle.runtime.specs.declared.log_entry.Entry.{Entry};
@@ -29,8 +29,9 @@ pub enum InFlight {
     Idle,
     /// A submission that some roles have handled and that isn't reported.
     Unreported(Due),
-    /// A submission that is reported and isn't in the history yet.
-    Decided(Due),
+    /// A submission that is reported, with its version, 0 where it is refused, and that isn't in the
+    /// history yet.
+    Decided(Due, u64),
     /// A submission that is in the history and that the writer doesn't have yet.
     Added(Step),
 }
@@ -42,6 +43,16 @@ pub(crate) fn logged(alloc: Global, reported: &Reported, mutations: Mutations) -
     match reported {
         Reported::Committed(_) => mutations,
         _ => Mutations::new(Vec::new(alloc)),
+    }
+}
+
+/// The version of a submission of which this was reported, or 0 where it is refused.
+pub(crate) fn logged_version(reported: &Reported) -> u64
+    ensures { result ≡ reported_version reported.now }
+{
+    match reported {
+        Reported::Committed(version) => *version,
+        _ => 0,
     }
 }
 
@@ -61,10 +72,12 @@ pub(crate) fn report(alloc: Global, pipeline: &mut Pipeline, due: Due) -> InFlig
                 mutations,
             } = due;
             let mutations = logged(alloc, &reported, mutations);
-            InFlight::Decided(Due {
+            let version = logged_version(&reported);
+            let due = Due {
                 submitted,
                 mutations,
-            })
+            };
+            InFlight::Decided(due, version)
         }
         Err(_) => InFlight::Unreported(due),
     }

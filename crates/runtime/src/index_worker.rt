@@ -181,7 +181,7 @@ pub fn build_worker<E: End, R: Wait, G: Gate>(
     };
     for round in 0..rounds {
         let ended = take_round(rt, client, &mut worker)?;
-        prove!(client.last_number() <= u64::MAX);
+        prove!(client.submissions() <= u64::MAX);
         let Some(ended) = ended else {
             continue;
         };

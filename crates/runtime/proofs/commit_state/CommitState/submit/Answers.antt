@@ -10,10 +10,10 @@ use Rattle.txn.specs.declared.commit.HoldError.{HoldError}
 use Rattle.std.specs.Prelude.{if◌then◌else◌}
 use Rattle.runtime.specs.declared.log_entry.Entry.{Entry}
 use Rattle.runtime.specs.History.{Name, Prefix}
-use Rattle.runtime.specs.Logs.{AreGiven, IsWellFormedLog, IsOpenOver, is_numbered, pipeline_of, cause_next, version_of}
+use Rattle.runtime.specs.Logs.{AreCounted, AreGiven, IsWellFormedLog, IsOpenOver, count_of, is_numbered, pipeline_of, cause_next, version_of}
 use Rattle.runtime.specs.CommitStates.{CommitView, IsInFlight, due_of}
 use Rattle.runtime.specs.Outcomes.{entry, next_entry}
-use Rattle.runtime.proofs.Numbers.{given_next}
+use Rattle.runtime.proofs.Numbers.{counted_next, given_next}
 use Rattle.runtime.proofs.Reporting.{taken_next, commit_next, held_next}
 use Rattle.runtime.proofs.commit_state.CommitState.submit.Goals as goal
 
@@ -26,16 +26,19 @@ invariant_of-self c =
     let old : c.self.inside.pipeline ≡ pipeline_of n.config log = subst (IsInFlight n log c.self.inside.pipeline) c.in-Idle.is i.2 in
     let num : is_numbered last log ≡ true = subst (λ f. is_numbered last (due_of f log) ≡ true) c.in-Idle.is i.3 in
     let are : AreGiven last log = subst (λ f. AreGiven last (due_of f log)) c.in-Idle.is i.4 in
+    let counted : AreCounted last log = subst (λ f. AreCounted last (due_of f log)) c.in-Idle.is i.5 in
     let law : IsWellFormedLog n.config log = subst (λ (r : Prefix). IsWellFormedLog r.name.config r.log) i.1 c.len.ensures.well_formed in
     let begins : IsPrefix c.args.prefix.now.log log = subst (λ (r : Prefix). IsPrefix c.args.prefix.now.log r.log) i.1 c.if-not-begins.ensures in
     let over : IsOpenOver n.config c.args.prefix.now.log c.args.request c.args.trace.attempts = subst (λ (h : CommitView). IsOpenOver h.name.config c.args.prefix.now.log c.args.request c.args.trace.attempts) (sym c.self.view_is) c.requires.open in
     let some = subst (λ (h : CommitView). (c.in_ok-number.number ≡ slice_index h.last c.args.client + 1) × (c.args.client < length h.last)) (sym c.self.view_is) (c.in_ok-number.ensures.next, c.in_ok-number.ensures.client) in
     let next : c.in_ok-number.number ≡ slice_index last c.args.client + 1 = some.0 in
     let above : slice_index last c.args.client < c.in_ok-number.number = omega (arith, next) in
-    let t = taken_next n last log c.args.prefix.now.log c.args.client c.in_ok-number.number c.args.request c.of.result.value c.args.trace c.self.inside.pipeline c.commit.new.self c.in-Ok.reported c.logged-mutations.result
-    law begins over c.of.ensures num some.1 above old c.in-Ok.ensures.handled c.in-Ok.ensures.decided c.in-Ok.ensures.allowed
-    (c.logged-mutations.ensures ∙ ap (λ ms. if is_told c.in-Ok.reported then ms else []) c.in_ok-mutations.ensures) in
-    (i.0, i.1, t.0, t.1, given_next last c.args.client c.in_ok-number.number log (entry c.args.client c.in_ok-number.number c.of.result.value c.args.trace) some.1 refl refl next are)
+    let turn : c.in_ok-number.number ≡ count_of c.args.client log + 1 = next ∙ ap (λ (n : ℕ). n + 1) (counted.counts c.args.client) in
+    let t = taken_next n last log c.args.prefix.now.log c.args.client c.in_ok-number.number c.args.request c.of.result.value c.args.trace c.self.inside.pipeline c.commit.new.self c.in-Ok.reported c.logged-mutations.result c.logged_version.result
+    law begins over c.of.ensures num some.1 above turn old c.in-Ok.ensures.handled c.in-Ok.ensures.decided c.in-Ok.ensures.allowed
+    (c.logged-mutations.ensures ∙ ap (λ ms. if is_told c.in-Ok.reported then ms else []) c.in_ok-mutations.ensures) c.logged_version.ensures in
+    let e : Entry = entry c.args.client c.in_ok-number.number c.of.result.value c.args.trace in
+    (i.0, i.1, t.0, t.1, given_next last c.args.client c.in_ok-number.number log e some.1 refl refl next are, counted_next last c.args.client c.in_ok-number.number log e some.1 refl next counted)
 
 pub invariant_of-self-in-Err-Unknown : goal.invariant_of-self-in-Err-Unknown
 invariant_of-self-in-Err-Unknown c =
@@ -46,16 +49,19 @@ invariant_of-self-in-Err-Unknown c =
     let old : c.self.inside.pipeline ≡ pipeline_of n.config log = subst (IsInFlight n log c.self.inside.pipeline) c.in-Idle.is i.2 in
     let num : is_numbered last log ≡ true = subst (λ f. is_numbered last (due_of f log) ≡ true) c.in-Idle.is i.3 in
     let are : AreGiven last log = subst (λ f. AreGiven last (due_of f log)) c.in-Idle.is i.4 in
+    let counted : AreCounted last log = subst (λ f. AreCounted last (due_of f log)) c.in-Idle.is i.5 in
     let law : IsWellFormedLog n.config log = subst (λ (r : Prefix). IsWellFormedLog r.name.config r.log) i.1 c.len.ensures.well_formed in
     let begins : IsPrefix c.args.prefix.now.log log = subst (λ (r : Prefix). IsPrefix c.args.prefix.now.log r.log) i.1 c.if-not-begins.ensures in
     let over : IsOpenOver n.config c.args.prefix.now.log c.args.request c.args.trace.attempts = subst (λ (h : CommitView). IsOpenOver h.name.config c.args.prefix.now.log c.args.request c.args.trace.attempts) (sym c.self.view_is) c.requires.open in
     let some = subst (λ (h : CommitView). (c.in_ok-number.number ≡ slice_index h.last c.args.client + 1) × (c.args.client < length h.last)) (sym c.self.view_is) (c.in_ok-number.ensures.next, c.in_ok-number.ensures.client) in
     let next : c.in_ok-number.number ≡ slice_index last c.args.client + 1 = some.0 in
     let above : slice_index last c.args.client < c.in_ok-number.number = omega (arith, next) in
+    let turn : c.in_ok-number.number ≡ count_of c.args.client log + 1 = next ∙ ap (λ (n : ℕ). n + 1) (counted.counts c.args.client) in
     let held = subst (λ (e : HoldError). HeldError e c.args.request (without_servers c.self.inside.pipeline) (without_servers c.commit.new.self)) c.in-Err-Unknown.field-0-is c.in-Err-Unknown.ensures.refused in
     let t = held_next n last log c.args.prefix.now.log c.args.client c.in_ok-number.number c.args.request c.of.result.value c.args.trace c.self.inside.pipeline c.commit.new.self c.in_ok-mutations.mutations
-    law begins over c.of.ensures num some.1 above old held c.in_ok-mutations.ensures in
-    (i.0, i.1, t.0, t.1, given_next last c.args.client c.in_ok-number.number log (entry c.args.client c.in_ok-number.number c.of.result.value c.args.trace) some.1 refl refl next are)
+    law begins over c.of.ensures num some.1 above turn old held c.in_ok-mutations.ensures in
+    let e : Entry = entry c.args.client c.in_ok-number.number c.of.result.value c.args.trace in
+    (i.0, i.1, t.0, t.1, given_next last c.args.client c.in_ok-number.number log e some.1 refl refl next are, counted_next last c.args.client c.in_ok-number.number log e some.1 refl next counted)
 
 pub returns-in-Ok-clause-told : goal.returns-in-Ok-clause-told
 returns-in-Ok-clause-told c =
