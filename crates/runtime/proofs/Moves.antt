@@ -10,7 +10,7 @@ use Rattle.runtime.specs.declared.published.Published.{Published}
 use Rattle.runtime.specs.declared.published.Step.{Step}
 use Rattle.runtime.specs.declared.published.View.{View}
 use Rattle.runtime.specs.Logs.{log_tier}
-use Rattle.runtime.specs.Submissions.{Recent, recent_of, with_outcome}
+use Rattle.runtime.specs.Submissions.{Recent, outcomes_of, with_outcome}
 use Rattle.runtime.specs.History.{Name, Prefix, log_prefix, submitted_entry}
 use Rattle.std.specs.Prelude.{Result, Ok, Err, MatchResult, ⊤}
 use Rattle.runtime.specs.Publication.{publisher_view, newcomer, has_seen, newly_given, IsFold, IsLater, Kept, Sees, Leads, LeadOn, entries_of, applied}
@@ -69,7 +69,7 @@ merges seat v other w x views h at apart there =
 
 -- what the published state has of a log
 abbrev pub state_at : Name → List Entry → TierState × Recent × Prefix
-state_at b log = (log_tier b.config log, recent_of b.config log, log_prefix b log)
+state_at b log = (log_tier b.config log, outcomes_of b.config log, log_prefix b log)
 
 abbrev pub state_of : Published → TierState × Recent × Prefix
 state_of x = (x.tier, x.recent, x.prefix)
@@ -89,7 +89,7 @@ folded b log [] f = ap (state_at b) (none_more log)
 folded b log (s ∷ ss) f =
     let next : List Entry = log ++ submitted_entry s.submitted ∷ [] in
     let tier : absorb_all s.mutations (log_tier b.config log) ≡ log_tier b.config next = ap (λ ms. absorb_all ms (log_tier b.config log)) f.0.1 ∙ tier_next b.config log (submitted_entry s.submitted) in
-    let kept : with_outcome (recent_of b.config log) s.submitted.client s.version ≡ recent_of b.config next = ap (with_outcome (recent_of b.config log) s.submitted.client) f.0.2 ∙ recent_next b.config log (submitted_entry s.submitted) in
+    let kept : with_outcome (outcomes_of b.config log) s.submitted.client s.version ≡ outcomes_of b.config next = ap (with_outcome (outcomes_of b.config log) s.submitted.client) f.0.2 ∙ recent_next b.config log (submitted_entry s.submitted) in
     let one : applied (state_at b log) s ≡ state_at b next = (λ i. (tier i, kept i, f.0.0 i)) in
     ap (λ (z : TierState × Recent × Prefix). fold applied z ss) one ∙ folded b next ss f.1 ∙ ap (state_at b) (append_one log (submitted_entry s.submitted) (entries_of ss))
 
@@ -105,10 +105,9 @@ entries_more (t ∷ ss) s = ap (λ es. submitted_entry t.submitted ∷ es) (entr
 -- a state that has what a log says
 pub fold_by : (b : Name) (log : List Entry) (y : Published) → state_of y ≡ state_at b log → IsFold y
 fold_by b log y is =
-    let prefix : y.prefix ≡ log_prefix b log = ap (λ (z : TierState × Recent × Prefix). z.2) is in
-    (
+    let prefix : y.prefix ≡ log_prefix b log = ap (λ (z : TierState × Recent × Prefix). z.2) is in (
       ap (λ (z : TierState × Recent × Prefix). z.0) is ∙ sym (ap (λ (r : Prefix). log_tier r.name.config r.log) prefix),
-      ap (λ (z : TierState × Recent × Prefix). z.1) is ∙ sym (ap (λ (r : Prefix). recent_of r.name.config r.log) prefix),
+      ap (λ (z : TierState × Recent × Prefix). z.1) is ∙ sym (ap (λ (r : Prefix). outcomes_of r.name.config r.log) prefix),
     )
 
 -- a state that the pending steps lead to

@@ -12,7 +12,7 @@ use Rattle.runtime.specs.declared.recent_outcomes.TheConstants.{KEPT_OUTCOMES}
 use Rattle.runtime.specs.declared.submission_status.SubmissionStatus.{SubmissionStatus}
 use Rattle.runtime.specs.declared.submission_status.SubmissionStatus.TheVariants.{Committed, Refused, Pending, Forgotten}
 use Rattle.runtime.specs.Logs.{are_in_turn, cause_next, count_of, has_submission, version_of}
-use Rattle.runtime.specs.Submissions.{Recent, nothing_kept, outcome_in, read_status, recent_after, recent_of, recent_outcome}
+use Rattle.runtime.specs.Submissions.{Recent, nothing_kept, outcome_in, read_status, recent_after, outcomes_of, recent_outcome}
 use Rattle.runtime.specs.Submissions.{slot_of, status_after, status_by, status_next, version_next, with_outcome}
 
 abbrev pub is_numbered_so : ℕ → ℕ → Entry → Bool
@@ -56,7 +56,7 @@ recent_snoc config log (x ∷ xs) e kept =
     ∙ ap (λ l. with_outcome (recent_after config (log ++ x ∷ []) xs more) e.client (version_next config l e.request)) (append_assoc log (x ∷ []) xs)
 
 -- what is kept of one entry more
-pub recent_next : (config : Config) (log : List Entry) (e : Entry) → with_outcome (recent_of config log) e.client (version_next config log e.request) ≡ recent_of config (log ++ e ∷ [])
+pub recent_next : (config : Config) (log : List Entry) (e : Entry) → with_outcome (outcomes_of config log) e.client (version_next config log e.request) ≡ outcomes_of config (log ++ e ∷ [])
 recent_next config log e = sym (recent_snoc config [] log e (nothing_kept config.places))
 
 -- ---- the numbers of a client's submissions are those up to their count
@@ -301,10 +301,10 @@ read_by config client number log kept low is counted false false lt le =
     ∙ sym (ap (λ t. cond t Forgotten (outcome_in config log client number)) (ap (nat_le (number + KEPT_OUTCOMES)) (sym count) ∙ le))
 
 -- what is kept of a log tells what became of a client's submission of a number
-pub read_is : (config : Config) (client number : ℕ) (log : List Entry) → client < config.places → 0 < number → are_in_turn [] log ≡ true → read_status (recent_of config log) client number ≡ recent_outcome config log client number
+pub read_is : (config : Config) (client number : ℕ) (log : List Entry) → client < config.places → 0 < number → are_in_turn [] log ≡ true → read_status (outcomes_of config log) client number ≡ recent_outcome config log client number
 read_is config client number log inside low turn =
     let all = both config client [] log (nothing_kept config.places) inside (kept_first config client inside) (counted_first client) turn in
-    read_by config client number log (recent_of config log) low all.0 all.1 (nat_lt (slice_index (recent_of config log).counts client) number) (nat_le (number + KEPT_OUTCOMES) (slice_index (recent_of config log).counts client)) refl refl
+    read_by config client number log (outcomes_of config log) low all.0 all.1 (nat_lt (slice_index (outcomes_of config log).counts client) number) (nat_le (number + KEPT_OUTCOMES) (slice_index (outcomes_of config log).counts client)) refl refl
 
 -- one submission more, with its client's next number
 pub in_turn_more : (before log : List Entry) (e : Entry) → are_in_turn before log ≡ true → e.number ≡ count_of e.client (before ++ log) + 1 → are_in_turn before (log ++ e ∷ []) ≡ true
@@ -324,5 +324,5 @@ after_length config log (e ∷ es) kept =
     after_length config (log ++ e ∷ []) es (with_outcome kept e.client (version_next config log e.request))
     ∙ length-set kept.counts e.client (slice_index kept.counts e.client + 1)
 
-pub counts_length : (config : Config) (log : List Entry) → length (recent_of config log).counts ≡ config.places
+pub counts_length : (config : Config) (log : List Entry) → length (outcomes_of config log).counts ≡ config.places
 counts_length config log = after_length config [] log (nothing_kept config.places) ∙ length-replicate config.places 0

@@ -4,6 +4,7 @@ use Rattle.cluster_core.specs.Roles.{PipelineState, all_handled}
 use Rattle.cluster_core.specs.declared.answers.Reported.{Reported}
 use Rattle.cluster_core.specs.declared.answers.Reported.TheVariants as reported
 use Rattle.runtime.specs.declared.log_entry.Entry.{Entry}
+use Rattle.runtime.specs.declared.in_flight.Due.{Due}
 use Rattle.runtime.specs.declared.in_flight.InFlight.{InFlight}
 use Rattle.runtime.specs.declared.in_flight.InFlight.TheVariants.{Idle, Unreported, Decided, Added}
 use Rattle.runtime.specs.declared.outcome.Outcome.{Outcome}
@@ -23,11 +24,11 @@ due_of (Unreported due) log = log ++ submitted_entry due.submitted ∷ []
 due_of (Decided due version) log = log ++ submitted_entry due.submitted ∷ []
 due_of (Added step) log = log ++ submitted_entry step.submitted ∷ []
 
--- Private: the version that is reported of a submission, or 0 where it is refused
-abbrev pub reported_version : Reported → ℕ
-reported_version (reported.Committed version) = version
-reported_version (reported.Conflict seen range) = 0
-reported_version reported.NothingToDo = 0
+-- Private: a submission of which this was reported
+abbrev pub decided_due : Reported → Due → InFlight
+decided_due (reported.Committed version) due = Decided due version
+decided_due (reported.Conflict seen range) due = Decided (record { submitted = due.submitted; mutations = [] }) 0
+decided_due reported.NothingToDo due = Decided (record { submitted = due.submitted; mutations = [] }) 0
 
 -- Private: how far the pipeline is, and what leads on from the log
 abbrev pub IsInFlight : Name → List Entry → PipelineState → InFlight → Type 0

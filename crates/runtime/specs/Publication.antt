@@ -10,7 +10,7 @@ use Rattle.runtime.specs.declared.published.Step.{Step}
 use Rattle.runtime.specs.declared.published.View.{View}
 use Rattle.runtime.specs.LogConfigs.{no_config}
 use Rattle.runtime.specs.Logs.{log_tier, logged_next}
-use Rattle.runtime.specs.Submissions.{Recent, recent_of, version_next, with_outcome}
+use Rattle.runtime.specs.Submissions.{Recent, outcomes_of, version_next, with_outcome}
 use Rattle.runtime.specs.History.{Name, Prefix, database_name, log_prefix, submitted_entry}
 
 -- Private: a name in the place of one that isn't known yet
@@ -40,7 +40,7 @@ IsLater old new = (new.name ≡ old.name) × IsPrefix old.log new.log
 -- Private: the servers have pulled just the published log, and the outcomes are those of its entries
 abbrev pub IsFold : Published → Type 0
 IsFold x =
-    (x.tier ≡ log_tier x.prefix.name.config x.prefix.log) × (x.recent ≡ recent_of x.prefix.name.config x.prefix.log)
+    (x.tier ≡ log_tier x.prefix.name.config x.prefix.log) × (x.recent ≡ outcomes_of x.prefix.name.config x.prefix.log)
 
 -- Private: both are of just the log, which begins with each log that a thread saw last
 abbrev pub Kept : Published → List View → Type 0

@@ -34,7 +34,7 @@ abbrev pub recent_outcome : Config → List Entry → ℕ → ℕ → Submission
 recent_outcome config log client number =
     if nat_le (number + KEPT_OUTCOMES) (count_of client log) then Forgotten else outcome_in config log client number
 
--- what a client is told of a number by a log, where this is the last number that it was given: any number has its answer
+-- what a client is told of a number by a log, where this is the last number that it was given: each number has its case
 abbrev pub told_status : Config → List Entry → ℕ → ℕ → ℕ → SubmissionStatus
 told_status config log client last number =
     if (number == 0) || nat_lt last number then NotSubmitted else recent_outcome config log client number
@@ -50,6 +50,7 @@ pub record Recent : Type 0 where
   pub counts : List ℕ
   pub versions : List ℕ
 
+-- Private: these, and these
 abbrev pub recent : List ℕ → List ℕ → Recent
 recent counts versions = record { counts = counts; versions = versions }
 
@@ -74,8 +75,8 @@ recent_after config log (e ∷ es) kept =
     recent_after config (log ++ e ∷ []) es (with_outcome kept e.client (version_next config log e.request))
 
 -- Private: with those of a log
-abbrev pub recent_of : Config → List Entry → Recent
-recent_of config log = recent_after config [] log (nothing_kept config.places)
+abbrev pub outcomes_of : Config → List Entry → Recent
+outcomes_of config log = recent_after config [] log (nothing_kept config.places)
 
 -- Private: what became of a submission that has this version
 abbrev pub status_by : ℕ → SubmissionStatus

@@ -59,14 +59,14 @@ module _ {B : Type 0} (did : B → Knowledge → Result Round CommandError → K
 
   -- Private: a round came to nothing, and another one may come to more; or it came to this
   abbrev pub EndsRound : B × Knowledge → Option Round → B × Knowledge → Type 0
-  EndsRound old None new = AttemptFails did old new
+  EndsRound old None new = AttemptFails did false old new
   EndsRound old (Some round) new = CommitsRound old round new
 
   -- one round more, with what was built before it and after: it comes to nothing, and another one may come to more; or
   -- it built so many records
   abbrev pub TakesRound : (B × Knowledge) × Totals → (B × Knowledge) × Totals → Type 0
   TakesRound old new =
-      (AttemptFails did old.0 new.0 × (new.1 ≡ old.1))
+      (AttemptFails did false old.0 new.0 × (new.1 ≡ old.1))
       ⊎ ((records : ℕ) × CommitsRound old.0 (Built records) new.0
       × (new.1.records ≡ old.1.records + records) × (new.1.steps ≡ old.1.steps + 1))
 
@@ -77,7 +77,7 @@ module _ {B : Type 0} (did : B → Knowledge → Result Round CommandError → K
   -- Private: the last round was refused, or its commit was, for another reason than its age or a conflict
   abbrev pub EndsWork : B × Knowledge → RunError → B × Knowledge → Type 0
   EndsWork old (Refused error) new = IsRefusal did old error new
-  EndsWork old GaveUp new = Stops did old new
+  EndsWork old GaveUp new = Stops did false old new
 
   -- a round built so many records, for which the numbers don't suffice
   abbrev pub Overflows : B × Knowledge → Totals → B × Knowledge → Type 0
@@ -96,4 +96,4 @@ module _ {B : Type 0} (did : B → Knowledge → Result Round CommandError → K
   IsWork limit old (Err GaveUp) new =
       ((totals : Totals) × HasTaken limit old new totals)
       ⊎ ((before : ℕ) × (before < limit) × ((mid : B × Knowledge) × ((totals : Totals) × HasTaken before old mid totals
-      × (Stops did mid new ⊎ Overflows mid totals new))))
+      × (Stops did false mid new ⊎ Overflows mid totals new))))

@@ -133,11 +133,12 @@ impl<E: End> Client<E> {
         let Some((prefix, status)) = found else {
             return Err(EnterError::NotEntered);
         };
-        if !self.me.begins(&prefix) {
-            return Err(EnterError::NotEntered);
+        if self.me.begins(&prefix) {
+            self.me = prefix;
+            Ok(status)
+        } else {
+            Err(EnterError::NotEntered)
         }
-        self.me = prefix;
-        Ok(status)
     }
 
     /// The longest log that the client has entered or learnt.

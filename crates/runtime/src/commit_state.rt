@@ -12,7 +12,7 @@ ghost use Rattle.runtime.specs.Logs.{AreGiven, HasEarlier, IsOpenOver, cause_nex
 ghost use Rattle.runtime.specs.Outcomes.{GivesNext, next_entry};
 ghost use Rattle.runtime.specs.Publication.{knows};
 
-use crate::in_flight::{Due, InFlight, logged, logged_version, report};
+use crate::in_flight::{Due, InFlight, decided, report};
 use crate::log_entry::{RequestView, Submitted};
 use crate::log_prefix::{LogHead, LogPrefix};
 use crate::outcome::Outcome;
@@ -223,21 +223,19 @@ impl CommitState {
         }
         let number = self.next_number(client)?;
         let mutations = request.mutations.copy()?;
-        let submitted = Submitted {
-            client,
-            number,
-            request: RequestView::of(&request),
-            trace,
+        let due = Due {
+            submitted: Submitted {
+                client,
+                number,
+                request: RequestView::of(&request),
+                trace,
+            },
+            mutations,
         };
         prove!(self.prefix.len() <= u64::MAX);
         match self.pipeline.commit(request) {
             Ok(reported) => {
-                let mutations = logged(self.alloc, &reported, mutations);
-                let due = Due {
-                    submitted,
-                    mutations,
-                };
-                self.in_flight = InFlight::Decided(due, logged_version(&reported));
+                self.in_flight = decided(self.alloc, &reported, due);
                 self.last[client as usize] = number;
                 Ok(reported)
             }
@@ -246,10 +244,7 @@ impl CommitState {
             Err(Held::Submit(SubmitError::Memory)) => Err(Outcome::Memory),
             Err(Held::Behind(_)) => unreachable!(),
             Err(Held::Unknown) => {
-                self.in_flight = InFlight::Unreported(Due {
-                    submitted,
-                    mutations,
-                });
+                self.in_flight = InFlight::Unreported(due);
                 self.last[client as usize] = number;
                 Err(Outcome::Unknown)
             }

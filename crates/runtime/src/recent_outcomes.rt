@@ -1,4 +1,5 @@
-// The outcomes of each client's last submissions, as the published state has them.
+// The outcomes of each client's last submissions. Part of what `published` has, read by
+// `published_reads`.
 ghost use Rattle.std.specs.Prelude.{◌≡◌, ◌+◌, ◌*◌, ◌%◌, ◌<◌, ◌≤◌, ◌^◌, length, slice_index, IfOk};
 ghost use Rattle.std.specs.Bool.{OnTrue};
 ghost use Rattle.runtime.specs.Submissions.{nothing_kept, read_status, slot_of, with_outcome};
@@ -63,7 +64,8 @@ impl RecentOutcomes {
 
     /// Adds the outcome of a client's next submission: its version, or 0 where it is refused.
     pub fn add(&mut self, client: u64, version: u64)
-        requires { (client < length self.old.counts) × (slice_index self.old.counts client + 1 < 2 ^ 64) }
+        requires { (client < length self.old.counts)
+            × (slice_index self.old.counts client + 1 < 2 ^ 64) }
         ensures { self.new ≡ with_outcome self.old client version }
     {
         let before = self.counts[client as usize];

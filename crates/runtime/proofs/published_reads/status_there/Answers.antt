@@ -2,7 +2,7 @@ use Rattle.std.proofs.Common.{◌≡◌, ◌∙◌, ℕ, ◌<◌, ap, sym, subst
 use Rattle.std.proofs.Common.{length}
 use Rattle.std.proofs.lemmas.List.{length-replicate}
 use Rattle.runtime.specs.declared.submission_status.SubmissionStatus.{SubmissionStatus}
-use Rattle.runtime.specs.Submissions.{Recent, read_status, recent_of}
+use Rattle.runtime.specs.Submissions.{Recent, read_status, outcomes_of}
 use Rattle.runtime.proofs.Submissions.{counts_length, read_is}
 use Rattle.runtime.proofs.published_reads.status_there.Goals as goal
 
