@@ -115,7 +115,7 @@ fn there_is_a_last_version(rt: HostRuntime) -> Result<(), Fail> {
     let made = alone(&rt, alloc, client, MADE).lines;
     assert_eq!(&rt;
         made.as_deref(),
-        Some("0 okthere is no version or number left")
+        Some("0 ok\nthere is no version or number left")
     );
     let command = command_in(alloc, MADE).ok_or("no command")?;
     let ended = client.run(&rt, Retry { limit: 10 }, true, &mut Perform { command });

@@ -1,4 +1,4 @@
--- Private: a version that stands submitted and isn't reported, since memory ran out.
+-- A version that stands submitted and isn't reported, since memory ran out.
 use Rattle.std.specs.Prelude.{◌≡◌, ◌+◌}
 use Rattle.cluster_core.specs.Roles.{PipelineState, all_handled, submitted}
 

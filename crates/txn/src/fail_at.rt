@@ -8,8 +8,8 @@ use cluster_core::ReadError;
 use kv_core::{Bytes, KeyRange, Pair};
 use std::cell::Cell;
 
-/// Another snapshot, whose read of this number, counted from 1, is refused so. The others, for pairs
-/// or for a value, are passed on.
+/// Another snapshot, whose read of this number, counted from 1, is refused with this error. The
+/// others, for pairs or for a value, are passed on.
 #[derive(Drop)]
 pub struct FailAt<'a, S: Snapshot> {
     db: &'a S,
