@@ -19,3 +19,4 @@ pub mod Serving
 pub mod CommitLocks
 pub mod Sendable
 pub mod Submissions
+mod SubmissionExamples
