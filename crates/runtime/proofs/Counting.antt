@@ -75,7 +75,7 @@ number_here client number e xs is_client is_number =
     ap (λ b. b || has_submission client number xs) one
 
 -- nor before it
-none_before_by : (before more : List Entry) (e : Entry) (client number : ℕ) → e.client ≡ client → e.number ≡ number → is_once (before ++ e ∷ more) ≡ true → (b : Bool) → has_submission client number before ≡ b → has_submission client number before ≡ false
+pub none_before_by : (before more : List Entry) (e : Entry) (client number : ℕ) → e.client ≡ client → e.number ≡ number → is_once (before ++ e ∷ more) ≡ true → (b : Bool) → has_submission client number before ≡ b → has_submission client number before ≡ false
 none_before_by before more e client number is_client is_number once true is = absurd (true≢false (sym (number_here client number e more is_client is_number) ∙ once_apart before (e ∷ more) client number once is))
 none_before_by before more e client number is_client is_number once false is = is
 

@@ -19,4 +19,5 @@ pub mod Serving
 pub mod CommitLocks
 pub mod Sendable
 pub mod Submissions
+pub mod Unsettled
 mod SubmissionExamples

@@ -20,11 +20,12 @@ use Rattle.runtime.specs.declared.open_transaction.OpenTransaction.{OpenTransact
 use Rattle.runtime.specs.declared.index_worker.Round.{Round}
 use Rattle.runtime.specs.declared.index_worker.Round.TheVariants.{Built, Marked}
 use Rattle.runtime.specs.declared.index_worker.Built.{Built as Totals}
+use Rattle.runtime.specs.declared.index_worker.Unsettled.{Unsettled}
 use Rattle.runtime.specs.declared.outcome.Outcome.{Outcome}
 use Rattle.runtime.specs.declared.outcome.Outcome.TheVariants as outcomes
-use Rattle.runtime.specs.Clients.{Knowledge}
+use Rattle.runtime.specs.Clients.{Knowledge, knows_that}
 use Rattle.runtime.specs.Logs.{cause_next}
-use Rattle.runtime.specs.Outcomes.{EndsWith, entry}
+use Rattle.runtime.specs.Outcomes.{EndsWith, IsEndOf, entry}
 
 -- ---- entries of one's own
 
@@ -106,6 +107,24 @@ Commits old new open_tx false =
     (new.last ≡ old.last)
     ⊎ ((seen : ℕ) × ((range : KeyRange)
     × IsSubmission old new open_tx.transaction open_tx.trace (outcomes.Conflict seen range)))
+
+-- ---- submissions of which it isn't known what became
+
+-- Private: the same with this last number
+abbrev pub upto : ℕ → Knowledge → Knowledge
+upto last k = knows_that k.name k.log k.number last k.begun
+
+-- Private: the log ends with the submission's entry, whose transaction performed the round
+abbrev pub IsUnsettled : List ℕ → Knowledge → Unsettled → Type 0
+IsUnsettled index k one =
+    (request : CommitRequest) × ((trace : Trace)
+    × IsEndOf k.name (entry k.number one.number request trace) one.prefix × HasWorked index one.round trace.attempts)
+
+-- Private: these are the submissions numbered above one number and not above another, in order
+abbrev pub AreUnsettled : List ℕ → Knowledge → ℕ → ℕ → List Unsettled → Type 0
+AreUnsettled index k above top [] = top ≡ above
+AreUnsettled index k above top (one ∷ others) =
+    (one.number ≡ above + 1) × IsUnsettled index k one × AreUnsettled index k (above + 1) top others
 
 -- Private: a round came to this, and its entry is committed; or it came to nothing, and has no entry or a refused one
 abbrev pub IsWorkerRound : List ℕ → Option Round → Knowledge → Knowledge → Type 0

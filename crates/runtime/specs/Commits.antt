@@ -41,6 +41,12 @@ Answers old new request trace (Ok ReadOnly) =
     (new.last ≡ old.last) × (is_changed (attempts_of trace.attempts) ≡ false)
 Answers old new request trace (Err error) = (log : List Entry) × Learns old new request trace (told_outcome error) log
 
+-- Private: the log ends with the entry of the client's open transaction
+abbrev pub IsDue : Knowledge → Option Prefix → Type 0
+IsDue old due =
+    (open_tx : OpenTransaction) → old.begun ≡ Some open_tx →
+    IfSome due (IsEndOf old.name (entry old.number (old.last + 1) open_tx.transaction open_tx.trace))
+
 -- Private: the log is of this database
 abbrev pub IsLogOf : Name → Option Prefix → Type 0
 IsLogOf name (Some prefix) = prefix.name ≡ name

@@ -232,13 +232,15 @@ impl<E: End> Client<E> {
         self.me = self.me.longer(&seen.prefix);
     }
 
-    /// Commits what was begun.
+    /// Commits what was begun. It gives also the log that ends with the submission's entry, where it
+    /// has one.
     #[tactic(auto, using(crate::proofs::Serving::unchanged))]
-    pub(crate) fn commit_here<R: Wait>(&mut self, rt: &R) -> Result<Done, CommitError>
+    pub(crate) fn commit_here<R: Wait>(&mut self, rt: &R) -> (Result<Done, CommitError>, Option<LogPrefix>)
         ensures answer { (open_tx : _) → self.old.begun ≡ Some open_tx →
-            Answers self.old self.new open_tx.transaction open_tx.trace result }
+            Answers self.old self.new open_tx.transaction open_tx.trace result.0 }
         ensures read_only { (open_tx : _) → self.old.begun ≡ Some open_tx →
-            is_changed (attempts_of open_tx.trace.attempts) ≡ false → result ≡ Ok Done.ReadOnly }
+            is_changed (attempts_of open_tx.trace.attempts) ≡ false → result.0 ≡ Ok Done.ReadOnly }
+        ensures due { IsDue self.old result.1 }
         ensures log { IsPrefix self.old.log self.new.log }
         ensures same { self.new
             ≡ knows_that self.old.name self.new.log self.old.number self.new.last None }
@@ -251,11 +253,11 @@ impl<E: End> Client<E> {
             },
         ) = self.begun.take()
         else {
-            return Err(CommitError::Memory);
+            return (Err(CommitError::Memory), None);
         };
         let request = transaction.into_request();
         if request.mutations.is_empty() {
-            return Ok(Done::ReadOnly);
+            return (Ok(Done::ReadOnly), None);
         }
         let told = critical_section(
             rt,
@@ -270,10 +272,11 @@ impl<E: End> Client<E> {
             outcome,
             last,
             prefix,
+            due,
         } = told;
         self.me = learnt(&self.me, &prefix);
         self.last = last;
-        answer_to(outcome, prefix)
+        (answer_to(outcome, prefix), due)
     }
 }
 

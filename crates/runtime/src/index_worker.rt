@@ -133,23 +133,122 @@ impl<E: End, G: Gate> Body<E> for Worker<G> {
     }
 }
 
-/// One round. It answers what it came to, or None where another one may come to more.
+/// A submission of a worker of which it isn't known what became: its number, what its round came
+/// to, and the log that ends with its entry.
+#[derive(Drop)]
+pub(crate) struct Unsettled {
+    pub number: u64,
+    pub round: Round,
+    pub prefix: LogPrefix,
+}
+
+/// How far a worker is: what is known to be built, whether the index is known to be marked, and the
+/// submissions of which it isn't known what became, in order.
+#[derive(Drop)]
+pub(crate) struct Progress {
+    pub built: Built,
+    pub marked: bool,
+    pub open: Vec<Unsettled>,
+}
+
+impl Progress {
+    /// Counts a round that is committed. It is refused where the numbers don't suffice.
+    fn count(&mut self, round: Round) -> Result<(), RunError>
+        ensures open { self.new.open.items ≡ self.old.open.items }
+        ensures counted { MatchResult result (λ _. HasCounted round self.old self.new)
+            (λ error. (error ≡ RunError.GaveUp) × Overflows self.old.built round) }
+    {
+        let more = match round {
+            Round::Built(more) => more,
+            Round::Marked => {
+                self.marked = true;
+                return Ok(());
+            }
+        };
+        let Some(built) = self.built.with(more) else {
+            return Err(RunError::GaveUp);
+        };
+        self.built = built;
+        Ok(())
+    }
+
+    /// Whether it is known of each submission what became of it, and else that the worker gives up.
+    fn all_settled(&self) -> Result<(), RunError>
+        ensures { MatchResult result (λ _. self.now.open.items ≡ [])
+            (λ error. error ≡ RunError.GaveUp) }
+    {
+        if self.open.as_slice().is_empty() {
+            Ok(())
+        } else {
+            Err(RunError::GaveUp)
+        }
+    }
+
+    /// Takes out the first submission of which it wasn't known what became, which is committed or
+    /// refused.
+    fn take_first(&mut self, is_committed: bool) -> Result<(), RunError> {
+        let first = self.open.remove(0);
+        if is_committed {
+            self.count(first.round)
+        } else {
+            Ok(())
+        }
+    }
+}
+
+/// Asks what became of the submissions of which it isn't known, one after another, as far as they
+/// are decided.
+fn settle<E: End>(client: &mut Client<E>, progress: &mut Progress) -> Result<(), RunError> {
+    while let Some(first) = progress.open.as_slice().first() {
+        let status = client.outcome(first.number).map_err(|error| CommandError::from(error))?;
+        let known = first.prefix.begins(&client.log());
+        match status {
+            SubmissionStatus::Pending => return Ok(()),
+            SubmissionStatus::Committed { .. } if known => progress.take_first(true)?,
+            SubmissionStatus::Refused if known => progress.take_first(false)?,
+            _ => return Err(RunError::GaveUp),
+        }
+    }
+    Ok(())
+}
+
+/// One round, and what became of it and of those before it, as far as that is known.
 fn take_round<E: End, R: Wait, G: Gate>(
     rt: &R,
     client: &mut Client<E>,
     worker: &mut Worker<G>,
-) -> Result<Option<Round>, RunError>
-    ensures follows { GoesOnFrom client.old client.new }
-    ensures round { IfOk result (λ round.
-        EndsRound (Works G.passed) (worker.old, client.old) round (worker.new, client.new)) }
-    ensures ended { IfErr result (λ error.
-        EndsWork (Works G.passed) (worker.old, client.old) error (worker.new, client.new)) }
-{
+    progress: &mut Progress,
+) -> Result<(), RunError> {
+    progress.open.reserve(1)?;
     match attempt(rt, client, worker) {
-        Ok((round, _)) => Ok(Some(round)),
-        Err(Failure::Refused(error)) => Err(RunError::Refused(error)),
-        Err(Failure::Ended(Ended::Conflict | Ended::TooOld)) => Ok(None),
-        Err(Failure::Ended(_)) => Err(RunError::GaveUp),
+        Ok((round, _)) => {
+            settle(client, progress)?;
+            progress.all_settled()?;
+            progress.count(round)
+        }
+        Err(Failure::Lost(round, Some(prefix))) => {
+            let number = client.submissions();
+            progress.open.push_reserved(Unsettled {
+                number,
+                round,
+                prefix,
+            });
+            Ok(())
+        }
+        Err(Failure::Ended(Ended::Conflict)) => {
+            settle(client, progress)?;
+            progress.all_settled()
+        }
+        Err(Failure::Ended(Ended::TooOld)) => settle(client, progress),
+        Err(Failure::Refused(error)) => {
+            settle(client, progress)?;
+            if progress.marked {
+                Ok(())
+            } else {
+                Err(RunError::Refused(error))
+            }
+        }
+        Err(Failure::Lost(_, None) | Failure::Ended(_)) => Err(RunError::GaveUp),
     }
 }
 
@@ -157,9 +256,12 @@ fn take_round<E: End, R: Wait, G: Gate>(
 /// position of it is built, and marks it readable then.
 ///
 /// It passes the gate in each round. A round that read too long ago or was refused with a conflict
-/// is followed by the next one. A refusal of a command is `Refused`, and so is `NotEntered`, and
-/// want of memory before a command. `GaveUp` is told where a commit isn't known to be one, where
-/// the numbers of what is built don't suffice, and after so many rounds.
+/// is followed by the next one, and so is one of which it isn't known what became: as soon as the
+/// log has its entry, what it built is counted where it is committed. A refusal of a command is
+/// `Refused`, and so is `NotEntered`, and want of memory before a command; but where a mark of
+/// which it wasn't known is committed, the work is done. `GaveUp` is told where a commit is refused
+/// otherwise, where an outcome is forgotten, where the numbers of what is built don't suffice, and
+/// after so many rounds.
 pub fn build_worker<E: End, R: Wait, G: Gate>(
     rt: &R,
     client: &mut Client<E>,
@@ -175,23 +277,20 @@ pub fn build_worker<E: End, R: Wait, G: Gate>(
         (after, client.new) }
 {
     let mut worker = Worker { index, limit, gate };
-    let mut built = Built {
-        records: 0,
-        steps: 0,
+    let mut progress = Progress {
+        built: Built {
+            records: 0,
+            steps: 0,
+        },
+        marked: false,
+        open: Vec::new(client.allocator()),
     };
-    for round in 0..rounds {
-        let ended = take_round(rt, client, &mut worker)?;
+    for _ in 0..rounds {
+        take_round(rt, client, &mut worker, &mut progress)?;
         prove!(client.submissions() <= u64::MAX);
-        let Some(ended) = ended else {
-            continue;
-        };
-        let Round::Built(more) = ended else {
-            return Ok(built);
-        };
-        let Some(more_built) = built.with(more) else {
-            return Err(RunError::GaveUp);
-        };
-        built = more_built;
+        if progress.marked {
+            return Ok(progress.built);
+        }
     }
     Err(RunError::GaveUp)
 }

@@ -6,6 +6,7 @@ ghost use Rattle.runtime.specs.Runs.{failure_by};
 use crate::answers::{CommandError, CommitError, Done, RunError};
 use crate::client::Client;
 use crate::critical_section::End;
+use crate::log_prefix::LogPrefix;
 use crate::transaction::Txn;
 use schedule::Refusal;
 use std::sync::Wait;
@@ -31,16 +32,19 @@ pub trait Body<E: End> {
         ensures did { did self.old tx.old.client.now result tx.new.client.now self.new };
 }
 
-/// How an attempt failed.
-pub(crate) enum Failure {
+/// How an attempt failed, where its body has an answer of this type.
+pub(crate) enum Failure<A> {
     /// It wasn't begun, or its body gave it up, but not for its age.
     Refused(CommandError),
+    /// It isn't known what became of it. The body had this answer in it, and the log ends with its
+    /// entry, where it has one.
+    Lost(A, Option<LogPrefix>),
     /// It ended so.
     Ended(Ended),
 }
 
 /// How an attempt failed that its body gave up.
-fn failure_of(error: CommandError) -> Failure
+fn failure_of<A>(error: CommandError) -> Failure<A>
     ensures { result ≡ failure_by error }
 {
     match error {
@@ -80,7 +84,7 @@ pub(crate) fn attempt<E: End, R: Wait, B: Body<E>>(
     rt: &R,
     client: &mut Client<E>,
     body: &mut B,
-) -> Result<(B::Answer, Done), Failure>
+) -> Result<(B::Answer, Done), Failure<B::Answer>>
     ensures follows { GoesOnFrom client.old client.new }
     ensures done { IfOk result (λ both.
         TriesAndEnds B.did (body.old, client.old) both.0 (Ok both.1) (body.new, client.new)) }
@@ -95,8 +99,9 @@ pub(crate) fn attempt<E: End, R: Wait, B: Body<E>>(
         Err(error) => return Err(failure_of(error)),
     };
     match client.commit_here(rt) {
-        Ok(done) => Ok((answer, done)),
-        Err(error) => Err(Failure::Ended(ended_of(&error))),
+        (Ok(done), _) => Ok((answer, done)),
+        (Err(CommitError::Unknown), due) => Err(Failure::Lost(answer, due)),
+        (Err(error), _) => Err(Failure::Ended(ended_of(&error))),
     }
 }
 
@@ -121,6 +126,7 @@ impl<E: End> Client<E> {
             let ended = match attempt(rt, self, body) {
                 Ok(both) => return Ok(both),
                 Err(Failure::Refused(error)) => return Err(RunError::Refused(error)),
+                Err(Failure::Lost(..)) => Ended::Unknown,
                 Err(Failure::Ended(ended)) => ended,
             };
             match retry.next(ended, number, repeatable) {
