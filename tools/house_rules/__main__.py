@@ -1,7 +1,8 @@
 """Counts what breaks the house's rules, in the files of a repository. It is run at the top of the repository.
 
 1. README.md is short and narrow.
-2. The code in README.md stands in a source file.
+2. The code in README.md, in the tour and in the page on embedding stands in a file that is proved, run or tested: that
+   of Rattle in a source, a clause's in a specification or a proof, JSON and what is printed in examples/ or a stdout.
 3. No source file is long.
 4. No body of a function of Rattle is long, from its `{` to its `}`.
 5. No line of Rattle, of a specification or of Python is wide, counted in characters. Data may be: in a file of Rattle a

@@ -30,8 +30,11 @@ OTHERS = ("crates.txt", "cases/**/*", "examples/**/*")
 # what stands counted of repeats, wide clauses and words with two homes
 KNOWN = "tools/house_rules/known.txt"
 
-# a block of code in a document
-CODE = re.compile(r"^```rust\n(.*?)^```$", re.M | re.S)
+# the documents whose code stands elsewhere, a block of code in one, and where each kind stands
+SHOWING = (README, "docs/guide/TOUR.md", "docs/guide/EMBEDDING.md")
+CODE = re.compile(r"^```(\w+)\n(.*?)^```$", re.M | re.S)
+SHOWN = {"rust": (RATTLE,), "antt": (SPECS, PROOFS), "json": ("examples/*.json",),
+         "text": ("examples/*.out", "crates/*/stdout")}
 
 # what the formatter says of a file, and why
 NOT_LAID_OUT = re.compile(r"(.+?)(?: is (not in the layout)|: (it does not parse: .*))")
@@ -55,13 +58,17 @@ def readme_is_short(root):
     return len(paths), faults
 
 
-def readme_code_stands(root):
-    """Each part of the code in README.md, up to a blank line, stands in a file of Rattle."""
-    code = "\n\n".join(it for path in files(root, README) for it in CODE.findall(read(root, path)))
-    parts = [part.strip("\n") for part in code.split("\n\n") if part.strip()]
-    sources = ["\n" + read(root, path) for path in files(root, RATTLE)]
-    gone = [part for part in parts if not any(f"\n{part}\n" in source for source in sources)]
-    return len(parts), [(README, f"no file has the code at '{lines_of(part)[0].strip()}'") for part in gone]
+def shown_code_stands(root):
+    """Each part of the code of these documents, up to a blank line, stands in a file of its kind, where it has one."""
+    seen, faults = 0, []
+    for path in files(root, *SHOWING):
+        blocks = [(kind, text) for kind, text in CODE.findall(read(root, path)) if kind in SHOWN]
+        parts = [(kind, part.strip("\n")) for kind, text in blocks for part in text.split("\n\n") if part.strip()]
+        texts = {kind: ["\n" + read(root, it) for it in files(root, *SHOWN[kind])] for kind, _ in parts}
+        gone = [part for kind, part in parts if not any(f"\n{part}\n" in text for text in texts[kind])]
+        seen += len(parts)
+        faults += [(path, f"no file has the code at '{lines_of(part)[0].strip()}'") for part in gone]
+    return seen, faults
 
 
 def files_are_short(root):
@@ -211,7 +218,7 @@ def sources_are_laid_out(root):
 
 RULES = {
     "README.md is short": readme_is_short,
-    "the code of README.md stands": readme_code_stands,
+    "the code of documents stands": shown_code_stands,
     "files are short": files_are_short,
     "bodies are short": bodies_are_short,
     "lines are narrow": lines_are_narrow,
