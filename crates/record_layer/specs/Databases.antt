@@ -1,5 +1,5 @@
 -- A database of one thread, and what becomes of a commit there.
-use Rattle.std.specs.Prelude.{◌≡◌, ◌⊎◌, ℕ, ◌<◌, Bool, true, false, Some}
+use Rattle.std.specs.Prelude.{◌≡◌, ◌⊎◌, ◌<◌, Bool, true, false, Some}
 use Rattle.kv_core.specs.declared.change.CommitRequest.{CommitRequest}
 use Rattle.cluster_core.specs.declared.answers.Reported.TheVariants.{Conflict as ReportedConflict}
 use Rattle.cluster_core.specs.declared.answers.SubmitError.TheVariants.{Memory}

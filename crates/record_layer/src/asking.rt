@@ -113,8 +113,8 @@ impl QueryMaker {
             (λ made. (made ≡ self.query) × (query_refusal schema.now (query_of made) ≡ None))
             (λ error. query_refusal schema.now (query_of self.query) ≡ Some error) }
     {
-        let QueryMaker { query } = self;
-        query.check(schema)?;
-        Ok(query)
+        let QueryMaker { query: made } = self;
+        made.check(schema)?;
+        Ok(made)
     }
 }

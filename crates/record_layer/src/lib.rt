@@ -22,8 +22,8 @@ pub use planner::{Plan, PlanError};
 pub use query::{Filter, Operator, Query, QueryError};
 pub use record_store::{KnownSchema, Records, Store, StoreError};
 pub use runtime::{
-    Body, Client, CommandError, CommitError, Done, OpenError, RunError, Txn, Waits, begin,
-    build_worker, open,
+    Body, Built, Client, CommandError, CommitError, Done, End, EnterError, Gate, GatePoint,
+    OpenError, RunError, Seen, Txn, Waits, begin, build_worker, open,
 };
 pub use schedule::{AskedQuery, Command, Reply, SharedPlan};
 pub use tuple_codec::{ByteString, Text};

@@ -1,0 +1,2 @@
+pub use Rattle.runtime.proofs.Attempts
+pub use Rattle.runtime.proofs.Sendable
