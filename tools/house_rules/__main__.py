@@ -27,7 +27,9 @@
 15. No line of another document than README.md is wide, counted in characters, but for a row of a table, a line of a
    block of code, and a line that is one link.
 16. Each relative link of a document leads to a file that is there, and where it has an anchor to a heading of that one.
-17. Each file of Rattle, of a specification or a proof is laid out as `rt fmt` lays it out: `rt ci` proves no crate of
+17. Each of the facts of facts.py is told in one document; others link to it, and a crate's README may tell it as a
+   clause.
+18. Each file of Rattle, of a specification or a proof is laid out as `rt fmt` lays it out: `rt ci` proves no crate of
    which one isn't.
 
 A line is printed for each fault, and then one for each rule, with the number of things that it was held against. A rule

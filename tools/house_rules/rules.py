@@ -5,6 +5,7 @@ import subprocess
 import sys
 from counts import repeats, wide_clause_lines, words_with_two_homes
 from documents import links, wide_text, wrong_of_link
+from facts import told_twice
 from sources import bodies, comments, data, files, line_at, lines_of, public_items, read, wide_lines
 
 TOOLS = os.path.dirname(os.path.dirname(os.path.abspath(__file__)))
@@ -23,7 +24,7 @@ RATTLE = "crates/*/src/**/*.rt"
 SPECS = "crates/*/specs/**/*.antt"
 PROOFS = "crates/*/proofs/**/*.antt"
 PYTHON = ("tools/**/*.py", "python/**/*.py")
-DOCUMENTS = ("*.md", "docs/**/*.md", "crates/*/README.md", "examples/*.md")
+DOCUMENTS = ("*.md", "docs/**/*.md", "crates/*/README.md", "examples/*.md", "python/*.md")
 EDITS = ("crates/*/wrong-bodies/*.edits", "crates/*/must-fail/*.edit")
 OTHERS = ("crates.txt", "cases/**/*", "examples/**/*")
 
@@ -206,6 +207,12 @@ def links_lead_somewhere(root):
     return len(found), [(place, what) for place, what in wrong if what]
 
 
+def facts_are_told_once(root):
+    """Each fact of a list is told in its document alone: others link to it, and a crate's README may tell a clause."""
+    texts = {path: read(root, path) for path in files(root, *DOCUMENTS) if not path.startswith("crates/")}
+    return len(texts), list(told_twice(texts))
+
+
 def sources_are_laid_out(root):
     """Each file of Rattle, of a specification or a proof is laid out as `rt fmt` does it, as `rt ci` wants it."""
     paths = files(root, RATTLE, SPECS, PROOFS)
@@ -233,5 +240,6 @@ RULES = {
     "lists have what is needed": lists_have_what_is_needed,
     "documents are narrow": documents_are_narrow,
     "links lead somewhere": links_lead_somewhere,
+    "facts are told once": facts_are_told_once,
     "sources are laid out": sources_are_laid_out,
 }

@@ -155,6 +155,10 @@ WRONG = {
         ("README.md", "[a](docs)\n[b](b.md)\n"), (LOW, "[low](../low/README.md#lower)\n# low\n"),
         (GUIDE, "[`low`](../crates/low/README.md)\n"), (EXAMPLES, "# a\n\n[a\n](#A)\n"), (GUIDE, "[low]: low.md\n"),
     ],
+    "facts are told once": [
+        (GUIDE, "It reads 64\npairs at once.\n"), ("docs/guide/OPERATING.md", "# Limits\n"),
+        (EXAMPLES, "`4,000,000` bytes\n"), ("docs/design/EXECUTION.md", "Batches.\n"),
+    ],
     LAYOUT: [
         (SHOWN, "// Shown.\nfn shown( ) {}\n"), (SHOWN, "// Shown.\nfn shown( {\n"), (PROOF, "-- low \n"),
         (SPEC, "-- Private: the next number\nabbrev pub next : ℕ  → ℕ\nnext n = n + 1\n"),
@@ -184,6 +188,7 @@ ALSO_RIGHT = [
     (HEADLINE, LISTED.replace("these 1 files, about", "these\n1 files, about")),
     (LOW, "é" * 100 + f"\n\n| {'a' * 100} |\n\n    {'a' * 97}\n- a\n\n  ```\n  {'a' * 99}\n  ```\n"),
     (GUIDE, f"# A\n\n[{'a ' * 50}](#a)\n- [`{'a' * 90}`](../../crates/low/README.md).\n"),
+    ("docs/design/EXECUTION.md", "64 pairs\n"), (LOW, "64 pairs\n"), (GUIDE, "```\n64 pairs\n```\n[64 pairs](GUIDE.md)\n"),
     (EXAMPLES, "[a](../docs/proof), `[b](c)`\n\n    [d](e)\n\n[f](https://f), [g](../tools/one.py)\n"),
 ]
 
