@@ -188,7 +188,8 @@ ALSO_RIGHT = [
     (HEADLINE, LISTED.replace("these 1 files, about", "these\n1 files, about")),
     (LOW, "é" * 100 + f"\n\n| {'a' * 100} |\n\n    {'a' * 97}\n- a\n\n  ```\n  {'a' * 99}\n  ```\n"),
     (GUIDE, f"# A\n\n[{'a ' * 50}](#a)\n- [`{'a' * 90}`](../../crates/low/README.md).\n"),
-    ("docs/design/EXECUTION.md", "64 pairs\n"), (LOW, "64 pairs\n"), (GUIDE, "```\n64 pairs\n```\n[64 pairs](GUIDE.md)\n"),
+    ("docs/design/EXECUTION.md", "64 pairs\n"), (LOW, "64 pairs\n"),
+    (GUIDE, "```\n64 pairs\n```\n[64 pairs](GUIDE.md)\n"),
     (EXAMPLES, "[a](../docs/proof), `[b](c)`\n\n    [d](e)\n\n[f](https://f), [g](../tools/one.py)\n"),
 ]
 

@@ -89,8 +89,8 @@ fn at_place(
     }
 }
 
-/// What stands at a key of a store: a record, an entry or a total of an index, its built ranges, the
-/// states of indexes, or the schema. It is for people, as where a commit was refused for the range
+/// What stands at a key of a store: a record, an entry or a total of an index, its built ranges,
+/// the states of indexes, or the schema. It is for people, as where a commit was refused for the range
 /// that begins there, and no clause says what it is.
 pub fn what_stands_at(alloc: Global, store: &Store, key: &Bytes) -> Result<String, AllocError> {
     match key.as_slice().strip_prefix(store.prefix()) {
