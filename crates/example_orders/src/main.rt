@@ -5,7 +5,6 @@
 use record_layer::{
     Cell, Cells, Config, Database, Error, Kind, NotCommitted, Operator, QueryMaker, SchemaMaker,
     Store, Transaction, compare, execute, int_named, name, plan_for_store, record_with, text_cell,
-    what_stands_at,
 };
 use std::alloc::Global;
 use std::io;
@@ -53,12 +52,10 @@ fn meet(alloc: Global, db: &mut Database) -> Result<String, Error> {
     order(alloc, db, &mut other, 2)?;
     let version = db.commit(one)?;
     match db.commit(other) {
-        Err(NotCommitted::Conflict { seen, range }) => {
+        Err(NotCommitted::Conflict { seen, range: _ }) => {
             let mut again = db.begin(alloc);
-            let store = Store::open(alloc, &PREFIX, &mut again, db.cluster())?;
-            let what = what_stands_at(alloc, &store, range.begin())?;
             let did = order(alloc, db, &mut again, 2)?;
-            Ok(format!(in alloc; "{version} committed; {seen} wrote {what}; again: {did}")?)
+            Ok(format!(in alloc; "{version}: committed; refused for {seen}; again: {did}")?)
         }
         Ok(also) => Ok(format!(in alloc; "{version} and {also}: committed")?),
         Err(why) => Err(Error::from(why)),

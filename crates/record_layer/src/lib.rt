@@ -7,7 +7,6 @@ mod cells;
 mod database;
 mod error;
 mod making;
-mod places;
 
 pub use asking::{QueryMaker, compare, is_null, starts_with};
 pub use cells::{cell_named, int_named, text_cell, text_named};
@@ -18,7 +17,6 @@ pub use explain::explain;
 pub use kv_core::{Bytes, KeyRange};
 pub use making::{SchemaMaker, fields, name, names, record_with};
 pub use metadata::{Cell, Cells, Fields, IndexKind, Kind, MetadataError, Names, Record, Schema};
-pub use places::what_stands_at;
 pub use plan_exec::{ExecError, execute, execute_each, plan_for_store};
 pub use planner::{Plan, PlanError};
 pub use query::{Filter, Operator, Query, QueryError};
