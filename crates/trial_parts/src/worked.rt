@@ -38,7 +38,20 @@ const CREATE_TWO: &str = r#"["create",0,{"types":[
 ]}]"#;
 
 /// What is done in each of these databases.
-pub static WORKED: [Worked; 78] = [
+pub static WORKED: [Worked; 89] = [
+    // A record's fields are read as they were saved, rows come by primary key, and a removed record
+    // is none.
+    (Open, 0, "", ""),
+    (Ask, 0, CREATE, "ok"),
+    (Ask, 0, r#"["save",0,"t",[2,5,null]]"#, "saved new"),
+    (Ask, 0, r#"["save",0,"t",[1,6,0]]"#, "saved new"),
+    (Ask, 0, r#"["load",0,"t",[2]]"#, "found [2,5,null]"),
+    (Ask, 0, r#"["query",0,{"type":"t"}]"#, "rows [[1,6,0],[2,5,null]]"),
+    (Ask, 0, r#"["remove",0,"t",[1]]"#, "removed"),
+    (Ask, 0, r#"["load",0,"t",[1]]"#, "none"),
+    (Commit, 0, "", "committed 1"),
+    (Begin, 0, "", ""),
+    (Ask, 0, r#"["query",0,{"type":"t"}]"#, "rows [[2,5,null]]"),
     // A client reads its own writes, and another what was committed when it began.
     (Open, 0, "", ""),
     (Ask, 0, CREATE, "ok"),
