@@ -46,7 +46,12 @@ pub static WORKED: [Worked; 89] = [
     (Ask, 0, r#"["save",0,"t",[2,5,null]]"#, "saved new"),
     (Ask, 0, r#"["save",0,"t",[1,6,0]]"#, "saved new"),
     (Ask, 0, r#"["load",0,"t",[2]]"#, "found [2,5,null]"),
-    (Ask, 0, r#"["query",0,{"type":"t"}]"#, "rows [[1,6,0],[2,5,null]]"),
+    (
+        Ask,
+        0,
+        r#"["query",0,{"type":"t"}]"#,
+        "rows [[1,6,0],[2,5,null]]",
+    ),
     (Ask, 0, r#"["remove",0,"t",[1]]"#, "removed"),
     (Ask, 0, r#"["load",0,"t",[1]]"#, "none"),
     (Commit, 0, "", "committed 1"),
