@@ -24,7 +24,8 @@ import threading
 import time
 
 PROGRAMS = ["crates/recordctl/out/recordctl", "crates/recordctl/out/recordctl.by-rattle"]
-FAILING = [f"crates/{it}/out/{it}{end}" for it in ("memory_trials", "commit_trials") for end in ("", ".by-rattle")]
+FAILING = [f"crates/{it}/out/{it}{end}" for it in ("memory_trials", "commit_trials", "reply_trials")
+           for end in ("", ".by-rattle")]
 TESTED_TOOLS = ("wrong_bodies", "house_rules", "quick_build", "model")
 PROGRAM_TESTS = (("the program", "program_tests", PROGRAMS), ("want of memory", "refused_growths", FAILING + PROGRAMS),
                  ("the model", "model", PROGRAMS))

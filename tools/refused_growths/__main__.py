@@ -4,8 +4,10 @@
 Each line of memory_trials and of commit_trials but the last tells of something for which memory must run out at some
 of them: it is done again then, 'again ' stands before the line, and all else is as it is when none fails. Where an
 allocation fails elsewhere the program may stop. A program 'recordctl' runs the scripts of cases/memory.steps, and must
-print what it prints when none fails, or the first lines of that, or none, and 'out of memory'. The last line is
-'N passed, M failed', where each allocation counts; where there is no C compiler ('cc') one failure is counted.
+print what it prints when none fails, or the first lines of that, or none, and 'out of memory'. A program 'reply_trials'
+is run with one allocation in so many failing, and must print what it prints when none fails; in one run at least it
+must tell that replies were lost. The last line is 'N passed, M failed', where each allocation counts, and each run of
+'reply_trials'; where there is no C compiler ('cc') one failure is counted.
 """
 import os
 import subprocess
@@ -23,6 +25,9 @@ OUT_OF_MEMORY = "out of memory\n"
 SCRIPTS = "memory.steps"
 SECONDS = 60
 COUNT_BYTES = 8
+# one allocation in so many fails, after the first tenth of all, in which the database is opened
+PERIODS = (601, 701, 769, 853, 997, 1123, 1291, 1543, 1777, 2029, 2503, 3079, 3547, 4099, 5003, 6007)
+LOST = "replies were lost\n"
 
 
 @dataclass
@@ -60,12 +65,12 @@ def built(folder):
     return library if done.returncode == 0 else None
 
 
-def run(trial, library, number):
-    """A run whose allocation of this number fails; of 0, where none does."""
+def run(trial, library, number, period=0):
+    """A run whose allocation of this number fails, and each one in so many after it; none of number 0 or period 0."""
     with tempfile.NamedTemporaryFile(dir=os.path.dirname(library)) as file:
         file.write(bytes(COUNT_BYTES))
         file.flush()
-        words = {**os.environ, "LD_PRELOAD": library, "FAILS": str(number), "COUNT": file.name}
+        words = {**os.environ, "LD_PRELOAD": library, "FAILS": str(number), "EVERY": str(period), "COUNT": file.name}
         done = subprocess.run([trial.program, *trial.words], input=trial.given, capture_output=True, env=words,
                               text=True, timeout=SECONDS)
         file.seek(0)
@@ -125,6 +130,21 @@ def tried(trial, library):
     return first.count - len(faults), len(faults) + len(lacks)
 
 
+def lost(trial, library):
+    """How many runs passed and failed in which replies are lost."""
+    first = run(trial, library, 0)
+    if first.status or not first.count:
+        print(f"{trial}: status {first.status} and {first.count} allocations where none fails")
+        return 0, 1
+    runs = [run(trial, library, first.count // 10, period) for period in PERIODS]
+    wrong = [(period, it) for period, it in zip(PERIODS, runs) if (it.status, it.output) != (0, first.output)]
+    for period, it in wrong:
+        print(f"{trial}: one allocation in {period}: status {it.status}, {it.output!r} and {it.errors!r}")
+    told = sum(it.errors == LOST for it in runs)
+    print(f"{trial}: replies were lost in {told} of {len(runs)} runs")
+    return len(runs) - len(wrong), len(wrong) + (told == 0)
+
+
 def trials_of(program):
     """What a program is given, one after another."""
     program = os.path.abspath(program)
@@ -135,6 +155,11 @@ def trials_of(program):
     return [Trial(program, tuple(it.words), it.given.decode(), it.output.decode(), it.shows) for it in cases]
 
 
+def judge_of(trial):
+    """Which runs of a program are judged."""
+    return lost if os.path.basename(trial.program).startswith("reply_trials") else tried
+
+
 def main():
     with tempfile.TemporaryDirectory() as folder:
         library = built(folder)
@@ -142,7 +167,7 @@ def main():
             print("no C compiler: the allocator that fails isn't built")
             counts = [(0, 1)]
         else:
-            counts = [tried(trial, library) for it in sys.argv[1:] for trial in trials_of(it)] or [(0, 1)]
+            counts = [judge_of(trial)(trial, library) for it in sys.argv[1:] for trial in trials_of(it)] or [(0, 1)]
     passed, failed = (sum(them) for them in zip(*counts))
     print(f"{passed} passed, {failed} failed")
     return 1 if failed else 0

@@ -1,6 +1,6 @@
-// An allocator whose allocation of a given number fails, once: FAILS says which, from 1 on. How many were made is kept
-// as a number of 64 bits in the file that COUNT names, however the program ends. It is laid before the C library's by
-// LD_PRELOAD.
+// An allocator whose allocation of a given number fails: FAILS says which, from 1 on; and after it each one whose number
+// EVERY divides, where that is given. How many were made is kept as a number of 64 bits in the file that COUNT names,
+// however the program ends. It is laid before the C library's by LD_PRELOAD.
 #define _GNU_SOURCE
 #include <dlfcn.h>
 #include <fcntl.h>
@@ -11,11 +11,12 @@
 
 static uint64_t unseen;
 static uint64_t *made = &unseen;
-static uint64_t failing;
+static uint64_t failing, every;
 
 static void begin(void) {
-    const char *number = getenv("FAILS"), *name = getenv("COUNT");
+    const char *number = getenv("FAILS"), *period = getenv("EVERY"), *name = getenv("COUNT");
     failing = number ? strtoull(number, NULL, 10) : 0;
+    every = period ? strtoull(period, NULL, 10) : 0;
     int file = name ? open(name, O_RDWR | O_CLOEXEC) : -1;
     if (file < 0) return;
     void *page = mmap(NULL, sizeof *made, PROT_READ | PROT_WRITE, MAP_SHARED, file, 0);
@@ -29,7 +30,8 @@ static int fails(void) {
         begun = 1;
         begin();
     }
-    return ++*made == failing;
+    uint64_t at = __atomic_add_fetch(made, 1, __ATOMIC_RELAXED);
+    return at == failing || (every && failing && at > failing && at % every == 0);
 }
 
 void *malloc(size_t size) {

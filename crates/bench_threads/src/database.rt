@@ -17,7 +17,7 @@ const WINDOW: u64 = 10;
 fn commits<R: Wait>(rt: &R, alloc: Global) -> Option<u64> {
     let mut clients = opened(rt, alloc, Waits { rt }, 1, WINDOW, RECORDS)?;
     let client = clients.pop()?;
-    Some(client.last_number())
+    Some(client.submissions())
 }
 
 /// Prints how many records a running database has, and how many commits made them and the store.

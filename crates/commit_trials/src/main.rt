@@ -6,7 +6,7 @@ mod clients;
 
 use clients::{Told, committed, found, submit};
 use cluster_core::Config;
-use runtime::{Client, End, Waits, open};
+use runtime::{Client, End, SubmissionStatus, Waits, open};
 use std::alloc::Global;
 use std::sync::Wait;
 use std::test::Fail;
@@ -27,6 +27,9 @@ const LOADS: &str = r#"{"steps":[["load",0,"t",[1]],["load",0,"t",[2]]]}"#;
 const BOTH: &str = "1 found [1,0,0]\n1 found [2,0,0]\n";
 
 const SECOND_ALONE: &str = "1 none\n1 found [2,0,0]\n";
+
+/// What is told of what is committed next after the store.
+const COMMITTED: SubmissionStatus = SubmissionStatus::Committed { version: 2 };
 
 /// The word before a line on what memory ran out for.
 fn again(is_refused: bool) -> &'static str {
@@ -57,13 +60,33 @@ fn next<E: End, R: Wait>(
     found(alloc, client, LOADS, wanted)
 }
 
+/// The first commit's outcome before the next one, and after it where that is another client's.
+fn outcome_at(told: Told, is_finished: bool) -> SubmissionStatus {
+    match told {
+        Told::Memory => SubmissionStatus::NotSubmitted,
+        Told::Unknown if !is_finished => SubmissionStatus::Pending,
+        _ => COMMITTED,
+    }
+}
+
+/// What the client is told of its second submission must be this.
+fn asked<E: End>(client: &mut Client<E>, wanted: SubmissionStatus) -> Result<(), Fail> {
+    if client.outcome(2)? == wanted {
+        Ok(())
+    } else {
+        Err(Fail::from("another outcome is told"))
+    }
+}
+
 /// A client's commit, and the next one by the same client.
 fn alone<R: Wait>(rt: &R, alloc: Global) -> Result<String, Fail> {
     let mut clients = open(rt, alloc, Waits { rt }, &Config::single(alloc))?;
     let client = clients.as_mut_slice().first_mut().ok_or("no client")?;
     committed(rt, alloc, client, MADE)?;
     let told = submit(rt, alloc, client, FIRST)?;
+    asked(client, outcome_at(told, false))?;
     next(rt, alloc, client, told)?;
+    asked(client, COMMITTED)?;
     lines(alloc, told, "the same client")
 }
 
@@ -74,7 +97,9 @@ fn beside<R: Wait>(rt: &R, alloc: Global) -> Result<String, Fail> {
     let (other, _) = others.split_first_mut().ok_or("no other client")?;
     committed(rt, alloc, one, MADE)?;
     let told = submit(rt, alloc, one, FIRST)?;
+    asked(one, outcome_at(told, false))?;
     next(rt, alloc, other, told)?;
+    asked(one, outcome_at(told, true))?;
     lines(alloc, told, "another client")
 }
 

@@ -1,5 +1,5 @@
 -- Private: what the clients of a race do, and what its builder does.
-use Rattle.std.specs.Prelude.{◌≡◌, ℕ, List, [], ◌∷◌, Result, Ok, Err}
+use Rattle.std.specs.Prelude.{◌≡◌, ℕ, true, List, [], ◌∷◌, Result, Ok, Err}
 use Rattle.metadata.specs.declared.cells.Cell.{Cell}
 use Rattle.schedule.specs.declared.step.Command.{Command}
 use Rattle.schedule.specs.declared.step.Command.TheVariants.{Save}
@@ -32,7 +32,7 @@ DoesEach body old (Err error) new after = after ≡ body
 abbrev pub RunsEach : List Command → Knowledge → Knowledge → Type 0
 RunsEach commands old new =
     (done : Done) × ((body : InTurn) × (body.commands.now ≡ commands)
-    × ((after : InTurn) × IsRun DoesEach 1000 (body, old) (Ok (tt, done)) (after, new)))
+    × ((after : InTurn) × IsRun DoesEach true 1000 (body, old) (Ok (tt, done)) (after, new)))
 
 -- records were saved one after another, each in a transaction of its own
 abbrev pub SavesEach : List ℕ → List (List Cell) → Knowledge → Knowledge → Type 0

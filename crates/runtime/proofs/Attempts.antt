@@ -1,5 +1,5 @@
 -- Attempts of a run, one after another.
-use Rattle.std.proofs.Common.{◌≡◌, ◌≢◌, ℕ, suc, ◌-◌, ◌≤◌, nat_lt, max, Bool, true, false, [], ◌∷◌, ◌++◌, Some, None, inl, inr, refl, sym, ap, ◌∙◌, subst, arith}
+use Rattle.std.proofs.Common.{◌≡◌, ◌≢◌, ℕ, suc, ◌-◌, ◌≤◌, nat_lt, max, Bool, true, false, [], ◌∷◌, ◌++◌, Some, None, inl, inr, refl, sym, ap, ◌∙◌, subst, arith, true≢false}
 use Rattle.std.specs.Prelude.{Result, Ok, Err, IfOk, IfErr, if◌then◌else◌}
 use Rattle.std.proofs.lemmas.Bool.Decides.{nat_tests}
 use mathlib.Core.List.{IsPrefix}
@@ -22,7 +22,7 @@ use Rattle.txn.specs.declared.retry.Next.TheVariants as nexts
 use Rattle.runtime.specs.Clients.{IsFresh, IsSameTransaction, Knowledge, knows_that}
 use Rattle.runtime.specs.Serves.{IsUnanswered}
 use Rattle.runtime.specs.Runs.{AttemptFails, Continues, Ends, FailsSo, GoesOnFrom, InTurn, IsRun, Starts, Tries}
-use Rattle.runtime.specs.Runs.{TriesAndEnds, ended_by, failure_by, is_too_old}
+use Rattle.runtime.specs.Runs.{Stops, TriesAndEnds, ended_by, failure_by, is_too_old, may_follow}
 use Rattle.runtime.proofs.Beginnings.{prefix_self, prefix_trans}
 
 pub follows_self : (k : Knowledge) → GoesOnFrom k k
@@ -91,17 +91,46 @@ module _ {B A : Type 0} (did : B → Knowledge → Result A CommandError → Kno
   commit_failed old new answer (Conflict seen range) tries = inr (answer, (Conflict seen range, refl, tries))
   commit_failed old new answer TooOld tries = inr (answer, (TooOld, refl, tries))
   commit_failed old new answer VersionsExhausted tries = (answer, (VersionsExhausted, refl, tries))
-  commit_failed old new answer Unknown tries = (answer, (Unknown, refl, tries))
+  commit_failed old new answer Unknown tries = (answer, tries)
   commit_failed old new answer Memory tries = (answer, (Memory, refl, tries))
 
+  may_more : (repeatable : Bool) (error : CommitError) → may_follow false error ≡ true → may_follow repeatable error ≡ true
+  may_more repeatable (Conflict seen range) may = refl
+  may_more repeatable TooOld may = refl
+  may_more repeatable VersionsExhausted may = may
+  may_more repeatable Unknown may = absurd (true≢false (sym may))
+  may_more repeatable Memory may = may
+
+  fails_more : (repeatable : Bool) (old new : B × Knowledge) → AttemptFails did false old new → AttemptFails did repeatable old new
+  fails_more repeatable old new is = elim is [
+    | inl given_up ↦ inl given_up
+    | inr ended ↦ inr (ended.0, (ended.1.0, may_more repeatable ended.1.0 ended.1.1, ended.1.2))
+  ]
+
+  may_less : (repeatable : Bool) (error : CommitError) → may_follow true error ≡ false → may_follow repeatable error ≡ false
+  may_less repeatable (Conflict seen range) may = may
+  may_less repeatable TooOld may = may
+  may_less repeatable VersionsExhausted may = refl
+  may_less repeatable Unknown may = absurd (true≢false may)
+  may_less repeatable Memory may = refl
+
+  pub stops_more : (repeatable : Bool) (old new : B × Knowledge) → Stops did true old new → Stops did repeatable old new
+  stops_more repeatable old new is = (is.0, (is.1.0, may_less repeatable is.1.0 is.1.1, is.1.2))
+
   -- another attempt follows one that may be followed
-  pub fails_of : (old new : B × Knowledge) (ended : Ended) (repeatable : Bool) → MayTryAgain ended repeatable → FailsSo did old (failures.Ended ended) new → AttemptFails did old new
-  fails_of old new ends.Conflict repeatable may is = is
-  fails_of old new ends.TooOld repeatable may is = is
+  pub fails_of : (old new : B × Knowledge) (ended : Ended) (repeatable : Bool) → MayTryAgain ended repeatable → FailsSo did old (failures.Ended ended) new → AttemptFails did repeatable old new
+  fails_of old new ends.Conflict repeatable may is = fails_more repeatable old new is
+  fails_of old new ends.TooOld repeatable may is = fails_more repeatable old new is
+  fails_of old new ends.Unknown repeatable may is = elim may [
+    | inl a ↦ absurd (cc)
+    | inr b ↦ elim b [
+      | inl a ↦ absurd (cc)
+      | inr d ↦ elim d [ inl a ↦ absurd (cc) | inr e ↦ inr (is.0, (Unknown, e.1, is.1)) ]
+    ]
+  ]
   fails_of old new ends.Committed repeatable may is = absurd is
   fails_of old new ends.ReadOnly repeatable may is = absurd is
   fails_of old new ends.FutureVersion repeatable may is = absurd is
-  fails_of old new ends.Unknown repeatable may is = absurd is
   fails_of old new ends.Other repeatable may is = elim may [
     | inl a ↦ absurd (cc)
     | inr b ↦ elim b [
@@ -110,26 +139,30 @@ module _ {B A : Type 0} (did : B → Knowledge → Result A CommandError → Kno
     ]
   ]
 
-  pub one_more : (number : ℕ) (old mid new : B × Knowledge) → 1 ≤ number → InTurn (AttemptFails did) (number - 1) old mid → AttemptFails did mid new → InTurn (AttemptFails did) number old new
-  one_more number old mid new le turns fails =
+  pub one_more : (repeatable : Bool) (number : ℕ) (old mid new : B × Knowledge) → 1 ≤ number → InTurn (AttemptFails did repeatable) (number - 1) old mid → AttemptFails did repeatable mid new → InTurn (AttemptFails did repeatable) number old new
+  one_more repeatable number old mid new le turns fails =
       let same : number ≡ suc (number - 1) = omega (arith, le) in
-      subst (λ (n : ℕ). InTurn (AttemptFails did) n old new) (sym same) (mid, turns, fails)
+      subst (λ (n : ℕ). InTurn (AttemptFails did repeatable) n old new) (sym same) (mid, turns, fails)
 
   last_one : (limit number : ℕ) (b : Bool) → nat_lt number limit ≡ b → (if b then nexts.Again else nexts.GiveUp) ≢ nexts.Again → 1 ≤ number → number ≤ max 1 limit → number ≡ max 1 limit
   last_one limit number true is other le most = absurd (other refl)
   last_one limit number false is other le most = let above : limit ≤ number = grind (arith, nat_tests) in omega (arith, above, le, most)
 
+  -- the last attempt that there may be failed
+  all_failed : (repeatable : Bool) (limit number : ℕ) (old mid new : B × Knowledge) (next : Next) → next ≡ (if nat_lt number limit then nexts.Again else nexts.GiveUp) → next ≢ nexts.Again → 1 ≤ number → number ≤ max 1 limit →
+      InTurn (AttemptFails did repeatable) (number - 1) old mid → AttemptFails did repeatable mid new → IsRun did repeatable limit old (Err runs.GaveUp) new
+  all_failed repeatable limit number old mid new next at other le most turns is =
+      let last : number ≡ max 1 limit = last_one limit number (nat_lt number limit) refl (λ again. other (at ∙ again)) le most in
+      inl (subst (λ (n : ℕ). InTurn (AttemptFails did repeatable) n old new) last (one_more repeatable number old mid new le turns is))
+
   -- or the run gives up
   pub gives_up : (limit number : ℕ) (repeatable : Bool) (old mid new : B × Knowledge) (ended : Ended) (next : Next) → next ≡ next_after limit ended number repeatable → next ≢ nexts.Again → 1 ≤ number → number ≤ max 1 limit →
-      InTurn (AttemptFails did) (number - 1) old mid → FailsSo did mid (failures.Ended ended) new → IsRun did limit old (Err runs.GaveUp) new
-  gives_up limit number repeatable old mid new ends.Conflict next at other le most turns is =
-      let last : number ≡ max 1 limit = last_one limit number (nat_lt number limit) refl (λ again. other (at ∙ again)) le most in
-      inl (subst (λ (n : ℕ). InTurn (AttemptFails did) n old new) last (one_more number old mid new le turns is))
-  gives_up limit number repeatable old mid new ends.TooOld next at other le most turns is =
-      let last : number ≡ max 1 limit = last_one limit number (nat_lt number limit) refl (λ again. other (at ∙ again)) le most in
-      inl (subst (λ (n : ℕ). InTurn (AttemptFails did) n old new) last (one_more number old mid new le turns is))
-  gives_up limit number repeatable old mid new ends.Other next at other le most turns is = inr (number - 1, omega (arith, le, most), (mid, turns, is))
+      InTurn (AttemptFails did repeatable) (number - 1) old mid → FailsSo did mid (failures.Ended ended) new → IsRun did repeatable limit old (Err runs.GaveUp) new
+  gives_up limit number repeatable old mid new ends.Conflict next at other le most turns is = all_failed repeatable limit number old mid new next at other le most turns (fails_more repeatable mid new is)
+  gives_up limit number repeatable old mid new ends.TooOld next at other le most turns is = all_failed repeatable limit number old mid new next at other le most turns (fails_more repeatable mid new is)
+  gives_up limit number true old mid new ends.Unknown next at other le most turns is = all_failed true limit number old mid new next at other le most turns (inr (is.0, (Unknown, refl, is.1)))
+  gives_up limit number false old mid new ends.Unknown next at other le most turns is = inr (number - 1, omega (arith, le, most), (mid, turns, (is.0, (Unknown, refl, is.1))))
+  gives_up limit number repeatable old mid new ends.Other next at other le most turns is = inr (number - 1, omega (arith, le, most), (mid, turns, stops_more repeatable mid new is))
   gives_up limit number repeatable old mid new ends.Committed next at other le most turns is = absurd is
   gives_up limit number repeatable old mid new ends.ReadOnly next at other le most turns is = absurd is
   gives_up limit number repeatable old mid new ends.FutureVersion next at other le most turns is = absurd is
-  gives_up limit number repeatable old mid new ends.Unknown next at other le most turns is = absurd is

@@ -16,7 +16,8 @@ use Rattle.runtime.specs.Outcomes.{decided}
 use Rattle.runtime.specs.Logs.{cause_next, has_submission, is_once, is_same_submission}
 use Rattle.runtime.specs.Builds.{committed_behind, is_numbered_in, own_committed}
 use Rattle.runtime.proofs.WellFormed.{both_true, left_true, right_true}
-use Rattle.runtime.proofs.Numbers.{is_numbered_so, number_of_last}
+use Rattle.runtime.proofs.Numbers.{number_of_last}
+use Rattle.runtime.proofs.Submissions.{is_numbered_so}
 
 not_true : (b : Bool) → not b ≡ true → b ≡ false
 not_true true p = sym p

@@ -23,7 +23,7 @@ use Rattle.runtime.proofs.Numbers.{earlier_begins, earlier_next}
 pub one_due : (in_flight : InFlight) (log : List Entry) → IsOneDue log (due_of in_flight log)
 one_due Idle log = inl refl
 one_due (Unreported due) log = inr (submitted_entry due.submitted, refl)
-one_due (Decided due) log = inr (submitted_entry due.submitted, refl)
+one_due (Decided due version) log = inr (submitted_entry due.submitted, refl)
 one_due (Added step) log = inr (submitted_entry step.submitted, refl)
 
 decided_told : (why : Option Cause) (version : ℕ) → outcome_by (told why version) ≡ decided why version

@@ -31,6 +31,11 @@ begun_on me known open_tx after is name log prefix over version =
     subst (λ (f : Prefix). (f.name ≡ known.name) × IsPrefix f.log known.log × IsOpenOver f.name.config f.log after.transaction after.trace.attempts × (after.transaction.read_version ≡ version_of f.name.config f.log)) (sym prefix)
     (is.0 ∙ sym name, prefix_trans open_tx.prefix.log me.log known.log is.1 log, over, version ∙ is.3)
 
+-- a longer log begins with the one over which the transaction was begun
+pub begun_later : (me longer : Prefix) (begun : Option OpenTransaction) → longer.name ≡ me.name → IsPrefix me.log longer.log → IsBegun me begun → IsBegun longer begun
+begun_later me longer (Some open_tx) name this is = (is.0 ∙ sym name, prefix_trans open_tx.prefix.log me.log longer.log is.1 this, is.2, is.3)
+begun_later me longer None name this is = is
+
 unanswered_on : (prefix : Prefix) (seen known : List Entry) (error : EnterError) (command : Command) (old : CommitRequest) (before : Trace) (new : CommitRequest) (after : Trace) → (error ≡ TooOld → IsPrefix seen known) →
     IsUnanswered prefix seen error command old before new after → IsUnanswered prefix known error command old before new after
 unanswered_on prefix seen known NotEntered command old before new after learnt is = is

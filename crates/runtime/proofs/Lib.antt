@@ -18,3 +18,5 @@ pub mod Works
 pub mod Serving
 pub mod CommitLocks
 pub mod Sendable
+pub mod Submissions
+mod SubmissionExamples

@@ -10,11 +10,13 @@ use Rattle.runtime.specs.declared.published.Published.{Published}
 use Rattle.runtime.specs.declared.published.Step.{Step}
 use Rattle.runtime.specs.declared.published.View.{View}
 use Rattle.runtime.specs.Logs.{log_tier}
+use Rattle.runtime.specs.Submissions.{Recent, outcomes_of, with_outcome}
 use Rattle.runtime.specs.History.{Name, Prefix, log_prefix, submitted_entry}
 use Rattle.std.specs.Prelude.{Result, Ok, Err, MatchResult, ⊤}
 use Rattle.runtime.specs.Publication.{publisher_view, newcomer, has_seen, newly_given, IsFold, IsLater, Kept, Sees, Leads, LeadOn, entries_of, applied}
 use Rattle.runtime.proofs.Beginnings.{prefix_self, prefix_trans}
 use Rattle.runtime.proofs.Entries.{tier_next}
+use Rattle.runtime.proofs.Submissions.{recent_next}
 
 off : false ≡ true → ⊥
 off e = true≢false (sym e)
@@ -65,8 +67,12 @@ merges seat v other w x views h at apart there =
     let theirs : Fits x.prefix w = ⊎_elim (λ (t : (other ≡ seat) × (w ≡ w)). absurd (apart t.0)) (λ (t : (other ≢ seat) × (get_elem? views other ≡ some w)). h.1 other w t.1) (at_set views seat other w w there) in
     (h.0, fits_set x.prefix (set views seat w) other newcomer (fits_set x.prefix views seat w h.1 theirs) (λ n. absurd (off n)))
 
-abbrev tier_at : Name → List Entry → TierState
-tier_at b log = log_tier b.config log
+-- what the published state has of a log
+abbrev pub state_at : Name → List Entry → TierState × Recent × Prefix
+state_at b log = (log_tier b.config log, outcomes_of b.config log, log_prefix b log)
+
+abbrev pub state_of : Published → TierState × Recent × Prefix
+state_of x = (x.tier, x.recent, x.prefix)
 
 none_more : (l : List Entry) → l ≡ l ++ []
 none_more [] = refl
@@ -78,13 +84,14 @@ append_one (x ∷ xs) e more = ap (λ ys. x ∷ ys) (append_one xs e more)
 
 -- the pending steps lead from the state of a log to that of the longer log
 pub folded : (b : Name) (log : List Entry) (ss : List Step) → LeadOn b log ss
-    → fold applied (tier_at b log, log_prefix b log) ss ≡ (tier_at b (log ++ entries_of ss), log_prefix b (log ++ entries_of ss))
-folded b log [] f = ap (λ (l : List Entry). (tier_at b l, log_prefix b l)) (none_more log)
+    → fold applied (state_at b log) ss ≡ state_at b (log ++ entries_of ss)
+folded b log [] f = ap (state_at b) (none_more log)
 folded b log (s ∷ ss) f =
     let next : List Entry = log ++ submitted_entry s.submitted ∷ [] in
-    let tier : absorb_all s.mutations (tier_at b log) ≡ tier_at b next = ap (λ ms. absorb_all ms (tier_at b log)) f.0.1 ∙ tier_next b.config log (submitted_entry s.submitted) in
-    let one : applied (tier_at b log, log_prefix b log) s ≡ (tier_at b next, log_prefix b next) = (λ i. (tier i, f.0.0 i)) in
-    ap (λ (z : TierState × Prefix). fold applied z ss) one ∙ folded b next ss f.1 ∙ ap (λ (l : List Entry). (tier_at b l, log_prefix b l)) (append_one log (submitted_entry s.submitted) (entries_of ss))
+    let tier : absorb_all s.mutations (log_tier b.config log) ≡ log_tier b.config next = ap (λ ms. absorb_all ms (log_tier b.config log)) f.0.1 ∙ tier_next b.config log (submitted_entry s.submitted) in
+    let kept : with_outcome (outcomes_of b.config log) s.submitted.client s.version ≡ outcomes_of b.config next = ap (with_outcome (outcomes_of b.config log) s.submitted.client) f.0.2 ∙ recent_next b.config log (submitted_entry s.submitted) in
+    let one : applied (state_at b log) s ≡ state_at b next = (λ i. (tier i, kept i, f.0.0 i)) in
+    ap (λ (z : TierState × Recent × Prefix). fold applied z ss) one ∙ folded b next ss f.1 ∙ ap (state_at b) (append_one log (submitted_entry s.submitted) (entries_of ss))
 
 -- one step more at the end
 pub follow_more : (b : Name) (log : List Entry) (ss : List Step) (s : Step) → LeadOn b log ss → Leads b (log ++ entries_of ss) s → LeadOn b log (ss ++ s ∷ [])
@@ -95,27 +102,36 @@ pub entries_more : (ss : List Step) (s : Step) → entries_of (ss ++ s ∷ []) �
 entries_more [] s = refl
 entries_more (t ∷ ss) s = ap (λ es. submitted_entry t.submitted ∷ es) (entries_more ss s)
 
+-- a state that has what a log says
+pub fold_by : (b : Name) (log : List Entry) (y : Published) → state_of y ≡ state_at b log → IsFold y
+fold_by b log y is =
+    let prefix : y.prefix ≡ log_prefix b log = ap (λ (z : TierState × Recent × Prefix). z.2) is in (
+      ap (λ (z : TierState × Recent × Prefix). z.0) is ∙ sym (ap (λ (r : Prefix). log_tier r.name.config r.log) prefix),
+      ap (λ (z : TierState × Recent × Prefix). z.1) is ∙ sym (ap (λ (r : Prefix). outcomes_of r.name.config r.log) prefix),
+    )
+
 -- a state that the pending steps lead to
-pub next_is : (x y : Published) (ss : List Step) → IsFold x → LeadOn x.prefix.name x.prefix.log ss → (y.tier, y.prefix) ≡ fold applied (x.tier, x.prefix) ss
+pub next_is : (x y : Published) (ss : List Step) → IsFold x → LeadOn x.prefix.name x.prefix.log ss → state_of y ≡ fold applied (state_of x) ss
     → (y.prefix ≡ log_prefix x.prefix.name (x.prefix.log ++ entries_of ss)) × IsFold y
 next_is x y ss f follow is =
-    let p : (y.tier, y.prefix) ≡ (tier_at x.prefix.name (x.prefix.log ++ entries_of ss), log_prefix x.prefix.name (x.prefix.log ++ entries_of ss)) = is ∙ ap (λ (t : TierState). fold applied (t, x.prefix) ss) f ∙ folded x.prefix.name x.prefix.log ss follow in
-    let prefix : y.prefix ≡ log_prefix x.prefix.name (x.prefix.log ++ entries_of ss) = ap (λ (z : TierState × Prefix). z.1) p in
-    (prefix, ap (λ (z : TierState × Prefix). z.0) p ∙ sym (ap (λ (r : Prefix). tier_at r.name r.log) prefix))
+    let start : state_of x ≡ state_at x.prefix.name x.prefix.log = (λ i. (f.0 i, f.1 i, x.prefix)) in
+    let p : state_of y ≡ state_at x.prefix.name (x.prefix.log ++ entries_of ss) = is ∙ ap (λ (z : TierState × Recent × Prefix). fold applied z ss) start ∙ folded x.prefix.name x.prefix.log ss follow in
+    let prefix : y.prefix ≡ log_prefix x.prefix.name (x.prefix.log ++ entries_of ss) = ap (λ (z : TierState × Recent × Prefix). z.2) p in
+    (prefix, fold_by x.prefix.name (x.prefix.log ++ entries_of ss) y p)
 
 -- what a publish leaves
 abbrev pub Rests : Published → List Step → View → Type 0
 Rests x ss v = IsFold x × LeadOn x.prefix.name x.prefix.log ss × (v ≡ has_seen x.prefix)
 
 pub rests_after : {E : Type 0} (x y : Published) (ss ss' : List Step) (v w : View) (r : Result ⊤ E) → Rests x ss v
-    → MatchResult r (λ _. ((y.tier, y.prefix) ≡ fold applied (x.tier, x.prefix) ss) × (ss' ≡ [])) (λ _. (y ≡ x) × (ss' ≡ ss))
+    → MatchResult r (λ _. (state_of y ≡ fold applied (state_of x) ss) × (ss' ≡ [])) (λ _. (y ≡ x) × (ss' ≡ ss))
     → MatchResult r (λ _. Sees v x y w) (λ _. w ≡ v) → Rests y ss' w
 rests_after x y ss ss' v w (Ok t) rest values rule = (rule.1, subst (LeadOn y.prefix.name y.prefix.log) (sym values.1) tt, rule.0)
 rests_after x y ss ss' v w (Err e) rest values rule =
     (subst IsFold (sym values.0) rest.0, subst (λ (z : Published × List Step). LeadOn z.0.prefix.name z.0.prefix.log z.1) (λ i. (sym values.0 i, sym values.1 i)) rest.1, rule ∙ rest.2 ∙ ap (λ (z : Published). has_seen z.prefix) (sym values.0))
 
 pub shown_after : {E : Type 0} (x y : Published) (ss ss' : List Step) (v : View) (r : Result ⊤ E) → Rests x ss v
-    → MatchResult r (λ _. ((y.tier, y.prefix) ≡ fold applied (x.tier, x.prefix) ss) × (ss' ≡ [])) (λ _. (y ≡ x) × (ss' ≡ ss))
+    → MatchResult r (λ _. (state_of y ≡ fold applied (state_of x) ss) × (ss' ≡ [])) (λ _. (y ≡ x) × (ss' ≡ ss))
     → MatchResult r (λ _. publisher_view y.prefix.name y.prefix.log (entries_of ss') ≡ publisher_view x.prefix.name (x.prefix.log ++ entries_of ss) []) (λ _. publisher_view y.prefix.name y.prefix.log (entries_of ss') ≡ publisher_view x.prefix.name x.prefix.log (entries_of ss))
 shown_after x y ss ss' v (Ok t) rest values =
     let n = next_is x y ss rest.0 rest.1 values.0 in

@@ -8,8 +8,9 @@ use mathlib.Core.List.{IsPrefix}
 use Rattle.kv_core.specs.declared.change.CommitRequest.{CommitRequest}
 use Rattle.runtime.specs.declared.log_entry.Entry.{Entry}
 use Rattle.runtime.specs.declared.trace.Trace.{Trace}
-use Rattle.runtime.specs.Logs.{AreGiven, HasEarlier, has_submission}
+use Rattle.runtime.specs.Logs.{AreCounted, AreGiven, HasEarlier, count_of, has_submission}
 use Rattle.runtime.specs.Outcomes.{next_entry}
+use Rattle.runtime.proofs.Submissions.{count_other, count_same, is_numbered_so}
 
 or_left : (a b : Bool) → a ≡ true → (a || b) ≡ true
 or_left true b h = refl
@@ -24,9 +25,6 @@ and_both a b p q = rw p q
 
 same_number : (a b : ℕ) → a ≡ b → (a == b) ≡ true
 same_number a b h = grind (arith, nat_tests)
-
-abbrev pub is_numbered_so : ℕ → ℕ → Entry → Bool
-is_numbered_so client number e = (e.client == client) && (e.number == number)
 
 pub number_begins : (client number : ℕ) (xs ys : List Entry) → IsPrefix xs ys → has_submission client number xs ≡ true → has_submission client number ys ≡ true
 number_begins client number xs ys p h = subst (λ (l : List Entry). has_submission client number l ≡ true) p.1 (list_any-append (is_numbered_so client number) xs p.0 ∙ or_left (has_submission client number xs) (has_submission client number p.0) h)
@@ -71,6 +69,36 @@ given_at last client number log e inside is_client is_number next are other n fa
 pub given_next : (last : List ℕ) (client number : ℕ) (log : List Entry) (e : Entry) → client < length last → e.client ≡ client → e.number ≡ number → number ≡ slice_index last client + 1 → AreGiven last log → AreGiven (slice_set last client number) (log ++ e ∷ [])
 given_next last client number log e inside is_client is_number next are =
     record { stands = λ other n above upto. given_at last client number log e inside is_client is_number next are other n (other == client) refl above upto }
+
+-- ---- how many there are
+
+pub counted_none : (last : List ℕ) (n : ℕ) → last ≡ replicate n 0 → AreCounted last []
+counted_none last n is = record { counts = λ client. ap (λ (l : List ℕ). slice_index l client) is ∙ zero_each n client }
+
+count_at : (last : List ℕ) (client number : ℕ) (log : List Entry) (e : Entry) → client < length last → e.client ≡ client → number ≡ slice_index last client + 1 → AreCounted last log →
+    (other : ℕ) (b : Bool) → (e.client == other) ≡ b → slice_index (slice_set last client number) other ≡ count_of other (log ++ e ∷ [])
+count_at last client number log e inside is_client next are other true same =
+    let eq : client ≡ other = sym is_client ∙ same_of e.client other same in
+    let new : slice_index (slice_set last client number) client ≡ number = get_or-set_same last client number 0 inside in
+    subst (λ (c : ℕ). slice_index (slice_set last client number) c ≡ number) eq new
+    ∙ next
+    ∙ ap (λ c. slice_index last c + 1) eq
+    ∙ ap (λ n. n + 1) (are.counts other)
+    ∙ sym (count_same other log e same)
+  where
+    same_of : (a b : ℕ) → (a == b) ≡ true → a ≡ b
+    same_of a b h = grind (arith, nat_tests)
+count_at last client number log e inside is_client next are other false apart =
+    get_or-set_other last client other number 0 (other_of is_client apart)
+    ∙ are.counts other
+    ∙ sym (count_other other log e apart)
+  where
+    other_of : e.client ≡ client → (e.client == other) ≡ false → other ≢ client
+    other_of is h = grind (arith, nat_tests)
+
+pub counted_next : (last : List ℕ) (client number : ℕ) (log : List Entry) (e : Entry) → client < length last → e.client ≡ client → number ≡ slice_index last client + 1 → AreCounted last log → AreCounted (slice_set last client number) (log ++ e ∷ [])
+counted_next last client number log e inside is_client next are =
+    record { counts = λ other. count_at last client number log e inside is_client next are other (e.client == other) refl }
 
 -- ---- earlier submissions
 

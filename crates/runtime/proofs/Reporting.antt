@@ -2,9 +2,9 @@
 use Rattle.std.proofs.Common.{◌≡◌, ℕ, ◌+◌, ◌-◌, ◌<◌, ◌≤◌, ◌^◌, Bool, true, false, cond, is_none, nat_lt, Option, None, Some, List, [], ◌∷◌, ◌++◌, length, refl, sym, ap, ◌∙◌, subst, arith, length-append, true≢false}
 use Rattle.std.proofs.lemmas.Bool.Decides.{nat_tests}
 use Rattle.kv_core.specs.declared.change.CommitRequest.{CommitRequest}
-use Rattle.kv_core.specs.declared.change.Mutation.{Mutation}
 use Rattle.cluster_core.specs.declared.answers.Config.{Config}
 use Rattle.cluster_core.specs.declared.answers.Reported.{Reported}
+use Rattle.cluster_core.specs.declared.answers.Reported.TheVariants as reported
 use Rattle.cluster_core.specs.declared.answers.SubmitError.{SubmitError}
 use Rattle.cluster_core.specs.declared.answers.SubmitError.TheVariants.{TooOld, VersionsExhausted}
 use Rattle.cluster_core.specs.Decision.{Cause, cause, numbered}
@@ -14,28 +14,21 @@ use Rattle.cluster_core.specs.Roles.{PipelineState, all_handled, is_caught_up, o
 use Rattle.cluster_core.proofs.Growth.{later_changes_nothing}
 use Rattle.txn.specs.Holds.{HeldError, first_raised, verdict}
 use Rattle.txn.specs.declared.commit.HoldError.TheVariants as holds
-use Rattle.schedule.specs.Standing.{is_told}
 use Rattle.runtime.specs.declared.log_entry.Entry.{Entry}
 use Rattle.runtime.specs.History.{Name}
-use Rattle.runtime.specs.Logs.{requests_of, version_of, pipeline_of, cause_next, logged_next, IsWellFormedLog, IsOpenOver}
-use Rattle.runtime.specs.Logs.{is_numbered}
+use Rattle.runtime.specs.Logs.{requests_of, version_of, pipeline_of, cause_next, IsWellFormedLog, IsOpenOver}
+use Rattle.runtime.specs.Logs.{count_of, is_numbered}
 use Rattle.runtime.proofs.Entries.{requests_append}
 use Rattle.std.specs.Prelude.{slice_index, slice_set, is_some}
 use mathlib.Core.List.{IsPrefix}
-use Rattle.runtime.specs.declared.trace.Trace.{Trace}
 use Rattle.runtime.specs.declared.in_flight.Due.{Due}
-use Rattle.runtime.specs.declared.in_flight.InFlight.TheVariants.{Decided, Unreported}
-use Rattle.runtime.specs.CommitStates.{IsInFlight}
-use Rattle.txn.specs.Finishing.{HasGoneOn, IsUnfinished}
+use Rattle.runtime.specs.declared.in_flight.InFlight.TheVariants.{Unreported}
+use Rattle.runtime.specs.CommitStates.{IsInFlight, decided_due, due_of}
+use Rattle.txn.specs.Finishing.{HasGoneOn}
 use Rattle.runtime.specs.History.{submitted_entry}
-use Rattle.runtime.specs.Outcomes.{entry}
 use Rattle.txn.proofs.GoingOn.{handled_same, raised_length, still_unfinished}
 use Rattle.txn.proofs.Handling.{outcome-last}
 use Rattle.runtime.proofs.WellFormed.{pipeline_next, lawful_next, open_begins, numbered_more}
-
-told_committed : (why : Option Cause) (version : ℕ) → is_told (told why version) ≡ is_none why
-told_committed None version = refl
-told_committed (Some why) version = refl
 
 -- what is told of a request once the roles have handled it
 pub told_next : (config : Config) (log : List Entry) (e : Entry) → verdict e.request (pipeline_of config (log ++ e ∷ [])) ≡ told (cause_next config log e.request) (version_of config log + 1)
@@ -50,10 +43,31 @@ commit_next config log e p q r old new is =
     let next : q ≡ pipeline_of config (log ++ e ∷ []) = new ∙ ap (λ (s : PipelineState). all_handled (submit e.request s)) old ∙ pipeline_next config log e in
     (next, is ∙ ap (verdict e.request) next ∙ told_next config log e)
 
--- what the logs have of it
-pub logged_is : (config : Config) (log : List Entry) (request : CommitRequest) (r : Reported) (ms : List Mutation) (version : ℕ) → r ≡ told (cause_next config log request) version →
-    ms ≡ cond (is_told r) request.mutations [] → ms ≡ logged_next config log request
-logged_is config log request r ms version is made = made ∙ ap (λ b. cond b request.mutations []) (ap is_told is ∙ told_committed (cause_next config log request) version)
+-- its entry is due whatever was reported
+pub due_decided : (r : Reported) (due : Due) (log : List Entry) → due_of (decided_due r due) log ≡ log ++ submitted_entry due.submitted ∷ []
+due_decided (reported.Committed version) due log = refl
+due_decided (reported.Conflict seen range) due log = refl
+due_decided reported.NothingToDo due log = refl
+
+-- a submission that comes next, of which this was reported
+pub decided_is : (n : Name) (log : List Entry) (due : Due) (q : PipelineState) (r : Reported) (why : Option Cause) (version : ℕ) → r ≡ told why version →
+    due.mutations ≡ due.submitted.request.value.mutations → q ≡ pipeline_of n.config (log ++ submitted_entry due.submitted ∷ []) → IsWellFormedLog n.config (log ++ submitted_entry due.submitted ∷ []) →
+    cause_next n.config log due.submitted.request.value ≡ why → version ≡ version_of n.config log + 1 → IsInFlight n log q (decided_due r due)
+decided_is n log due q r None version is own handled law cause at =
+    let told_so : cause_next n.config log due.submitted.request.value ≡ None = cause in
+    subst (λ (t : Reported). IsInFlight n log q (decided_due t due)) (sym is) (
+      handled,
+      own ∙ sym (ap (λ why. cond (is_none why) due.submitted.request.value.mutations []) told_so),
+      at ∙ sym (ap (λ why. cond (is_none why) (version_of n.config log + 1) 0) told_so),
+      law,
+    )
+decided_is n log due q r (Some why) version is own handled law cause at =
+    subst (λ (t : Reported). IsInFlight n log q (decided_due t due)) (sym is) (
+      handled,
+      sym (ap (λ why. cond (is_none why) due.submitted.request.value.mutations []) cause),
+      sym (ap (λ why. cond (is_none why) (version_of n.config log + 1) 0) cause),
+      law,
+    )
 
 -- there was a version for it
 room_by : (a b : Bool) → cond a (cond b (Some TooOld) None) (Some VersionsExhausted) ≡ None → a ≡ true
@@ -92,21 +106,26 @@ refused_last config log p read_version is below why =
 
 -- ---- the locked state after a request was reported
 
-abbrev pub Taken : Name → List ℕ → List Entry → ℕ → ℕ → Trace → PipelineState → List Mutation → CommitRequest → Type 0
-Taken n last log client number trace q ms request =
-    ((q ≡ pipeline_of n.config (log ++ entry client number request trace ∷ [])) × (ms ≡ logged_next n.config log request) × IsWellFormedLog n.config (log ++ entry client number request trace ∷ []))
-    × (is_numbered (slice_set last client number) (log ++ entry client number request trace ∷ []) ≡ true)
+abbrev pub Taken : Name → List ℕ → List Entry → PipelineState → Reported → Due → Type 0
+Taken n last log q r due =
+    IsInFlight n log q (decided_due r due)
+    × (is_numbered (slice_set last due.submitted.client due.submitted.number) (log ++ submitted_entry due.submitted ∷ []) ≡ true)
 
-pub taken_next : (n : Name) (last : List ℕ) (log prefix : List Entry) (client number : ℕ) (request value : CommitRequest) (trace : Trace) (p q : PipelineState) (r : Reported) (ms : List Mutation) →
-    IsWellFormedLog n.config log → IsPrefix prefix log → IsOpenOver n.config prefix request trace.attempts → value ≡ request → is_numbered last log ≡ true → client < length last → slice_index last client < number →
-    p ≡ pipeline_of n.config log → q ≡ all_handled (submit request p) → r ≡ verdict request q → is_some (submit_refusal p request.read_version) ≡ false → ms ≡ cond (is_told r) request.mutations [] →
-    Taken n last log client number trace q ms value
-taken_next n last log prefix client number request value trace p q r ms law begins over same num inside above old new told_so allowed made =
-    let e : Entry = entry client number request trace in
-    let next = commit_next n.config log e p q r old new told_so in
-    subst (Taken n last log client number trace q ms) (sym same) (
-      (next.0, logged_is n.config log request r ms (version_of n.config log + 1) next.1 made, lawful_next n.config last log e law (open_begins n.config prefix log e begins over) num above (room_next n.config log p request.read_version old (none_by (submit_refusal p request.read_version) allowed))),
-      numbered_more last client number log e inside above refl refl num,
+pub taken_next : (n : Name) (last : List ℕ) (log prefix : List Entry) (due : Due) (request : CommitRequest) (p q : PipelineState) (r : Reported) →
+    IsWellFormedLog n.config log → IsPrefix prefix log → IsOpenOver n.config prefix request due.submitted.trace.attempts → due.submitted.request.value ≡ request → is_numbered last log ≡ true → due.submitted.client < length last →
+    slice_index last due.submitted.client < due.submitted.number → due.submitted.number ≡ count_of due.submitted.client log + 1 →
+    p ≡ pipeline_of n.config log → q ≡ all_handled (submit request p) → r ≡ verdict request q → is_some (submit_refusal p request.read_version) ≡ false → due.mutations ≡ request.mutations →
+    Taken n last log q r due
+taken_next n last log prefix due request p q r law begins over same num inside above turn old new told_so allowed copied =
+    let e : Entry = submitted_entry due.submitted in
+    let over_it : IsOpenOver n.config prefix e.request e.trace.attempts = subst (λ (v : CommitRequest). IsOpenOver n.config prefix v due.submitted.trace.attempts) (sym same) over in
+    let handled : q ≡ all_handled (submit e.request p) = new ∙ ap (λ (v : CommitRequest). all_handled (submit v p)) (sym same) in
+    let verdict_is : r ≡ verdict e.request q = told_so ∙ ap (λ (v : CommitRequest). verdict v q) (sym same) in
+    let next = commit_next n.config log e p q r old handled verdict_is in
+    let room : version_of n.config log + 1 < 2 ^ 64 = room_next n.config log p request.read_version old (none_by (submit_refusal p request.read_version) allowed) in
+    let more : IsWellFormedLog n.config (log ++ e ∷ []) = lawful_next n.config last log e law (open_begins n.config prefix log e begins over_it) num above turn room in (
+      decided_is n log due q r (cause_next n.config log e.request) (version_of n.config log + 1) next.1 (copied ∙ ap (λ (v : CommitRequest). v.mutations) (sym same)) next.0 more refl refl,
+      numbered_more last due.submitted.client due.submitted.number log e inside above refl refl num,
     )
 
 -- ---- a submission that isn't reported
@@ -120,31 +139,31 @@ told_last config log e =
     ∙ told_next config log e
 
 -- it is reported
-pub due_reported : (n : Name) (log : List Entry) (due : Due) (p q : PipelineState) (r : Reported) (ms : List Mutation) → IsInFlight n log p (Unreported due) → q ≡ all_handled p → r ≡ outcome q (submitted q) →
-    ms ≡ cond (is_told r) due.mutations [] → IsInFlight n log q (Decided (record { submitted = due.submitted; mutations = ms }))
-due_reported n log due p q r ms was new is made =
+pub due_reported : (n : Name) (log : List Entry) (due : Due) (p q : PipelineState) (r : Reported) → IsInFlight n log p (Unreported due) → q ≡ all_handled p → r ≡ outcome q (submitted q) → IsInFlight n log q (decided_due r due)
+due_reported n log due p q r was new is =
     let e : Entry = submitted_entry due.submitted in
     let next : q ≡ pipeline_of n.config (log ++ e ∷ []) = new ∙ was.1 in
     let told_so : r ≡ told (cause_next n.config log e.request) (version_of n.config log + 1) = is ∙ ap (λ (s : PipelineState). outcome s (submitted s)) next ∙ told_last n.config log e in
-    let own : ms ≡ cond (is_told r) e.request.mutations [] = made ∙ ap (λ own. cond (is_told r) own []) was.2 in
-    (next, logged_is n.config log e.request r ms (version_of n.config log + 1) told_so own, was.3)
+    decided_is n log due q r (cause_next n.config log e.request) (version_of n.config log + 1) told_so was.2 next was.3 refl refl
 
 -- some more roles have handled it
 pub due_further : (n : Name) (log : List Entry) (due : Due) (p q : PipelineState) → IsInFlight n log p (Unreported due) → HasGoneOn p q → IsInFlight n log q (Unreported due)
 due_further n log due p q was on = (still_unfinished p q was.0 on, on.0 ∙ was.1, was.2, was.3)
 
-abbrev pub Held : Name → List ℕ → List Entry → ℕ → ℕ → Trace → PipelineState → List Mutation → CommitRequest → Type 0
-Held n last log client number trace q ms request =
-    (IsUnfinished q × (all_handled q ≡ pipeline_of n.config (log ++ entry client number request trace ∷ [])) × (ms ≡ request.mutations) × IsWellFormedLog n.config (log ++ entry client number request trace ∷ []))
-    × (is_numbered (slice_set last client number) (log ++ entry client number request trace ∷ []) ≡ true)
+abbrev pub Held : Name → List ℕ → List Entry → PipelineState → Due → Type 0
+Held n last log q due =
+    IsInFlight n log q (Unreported due)
+    × (is_numbered (slice_set last due.submitted.client due.submitted.number) (log ++ submitted_entry due.submitted ∷ []) ≡ true)
 
 -- memory ran out after it was submitted
-pub held_next : (n : Name) (last : List ℕ) (log prefix : List Entry) (client number : ℕ) (request value : CommitRequest) (trace : Trace) (p q : PipelineState) (ms : List Mutation) →
-    IsWellFormedLog n.config log → IsPrefix prefix log → IsOpenOver n.config prefix request trace.attempts → value ≡ request → is_numbered last log ≡ true → client < length last → slice_index last client < number →
-    p ≡ pipeline_of n.config log → HeldError holds.Unknown request (without_servers p) (without_servers q) → ms ≡ request.mutations →
-    Held n last log client number trace q ms value
-held_next n last log prefix client number request value trace p q ms law begins over same num inside above old held copied =
-    let e : Entry = entry client number request trace in
+pub held_next : (n : Name) (last : List ℕ) (log prefix : List Entry) (due : Due) (request : CommitRequest) (p q : PipelineState) →
+    IsWellFormedLog n.config log → IsPrefix prefix log → IsOpenOver n.config prefix request due.submitted.trace.attempts → due.submitted.request.value ≡ request → is_numbered last log ≡ true → due.submitted.client < length last →
+    slice_index last due.submitted.client < due.submitted.number → due.submitted.number ≡ count_of due.submitted.client log + 1 →
+    p ≡ pipeline_of n.config log → HeldError holds.Unknown request (without_servers p) (without_servers q) → due.mutations ≡ request.mutations →
+    Held n last log q due
+held_next n last log prefix due request p q law begins over same num inside above turn old held copied =
+    let e : Entry = submitted_entry due.submitted in
+    let over_it : IsOpenOver n.config prefix e.request e.trace.attempts = subst (λ (v : CommitRequest). IsOpenOver n.config prefix v due.submitted.trace.attempts) (sym same) over in
     let stands = held.1.2.stands in
     let given : PipelineState = submit request p in
     let more : length (p.requests ++ request ∷ []) ≡ length p.requests + 1 = length-append p.requests (request ∷ []) in
@@ -153,8 +172,8 @@ held_next n last log prefix client number request value trace p q ms law begins 
     let reported : q.reported ≡ p.reported = ap (λ (s : PipelineState). s.reported) stands in
     let handled : all_handled q ≡ all_handled given =
     ap all_handled stands ∙ handled_same given (first_raised held.1.0 p.resolved) (first_raised held.1.1 p.logged) (raised_length held.1.0 p.resolved) (raised_length held.1.1 p.logged) in
-    let next : all_handled q ≡ pipeline_of n.config (log ++ e ∷ []) = handled ∙ ap (λ (s : PipelineState). all_handled (submit request s)) old ∙ pipeline_next n.config log e in
-    subst (Held n last log client number trace q ms) (sym same) (
-      (omega (arith, more, caught, now, reported), next, copied, lawful_next n.config last log e law (open_begins n.config prefix log e begins over) num above (room_next n.config log p request.read_version old held.0)),
-      numbered_more last client number log e inside above refl refl num,
+    let next : all_handled q ≡ pipeline_of n.config (log ++ e ∷ []) =
+    handled ∙ ap (λ (s : PipelineState). all_handled (submit request s)) old ∙ ap (λ (v : CommitRequest). all_handled (submit v (pipeline_of n.config log))) (sym same) ∙ pipeline_next n.config log e in (
+      (omega (arith, more, caught, now, reported), next, copied ∙ ap (λ (v : CommitRequest). v.mutations) (sym same), lawful_next n.config last log e law (open_begins n.config prefix log e begins over_it) num above turn (room_next n.config log p request.read_version old held.0)),
+      numbered_more last due.submitted.client due.submitted.number log e inside above refl refl num,
     )

@@ -19,11 +19,12 @@ use Rattle.schedule.proofs.Turning.{open_elsewhere, open_fresh, open_later}
 use Rattle.schedule.proofs.Submitting.{submitted_more, submitted_later}
 use Rattle.runtime.specs.declared.log_entry.Entry.{Entry}
 use Rattle.runtime.specs.Logs.{requests_of, version_of, log_map, pipeline_of, opened, submissions_from}
-use Rattle.runtime.specs.Logs.{submissions_of, IsOpenOver, is_same_submission, is_once, IsWellFormedLog, is_numbered}
+use Rattle.runtime.specs.Logs.{submissions_of, IsOpenOver, is_same_submission, is_once, IsWellFormedLog, count_of, is_numbered}
 use Rattle.runtime.proofs.Entries.{requests_append, map_begins, version_begins, version_next}
+use Rattle.runtime.proofs.Submissions.{in_turn_more}
 
 pub lawful_first : (config : Config) → config.start < 2 ^ 64 → IsWellFormedLog config []
-lawful_first config below = record { submitted = tt; once = refl; versions = omega (arith, below) }
+lawful_first config below = record { submitted = tt; once = refl; in_turn = refl; versions = omega (arith, below) }
 
 -- ---- numbers of submissions
 
@@ -137,10 +138,11 @@ submitted_next config log e law is =
     (subst (λ (qs : List CommitRequest). AreSubmitted (maps qs) next config.start subs qs) (sym (requests_append log (e ∷ []))) later)
 
 pub lawful_next : (config : Config) (last : List ℕ) (log : List Entry) (e : Entry) → IsWellFormedLog config log → IsOpenOver config log e.request e.trace.attempts →
-    is_numbered last log ≡ true → slice_index last e.client < e.number → version_of config log + 1 < 2 ^ 64 → IsWellFormedLog config (log ++ e ∷ [])
-lawful_next config last log e law is num above room = record {
+    is_numbered last log ≡ true → slice_index last e.client < e.number → e.number ≡ count_of e.client log + 1 → version_of config log + 1 < 2 ^ 64 → IsWellFormedLog config (log ++ e ∷ [])
+lawful_next config last log e law is num above next room = record {
   submitted = submitted_next config log e law is;
   once = once_more last log e num above law.once;
+  in_turn = in_turn_more [] log e law.in_turn next;
   versions = omega (arith, room, version_next config log e);
 }
 

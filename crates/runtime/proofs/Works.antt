@@ -1,12 +1,10 @@
 -- What the rounds of a worker come to: what each performs, and which entries of its client follow from that.
-use Rattle.std.proofs.Common.{◌≡◌, ℕ, suc, ◌+◌, ◌<◌, arith, ◌≢◌, true, false, List, [], ◌∷◌, ◌++◌, Some, None, inl, inr, refl, sym, ap, ◌∙◌, subst, true≢false}
-use Rattle.std.specs.Prelude.{Result, Ok, Err}
+use Rattle.std.proofs.Common.{◌≡◌, ℕ, suc, ◌+◌, ◌<◌, arith, true, false, List, [], ◌∷◌, ◌++◌, Some, None, inl, inr, refl, sym, ap, ◌∙◌, subst, true≢false}
+use Rattle.std.specs.Prelude.{Result, Ok, Err, IfOk, IfErr, Option}
 use Rattle.schedule.specs.declared.step.Command.{Command}
 use Rattle.schedule.specs.declared.step.Command.TheVariants.{Build, Readable}
 use Rattle.schedule.specs.declared.reply.Reply.{Reply}
 use Rattle.schedule.specs.Past.{is_changed}
-use Rattle.txn.specs.declared.retry.Ended.{Ended}
-use Rattle.txn.specs.declared.retry.Ended.TheVariants as ends
 use Rattle.runtime.specs.declared.trace.Performed.{Performed}
 use Rattle.runtime.specs.declared.open_transaction.OpenTransaction.{OpenTransaction}
 use Rattle.runtime.specs.declared.published_reads.EnterError.{EnterError}
@@ -17,21 +15,23 @@ use Rattle.runtime.specs.declared.answers.Done.{Done}
 use Rattle.runtime.specs.declared.answers.RunError.{RunError}
 use Rattle.runtime.specs.declared.answers.RunError.TheVariants.{Refused, GaveUp}
 use Rattle.runtime.specs.declared.answers.Done.TheVariants.{Committed, ReadOnly}
+use Rattle.txn.specs.declared.retry.Ended.{Ended}
+use Rattle.txn.specs.declared.retry.Ended.TheVariants as ends
+use Rattle.runtime.specs.declared.retrying.Failure.TheVariants as failures
 use Rattle.runtime.specs.declared.index_worker.Built.{Built as Totals}
 use Rattle.runtime.specs.declared.index_worker.GatePoint.{GatePoint}
 use Rattle.runtime.specs.declared.index_worker.Round.{Round}
 use Rattle.runtime.specs.declared.index_worker.Round.TheVariants.{Built, Marked}
 use Rattle.runtime.specs.declared.index_worker.Worker.{Worker}
-use Rattle.runtime.specs.declared.retrying.Failure.TheVariants as failures
 use Rattle.runtime.specs.Builds.{Commits, HasWorked, IsWorkerRound}
 use Rattle.runtime.specs.Calls.{HasPerformed, marked_reply, part_reply}
 use Rattle.runtime.specs.Clients.{Knowledge}
 use Rattle.runtime.specs.Commits.{Answers}
 use Rattle.runtime.specs.Errors.{accepted_reply}
 use Rattle.runtime.specs.Logs.{attempts_of}
-use Rattle.runtime.specs.Runs.{AttemptFails, Continues, Ends, FailsSo, Starts, Stops, Tries, TriesAndEnds, may_follow}
-use Rattle.runtime.specs.Works.{Asks, CommitsRound, EndsWork, HasTaken, IsWork, Performs, TakesRound, Works}
-use Rattle.runtime.proofs.Attempts.{continues_trans, follows_self}
+use Rattle.runtime.specs.Runs.{AttemptFails, Continues, Ends, FailsSo, Starts, Tries, TriesAndEnds, may_follow}
+use Rattle.runtime.specs.Works.{Asks, CommitsRound, EndsRound, EndsWork, HasTaken, IsWork, Performs, TakesRound, Works, after_round}
+use Rattle.runtime.proofs.Attempts.{continues_trans, follows_self, stops_more}
 use Rattle.runtime.proofs.Replying.{unrefused}
 use Rattle.runtime.proofs.Rounds.{commits_from}
 
@@ -104,7 +104,7 @@ committed_by : (mid new : Knowledge) (index : List ℕ) (round : Round) (done : 
 committed_by mid new index round (Committed version seen) open_tx worked a = (version, (seen.prefix.log, a.0.shows.0, a.0.known, a.0.last))
 committed_by mid new index round ReadOnly open_tx worked a = absurd (true≢false (sym (changes_by index round open_tx.trace.attempts worked) ∙ a.1))
 
-refused_by : (mid new : Knowledge) (error : CommitError) (open_tx : OpenTransaction) → may_follow error ≡ true → Answers mid new open_tx.transaction open_tx.trace (Err error) → Commits mid new open_tx false
+refused_by : (mid new : Knowledge) (error : CommitError) (open_tx : OpenTransaction) → may_follow false error ≡ true → Answers mid new open_tx.transaction open_tx.trace (Err error) → Commits mid new open_tx false
 refused_by mid new (Conflict seen range) open_tx may a = inr (seen, (range, (a.0, a.1.shows.0, a.1.known, a.1.last)))
 refused_by mid new TooOld open_tx may a = inl a.1.last
 refused_by mid new VersionsExhausted open_tx may a = absurd (cc)
@@ -132,7 +132,7 @@ module _ {G : Type 0} (passed : G → GatePoint → G → Type 0) where
       worker_round worker.index round old new worked.0 worked.2
       (commits_from old mid new worked.0 true (goes.follows.name ∙ starts.follows.name) (goes.follows.number ∙ starts.follows.number) (goes.last ∙ starts.last) commits)
 
-  pub round_failed : (worker after : Worker G) (old new : Knowledge) → AttemptFails (Works passed) (worker, old) (after, new) → IsWorkerRound worker.index None old new
+  pub round_failed : (worker after : Worker G) (old new : Knowledge) → AttemptFails (Works passed) false (worker, old) (after, new) → IsWorkerRound worker.index None old new
   round_failed worker after old new is = elim is [
     | inl given_up ↦ too_old given_up.0 given_up.2
     | inr ended ↦ refused ended.0 ended.1.0 ended.1.1 ended.1.2
@@ -141,7 +141,7 @@ module _ {G : Type 0} (passed : G → GatePoint → G → Type 0) where
       too_old : (error : CommandError) → Tries (Works passed) (worker, old) (Err error) (after, new) → IsWorkerRound worker.index None old new
       too_old error tries = inl ((performs_continues worker.index worker.limit tries.0 new (Err error) tries.2.performed).last ∙ tries.1.last)
 
-      refused : (round : Round) (error : CommitError) → may_follow error ≡ true → TriesAndEnds (Works passed) (worker, old) round (Err error) (after, new) → IsWorkerRound worker.index None old new
+      refused : (round : Round) (error : CommitError) → may_follow false error ≡ true → TriesAndEnds (Works passed) (worker, old) round (Err error) (after, new) → IsWorkerRound worker.index None old new
       refused round error may both =
           let mid : Knowledge = both.0 in
           let start : Knowledge = both.1.0 in
@@ -152,7 +152,7 @@ module _ {G : Type 0} (passed : G → GatePoint → G → Type 0) where
           inr (open_tx, commits_from old mid new open_tx false (goes.follows.name ∙ starts.follows.name) (goes.follows.number ∙ starts.follows.number) (goes.last ∙ starts.last) commits)
 
   -- it is the same index after a round
-  pub index_failed : (worker after : Worker G) (old new : Knowledge) → AttemptFails (Works passed) (worker, old) (after, new) → after.index ≡ worker.index
+  pub index_failed : (worker after : Worker G) (old new : Knowledge) → AttemptFails (Works passed) false (worker, old) (after, new) → after.index ≡ worker.index
   index_failed worker after old new is = elim is [
     | inl given_up ↦ given_up.2.2.index
     | inr ended ↦ ended.1.2.1.2.index
@@ -162,14 +162,18 @@ module _ {G : Type 0} (passed : G → GatePoint → G → Type 0) where
   index_committed worker after round old new is = is.1.1.2.index
 
 -- an attempt that failed otherwise than by its age or a conflict stops the work
-pub stops_of : {B A : Type 0} (did : B → Knowledge → Result A CommandError → Knowledge → B → Type 0) (old new : B × Knowledge) (ended : Ended) → ended ≢ ends.Conflict → ended ≢ ends.TooOld → FailsSo did old (failures.Ended ended) new → Stops did old new
-stops_of did old new ends.Conflict conflict old_one is = absurd (conflict refl)
-stops_of did old new ends.TooOld conflict old_one is = absurd (old_one refl)
-stops_of did old new ends.Other conflict old_one is = is
-stops_of did old new ends.Committed conflict old_one is = absurd is
-stops_of did old new ends.ReadOnly conflict old_one is = absurd is
-stops_of did old new ends.FutureVersion conflict old_one is = absurd is
-stops_of did old new ends.Unknown conflict old_one is = absurd is
+module _ {B : Type 0} (did : B → Knowledge → Result Round CommandError → Knowledge → B → Type 0) (old new : B × Knowledge) where
+  abbrev pub Follows : Result (Option Round) RunError → Type 0
+  Follows after = IfOk after (λ round. EndsRound did old round new) × IfErr after (λ error. EndsWork did old error new)
+
+  pub follows_so : (ended : Ended) → FailsSo did old (failures.Ended ended) new → Follows (after_round ended)
+  follows_so ends.Conflict is = (is, tt)
+  follows_so ends.TooOld is = (is, tt)
+  follows_so ends.Other is = (tt, stops_more did false old new is)
+  follows_so ends.Unknown is = (tt, (is.0, (Unknown, refl, is.1)))
+  follows_so ends.Committed is = absurd is
+  follows_so ends.ReadOnly is = absurd is
+  follows_so ends.FutureVersion is = absurd is
 
 -- ---- round after round
 

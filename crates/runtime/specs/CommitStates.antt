@@ -1,7 +1,10 @@
 -- The locked state, what is in flight in it, and what it tells of a request.
 use Rattle.std.specs.Prelude.{◌≡◌, ◌⊎◌, ℕ, List, [], ◌∷◌, ◌++◌}
 use Rattle.cluster_core.specs.Roles.{PipelineState, all_handled}
+use Rattle.cluster_core.specs.declared.answers.Reported.{Reported}
+use Rattle.cluster_core.specs.declared.answers.Reported.TheVariants as reported
 use Rattle.runtime.specs.declared.log_entry.Entry.{Entry}
+use Rattle.runtime.specs.declared.in_flight.Due.{Due}
 use Rattle.runtime.specs.declared.in_flight.InFlight.{InFlight}
 use Rattle.runtime.specs.declared.in_flight.InFlight.TheVariants.{Idle, Unreported, Decided, Added}
 use Rattle.runtime.specs.declared.outcome.Outcome.{Outcome}
@@ -12,13 +15,20 @@ use Rattle.runtime.specs.History.{Name, submitted_entry}
 use Rattle.runtime.specs.Logs.{HasEarlier, IsWellFormedLog, logged_next, pipeline_of}
 use Rattle.runtime.specs.Outcomes.{GivesOne, IsReason}
 use Rattle.runtime.specs.Publication.{Leads}
+use Rattle.runtime.specs.Submissions.{version_next}
 
 -- the log once what is in flight is finished
 abbrev pub due_of : InFlight → List Entry → List Entry
 due_of Idle log = log
 due_of (Unreported due) log = log ++ submitted_entry due.submitted ∷ []
-due_of (Decided due) log = log ++ submitted_entry due.submitted ∷ []
+due_of (Decided due version) log = log ++ submitted_entry due.submitted ∷ []
 due_of (Added step) log = log ++ submitted_entry step.submitted ∷ []
+
+-- Private: a submission of which this was reported
+abbrev pub decided_due : Reported → Due → InFlight
+decided_due (reported.Committed version) due = Decided due version
+decided_due (reported.Conflict seen range) due = Decided (record { submitted = due.submitted; mutations = [] }) 0
+decided_due reported.NothingToDo due = Decided (record { submitted = due.submitted; mutations = [] }) 0
 
 -- Private: how far the pipeline is, and what leads on from the log
 abbrev pub IsInFlight : Name → List Entry → PipelineState → InFlight → Type 0
@@ -28,9 +38,10 @@ IsInFlight name log p (Unreported due) =
     × (all_handled p ≡ pipeline_of name.config (log ++ submitted_entry due.submitted ∷ []))
     × (due.mutations ≡ due.submitted.request.value.mutations)
     × IsWellFormedLog name.config (log ++ submitted_entry due.submitted ∷ [])
-IsInFlight name log p (Decided due) =
+IsInFlight name log p (Decided due version) =
     (p ≡ pipeline_of name.config (log ++ submitted_entry due.submitted ∷ []))
     × (due.mutations ≡ logged_next name.config log due.submitted.request.value)
+    × (version ≡ version_next name.config log due.submitted.request.value)
     × IsWellFormedLog name.config (log ++ submitted_entry due.submitted ∷ [])
 IsInFlight name log p (Added step) =
     (p ≡ pipeline_of name.config (log ++ submitted_entry step.submitted ∷ [])) × Leads name log step

@@ -1,6 +1,6 @@
 -- Logs: the database that a list of entries makes, and what makes one well-formed.
 use Rattle.std.specs.Prelude.{◌≡◌, ◌⊎◌, All, ℕ, ◌+◌, ◌-◌, ◌<◌, ◌≤◌, ◌^◌, Bool, true, not, ◌&&◌, ◌==◌, nat_le}
-use Rattle.std.specs.Prelude.{Contains}
+use Rattle.std.specs.Prelude.{Contains, ◌++◌, count_by}
 use Rattle.std.specs.Prelude.{slice_index, List, [], ◌∷◌, map, length, Option, is_none, if◌then◌else◌}
 use Rattle.std.specs.List.{list_any, list_all}
 use Rattle.kv_core.specs.Map.{Map}
@@ -110,13 +110,23 @@ abbrev pub is_once : List Entry → Bool
 is_once [] = true
 is_once (e ∷ es) = not (list_any (is_same_submission e) es) && is_once es
 
+-- how many submissions of a client the log has
+abbrev pub count_of : ℕ → List Entry → ℕ
+count_of client log = count_by (λ (e : Entry). e.client == client) log
+
+-- in the entries after a log each client's submissions are numbered on from there, one by one
+abbrev pub are_in_turn : List Entry → List Entry → Bool
+are_in_turn log [] = true
+are_in_turn log (e ∷ es) = (e.number == count_of e.client log + 1) && are_in_turn (log ++ e ∷ []) es
+
 -- each request came of commands that its transaction performed over the maps of the log, below its version; no
--- submission stands twice
+-- submission stands twice, and each client's are numbered 1, 2, 3 and so on
 pub record IsWellFormedLog (config : Config) (log : List Entry) : Type 0 where
   pub submitted :
       AreSubmitted (log_map config log) (version_of config log) config.start (submissions_of config log)
       (requests_of log)
   pub once : is_once log ≡ true
+  pub in_turn : are_in_turn [] log ≡ true
   pub versions : version_of config log < 2 ^ 64
 
 -- Private: no submission in the log has a number above its client's last
@@ -135,6 +145,10 @@ pub record HasEarlier (log : List Entry) (e : Entry) : Type 0 where
 pub record AreGiven (last : List ℕ) (log : List Entry) : Type 0 where
   pub stands :
       (client number : ℕ) → 0 < number → number ≤ slice_index last client → has_submission client number log ≡ true
+
+-- Private: each client's last number is how many submissions of it the log has
+pub record AreCounted (last : List ℕ) (log : List Entry) : Type 0 where
+  pub counts : (client : ℕ) → slice_index last client ≡ count_of client log
 
 -- no version is left after the log, or no number for the entry: its client's last one is the last that there is, and
 -- the log has it

@@ -10,6 +10,7 @@ use Rattle.runtime.specs.declared.published.Step.{Step}
 use Rattle.runtime.specs.declared.published.View.{View}
 use Rattle.runtime.specs.LogConfigs.{no_config}
 use Rattle.runtime.specs.Logs.{log_tier, logged_next}
+use Rattle.runtime.specs.Submissions.{Recent, outcomes_of, version_next, with_outcome}
 use Rattle.runtime.specs.History.{Name, Prefix, database_name, log_prefix, submitted_entry}
 
 -- Private: a name in the place of one that isn't known yet
@@ -36,11 +37,12 @@ newly_given v = record { named = v.named; prefix = log_prefix v.prefix.name [] }
 abbrev pub IsLater : Prefix → Prefix → Type 0
 IsLater old new = (new.name ≡ old.name) × IsPrefix old.log new.log
 
--- Private: the servers have pulled just the published log
+-- Private: the servers have pulled just the published log, and the outcomes are those of its entries
 abbrev pub IsFold : Published → Type 0
-IsFold x = x.tier ≡ log_tier x.prefix.name.config x.prefix.log
+IsFold x =
+    (x.tier ≡ log_tier x.prefix.name.config x.prefix.log) × (x.recent ≡ outcomes_of x.prefix.name.config x.prefix.log)
 
--- Private: the servers have pulled just the log, which begins with each log that a thread saw last
+-- Private: both are of just the log, which begins with each log that a thread saw last
 abbrev pub Kept : Published → List View → Type 0
 Kept x views =
     IsFold x
@@ -50,11 +52,13 @@ Kept x views =
 abbrev pub Sees : View → Published → Published → View → Type 0
 Sees v x y w = (w ≡ has_seen y.prefix) × IsFold y × (v.named ≡ true → IsLater v.prefix y.prefix)
 
--- Private: the step leads from a log to the next: it has the entry's mutations where that is committed, and else none
+-- Private: the step leads from a log to the next: it has the entry's mutations and its version where that is committed,
+-- and else none, and 0
 abbrev pub Leads : Name → List Entry → Step → Type 0
 Leads name log step =
     (step.prefix ≡ log_prefix name (log ++ submitted_entry step.submitted ∷ []))
     × (step.mutations ≡ logged_next name.config log step.submitted.request.value)
+    × (step.version ≡ version_next name.config log step.submitted.request.value)
 
 -- Private: the steps after a log lead on from it, one after another
 abbrev pub LeadOn : Name → List Entry → List Step → Type 0
@@ -65,9 +69,9 @@ LeadOn name log (step ∷ steps) = Leads name log step × LeadOn name (log ++ su
 abbrev pub entries_of : List Step → List Entry
 entries_of steps = map (λ step. submitted_entry step.submitted) steps
 
--- Private: the servers and the log after a step
-abbrev pub applied : TierState × Prefix → Step → TierState × Prefix
-applied s step = (absorb_all step.mutations s.0, step.prefix)
+-- Private: the servers, the outcomes and the log after a step
+abbrev pub applied : TierState × Recent × Prefix → Step → TierState × Recent × Prefix
+applied s step = (absorb_all step.mutations s.0, with_outcome s.1 step.submitted.client step.version, step.prefix)
 
 -- Private: the writer's side: the log that readers take, and the entries that they don't see yet
 pub record PublisherView : Type 0 where

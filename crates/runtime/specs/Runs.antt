@@ -64,13 +64,13 @@ is_too_old commands.TooOld = true
 is_too_old (Refused refusal) = is_old refusal
 is_too_old error = false
 
--- another attempt may come to more
-abbrev pub may_follow : CommitError → Bool
-may_follow (Conflict seen range) = true
-may_follow TooOld = true
-may_follow VersionsExhausted = false
-may_follow Unknown = false
-may_follow Memory = false
+-- another attempt may come to more: after `Unknown` it does no harm only where the writes may be made twice
+abbrev pub may_follow : Bool → CommitError → Bool
+may_follow repeatable (Conflict seen range) = true
+may_follow repeatable TooOld = true
+may_follow repeatable VersionsExhausted = false
+may_follow repeatable Unknown = repeatable
+may_follow repeatable Memory = false
 
 -- Private: how an attempt failed that its body gave up
 abbrev pub failure_by : CommandError → Failure
@@ -81,7 +81,7 @@ abbrev pub ended_by : CommitError → Ended
 ended_by (Conflict seen range) = ends.Conflict
 ended_by TooOld = ends.TooOld
 ended_by VersionsExhausted = ends.Other
-ended_by Unknown = ends.Other
+ended_by Unknown = ends.Unknown
 ended_by Memory = ends.Other
 
 module _ {B A : Type 0} (did : B → Knowledge → Result A CommandError → Knowledge → B → Type 0) where
@@ -93,11 +93,13 @@ module _ {B A : Type 0} (did : B → Knowledge → Result A CommandError → Kno
   abbrev pub TriesAndEnds : B × Knowledge → A → Result Done CommitError → B × Knowledge → Type 0
   TriesAndEnds old answer result new = (mid : Knowledge) × Tries old (Ok answer) (new.0, mid) × Ends mid result new.1
 
-  -- an attempt that another one may follow: it read too long ago, or was refused with a conflict
-  abbrev pub AttemptFails : B × Knowledge → B × Knowledge → Type 0
-  AttemptFails old new =
+  -- an attempt that another one may follow: it read too long ago, or was refused with a conflict, or where its writes
+  -- may be made twice it isn't known what became of it
+  abbrev pub AttemptFails : Bool → B × Knowledge → B × Knowledge → Type 0
+  AttemptFails repeatable old new =
       ((error : CommandError) × (is_too_old error ≡ true) × Tries old (Err error) new)
-      ⊎ ((answer : A) × ((error : CommitError) × (may_follow error ≡ true) × TriesAndEnds old answer (Err error) new))
+      ⊎ ((answer : A)
+      × ((error : CommitError) × (may_follow repeatable error ≡ true) × TriesAndEnds old answer (Err error) new))
 
   -- the transaction wasn't begun, or its body gave it up for another reason
   abbrev pub IsRefusal : B × Knowledge → CommandError → B × Knowledge → Type 0
@@ -105,32 +107,37 @@ module _ {B A : Type 0} (did : B → Knowledge → Result A CommandError → Kno
       ((error ≡ commands.NotEntered) × (new ≡ old))
       ⊎ ((is_too_old error ≡ false) × Tries old (Err error) new)
 
-  -- the commit was refused for another reason
-  abbrev pub Stops : B × Knowledge → B × Knowledge → Type 0
-  Stops old new =
-      (answer : A) × ((error : CommitError) × (may_follow error ≡ false) × TriesAndEnds old answer (Err error) new)
+  -- the commit ended so that no other attempt follows
+  abbrev pub Stops : Bool → B × Knowledge → B × Knowledge → Type 0
+  Stops repeatable old new =
+      (answer : A)
+      × ((error : CommitError) × (may_follow repeatable error ≡ false) × TriesAndEnds old answer (Err error) new)
+
+  -- Private: it isn't known what became of the commit
+  abbrev pub LosesReply : B × Knowledge → B × Knowledge → Type 0
+  LosesReply old new = (answer : A) × TriesAndEnds old answer (Err Unknown) new
 
   -- Private: how an attempt failed
   abbrev pub FailsSo : B × Knowledge → Failure → B × Knowledge → Type 0
   FailsSo old (failures.Refused error) new = IsRefusal old error new
-  FailsSo old (failures.Ended ends.Conflict) new = AttemptFails old new
-  FailsSo old (failures.Ended ends.TooOld) new = AttemptFails old new
-  FailsSo old (failures.Ended ends.Other) new = Stops old new
+  FailsSo old (failures.Ended ends.Conflict) new = AttemptFails false old new
+  FailsSo old (failures.Ended ends.TooOld) new = AttemptFails false old new
+  FailsSo old (failures.Ended ends.Unknown) new = LosesReply old new
+  FailsSo old (failures.Ended ends.Other) new = Stops true old new
   FailsSo old (failures.Ended ends.Committed) new = ⊥
   FailsSo old (failures.Ended ends.ReadOnly) new = ⊥
   FailsSo old (failures.Ended ends.FutureVersion) new = ⊥
-  FailsSo old (failures.Ended ends.Unknown) new = ⊥
 
   -- what a run comes to, of at most so many attempts, and one at least. It answers what the body did in the very
   -- transaction that ended so; before it were only attempts that another one may follow
-  abbrev pub IsRun : ℕ → B × Knowledge → Result (A × Done) RunError → B × Knowledge → Type 0
-  IsRun limit old (Ok both) new =
-      (before : ℕ) × (before < max 1 limit) × ((mid : B × Knowledge) × InTurn AttemptFails before old mid
+  abbrev pub IsRun : Bool → ℕ → B × Knowledge → Result (A × Done) RunError → B × Knowledge → Type 0
+  IsRun repeatable limit old (Ok both) new =
+      (before : ℕ) × (before < max 1 limit) × ((mid : B × Knowledge) × InTurn (AttemptFails repeatable) before old mid
       × TriesAndEnds mid both.0 (Ok both.1) new)
-  IsRun limit old (Err (runs.Refused error)) new =
-      (before : ℕ) × (before < max 1 limit) × ((mid : B × Knowledge) × InTurn AttemptFails before old mid
+  IsRun repeatable limit old (Err (runs.Refused error)) new =
+      (before : ℕ) × (before < max 1 limit) × ((mid : B × Knowledge) × InTurn (AttemptFails repeatable) before old mid
       × IsRefusal mid error new)
-  IsRun limit old (Err runs.GaveUp) new =
-      InTurn AttemptFails (max 1 limit) old new
+  IsRun repeatable limit old (Err runs.GaveUp) new =
+      InTurn (AttemptFails repeatable) (max 1 limit) old new
       ⊎ ((before : ℕ) × (before < max 1 limit)
-      × ((mid : B × Knowledge) × InTurn AttemptFails before old mid × Stops mid new))
+      × ((mid : B × Knowledge) × InTurn (AttemptFails repeatable) before old mid × Stops repeatable mid new))

@@ -1,9 +1,11 @@
 -- What a worker that builds an index does: rounds, one after another, and how the last one ended.
-use Rattle.std.specs.Prelude.{◌≡◌, ◌⊎◌, ℕ, ◌+◌, ◌<◌, ◌≤◌, ◌^◌, List, Option, Some, None, Result, Ok, Err}
+use Rattle.std.specs.Prelude.{◌≡◌, ◌⊎◌, ℕ, ◌+◌, ◌<◌, ◌≤◌, ◌^◌, List, Option, Some, None, Result, Ok, Err, false}
 use Rattle.kv_core.specs.Range.{KeyRange}
 use Rattle.schedule.specs.declared.step.Command.{Command}
 use Rattle.schedule.specs.declared.step.Command.TheVariants.{Build, Readable}
 use Rattle.schedule.specs.declared.reply.Reply.{Reply}
+use Rattle.txn.specs.declared.retry.Ended.{Ended}
+use Rattle.txn.specs.declared.retry.Ended.TheVariants as ends
 use Rattle.runtime.specs.declared.answers.CommandError.{CommandError}
 use Rattle.runtime.specs.declared.answers.CommandError.TheVariants.{Memory}
 use Rattle.runtime.specs.declared.answers.Done.{Done}
@@ -52,6 +54,12 @@ pub record Works {G : Type 0} (passed : G → GatePoint → G → Type 0) (old :
 
 -- ---- round after round
 
+-- Private: another round may come to more after an attempt that ended so, or none does
+abbrev pub after_round : Ended → Result (Option Round) RunError
+after_round ends.Conflict = Ok None
+after_round ends.TooOld = Ok None
+after_round ended = Err GaveUp
+
 module _ {B : Type 0} (did : B → Knowledge → Result Round CommandError → Knowledge → B → Type 0) where
   -- a round came to this, and its transaction is committed
   abbrev pub CommitsRound : B × Knowledge → Round → B × Knowledge → Type 0
@@ -59,14 +67,14 @@ module _ {B : Type 0} (did : B → Knowledge → Result Round CommandError → K
 
   -- Private: a round came to nothing, and another one may come to more; or it came to this
   abbrev pub EndsRound : B × Knowledge → Option Round → B × Knowledge → Type 0
-  EndsRound old None new = AttemptFails did old new
+  EndsRound old None new = AttemptFails did false old new
   EndsRound old (Some round) new = CommitsRound old round new
 
   -- one round more, with what was built before it and after: it comes to nothing, and another one may come to more; or
   -- it built so many records
   abbrev pub TakesRound : (B × Knowledge) × Totals → (B × Knowledge) × Totals → Type 0
   TakesRound old new =
-      (AttemptFails did old.0 new.0 × (new.1 ≡ old.1))
+      (AttemptFails did false old.0 new.0 × (new.1 ≡ old.1))
       ⊎ ((records : ℕ) × CommitsRound old.0 (Built records) new.0
       × (new.1.records ≡ old.1.records + records) × (new.1.steps ≡ old.1.steps + 1))
 
@@ -77,7 +85,7 @@ module _ {B : Type 0} (did : B → Knowledge → Result Round CommandError → K
   -- Private: the last round was refused, or its commit was, for another reason than its age or a conflict
   abbrev pub EndsWork : B × Knowledge → RunError → B × Knowledge → Type 0
   EndsWork old (Refused error) new = IsRefusal did old error new
-  EndsWork old GaveUp new = Stops did old new
+  EndsWork old GaveUp new = Stops did false old new
 
   -- a round built so many records, for which the numbers don't suffice
   abbrev pub Overflows : B × Knowledge → Totals → B × Knowledge → Type 0
@@ -96,4 +104,4 @@ module _ {B : Type 0} (did : B → Knowledge → Result Round CommandError → K
   IsWork limit old (Err GaveUp) new =
       ((totals : Totals) × HasTaken limit old new totals)
       ⊎ ((before : ℕ) × (before < limit) × ((mid : B × Knowledge) × ((totals : Totals) × HasTaken before old mid totals
-      × (Stops did mid new ⊎ Overflows mid totals new))))
+      × (Stops did false mid new ⊎ Overflows mid totals new))))

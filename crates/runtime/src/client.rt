@@ -12,6 +12,7 @@ ghost use Rattle.runtime.specs.Commits.{Answers, IsLogOf, commit_answer, unshown
 ghost use Rattle.runtime.specs.Logs.{IsWellFormedLog, attempts_of};
 ghost use Rattle.runtime.specs.Serves.{IsAnswer, IsUnanswered};
 ghost use Rattle.runtime.specs.Publication.{knows};
+ghost use Rattle.runtime.specs.Submissions.{told_status};
 
 use crate::answers::{CommitError, Done, Seen};
 use crate::commit_lock::{CommitLock, LockKey};
@@ -20,7 +21,8 @@ use crate::log_prefix::LogPrefix;
 use crate::open_transaction::OpenTransaction;
 use crate::outcome::Outcome;
 use crate::publication::StateReader;
-use crate::published_reads::{EnterError, look, perform_at};
+use crate::published_reads::{EnterError, look, look_up, perform_at};
+use crate::submission_status::SubmissionStatus;
 use schedule::{Command, Reply};
 use std::alloc::Global;
 use std::marker::Model;
@@ -40,7 +42,7 @@ pub struct Client<E: End> {
 }
 
 impl<E: End> Model for Client<E> {
-    ghost use Rattle.std.specs.Prelude.{◌≡◌, [], Some};
+    ghost use Rattle.std.specs.Prelude.{◌≡◌, ◌<◌, [], Some};
     ghost use Rattle.std.specs.Arc.{arc_value};
     ghost use Rattle.left_right.specs.Sides.{view as knowledge};
     ghost use Rattle.runtime.specs.Clients.{Knowledge, knows_that, IsBegun, HasReader, Remembers};
@@ -61,7 +63,8 @@ impl<E: End> Model for Client<E> {
         × HasReader (λ r. Remembers c.me (knowledge r.place)) c.reader
         × IsBegun c.me c.begun
         × (c.key.me.0.client ≡ Some c.number)
-        × (c.key.me.0.last ≡ c.last) };
+        × (c.key.me.0.last ≡ c.last)
+        × (c.number < c.me.name.config.places) };
 }
 
 impl<E: End> Client<E> {
@@ -78,6 +81,7 @@ impl<E: End> Client<E> {
             × (key.me.0.about.value.state.name ≡ me.name) × (key.me.0.client ≡ Some number)
             × (key.me.0.last ≡ 0) }
         requires reader { knowledge reader.place ≡ knows me.name }
+        requires number { number < me.name.config.places }
         ensures { result ≡ knows_that me.name me.log number 0 None }
     {
         Client {
@@ -92,14 +96,49 @@ impl<E: End> Client<E> {
         }
     }
 
-    /// The last number of the client's submissions, 0 before the first one.
-    pub fn last_number(&self) -> u64
+    /// How many submissions of the client were given a number: the last number, 0 before the first
+    /// one. It takes no memory.
+    pub fn submissions(&self) -> u64
         ensures number { result ≡ self.now.last }
         ensures well_formed { IsWellFormedLog self.now.name.config self.now.log }
     {
         let last = self.last;
         self.me.len();
         last
+    }
+
+    /// What became of the client's submission of this number, by the published log, which is the
+    /// client's from now on. It waits for nobody.
+    ///
+    /// A number that was given is `Committed` or `Refused` where that log has its entry, and else
+    /// `Pending`; it is `Forgotten` where the log has `KEPT_OUTCOMES` or more of the client's after
+    /// it. Any other number is `NotSubmitted`.
+    pub fn outcome(&mut self, number: u64) -> Result<SubmissionStatus, EnterError>
+        ensures outcome { IfOk result (λ status. status
+            ≡ told_status self.new.name.config self.new.log self.old.number self.old.last number) }
+        ensures log { IsPrefix self.old.log self.new.log }
+        ensures same { self.new
+            ≡ knows_that self.old.name self.new.log self.old.number self.old.last self.old.begun }
+        ensures why { IfErr result (λ error. error ≡ EnterError.NotEntered) }
+        ensures refused { OnErr result (self.new ≡ self.old) }
+    {
+        if number == 0 || self.last < number {
+            return Ok(SubmissionStatus::NotSubmitted);
+        }
+        let Some(reader) = self.reader.take() else {
+            unreachable!()
+        };
+        let (reader, found) = look_up(reader, self.number, number);
+        self.reader = Some(reader);
+        let Some((prefix, status)) = found else {
+            return Err(EnterError::NotEntered);
+        };
+        if self.me.begins(&prefix) {
+            self.me = prefix;
+            Ok(status)
+        } else {
+            Err(EnterError::NotEntered)
+        }
     }
 
     /// The longest log that the client has entered or learnt.

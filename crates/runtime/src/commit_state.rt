@@ -12,7 +12,7 @@ ghost use Rattle.runtime.specs.Logs.{AreGiven, HasEarlier, IsOpenOver, cause_nex
 ghost use Rattle.runtime.specs.Outcomes.{GivesNext, next_entry};
 ghost use Rattle.runtime.specs.Publication.{knows};
 
-use crate::in_flight::{Due, InFlight, logged, report};
+use crate::in_flight::{Due, InFlight, decided, report};
 use crate::log_entry::{RequestView, Submitted};
 use crate::log_prefix::{LogHead, LogPrefix};
 use crate::outcome::Outcome;
@@ -47,7 +47,7 @@ pub struct CommitState {
 impl Model for CommitState {
     ghost use Rattle.std.specs.Prelude.{◌≡◌, ◌++◌, true};
     ghost use Rattle.runtime.specs.History.{log_prefix};
-    ghost use Rattle.runtime.specs.Logs.{AreGiven, is_numbered};
+    ghost use Rattle.runtime.specs.Logs.{AreCounted, AreGiven, is_numbered};
     ghost use Rattle.runtime.specs.CommitStates.{CommitView, commit_view, due_of, IsInFlight};
     ghost use Rattle.std.specs.Coded.{codes};
     ghost use Rattle.runtime.specs.contracts.log_entry.Entry as entries;
@@ -69,6 +69,8 @@ impl Model for CommitState {
         × (is_numbered h.last.items
         (due_of h.in_flight (h.publisher.published ++ h.publisher.pending)) ≡ true)
         × AreGiven h.last.items
+        (due_of h.in_flight (h.publisher.published ++ h.publisher.pending))
+        × AreCounted h.last.items
         (due_of h.in_flight (h.publisher.published ++ h.publisher.pending)) };
 }
 
@@ -93,7 +95,7 @@ impl CommitState {
         ensures { self.new ≡ self.old }
     {
         match replace(&mut self.in_flight, InFlight::Idle) {
-            InFlight::Decided(due) => {
+            InFlight::Decided(due, version) => {
                 let mut prefix = self.prefix.again();
                 if prefix.len() < MOST && prefix.add(&self.head, &due.submitted) {
                     let Due {
@@ -103,10 +105,11 @@ impl CommitState {
                     self.in_flight = InFlight::Added(Step {
                         submitted,
                         mutations,
+                        version,
                         prefix,
                     });
                 } else {
-                    self.in_flight = InFlight::Decided(due);
+                    self.in_flight = InFlight::Decided(due, version);
                 }
             }
             other => self.in_flight = other,
@@ -220,20 +223,19 @@ impl CommitState {
         }
         let number = self.next_number(client)?;
         let mutations = request.mutations.copy()?;
-        let submitted = Submitted {
-            client,
-            number,
-            request: RequestView::of(&request),
-            trace,
+        let due = Due {
+            submitted: Submitted {
+                client,
+                number,
+                request: RequestView::of(&request),
+                trace,
+            },
+            mutations,
         };
         prove!(self.prefix.len() <= u64::MAX);
         match self.pipeline.commit(request) {
             Ok(reported) => {
-                let mutations = logged(self.alloc, &reported, mutations);
-                self.in_flight = InFlight::Decided(Due {
-                    submitted,
-                    mutations,
-                });
+                self.in_flight = decided(self.alloc, &reported, due);
                 self.last[client as usize] = number;
                 Ok(reported)
             }
@@ -242,10 +244,7 @@ impl CommitState {
             Err(Held::Submit(SubmitError::Memory)) => Err(Outcome::Memory),
             Err(Held::Behind(_)) => unreachable!(),
             Err(Held::Unknown) => {
-                self.in_flight = InFlight::Unreported(Due {
-                    submitted,
-                    mutations,
-                });
+                self.in_flight = InFlight::Unreported(due);
                 self.last[client as usize] = number;
                 Err(Outcome::Unknown)
             }

@@ -1,6 +1,6 @@
 // How a running database is opened. Called by `race`, `embed_threads`,
 // `thread_trials` and `bench_threads`.
-ghost use Rattle.std.specs.Prelude.{◌≡◌, ℕ, ◌+◌, ◌⊎◌, [], None, Some, slice_index};
+ghost use Rattle.std.specs.Prelude.{◌≡◌, ℕ, ◌+◌, ◌<◌, ◌≤◌, ◌⊎◌, [], None, Some, slice_index};
 ghost use Rattle.std.specs.Prelude.{IfOk, IfErr, IfSome, IsNone, OnOk};
 ghost use Rattle.std.specs.Arc.{arc_value};
 ghost use Rattle.left_right.specs.Sides.{view as knowledge};
@@ -49,6 +49,7 @@ fn another<E: End, R: Wait>(
         × (key.old.me.0.about.value.state.name ≡ prefix.now.name) × (key.old.me.0.client ≡ None)
         × (key.old.me.0.next ≡ number) }
     requires prefix { prefix.now.log ≡ [] }
+    requires number { number < prefix.now.name.config.places }
     ensures key { OnOk result ((key.new.table_id ≡ key.old.table_id) × (key.new.me.1 ≡ [])
         × (key.new.me.0.about ≡ key.old.me.0.about) × (key.new.me.0.client ≡ None)
         × (key.new.me.0.next ≡ number + 1)) }
@@ -81,7 +82,8 @@ fn clients<E: End, R: Wait>(
     state: CommitState,
     places: usize,
 ) -> Result<Vec<Client<E>>, OpenError>
-    requires { (state.published ≡ []) × ((client : ℕ) → slice_index state.last client ≡ 0) }
+    requires state { (state.published ≡ []) × ((client : ℕ) → slice_index state.last client ≡ 0) }
+    requires places { places ≤ state.name.config.places }
     ensures clients { IfOk result (λ clients. clients.items ≡ fresh_clients state.name places) }
     ensures refused { IfErr result (λ error.
         (error ≡ OpenError.NoPlace) ⊎ (error ≡ OpenError.Memory)) }

@@ -1,8 +1,7 @@
 // How far the last submission has come on its way from the pipeline to the published log. Used by
 // `commit_state`.
-ghost use Rattle.std.specs.Prelude.{◌≡◌, List, [], ◌∷◌, ◌++◌, if◌then◌else◌};
-ghost use Rattle.schedule.specs.Standing.{is_told};
-ghost use Rattle.runtime.specs.CommitStates.{IsInFlight, due_of};
+ghost use Rattle.std.specs.Prelude.{◌≡◌, List, [], ◌∷◌, ◌++◌};
+ghost use Rattle.runtime.specs.CommitStates.{IsInFlight, decided_due, due_of};
 ghost use Rattle.txn.specs.Finishing.{IsUnfinished};
 ghost use Rattle.runtime.specs.History.{Name, submitted_entry};
 ghost use Rattle.runtime.specs.declared.log_entry.Entry.{Entry};
@@ -29,19 +28,31 @@ pub enum InFlight {
     Idle,
     /// A submission that some roles have handled and that isn't reported.
     Unreported(Due),
-    /// A submission that is reported and isn't in the history yet.
-    Decided(Due),
+    /// A submission that is reported, with its version, 0 where it is refused. It isn't in the
+    /// history yet.
+    Decided(Due, u64),
     /// A submission that is in the history and that the writer doesn't have yet.
     Added(Step),
 }
 
-/// What the logs have of a request of which this was reported.
-pub(crate) fn logged(alloc: Global, reported: &Reported, mutations: Mutations) -> Mutations
-    ensures { result ≡ (if is_told reported.now then mutations else []) }
+/// A submission of which this was reported: it keeps its mutations where it is committed.
+pub(crate) fn decided(alloc: Global, reported: &Reported, due: Due) -> InFlight
+    ensures { result ≡ decided_due reported.now due }
 {
     match reported {
-        Reported::Committed(_) => mutations,
-        _ => Mutations::new(Vec::new(alloc)),
+        Reported::Committed(version) => InFlight::Decided(due, *version),
+        _ => {
+            let Due {
+                submitted,
+                mutations: _,
+            } = due;
+            let mutations = Mutations::new(Vec::new(alloc));
+            let due = Due {
+                submitted,
+                mutations,
+            };
+            InFlight::Decided(due, 0)
+        }
     }
 }
 
@@ -55,17 +66,7 @@ pub(crate) fn report(alloc: Global, pipeline: &mut Pipeline, due: Due) -> InFlig
         IsInFlight name log pipeline.new result }
 {
     match finish(pipeline) {
-        Ok(reported) => {
-            let Due {
-                submitted,
-                mutations,
-            } = due;
-            let mutations = logged(alloc, &reported, mutations);
-            InFlight::Decided(Due {
-                submitted,
-                mutations,
-            })
-        }
+        Ok(reported) => decided(alloc, &reported, due),
         Err(_) => InFlight::Unreported(due),
     }
 }

@@ -4,6 +4,7 @@ ghost use Rattle.runtime.specs.Builds.{IsBuilt};
 ghost use Rattle.runtime.specs.Calls.{marked_reply, part_reply};
 ghost use Rattle.runtime.specs.Runs.{GoesOnFrom};
 ghost use Rattle.runtime.specs.Works.{Asks, EndsRound, EndsWork, IsWork, Performs, Works};
+ghost use Rattle.runtime.specs.Works.{after_round};
 
 use crate::answers::{CommandError, RunError};
 use crate::client::Client;
@@ -133,6 +134,16 @@ impl<E: End, G: Gate> Body<E> for Worker<G> {
     }
 }
 
+/// What follows a round that ended so: another one, or none.
+fn round_after(ended: Ended) -> Result<Option<Round>, RunError>
+    ensures { result ≡ after_round ended }
+{
+    match ended {
+        Ended::Conflict | Ended::TooOld => Ok(None),
+        _ => Err(RunError::GaveUp),
+    }
+}
+
 /// One round. It answers what it came to, or None where another one may come to more.
 fn take_round<E: End, R: Wait, G: Gate>(
     rt: &R,
@@ -148,8 +159,7 @@ fn take_round<E: End, R: Wait, G: Gate>(
     match attempt(rt, client, worker) {
         Ok((round, _)) => Ok(Some(round)),
         Err(Failure::Refused(error)) => Err(RunError::Refused(error)),
-        Err(Failure::Ended(Ended::Conflict | Ended::TooOld)) => Ok(None),
-        Err(Failure::Ended(_)) => Err(RunError::GaveUp),
+        Err(Failure::Ended(ended)) => round_after(ended),
     }
 }
 
@@ -181,7 +191,7 @@ pub fn build_worker<E: End, R: Wait, G: Gate>(
     };
     for round in 0..rounds {
         let ended = take_round(rt, client, &mut worker)?;
-        prove!(client.last_number() <= u64::MAX);
+        prove!(client.submissions() <= u64::MAX);
         let Some(ended) = ended else {
             continue;
         };

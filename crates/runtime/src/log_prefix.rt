@@ -5,7 +5,7 @@ ghost use Rattle.std.specs.Prelude.{MatchBool};
 ghost use Rattle.std.specs.Bool.{OnTrue, OnFalse};
 ghost use mathlib.Core.List.{IsPrefix};
 ghost use Rattle.runtime.specs.Logs.{HoldsEach, IsHeadlineOf, IsSerialLog, IsServedLog};
-ghost use Rattle.runtime.specs.Logs.{IsWellFormedLog, history_of, is_once};
+ghost use Rattle.runtime.specs.Logs.{IsWellFormedLog, are_in_turn, history_of, is_once};
 ghost use Rattle.runtime.specs.Logs.{version_of};
 ghost use Rattle.cluster_core.specs.History.{IsLegal};
 ghost use Rattle.runtime.specs.History.{log_prefix, submitted_entry};
@@ -162,9 +162,10 @@ impl LogPrefix {
 
     /// What is promised of each log: its history is legal, the map at each version holds what
     /// the accepted commands of the committed entries up to there give, version order is a serial
-    /// order, each accepted command has its reply at its transaction's read version, and no
-    /// submission stands twice. So the headline holds: its planned queries are
-    /// answered rightly, and its readable indexes are exact at each version.
+    /// order, each accepted command has its reply at its transaction's read version, no submission
+    /// stands twice, and each client's submissions are numbered 1, 2, 3 and so on. So the headline
+    /// holds: its planned queries are answered rightly, and its readable indexes are exact at each
+    /// version.
     #[tactic(auto, using(crate::proofs::Serving::legal_of))]
     pub fn promises(&self)
         ensures legal { IsLegal (history_of self.now.name.config self.now.log) }
@@ -172,6 +173,7 @@ impl LogPrefix {
         ensures serial { IsSerialLog self.now.name.config self.now.log }
         ensures served { IsServedLog self.now.name.config self.now.log }
         ensures once { is_once self.now.log ≡ true }
+        ensures in_turn { are_in_turn [] self.now.log ≡ true }
         ensures headline { IsHeadlineOf self.now.name.config self.now.log }
     {
         self.len();

@@ -2,6 +2,7 @@
 // Used by `publisher`, `commit_state`, `db`, `client` and `published_reads`.
 use crate::log_prefix::LogPrefix;
 use crate::published::{Published, Step, View};
+use crate::recent_outcomes::RecentOutcomes;
 use atomic_table::{Join, Split};
 use cluster_core::Tier;
 use crossbeam_utils::rule::{Outcome, Protocol};
@@ -10,8 +11,8 @@ use left_right::reader::{Reader, Reading};
 use left_right::writer::Writer;
 use std::alloc::AllocError;
 
-/// The rule: the servers have pulled just the log, and it begins with each log that a thread has
-/// seen.
+/// The rule: the servers have pulled just the log, the outcomes are those of its entries, and it
+/// begins with each log that a thread has seen.
 pub struct PublishedRule;
 
 impl Protocol<Published, View> for PublishedRule {
@@ -53,17 +54,19 @@ impl Join<View> for Tell {
 impl Absorb<Step> for Published {
     ghost use Rattle.runtime.specs.Publication.{applied};
 
-    type State = (Tier, LogPrefix);
+    type State = (Tier, RecentOutcomes, LogPrefix);
 
-    ghost state = { λ s. (s.tier, s.prefix) };
+    ghost state = { λ s. (s.tier, s.recent, s.prefix) };
 
     ghost applied = { applied };
 
     fn absorb_first(&mut self, operation: &Step, _other: &Published) -> Result<(), AllocError> {
-        if !self.tier.has_next() {
+        let client = operation.submitted.client;
+        if !self.tier.has_next() || !self.recent.has_next(client) {
             return Err(AllocError);
         }
         self.tier.pull_entry(operation.mutations.as_slice())?;
+        self.recent.add(client, operation.version);
         self.prefix = operation.prefix.again();
         Ok(())
     }

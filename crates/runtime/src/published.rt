@@ -6,22 +6,27 @@ ghost use Rattle.runtime.specs.Publication.{IsFold};
 
 use crate::log_entry::Submitted;
 use crate::log_prefix::LogPrefix;
+use crate::recent_outcomes::RecentOutcomes;
 use cluster_core::{Config, ConfigError, Tier};
 use kv_core::Mutations;
 use std::alloc::Global;
 
-/// What readers enter: the servers, with the log that they have pulled.
+/// What readers enter: the servers and the outcomes of each client's last submissions, with the log
+/// that they have pulled.
 #[derive(Drop)]
 pub struct Published {
     pub tier: Tier,
+    pub recent: RecentOutcomes,
     pub prefix: LogPrefix,
 }
 
-/// One operation: a submission's entry, what the logs have of it, and the log that ends with it.
+/// One operation: a submission's entry, what the logs have of it, its version, 0 where it is
+/// refused, and the log that ends with it.
 #[derive(Drop)]
 pub struct Step {
     pub submitted: Submitted,
     pub mutations: Mutations,
+    pub version: u64,
     pub prefix: LogPrefix,
 }
 
@@ -40,7 +45,12 @@ impl Published {
             (error ≡ ConfigError.Memory) ⊎ (config_refusal config.now ≡ Some error)) }
     {
         let tier = Tier::new(alloc, config)?;
+        let recent = RecentOutcomes::new(alloc, config.places as usize)?;
         let prefix = prefix.again();
-        Ok(Published { tier, prefix })
+        Ok(Published {
+            tier,
+            recent,
+            prefix,
+        })
     }
 }

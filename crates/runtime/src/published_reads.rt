@@ -1,15 +1,17 @@
 // Reads of the published state, without locks. Called by `client`.
-ghost use Rattle.std.specs.Prelude.{◌≡◌, ◌⊎◌, ◌++◌, ◌∷◌, [], true, Err, IfOk, IfErr, MatchOption};
-ghost use Rattle.std.specs.Prelude.{MatchResult};
+ghost use Rattle.std.specs.Prelude.{◌≡◌, ◌⊎◌, ◌<◌, ◌≤◌, ◌++◌, ◌∷◌, [], true, Err, IfOk, IfErr};
+ghost use Rattle.std.specs.Prelude.{MatchOption, MatchResult};
 ghost use mathlib.Core.List.{IsPrefix};
 ghost use Rattle.left_right.specs.Sides.{view as knowledge};
 ghost use Rattle.runtime.specs.Logs.{IsOpenOver, version_of};
 ghost use Rattle.runtime.specs.Serves.{IsAnswer, IsUnanswered};
 ghost use Rattle.runtime.specs.Publication.{IsFold, IsLater, has_seen};
+ghost use Rattle.runtime.specs.Submissions.{recent_outcome};
 
 use crate::log_prefix::LogPrefix;
 use crate::publication::{See, StateReader, StateReading};
 use crate::published::Published;
+use crate::submission_status::SubmissionStatus;
 use crate::trace::Trace;
 use schedule::{Command, Reply, perform};
 use std::alloc::{AllocError, Global};
@@ -69,6 +71,45 @@ pub fn look(reader: StateReader) -> (StateReader, Option<LogPrefix>)
         }
         Err(reader) => (reader, None),
     }
+}
+
+/// What became of a client's submission of this number, and the log that tells it, which is
+/// published; and the reader again. None where the state wasn't entered.
+///
+/// It waits for nobody.
+pub(crate) fn look_up(
+    reader: StateReader,
+    client: u64,
+    number: u64,
+) -> (StateReader, Option<(LogPrefix, SubmissionStatus)>)
+    requires reader { (knowledge reader.place).named ≡ true }
+    requires client { client < (knowledge reader.place).prefix.name.config.places }
+    requires number { 1 ≤ number }
+    ensures { MatchOption result.1 (knowledge result.0.place ≡ knowledge reader.place)
+        (λ found. IsLater (knowledge reader.place).prefix found.0
+        × (knowledge result.0.place ≡ has_seen found.0)
+        × (found.1 ≡ recent_outcome found.0.name.config found.0.log client number)) }
+{
+    match enter(reader) {
+        Ok(reading) => {
+            let found = status_there(reading.get(), client, number);
+            (reading.leave(), Some(found))
+        }
+        Err(reader) => (reader, None),
+    }
+}
+
+/// What became of a client's submission of this number, by the published log, which it gives too.
+fn status_there(state: &Published, client: u64, number: u64) -> (LogPrefix, SubmissionStatus)
+    requires state { IsFold state.now }
+    requires client { client < state.now.prefix.name.config.places }
+    requires number { 1 ≤ number }
+    ensures prefix { result.0 ≡ state.now.prefix }
+    ensures status { result.1
+        ≡ recent_outcome state.now.prefix.name.config state.now.prefix.log client number }
+{
+    prove!(state.prefix.len() <= u64::MAX);
+    (state.prefix.again(), state.recent.status(client, number))
 }
 
 /// Performs a command over the servers, where these have pulled a log that begins with the

@@ -51,15 +51,15 @@ fn failure_of(error: CommandError) -> Failure
     }
 }
 
-/// How an attempt ended that wasn't committed. What became of one that is told as `Unknown` can't
-/// be asked, so no other one follows it.
+/// How an attempt ended that wasn't committed, as far as is known.
 fn ended_of(error: &CommitError) -> Ended
     ensures { result ≡ ended_by error.now }
 {
     match error {
         CommitError::Conflict { .. } => Ended::Conflict,
         CommitError::TooOld => Ended::TooOld,
-        CommitError::VersionsExhausted | CommitError::Unknown | CommitError::Memory => Ended::Other,
+        CommitError::Unknown => Ended::Unknown,
+        CommitError::VersionsExhausted | CommitError::Memory => Ended::Other,
     }
 }
 
@@ -103,7 +103,8 @@ pub(crate) fn attempt<E: End, R: Wait, B: Body<E>>(
 impl<E: End> Client<E> {
     /// Runs the body in a transaction and commits it, until it is committed, or changed nothing.
     /// Another attempt follows one that read too long ago or was refused with a conflict, up to the
-    /// limit of `retry`.
+    /// limit of `retry`; where the writes are repeatable, also one of which it isn't known whether
+    /// it is committed.
     pub fn run<R: Wait, B: Body<E>>(
         &mut self,
         rt: &R,
@@ -112,7 +113,8 @@ impl<E: End> Client<E> {
         body: &mut B,
     ) -> Result<(B::Answer, Done), RunError>
         ensures follows { GoesOnFrom self.old self.new }
-        ensures run { IsRun B.did retry.limit (body.old, self.old) result (body.new, self.new) }
+        ensures run { IsRun B.did repeatable retry.limit (body.old, self.old) result
+            (body.new, self.new) }
     {
         let mut number = 1u64;
         loop {

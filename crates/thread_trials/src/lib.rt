@@ -4,6 +4,8 @@
 #[cfg(test)]
 mod again;
 #[cfg(test)]
+mod asking;
+#[cfg(test)]
 mod beside;
 #[cfg(test)]
 mod in_turn;

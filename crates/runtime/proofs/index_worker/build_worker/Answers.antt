@@ -30,7 +30,7 @@ loop-round-preserved-in_default g c =
     let round : IsWorkerRound c.args.index None c.loop-round.client c.take_round.new.client = round_failed g.G.Gate.passed c.loop-round.worker c.take_round.new.worker c.loop-round.client c.take_round.new.client fails in (
       follows_trans i.0 c.in_ok-ended.ensures.follows,
       index_failed g.G.Gate.passed c.loop-round.worker c.take_round.new.worker c.loop-round.client c.take_round.new.client fails ∙ i.1,
-      nothing_next c.args.index c.args.client.now c.loop-round.client c.take_round.new.client c.loop-round.built.steps c.loop-round.built.records i.0 c.in_ok-ended.ensures.follows c.last_number.ensures.well_formed.once i.2 round,
+      nothing_next c.args.index c.args.client.now c.loop-round.client c.take_round.new.client c.loop-round.built.steps c.loop-round.built.records i.0 c.in_ok-ended.ensures.follows c.submissions.ensures.well_formed.once i.2 round,
       taken_more (Works g.G.Gate.passed) c.loop-round.round (record { index = c.args.index; limit = c.args.limit; gate = c.args.gate }, c.args.client.now) (c.loop-round.worker, c.loop-round.client) (c.take_round.new.worker, c.take_round.new.client) c.loop-round.built c.loop-round.built i.3 (inl (fails, refl)),
     )
 
@@ -39,9 +39,9 @@ returns-in_default-ended-clause-built g c =
     let i = c.loop-round.invariant in
     let commits : EndsRound (Works g.G.Gate.passed) (c.loop-round.worker, c.loop-round.client) (Some Marked) (c.take_round.new.worker, c.take_round.new.client) = subst (λ (o : Option Round). EndsRound (Works g.G.Gate.passed) (c.loop-round.worker, c.loop-round.client) o (c.take_round.new.worker, c.take_round.new.client)) (c.in-Some.is ∙ ap (λ (r : Round). Some r) c.in_default-ended.is) c.in_ok-ended.ensures.round in
     let marks : IsWorkerRound c.args.index (Some Marked) c.loop-round.client c.take_round.new.client = rw (← i.1) (round_committed g.G.Gate.passed c.loop-round.worker c.take_round.new.worker Marked c.loop-round.client c.take_round.new.client commits) in
-    let counted : Counted c.args.index c.args.client.now c.take_round.new.client c.loop-round.built.steps c.loop-round.built.records = counted_marked c.args.index c.args.client.now c.loop-round.client c.take_round.new.client c.loop-round.built.steps c.loop-round.built.records i.0 c.in_ok-ended.ensures.follows c.last_number.ensures.well_formed.once i.2 marks in
+    let counted : Counted c.args.index c.args.client.now c.take_round.new.client c.loop-round.built.steps c.loop-round.built.records = counted_marked c.args.index c.args.client.now c.loop-round.client c.take_round.new.client c.loop-round.built.steps c.loop-round.built.records i.0 c.in_ok-ended.ensures.follows c.submissions.ensures.well_formed.once i.2 marks in
     record {
-      marked = marked_next c.args.index c.args.client.now c.loop-round.client c.take_round.new.client c.loop-round.built.steps c.loop-round.built.records i.0 c.in_ok-ended.ensures.follows c.last_number.ensures.well_formed.once i.2 marks;
+      marked = marked_next c.args.index c.args.client.now c.loop-round.client c.take_round.new.client c.loop-round.built.steps c.loop-round.built.records i.0 c.in_ok-ended.ensures.follows c.submissions.ensures.well_formed.once i.2 marks;
       steps = counted.steps;
       records = counted.records;
     }
@@ -66,7 +66,7 @@ loop-round-preserved g c =
     let round : IsWorkerRound c.args.index (Some (Built c.in-Built.more)) c.loop-round.client c.take_round.new.client = rw (← i.1) (round_committed g.G.Gate.passed c.loop-round.worker c.take_round.new.worker (Built c.in-Built.more) c.loop-round.client c.take_round.new.client commits) in (
       follows_trans i.0 c.in_ok-ended.ensures.follows,
       index_committed g.G.Gate.passed c.loop-round.worker c.take_round.new.worker (Built c.in-Built.more) c.loop-round.client c.take_round.new.client commits ∙ i.1,
-      counted_by c.args.index c.in-Built.more c.args.client.now c.loop-round.client c.take_round.new.client c.loop-round.built.steps c.loop-round.built.records c.in-Some-with.more_built.steps c.in-Some-with.more_built.records i.0 c.in_ok-ended.ensures.follows c.last_number.ensures.well_formed.once i.2 round sums.1 sums.0,
+      counted_by c.args.index c.in-Built.more c.args.client.now c.loop-round.client c.take_round.new.client c.loop-round.built.steps c.loop-round.built.records c.in-Some-with.more_built.steps c.in-Some-with.more_built.records i.0 c.in_ok-ended.ensures.follows c.submissions.ensures.well_formed.once i.2 round sums.1 sums.0,
       taken_more (Works g.G.Gate.passed) c.loop-round.round (record { index = c.args.index; limit = c.args.limit; gate = c.args.gate }, c.args.client.now) (c.loop-round.worker, c.loop-round.client) (c.take_round.new.worker, c.take_round.new.client) c.loop-round.built c.in-Some-with.more_built i.3 (inr (c.in-Built.more, commits, sums.0, sums.1)),
     )
 

@@ -31,7 +31,7 @@ module _ (c : goal.After-then) where
   near = subst (λ (v : ℕ). version_of config ys - v ≤ config.window) (sym c.requires.at) (subst (λ (n : Name). version_of n.config ys - version_of config log ≤ config.window) c.requires.state.1 (c.if-not-is_near.ensures.0 refl))
 
   tier : c.args.state.now.tier ≡ log_tier config ys
-  tier = c.requires.state.0 ∙ ap (λ (n : Name). log_tier n.config ys) c.requires.state.1
+  tier = c.requires.state.0.0 ∙ ap (λ (n : Name). log_tier n.config ys) c.requires.state.1
 
   performed : IsPerformed (whole_map (log_tier config ys)) (λ range. MayRefuse (log_tier config ys) range c.args.tx.now.read_version) c.args.command.now c.in-Ok.reply c.args.tx.now c.perform.new.tx
   performed = subst (λ (t : TierState). IsPerformed (whole_map t) (λ range. MayRefuse t range c.args.tx.now.read_version) c.args.command.now c.in-Ok.reply c.args.tx.now c.perform.new.tx) tier c.in-Ok.ensures.performed
@@ -52,7 +52,7 @@ returns-in-Err-clause-over c =
     let ys : List Entry = c.args.state.now.prefix.log in
     let at : c.args.tx.now.read_version ≡ version_of config log = c.requires.at in
     let near : version_of config ys - c.args.tx.now.read_version ≤ config.window = subst (λ (v : ℕ). version_of config ys - v ≤ config.window) (sym at) (subst (λ (n : Name). version_of n.config ys - version_of config log ≤ config.window) c.requires.state.1 (c.if-not-is_near.ensures.0 refl)) in
-    let tier : c.args.state.now.tier ≡ log_tier config ys = c.requires.state.0 ∙ ap (λ (n : Name). log_tier n.config ys) c.requires.state.1 in
+    let tier : c.args.state.now.tier ≡ log_tier config ys = c.requires.state.0.0 ∙ ap (λ (n : Name). log_tier n.config ys) c.requires.state.1 in
     let is : IsCommandStopped (whole_map (log_tier config ys)) c.args.command.now c.args.tx.now c.perform.new.tx = subst (λ (t : TierState). IsCommandStopped (whole_map t) c.args.command.now c.args.tx.now c.perform.new.tx) tier c.in-Err.ensures.stopped in
     subst (λ (done : List Performed). IsOpenOver config log c.perform.new.tx done) (sym c.then-in-Err.ensures)
     (stops_right config log ys c.args.tx.now c.perform.new.tx c.args.trace.now.attempts c.args.command.now c.if-not-begins.ensures c.requires.over (omega (arith, at)) near is).0

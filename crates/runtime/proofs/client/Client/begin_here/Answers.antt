@@ -1,9 +1,9 @@
-use Rattle.std.proofs.Common.{refl, ◌≡◌, ◌∙◌, sym, ap, append-nil, subst, Some, []}
+use Rattle.std.proofs.Common.{refl, ◌≡◌, ◌<◌, ◌∙◌, sym, ap, append-nil, subst, Some, []}
 use Rattle.std.specs.Prelude.{MatchOption}
 use Rattle.left_right.specs.Sides.{view as knowledge}
 use Rattle.runtime.specs.declared.open_transaction.OpenTransaction.{OpenTransaction}
 use Rattle.runtime.specs.Clients.{HasReader, IsBegun, Remembers}
-use Rattle.runtime.specs.History.{Prefix}
+use Rattle.runtime.specs.History.{Name, Prefix}
 use Rattle.runtime.specs.Logs.{IsOpenOver, version_of}
 use Rattle.runtime.specs.Publication.{IsLater, has_seen}
 use Rattle.runtime.proofs.Moves.{later_self}
@@ -28,4 +28,5 @@ invariant_of-self-2 g c =
     subst (λ r. Remembers r (knowledge c.look-reader.result.0.place)) (sym is) (subst (Remembers c.in-Some-seen.prefix) (sym found.1) (refl, later_self c.in-Some-seen.prefix)) in
     let begun : IsBegun c.again.result (Some c.new.result) =
     subst (λ r. IsBegun r (Some c.new.result)) (sym is) (begun_over c.in-Some-seen.prefix c.new.result c.new.ensures.prefix c.new.ensures.over c.new.ensures.at) in
-    (c.self.invariant.0, c.self.invariant.1, c.self.invariant.2 ∙ sym name, reader, begun, c.self.invariant.5, c.self.invariant.6)
+    let place : c.self.inside.number < c.again.result.name.config.places = subst (λ (n : Name). c.self.inside.number < n.config.places) (sym name) c.self.invariant.7 in
+    (c.self.invariant.0, c.self.invariant.1, c.self.invariant.2 ∙ sym name, reader, begun, c.self.invariant.5, c.self.invariant.6, place)

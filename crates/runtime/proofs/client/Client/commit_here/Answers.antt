@@ -1,9 +1,9 @@
-use Rattle.std.proofs.Common.{rules, ℕ, ◌+◌, ◌≡◌, ◌∙◌, refl, sym, ap, append-nil, subst, Option, Some, [], true≢false}
+use Rattle.std.proofs.Common.{rules, ℕ, ◌+◌, ◌<◌, ◌≡◌, ◌∙◌, refl, sym, ap, append-nil, subst, Option, Some, [], true≢false}
 use Rattle.std.specs.Prelude.{IfSome}
 use mathlib.Core.List.{IsPrefix}
 use Rattle.kv_core.specs.declared.change.CommitRequest.{CommitRequest}
 use Rattle.runtime.specs.declared.open_transaction.OpenTransaction.{OpenTransaction}
-use Rattle.runtime.specs.History.{Prefix}
+use Rattle.runtime.specs.History.{Name, Prefix}
 use Rattle.left_right.specs.Sides.{view as knowledge}
 use Rattle.runtime.specs.Clients.{HasReader, IsBegun, Knowledge, Remembers, knows_that}
 use Rattle.runtime.specs.declared.outcome.Outcome.{Outcome}
@@ -18,7 +18,8 @@ pub invariant_of-self-2 : goal.invariant_of-self-2
 invariant_of-self-2 g c =
     let i = c.self.invariant in
     let reader : HasReader (λ r. Remembers c.learnt.result (knowledge r.place)) c.self.inside.reader = reader_later (λ r. knowledge r.place) c.self.inside.me c.learnt.result c.self.inside.reader c.learnt.ensures.name c.learnt.ensures.log i.3 in
-    search (reader, rules)
+    let place : c.self.inside.number < c.learnt.result.name.config.places = subst (λ (n : Name). c.self.inside.number < n.config.places) (sym c.learnt.ensures.name) i.7 in
+    search (reader, place, rules)
 
 pub returns-clause-answer : goal.returns-clause-answer
 returns-clause-answer g c w is =

@@ -1,10 +1,10 @@
-use Rattle.std.proofs.Common.{◌≡◌, ◌⊎◌, inl, inr, ◌∙◌, sym, ap, subst, Some, refl}
+use Rattle.std.proofs.Common.{◌≡◌, ◌<◌, ◌⊎◌, inl, inr, ◌∙◌, sym, ap, subst, Some, refl}
 use mathlib.Core.List.{IsPrefix}
 use Rattle.std.specs.Prelude.{IfErr}
 use Rattle.runtime.specs.declared.open_transaction.OpenTransaction.{OpenTransaction}
 use Rattle.runtime.specs.declared.published.View.{View}
 use Rattle.runtime.specs.Clients.{IsBegun, IsSameTransaction, HasReader, Knowledge, Remembers}
-use Rattle.runtime.specs.History.{Prefix}
+use Rattle.runtime.specs.History.{Name, Prefix}
 use Rattle.runtime.specs.Publication.{has_seen}
 use Rattle.left_right.specs.Sides.{view as knowledge}
 use Rattle.runtime.specs.Serves.{IsUnanswered}
@@ -33,6 +33,7 @@ invariant_of-self-2 g c =
       begun_on c.self.inside.me c.longer.result c.in-Some.open_tx after over name c.longer.ensures.this refl c.perform_at-reader.ensures.over c.perform_at-reader.ensures.version,
       i.5,
       i.6,
+      subst (λ (n : Name). c.self.inside.number < n.config.places) (sym name) i.7,
     )
 
 pub returns-clause-refused : goal.returns-clause-refused

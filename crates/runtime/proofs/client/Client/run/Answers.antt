@@ -15,14 +15,14 @@ returns-in-Err-Refused-clause-run g c =
 pub loop-both-preserved : goal.loop-both-preserved
 loop-both-preserved g c =
     let may = c.next.ensures.again.0 c.in-Again.is in
-    let fails : AttemptFails g.B.Body.did (c.loop-both.body, c.loop-both.self) (c.attempt.new.body, c.attempt.new.client) = fails_of g.B.Body.did (c.loop-both.body, c.loop-both.self) (c.attempt.new.body, c.attempt.new.client) c.in-Err-Ended.ended c.args.repeatable may.1 (subst (λ (f : Failure). FailsSo g.B.Body.did (c.loop-both.body, c.loop-both.self) f (c.attempt.new.body, c.attempt.new.client)) c.in-Err-Ended.field-0-is c.in-Err-Ended.ensures.failed) in
-    let turns : InTurn (AttemptFails g.B.Body.did) c.loop-both.number (c.args.body.now, c.args.self.now) (c.attempt.new.body, c.attempt.new.client) = one_more g.B.Body.did c.loop-both.number (c.args.body.now, c.args.self.now) (c.loop-both.body, c.loop-both.self) (c.attempt.new.body, c.attempt.new.client) c.loop-both.invariant.1 c.loop-both.invariant.3 fails in
+    let fails : AttemptFails g.B.Body.did c.args.repeatable (c.loop-both.body, c.loop-both.self) (c.attempt.new.body, c.attempt.new.client) = fails_of g.B.Body.did (c.loop-both.body, c.loop-both.self) (c.attempt.new.body, c.attempt.new.client) c.in-Err-Ended.ended c.args.repeatable may.1 (subst (λ (f : Failure). FailsSo g.B.Body.did (c.loop-both.body, c.loop-both.self) f (c.attempt.new.body, c.attempt.new.client)) c.in-Err-Ended.field-0-is c.in-Err-Ended.ensures.failed) in
+    let turns : InTurn (AttemptFails g.B.Body.did c.args.repeatable) c.loop-both.number (c.args.body.now, c.args.self.now) (c.attempt.new.body, c.attempt.new.client) = one_more g.B.Body.did c.args.repeatable c.loop-both.number (c.args.body.now, c.args.self.now) (c.loop-both.body, c.loop-both.self) (c.attempt.new.body, c.attempt.new.client) c.loop-both.invariant.1 c.loop-both.invariant.3 fails in
     let same : c.loop-both.number + 1 - 1 ≡ c.loop-both.number = omega arith in
     let below = may.0 in (
       follows_trans c.loop-both.invariant.0 c.attempt.ensures.follows,
       omega arith,
       omega (arith, may.0),
-      subst (λ (n : ℕ). InTurn (AttemptFails g.B.Body.did) n (c.args.body.now, c.args.self.now) (c.attempt.new.body, c.attempt.new.client)) (sym same) turns,
+      subst (λ (n : ℕ). InTurn (AttemptFails g.B.Body.did c.args.repeatable) n (c.args.body.now, c.args.self.now) (c.attempt.new.body, c.attempt.new.client)) (sym same) turns,
     )
 
 pub returns-in_default : goal.returns-in_default

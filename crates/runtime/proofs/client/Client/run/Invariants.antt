@@ -6,7 +6,7 @@ abbrev pub invariant-loop-both : goal.invariant-loop-both
 invariant-loop-both g l =
     GoesOnFrom l.initial.self l.self
     × (1 ≤ l.number) × (l.number ≤ max 1 l.retry.limit)
-    × InTurn (AttemptFails g.B.Body.did) (l.number - 1) (l.initial.body, l.initial.self) (l.body, l.self)
+    × InTurn (AttemptFails g.B.Body.did l.repeatable) (l.number - 1) (l.initial.body, l.initial.self) (l.body, l.self)
 
 abbrev pub decreases-loop-both : goal.decreases-loop-both
 decreases-loop-both g l = l.retry.limit - l.number

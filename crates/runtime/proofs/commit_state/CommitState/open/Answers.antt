@@ -1,7 +1,7 @@
 use Rattle.std.proofs.Common.{◌≡◌, ◌++◌, [], sym, ap, ◌∙◌, subst, rules}
 use Rattle.runtime.specs.History.{log_prefix}
-use Rattle.runtime.specs.Logs.{AreGiven, pipeline_of, is_numbered}
-use Rattle.runtime.proofs.Numbers.{given_first}
+use Rattle.runtime.specs.Logs.{AreCounted, AreGiven, pipeline_of, is_numbered}
+use Rattle.runtime.proofs.Numbers.{counted_none, given_first}
 use Rattle.runtime.specs.Publication.{PublisherView}
 use Rattle.runtime.proofs.WellFormed.{pipeline_first}
 use Rattle.runtime.proofs.Places.{places_counted}
@@ -19,4 +19,5 @@ invariant_of-result g c =
       c.in_ok-pipeline.ensures.made ∙ sym (pipeline_first c.args.config.now) ∙ sym (ap (λ (s : PublisherView). pipeline_of s.name.config (s.published ++ s.pending)) e),
       ap (is_numbered c.in_ok-last.last.items) log,
       subst (AreGiven c.in_ok-last.last.items) (sym log) (given_first c.in_ok-last.last.items c.args.config.now.places (search rules)),
+      subst (AreCounted c.in_ok-last.last.items) (sym log) (counted_none c.in_ok-last.last.items c.args.config.now.places (search rules)),
     )

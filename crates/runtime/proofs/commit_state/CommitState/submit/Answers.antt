@@ -1,20 +1,19 @@
 use Rattle.std.proofs.Common.{◌≡◌, ℕ, ◌+◌, ◌<◌, arith, true, List, [], ◌∷◌, ◌++◌, length, sym, ap, ◌∙◌, refl, subst}
-use Rattle.std.specs.Prelude.{slice_index}
+use Rattle.std.specs.Prelude.{slice_index, slice_set}
 use mathlib.Core.List.{IsPrefix}
 use Rattle.cluster_core.specs.Cluster.{without_servers}
 use Rattle.cluster_core.specs.Roles.{told}
 use Rattle.kv_core.specs.declared.change.CommitRequest.{CommitRequest}
-use Rattle.schedule.specs.Standing.{is_told}
 use Rattle.txn.specs.Holds.{HeldError}
 use Rattle.txn.specs.declared.commit.HoldError.{HoldError}
-use Rattle.std.specs.Prelude.{if◌then◌else◌}
 use Rattle.runtime.specs.declared.log_entry.Entry.{Entry}
-use Rattle.runtime.specs.History.{Name, Prefix}
-use Rattle.runtime.specs.Logs.{AreGiven, IsWellFormedLog, IsOpenOver, is_numbered, pipeline_of, cause_next, version_of}
+use Rattle.runtime.specs.declared.in_flight.Due.{Due}
+use Rattle.runtime.specs.History.{Name, Prefix, submitted_entry}
+use Rattle.runtime.specs.Logs.{AreCounted, AreGiven, IsWellFormedLog, IsOpenOver, count_of, is_numbered, pipeline_of, cause_next, version_of}
 use Rattle.runtime.specs.CommitStates.{CommitView, IsInFlight, due_of}
 use Rattle.runtime.specs.Outcomes.{entry, next_entry}
-use Rattle.runtime.proofs.Numbers.{given_next}
-use Rattle.runtime.proofs.Reporting.{taken_next, commit_next, held_next}
+use Rattle.runtime.proofs.Numbers.{counted_next, given_next}
+use Rattle.runtime.proofs.Reporting.{commit_next, due_decided, held_next, taken_next}
 use Rattle.runtime.proofs.commit_state.CommitState.submit.Goals as goal
 
 pub invariant_of-self : goal.invariant_of-self
@@ -26,16 +25,26 @@ invariant_of-self c =
     let old : c.self.inside.pipeline ≡ pipeline_of n.config log = subst (IsInFlight n log c.self.inside.pipeline) c.in-Idle.is i.2 in
     let num : is_numbered last log ≡ true = subst (λ f. is_numbered last (due_of f log) ≡ true) c.in-Idle.is i.3 in
     let are : AreGiven last log = subst (λ f. AreGiven last (due_of f log)) c.in-Idle.is i.4 in
+    let counted : AreCounted last log = subst (λ f. AreCounted last (due_of f log)) c.in-Idle.is i.5 in
     let law : IsWellFormedLog n.config log = subst (λ (r : Prefix). IsWellFormedLog r.name.config r.log) i.1 c.len.ensures.well_formed in
     let begins : IsPrefix c.args.prefix.now.log log = subst (λ (r : Prefix). IsPrefix c.args.prefix.now.log r.log) i.1 c.if-not-begins.ensures in
     let over : IsOpenOver n.config c.args.prefix.now.log c.args.request c.args.trace.attempts = subst (λ (h : CommitView). IsOpenOver h.name.config c.args.prefix.now.log c.args.request c.args.trace.attempts) (sym c.self.view_is) c.requires.open in
     let some = subst (λ (h : CommitView). (c.in_ok-number.number ≡ slice_index h.last c.args.client + 1) × (c.args.client < length h.last)) (sym c.self.view_is) (c.in_ok-number.ensures.next, c.in_ok-number.ensures.client) in
     let next : c.in_ok-number.number ≡ slice_index last c.args.client + 1 = some.0 in
     let above : slice_index last c.args.client < c.in_ok-number.number = omega (arith, next) in
-    let t = taken_next n last log c.args.prefix.now.log c.args.client c.in_ok-number.number c.args.request c.of.result.value c.args.trace c.self.inside.pipeline c.commit.new.self c.in-Ok.reported c.logged-mutations.result
-    law begins over c.of.ensures num some.1 above old c.in-Ok.ensures.handled c.in-Ok.ensures.decided c.in-Ok.ensures.allowed
-    (c.logged-mutations.ensures ∙ ap (λ ms. if is_told c.in-Ok.reported then ms else []) c.in_ok-mutations.ensures) in
-    (i.0, i.1, t.0, t.1, given_next last c.args.client c.in_ok-number.number log (entry c.args.client c.in_ok-number.number c.of.result.value c.args.trace) some.1 refl refl next are)
+    let turn : c.in_ok-number.number ≡ count_of c.args.client log + 1 = next ∙ ap (λ (n : ℕ). n + 1) (counted.counts c.args.client) in
+    let due : Due = record { submitted = record { client = c.args.client; number = c.in_ok-number.number; request = c.of.result; trace = c.args.trace }; mutations = c.in_ok-mutations.mutations } in
+    let e : Entry = submitted_entry due.submitted in
+    let t = taken_next n last log c.args.prefix.now.log due c.args.request c.self.inside.pipeline c.commit.new.self c.in-Ok.reported
+    law begins over c.of.ensures num some.1 above turn old c.in-Ok.ensures.handled c.in-Ok.ensures.decided c.in-Ok.ensures.allowed c.in_ok-mutations.ensures in
+    let at : due_of c.decided.result log ≡ log ++ e ∷ [] = ap (λ f. due_of f log) c.decided.ensures ∙ due_decided c.in-Ok.reported due log in (
+      i.0,
+      i.1,
+      subst (IsInFlight n log c.commit.new.self) (sym c.decided.ensures) t.0,
+      subst (λ (l : List Entry). is_numbered (slice_set last c.args.client c.in_ok-number.number) l ≡ true) (sym at) t.1,
+      subst (AreGiven (slice_set last c.args.client c.in_ok-number.number)) (sym at) (given_next last c.args.client c.in_ok-number.number log e some.1 refl refl next are),
+      subst (AreCounted (slice_set last c.args.client c.in_ok-number.number)) (sym at) (counted_next last c.args.client c.in_ok-number.number log e some.1 refl next counted),
+    )
 
 pub invariant_of-self-in-Err-Unknown : goal.invariant_of-self-in-Err-Unknown
 invariant_of-self-in-Err-Unknown c =
@@ -46,16 +55,20 @@ invariant_of-self-in-Err-Unknown c =
     let old : c.self.inside.pipeline ≡ pipeline_of n.config log = subst (IsInFlight n log c.self.inside.pipeline) c.in-Idle.is i.2 in
     let num : is_numbered last log ≡ true = subst (λ f. is_numbered last (due_of f log) ≡ true) c.in-Idle.is i.3 in
     let are : AreGiven last log = subst (λ f. AreGiven last (due_of f log)) c.in-Idle.is i.4 in
+    let counted : AreCounted last log = subst (λ f. AreCounted last (due_of f log)) c.in-Idle.is i.5 in
     let law : IsWellFormedLog n.config log = subst (λ (r : Prefix). IsWellFormedLog r.name.config r.log) i.1 c.len.ensures.well_formed in
     let begins : IsPrefix c.args.prefix.now.log log = subst (λ (r : Prefix). IsPrefix c.args.prefix.now.log r.log) i.1 c.if-not-begins.ensures in
     let over : IsOpenOver n.config c.args.prefix.now.log c.args.request c.args.trace.attempts = subst (λ (h : CommitView). IsOpenOver h.name.config c.args.prefix.now.log c.args.request c.args.trace.attempts) (sym c.self.view_is) c.requires.open in
     let some = subst (λ (h : CommitView). (c.in_ok-number.number ≡ slice_index h.last c.args.client + 1) × (c.args.client < length h.last)) (sym c.self.view_is) (c.in_ok-number.ensures.next, c.in_ok-number.ensures.client) in
     let next : c.in_ok-number.number ≡ slice_index last c.args.client + 1 = some.0 in
     let above : slice_index last c.args.client < c.in_ok-number.number = omega (arith, next) in
+    let turn : c.in_ok-number.number ≡ count_of c.args.client log + 1 = next ∙ ap (λ (n : ℕ). n + 1) (counted.counts c.args.client) in
+    let due : Due = record { submitted = record { client = c.args.client; number = c.in_ok-number.number; request = c.of.result; trace = c.args.trace }; mutations = c.in_ok-mutations.mutations } in
+    let e : Entry = submitted_entry due.submitted in
     let held = subst (λ (e : HoldError). HeldError e c.args.request (without_servers c.self.inside.pipeline) (without_servers c.commit.new.self)) c.in-Err-Unknown.field-0-is c.in-Err-Unknown.ensures.refused in
-    let t = held_next n last log c.args.prefix.now.log c.args.client c.in_ok-number.number c.args.request c.of.result.value c.args.trace c.self.inside.pipeline c.commit.new.self c.in_ok-mutations.mutations
-    law begins over c.of.ensures num some.1 above old held c.in_ok-mutations.ensures in
-    (i.0, i.1, t.0, t.1, given_next last c.args.client c.in_ok-number.number log (entry c.args.client c.in_ok-number.number c.of.result.value c.args.trace) some.1 refl refl next are)
+    let t = held_next n last log c.args.prefix.now.log due c.args.request c.self.inside.pipeline c.commit.new.self
+    law begins over c.of.ensures num some.1 above turn old held c.in_ok-mutations.ensures in
+    (i.0, i.1, t.0, t.1, given_next last c.args.client c.in_ok-number.number log e some.1 refl refl next are, counted_next last c.args.client c.in_ok-number.number log e some.1 refl next counted)
 
 pub returns-in-Ok-clause-told : goal.returns-in-Ok-clause-told
 returns-in-Ok-clause-told c =
@@ -76,6 +89,8 @@ returns-in-Ok-clause-taken c =
     let due = log ++ entry c.args.client c.in_ok-number.number c.of.result.value c.args.trace ∷ [] in
     let made : due ≡ log ++ entry c.args.client c.in_ok-number.number c.args.request c.args.trace ∷ [] = ap (λ (r : CommitRequest). log ++ entry c.args.client c.in_ok-number.number r c.args.trace ∷ []) c.of.ensures in
     let next : due ≡ log ++ next_entry c.args.self.now.last c.args.client c.args.request c.args.trace ∷ [] = made ∙ ap (λ (number : ℕ). log ++ entry c.args.client number c.args.request c.args.trace ∷ []) c.in_ok-number.ensures.next in
+    let given : Due = record { submitted = record { client = c.args.client; number = c.in_ok-number.number; request = c.of.result; trace = c.args.trace }; mutations = c.in_ok-mutations.mutations } in
+    let at : due_of c.decided.result log ≡ due = ap (λ f. due_of f log) c.decided.ensures ∙ due_decided c.in-Ok.reported given log in
     subst
-    (λ (h : CommitView). (n ≡ h.name) × (c.self.inside.publisher.published ≡ h.published) × ((log ≡ h.due) × (due ≡ h.due ++ next_entry c.args.self.now.last c.args.client c.args.request c.args.trace ∷ []))) c.self.view_is
-    (refl, refl, (sym none, next ∙ ap (λ (l : List Entry). l ++ next_entry c.args.self.now.last c.args.client c.args.request c.args.trace ∷ []) (sym none)))
+    (λ (h : CommitView). (n ≡ h.name) × (c.self.inside.publisher.published ≡ h.published) × ((log ≡ h.due) × (due_of c.decided.result log ≡ h.due ++ next_entry c.args.self.now.last c.args.client c.args.request c.args.trace ∷ []))) c.self.view_is
+    (refl, refl, (sym none, at ∙ next ∙ ap (λ (l : List Entry). l ++ next_entry c.args.self.now.last c.args.client c.args.request c.args.trace ∷ []) (sym none)))

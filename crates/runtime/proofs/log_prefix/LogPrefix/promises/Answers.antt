@@ -12,3 +12,6 @@ returns-clause-served c = served_of _ _ c.len.ensures.well_formed
 
 pub returns-clause-headline : goal.returns-clause-headline
 returns-clause-headline c = headline_of _ _ c.len.ensures.well_formed
+
+pub returns-clause-in_turn : goal.returns-clause-in_turn
+returns-clause-in_turn c = c.len.ensures.well_formed.in_turn
