@@ -1,3 +1,4 @@
 pub mod Committed
 pub mod Moving
 pub mod Resting
+pub mod Rounds

@@ -14,8 +14,8 @@ use Rattle.schedule.proofs.Turning.{performed_did}
 use Rattle.txn.proofs.Running.{ran_keeps}
 use Rattle.std.specs.List.{AllByRecursion}
 use Rattle.drive.specs.declared.wanted.Want.{Want}
-use Rattle.drive.specs.Driving.{ArePerformed, AreWithin, HasWhole, IsHostAnswered, IsHostAsked, IsNeeded, IsUncovered, attempts_at, resumed}
-use Rattle.drive.proofs.Resting.{needed_whole}
+use Rattle.drive.specs.Driving.{ArePerformed, IsHostAnswered, IsHostAsked, attempts_at, resumed}
+use Rattle.drive.specs.Wanted.{AreWithin, HasFrom, IsLeftOfOne, IsUncovered}
 
 -- a command over the given pairs is one over each database that agrees with them on what was read
 one_over : (pairs : Map) (maps : ℕ → Map) (command : Command) (reply : Reply) (old new : CommitRequest) → Agree new.reads pairs (maps old.read_version) → IsPerformed (λ version. pairs) (λ range error. ⊥) command reply old new → IsPerformed maps (λ range error. ⊥) command reply old new
@@ -108,19 +108,18 @@ host_answered_by version covered pairs pairs2 written commands commands2 replies
 -- what commands come to that read what isn't covered
 pub host_asked_by : (version : ℕ) (covered : List KeyRange) (pairs pairs2 : Map) (written : List Mutation) (commands commands2 : List Command) (replies : List Reply) (old new request : CommitRequest) (reads : List KeyRange) (wants : List Want) (first : KeyRange) →
     pairs2 ≡ pairs → commands2 ≡ commands → old ≡ resumed version written → request ≡ new → reads ≡ request.reads →
-    AllByRecursion (IsUncovered covered) wants → HasWhole wants first → IsNeeded covered reads first → ArePerformed (λ v. pairs2) commands2 replies old new → IsHostAsked version covered pairs written commands wants
-host_asked_by version covered pairs pairs2 written commands commands2 replies old new request reads wants first same_pairs same_commands same_old same_new same_reads all whole needed done =
+    AllByRecursion (IsUncovered covered) wants → HasFrom wants first → IsLeftOfOne covered reads first → ArePerformed (λ v. pairs2) commands2 replies old new → IsHostAsked version covered pairs written commands wants
+host_asked_by version covered pairs pairs2 written commands commands2 replies old new request reads wants first same_pairs same_commands same_old same_new same_reads all from left done =
     let done1 = subst (λ p. ArePerformed (λ v. p) commands2 replies old new) same_pairs done in
     let done2 = subst (λ cs. ArePerformed (λ v. pairs) cs replies old new) same_commands done1 in
     let done3 = subst (λ (o : CommitRequest). ArePerformed (λ v. pairs) commands replies o new) same_old done2 in
     let done4 = subst (λ (n : CommitRequest). ArePerformed (λ v. pairs) commands replies (resumed version written) n) (sym same_new) done3 in
-    let want : Want = whole.0 in
     record {
       wanted = all;
       replies = replies;
       request = request;
       performed = done4;
-      want = want;
-      among = whole.1;
-      needed = subst (λ rs. IsNeeded covered rs want.range) same_reads (needed_whole covered reads first want.range whole.2 needed);
+      want = from.0;
+      among = from.1;
+      needed = (first, subst (λ rs. IsLeftOfOne covered rs first) same_reads left, from.2);
     }

@@ -1,14 +1,16 @@
 -- What is left of a range beside the keys that are covered from one end on.
-use Rattle.std.proofs.Common.{◌≡◌, ℕ, ◌+◌, ◌<◌, List, [], ◌∷◌, ◌++◌, length, take, get_or, Bool, true, false, ◌&&◌, ◌||◌, inl, inr, Option, Some, None, refl, sym, ap, subst, ◌∙◌}
-use Rattle.std.specs.Prelude.{Contains, IsTrue, IfSome, IfNone}
+use Rattle.std.proofs.Common.{◌≡◌, ℕ, ◌+◌, ◌<◌, List, [], ◌∷◌, ◌++◌, length, take, get_or, Bool, true, false, ◌&&◌, ◌||◌, inl, inr, Option, Some, None, Result, Ok, Err, refl, sym, ap, subst, ◌∙◌, arith}
+use Rattle.std.specs.declared.alloc.AllocError.{AllocError}
+use Rattle.std.specs.Prelude.{Contains, IsTrue, IfOk, IfSome, IfNone, MatchBool}
 use Rattle.std.specs.List.{AllByRecursion, list_any}
 use Rattle.std.proofs.lemmas.Bool.{and_from, and_parts, or_cases, or_left, or_right, false≢true, true≢false}
 use Rattle.std.proofs.lemmas.List.{take_more}
+use Rattle.std.proofs.lemmas.List.Elements.{Contains-append_right}
 use Rattle.std.proofs.lemmas.List.Folds.{list_any-append}
 use Rattle.kv_core.specs.Bytes.{key_le, key_lt, end_of_keys}
 use Rattle.kv_core.specs.Range.{KeyRange, contains, covers, is_key_range}
-use Rattle.kv_core.proofs.Order.{le_from, le_from_lt, le_trans, lt_le_trans}
-use Rattle.drive.specs.Driving.{AreWithin, IsAllCovered, IsRemainder, IsNeeded, IsUncoveredFrom}
+use Rattle.kv_core.proofs.Order.{le_from, le_from_lt, le_refl, le_trans, lt_le_trans}
+use Rattle.drive.specs.Wanted.{AreWithin, HasFrom, IsAllCovered, IsLeftBetween, IsRemainder, IsUncoveredFrom, ReadsFrom}
 use Rattle.drive.specs.declared.wanted.Want.{Want}
 
 -- nothing is left where the keys from its begin on are covered up to its end
@@ -130,36 +132,49 @@ left_none covered range part first all key inside = elim (or_cases (contains par
   | inr there ↦ there
 ]
 
--- what is left of a range that was read is needed
-pub needed_of : (covered reads : List KeyRange) (read rest : KeyRange) → Contains reads read → IsRemainder covered read rest → IsUncoveredFrom covered true rest → IsNeeded covered reads rest
-needed_of covered reads read rest among left from = (
-  read,
-  among,
-  (λ all.
-      let found = from.1 rest.begin from.0 in
-      false≢true (sym found.3 ∙ all found.0 (left.within found.0 (and_from (key_le rest.begin found.0) (key_lt found.0 rest.end) found.1 found.2)))),
-  left.others,
-)
-
--- and so is what has all its keys
-pub needed_whole : (covered reads : List KeyRange) (rest want : KeyRange) → ((key : List ℕ) → IsTrue (contains rest key) → IsTrue (contains want key)) → IsNeeded covered reads rest → IsNeeded covered reads want
-needed_whole covered reads rest want has (read, among, open_still, others) = (
-  read,
-  among,
-  open_still,
-  λ key inside. elim (or_cases (contains rest key) (covers covered key) (others key inside)) [
-    | inl here ↦ or_left (contains want key) (covers covered key) (has key here)
-    | inr there ↦ or_right (contains want key) (covers covered key) there
-  ],
-)
-
--- a range that begins no later and ends no earlier has all keys
-pub larger_has : (range other : KeyRange) → key_le other.begin range.begin ≡ true → key_le range.end other.end ≡ true → (key : List ℕ) → IsTrue (contains range key) → IsTrue (contains other key)
-larger_has range other below above key inside =
-    let parts = and_parts (key_le range.begin key) (key_lt key range.end) inside in
-    and_from (key_le other.begin key) (key_lt key other.end) (le_trans other.begin range.begin key below parts.0) (lt_le_trans key range.end other.end parts.1 above)
-
 -- what is so of what is found is so of it
 pub when_some : (found : Option Want) (first : Want) (P : Want → Type 0) → IfSome found P → found ≡ Some first → P first
 when_some None first P is same = absurd (cc)
 when_some (Some other) first P is same = let found : other ≡ first = cc in subst P found is
+
+-- what is left between the first keys that are covered and the last ones
+pub left_between : (covered : List KeyRange) (range : KeyRange) (first : Option KeyRange) (part : KeyRange) (found : Result (Option KeyRange) AllocError) → first ≡ Some part → IfSome first (IsUncoveredFrom covered false) → IfSome first (IsRemainder covered range) →
+    IfOk found (λ rest. IfSome rest (IsUncoveredFrom covered true)) → IfOk found (λ rest. IfSome rest (IsRemainder covered part)) → IfOk found (λ rest. IfSome rest (λ one. one.begin ≡ part.begin)) → IfOk found (λ rest. IfSome rest (IsLeftBetween covered range))
+left_between covered range None part found is opens outer ends inner begin = absurd (cc)
+left_between covered range (Some other) part (Err error) is opens outer ends inner begin = tt
+left_between covered range (Some other) part (Ok None) is opens outer ends inner begin = tt
+left_between covered range (Some other) part (Ok (Some rest)) is opens outer ends inner begin =
+    let same : other ≡ part = cc in
+    let both = left_left covered range part rest (subst (IsRemainder covered range) same outer) inner in
+    record {
+      within = both.within;
+      begins = (ends.0, ap (covers covered) begin ∙ (subst (IsUncoveredFrom covered false) same opens).1);
+      ends = ends;
+      others = both.others;
+    }
+
+-- a range that has the end of a part and begins no later reads it first, back from there
+pub first_backward : (reverse test : Bool) (range part : KeyRange) → reverse ≡ true → range.end ≡ part.end → test ≡ key_le range.begin part.begin → MatchBool test (ReadsFrom reverse range part) (Unit {0})
+first_backward false test range part back same is = absurd (false≢true back)
+first_backward true false range part back same is = tt
+first_backward true true range part back same is = (same, sym is)
+
+-- and one that has its begin and ends no earlier does so from there on
+pub first_forward : (reverse test : Bool) (range part : KeyRange) → reverse ≡ false → range.begin ≡ part.begin → test ≡ key_le part.end range.end → MatchBool test (ReadsFrom reverse range part) (Unit {0})
+first_forward true test range part on same is = absurd (true≢false on)
+first_forward false false range part on same is = tt
+first_forward false true range part on same is = (same, sym is)
+
+-- what is added at the end reads its own range first
+pub pushed_first : (before after : List Want) (want : Want) → after ≡ before ++ want ∷ [] → HasFrom after want.range
+pushed_first before after want grown =
+    (want, subst (λ wants. Contains wants want) (sym grown) (Contains-append_right before (want ∷ []) want (0, omega arith, refl)), own want.reverse want.range)
+  where
+    own : (reverse : Bool) (range : KeyRange) → ReadsFrom reverse range range
+    own false range = (refl, le_refl range.end)
+    own true range = (refl, le_refl range.begin)
+
+-- what is found among these is among the same ones
+pub kept_first : (test : Bool) (wants same : List Want) (part : KeyRange) → test ≡ true → MatchBool test (HasFrom wants part) (Unit {0}) → same ≡ wants → HasFrom same part
+kept_first true wants same part found has is = subst (λ ws. HasFrom ws part) (sym is) has
+kept_first false wants same part found has is = absurd (false≢true found)

@@ -1,8 +1,7 @@
 -- What commands come to that a host has performed over what it read of a database of its own.
-use Rattle.std.specs.Prelude.{◌≡◌, ◌≤◌, ℕ, Bool, true, false, List, [], ◌∷◌, Contains, IsTrue}
+use Rattle.std.specs.Prelude.{◌≡◌, ℕ, List, [], ◌∷◌, Contains}
 use Rattle.std.specs.List.{AllByRecursion}
-use Rattle.kv_core.specs.Range.{KeyRange, contains, covers, has_keys}
-use Rattle.kv_core.specs.Coverage.{BeginsAt}
+use Rattle.kv_core.specs.Range.{KeyRange}
 use Rattle.kv_core.specs.Map.{Map, Agree}
 use Rattle.kv_core.specs.declared.change.CommitRequest.{CommitRequest}
 use Rattle.kv_core.specs.declared.change.Mutation.{Mutation}
@@ -11,6 +10,7 @@ use Rattle.schedule.specs.declared.reply.Reply.{Reply}
 use Rattle.schedule.specs.Past.{Attempt}
 use Rattle.schedule.specs.Performed.{IsPerformed}
 use Rattle.schedule.specs.Turns.{AreDone}
+use Rattle.drive.specs.Wanted.{AreWithin, IsNeeded, IsUncovered}
 use Rattle.drive.specs.declared.wanted.Want.{Want}
 use Rattle.drive.specs.declared.given.Given.{Given}
 use Rattle.drive.specs.declared.answering.Driven.{Driven}
@@ -34,10 +34,6 @@ ArePerformed maps commands replies old new = ⊥
 abbrev pub resumed : ℕ → List Mutation → CommitRequest
 resumed version written = record { read_version = version; reads = []; mutations = written }
 
--- each key of the one list of ranges is one of the other's
-abbrev pub AreWithin : List KeyRange → List KeyRange → Type 0
-AreWithin whole parts = (key : List ℕ) → IsTrue (covers parts key) → IsTrue (covers whole key)
-
 -- the commands have these replies, and make this of a transaction that has written what is given, over every database
 -- that has just the given pairs in what is covered at the version, as they do in an open transaction over it; and what
 -- they read lies in what is covered
@@ -51,37 +47,8 @@ pub record IsHostAnswered (version : ℕ) (covered : List KeyRange) (pairs : Map
       (maps : ℕ → Map) → Agree covered pairs (maps version) →
       AreDone maps (attempts_at commands replies) (resumed version written) request
 
--- a range is to be read from its begin on, which isn't covered, or from its end back, just before which not all is
-abbrev pub IsUncoveredFrom : List KeyRange → Bool → KeyRange → Type 0
-IsUncoveredFrom covered true range = IsTrue (has_keys range) × BeginsAt covered range.end
-IsUncoveredFrom covered false range = IsTrue (has_keys range) × (covers covered range.begin ≡ false)
-
--- each key of the range is covered
-abbrev pub IsAllCovered : List KeyRange → KeyRange → Type 0
-IsAllCovered covered range = (key : List ℕ) → IsTrue (contains range key) → IsTrue (covers covered key)
-
--- what is wanted isn't covered where it is to be read from, and is one pair at least
-abbrev pub IsUncovered : List KeyRange → Want → Type 0
-IsUncovered covered want = IsUncoveredFrom covered want.reverse want.range × (1 ≤ want.limit)
-
--- Private: a part is left of a range: it lies in the range, and all of the range is covered once it is
-pub record IsRemainder (covered : List KeyRange) (range part : KeyRange) : Type 0 where
-  pub within : (key : List ℕ) → IsTrue (contains part key) → IsTrue (contains range key)
-  pub others : IsAllCovered (part ∷ covered) range
-
--- one of these ranges isn't covered, and is once this one is
-abbrev pub IsNeeded : List KeyRange → List KeyRange → KeyRange → Type 0
-IsNeeded covered reads range =
-    (read : KeyRange) × Contains reads read × (IsAllCovered covered read → ⊥) × IsAllCovered (range ∷ covered) read
-
--- Private: one of what is wanted has all keys of a range
-abbrev pub HasWhole : List Want → KeyRange → Type 0
-HasWhole wants range =
-    (want : Want) × Contains wants want
-    × ((key : List ℕ) → IsTrue (contains range key) → IsTrue (contains want.range key))
-
 -- ranges are wanted that aren't covered where they are to be read from; the commands, over the given pairs as if there
--- were no others, read a range that isn't covered, and is once one of those that are wanted is read whole
+-- were no others, read a range that isn't covered, and one of those that are wanted begins with what is left of it
 pub record IsHostAsked (version : ℕ) (covered : List KeyRange) (pairs : Map) (written : List Mutation)
     (commands : List Command) (wants : List Want) : Type 0 where
   pub wanted : AllByRecursion (IsUncovered covered) wants
@@ -90,7 +57,7 @@ pub record IsHostAsked (version : ℕ) (covered : List KeyRange) (pairs : Map) (
   pub performed : ArePerformed (λ v. pairs) commands replies (resumed version written) request
   pub want : Want
   pub among : Contains wants want
-  pub needed : IsNeeded covered request.reads want.range
+  pub needed : IsNeeded covered request.reads want
 
 -- a call is answered, or wants ranges that aren't covered
 abbrev pub IsDriven : Given → Driven → Type 0

@@ -15,7 +15,8 @@ use Rattle.schedule.specs.Contract.{attempted}
 use Rattle.schedule.specs.Exact.{IsSerialAt}
 use Rattle.schedule.specs.Headline.{AreRightlyAnswered, HasExactIndexes}
 use Rattle.schedule.specs.Turns.{AreDone}
-use Rattle.drive.specs.Driving.{AreWithin, IsHostAnswered, attempts_at, resumed}
+use Rattle.drive.specs.Driving.{IsHostAnswered, attempts_at, resumed}
+use Rattle.drive.specs.Wanted.{AreWithin}
 
 -- calls of one transaction, in turn: each was performed over the database at this version, in a transaction that has
 -- written what those before it have; what it read is among these ranges; and this is what is written in the end

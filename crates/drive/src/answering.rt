@@ -1,10 +1,12 @@
 // A call: the commands performed over what is given, and the test that it covers what they read.
-ghost use Rattle.std.specs.Prelude.{◌≡◌, ◌⊎◌, IfOk, IfErr, IfSome, IfNone, MatchBool};
+ghost use Rattle.std.specs.Prelude.{◌≡◌, ◌⊎◌, [], IfOk, IfErr, IfSome, IfNone, IsNone};
+ghost use Rattle.std.specs.Prelude.{MatchBool, OnOk};
 ghost use Rattle.std.specs.List.{AllByRecursion};
+ghost use Rattle.kv_core.specs.Limits.{write_all_refusal};
 ghost use Rattle.drive.specs.declared.error.DriveError.TheVariants.{Memory};
-ghost use Rattle.drive.specs.Driving.{ArePerformed, AreWithin, HasWhole, IsDriven, IsNeeded};
-ghost use Rattle.drive.specs.Driving.{IsUncovered};
+ghost use Rattle.drive.specs.Driving.{ArePerformed, IsDriven};
 ghost use Rattle.drive.specs.Errors.{IsWriteRefused};
+ghost use Rattle.drive.specs.Wanted.{AreWithin, HasFrom, IsLeftOfOne, IsUncovered, ReadsFrom};
 
 use crate::ahead::add_records;
 use crate::error::DriveError;
@@ -66,8 +68,8 @@ fn perform_each(
 /// What is left of the first of these ranges that isn't covered, or None where all of them are.
 fn first_uncovered(covered: &Coverage, ranges: &[KeyRange]) -> Result<Option<Want>, AllocError>
     ensures wanted { IfOk result (λ found. IfSome found (IsUncovered covered.now)) }
-    ensures needed { IfOk result (λ found.
-        IfSome found (λ want. IsNeeded covered.now ranges.now want.range)) }
+    ensures left { IfOk result (λ found.
+        IfSome found (λ want. IsLeftOfOne covered.now ranges.now want.range)) }
     ensures whole { IfOk result (λ found. IfNone found (AreWithin covered.now ranges.now)) }
 {
     for range in ranges {
@@ -82,19 +84,31 @@ fn first_uncovered(covered: &Coverage, ranges: &[KeyRange]) -> Result<Option<Wan
     Ok(None)
 }
 
-/// Whether one of these has all keys of a range.
-fn has_whole(wants: &[Want], range: &KeyRange) -> bool
-    ensures { MatchBool result (HasWhole wants.now range.now) (Unit {0}) }
+/// Whether to read what is wanted is to read this range first.
+fn reads_first(want: &Want, part: &KeyRange) -> bool
+    ensures { MatchBool result (ReadsFrom want.now.reverse want.now.range part.now) (Unit {0}) }
+{
+    let range = &want.range;
+    if want.reverse {
+        range.end() == part.end() && range.begin().is_upto(part.begin())
+    } else {
+        range.begin() == part.begin() && part.end().is_upto(range.end())
+    }
+}
+
+/// Whether to read one of these is to read this range first.
+fn has_first(wants: &[Want], part: &KeyRange) -> bool
+    ensures { MatchBool result (HasFrom wants.now part.now) (Unit {0}) }
 {
     for want in wants {
-        if want.range.begin().is_upto(range.begin()) && range.end().is_upto(want.range.end()) {
+        if reads_first(want, part) {
             return true;
         }
     }
     false
 }
 
-/// Of what was asked for all that isn't covered, with this one, unless another one has its keys.
+/// Of what was asked for all that isn't covered, with this one, unless another one begins with it.
 fn next_wants(
     alloc: Global,
     covered: &Coverage,
@@ -103,7 +117,7 @@ fn next_wants(
 ) -> Result<Vec<Want>, AllocError>
     requires { IsUncovered covered.now first }
     ensures wanted { IfOk result (λ wants. AllByRecursion (IsUncovered covered.now) wants.items) }
-    ensures whole { IfOk result (λ wants. HasWhole wants.items first.range) }
+    ensures first { IfOk result (λ wants. HasFrom wants.items first.range) }
 {
     let mut wants = Vec::new(alloc);
     for want in asked {
@@ -115,7 +129,7 @@ fn next_wants(
             })?;
         }
     }
-    if !has_whole(wants.as_slice(), &first.range) {
+    if !has_first(wants.as_slice(), &first.range) {
         wants.push(first)?;
     }
     Ok(wants)
@@ -125,10 +139,11 @@ fn next_wants(
 ///
 /// Where all that the commands read is covered, they are answered, and it is as if they were
 /// performed over the host's database itself. Else there is no reply: the host reads a beginning of
-/// each range that is wanted, or of the first one at least, and calls again with what it has read
-/// then. The only other errors are want of memory and what is refused of `written`.
+/// each range that is wanted, and calls again with what it has read then. The only errors are want
+/// of memory and what is refused of `written`.
 pub fn drive(alloc: Global, given: &Given) -> Result<Driven, DriveError>
     ensures done { IfOk result (IsDriven given.now) }
+    ensures allowed { OnOk result (IsNone (write_all_refusal [] given.now.written.items)) }
     ensures refused { IfErr result (λ error.
         (error ≡ Memory) ⊎ IsWriteRefused given.now.written.items error) }
 {

@@ -13,5 +13,5 @@ mod wanted;
 pub use answering::{Answer, Driven, drive};
 pub use error::DriveError;
 pub use given::Given;
-pub use laws::histories_of_hosts;
+pub use laws::{histories_of_hosts, rounds_of_hosts};
 pub use wanted::Want;

@@ -1,7 +1,7 @@
 // What a host is to read next: the first part of a read that isn't covered. Used by `partial`,
 // `ahead` and `answering`.
-ghost use Rattle.std.specs.Prelude.{true, false, IfOk, IfSome, IfNone};
-ghost use Rattle.drive.specs.Driving.{IsAllCovered, IsRemainder, IsUncoveredFrom};
+ghost use Rattle.std.specs.Prelude.{◌≡◌, true, false, IfOk, IfSome, IfNone};
+ghost use Rattle.drive.specs.Wanted.{IsAllCovered, IsLeftBetween, IsRemainder, IsUncoveredFrom};
 
 use kv_core::{Coverage, KeyRange, Pair};
 use std::alloc::AllocError;
@@ -36,6 +36,7 @@ fn rest_reverse(covered: &Coverage, range: &KeyRange) -> Result<Option<KeyRange>
     ensures some { IfOk result (λ rest. IfSome rest (IsUncoveredFrom covered.now true)) }
     ensures left { IfOk result (λ rest. IfSome rest (IsRemainder covered.now range.now)) }
     ensures none { IfOk result (λ rest. IfNone rest (IsAllCovered covered.now range.now)) }
+    ensures begin { IfOk result (λ rest. IfSome rest (λ part. part.begin ≡ range.now.begin)) }
 {
     let place = covered.before(range.end())?;
     if !range.begin().is_before(&place) {
@@ -66,8 +67,7 @@ pub(crate) fn rest_between(
     covered: &Coverage,
     range: &KeyRange,
 ) -> Result<Option<KeyRange>, AllocError>
-    ensures some { IfOk result (λ rest. IfSome rest (IsUncoveredFrom covered.now true)) }
-    ensures left { IfOk result (λ rest. IfSome rest (IsRemainder covered.now range.now)) }
+    ensures left { IfOk result (λ rest. IfSome rest (IsLeftBetween covered.now range.now)) }
     ensures none { IfOk result (λ rest. IfNone rest (IsAllCovered covered.now range.now)) }
 {
     let Some(rest) = rest_forward(covered, range)? else {

@@ -1,6 +1,7 @@
 use Rattle.std.proofs.Common.{ap, ◌∙◌}
 use Rattle.txn.specs.Reads.{with_mutations}
-use Rattle.drive.specs.Driving.{IsNeeded, resumed}
+use Rattle.drive.specs.Driving.{resumed}
+use Rattle.drive.specs.Wanted.{IsLeftOfOne}
 use Rattle.drive.proofs.Moving.{host_answered_by, host_asked_by}
 use Rattle.drive.proofs.Resting.{when_none, when_some}
 use Rattle.drive.proofs.answering.drive.Goals as goal
@@ -21,6 +22,6 @@ returns-clause-done c =
     c.new-partial.ensures c.as_slice.ensures.value
     (c.in_ok-write_all.ensures.ok ∙ ap (with_mutations c.in_ok-written.written.items) c.begin-tx.ensures ∙ ap (resumed given.version) c.in_ok-written.ensures)
     c.into_request-request.ensures c.as_slice-2.ensures
-    c.in_ok-wants.ensures.wanted c.in_ok-wants.ensures.whole
-    (when_some c.in_ok-first.field-0 c.in-Some.first (λ want. IsNeeded given.covered c.as_slice-2.result.now want.range) c.in_ok-first.ensures.needed c.in-Some.is)
+    c.in_ok-wants.ensures.wanted c.in_ok-wants.ensures.first
+    (when_some c.in_ok-first.field-0 c.in-Some.first (λ want. IsLeftOfOne given.covered c.as_slice-2.result.now want.range) c.in_ok-first.ensures.left c.in-Some.is)
     c.in_ok-replies.ensures

@@ -1,5 +1,5 @@
 use Rattle.std.proofs.Common.{take}
-use Rattle.drive.specs.Driving.{AreWithin}
+use Rattle.drive.specs.Wanted.{AreWithin}
 use Rattle.drive.proofs.answering.first_uncovered.Given as goal
 
 abbrev pub invariant-loop-range : goal.invariant-loop-range

@@ -1,5 +1,5 @@
 use Rattle.std.specs.List.{AllByRecursion}
-use Rattle.drive.specs.Driving.{IsUncovered}
+use Rattle.drive.specs.Wanted.{IsUncovered}
 use Rattle.drive.proofs.answering.next_wants.Given as goal
 
 abbrev pub invariant-loop-want : goal.invariant-loop-want

@@ -1,7 +1,7 @@
 use Rattle.std.proofs.Common.{sym, ap, subst, ◌∙◌}
 use Rattle.std.specs.Prelude.{IsTrue}
 use Rattle.kv_core.specs.Bytes.{key_le, key_lt}
-use Rattle.drive.specs.Driving.{IsAllCovered, IsRemainder}
+use Rattle.drive.specs.Wanted.{IsAllCovered, IsRemainder}
 use Rattle.drive.proofs.Resting.{covered_forward, lawful_rest, left_forward, none_never, some_made}
 use Rattle.drive.proofs.wanted.rest_forward.Goals as goal
 

@@ -1,7 +1,7 @@
 use Rattle.std.proofs.Common.{◌≡◌, true, sym, ap, subst, ◌∙◌}
 use Rattle.std.specs.Prelude.{IsTrue}
 use Rattle.kv_core.specs.Bytes.{key_le, key_lt}
-use Rattle.drive.specs.Driving.{IsAllCovered, IsRemainder, IsUncoveredFrom}
+use Rattle.drive.specs.Wanted.{IsAllCovered, IsRemainder, IsUncoveredFrom}
 use Rattle.drive.proofs.Resting.{covered_reverse, lawful_front, left_reverse, none_never, some_made}
 use Rattle.drive.proofs.wanted.rest_reverse.Goals as goal
 
