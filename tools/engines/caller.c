@@ -1,6 +1,7 @@
 /* Calls the record layer from C over a file of calls, each with the answer that is wanted of it: from eight threads at
-   once, with too little room, with each allocation failing in turn, and with bytes that are cut off. It is linked so that
-   malloc, realloc and free of the static library come by here. The last line of what it prints is 'N passed, M failed'. */
+   once, with too little room, with each allocation failing in turn, with bytes that are cut off, and with bytes made by
+   hand. It is linked so that malloc, realloc and free of the static library come by here. The last line of what it
+   prints is 'N passed, M failed'. */
 #include <pthread.h>
 #include <stdio.h>
 #include <stdlib.h>
@@ -135,6 +136,49 @@ static void try_bad_bytes(uint8_t *out) {
     }
 }
 
+/* Bytes made by hand, and the status that each has. VERSION is a version, NONE a count of nothing. */
+#define VERSION "\0\0\0\0\0\0\0\0"
+#define NONE "\0\0\0\0"
+#define ONE "\1\0\0\0"
+#define STEPS "{\"steps\":[]}"
+#define BYTES(text) (const uint8_t *)(text), sizeof(text) - 1
+
+static const struct {
+    const char *what;
+    uint32_t status;
+    const uint8_t *given;
+    size_t given_len;
+} by_hand[] = {
+    {"no bytes", RECORD_BAD_FORM, BYTES("")},
+    {"another form", RECORD_BAD_FORM, BYTES("\2" VERSION NONE NONE NONE STEPS)},
+    {"no commands", RECORD_ANSWERED, BYTES("\1" VERSION NONE NONE NONE STEPS)},
+    {"an empty range", RECORD_ANSWERED, BYTES("\1" VERSION ONE NONE NONE NONE NONE STEPS)},
+    {"a range turned", RECORD_BAD_FORM, BYTES("\1" VERSION ONE ONE "b" ONE "a" NONE NONE STEPS)},
+    {"a range past all keys", RECORD_BAD_FORM, BYTES("\1" VERSION ONE NONE "\2\0\0\0\377\0" NONE NONE STEPS)},
+    {"ranges that aren't there", RECORD_BAD_FORM, BYTES("\1" VERSION "\377\377\377\377" NONE NONE STEPS)},
+    {"a pair of no bytes", RECORD_ANSWERED, BYTES("\1" VERSION NONE ONE NONE NONE NONE STEPS)},
+    {"a key twice", RECORD_ANSWERED, BYTES("\1" VERSION NONE "\2\0\0\0" ONE "a" NONE ONE "a" NONE NONE STEPS)},
+    {"a long value", RECORD_BAD_FORM, BYTES("\1" VERSION NONE ONE NONE "\377\377\377\377" NONE STEPS)},
+    {"a set", RECORD_ANSWERED, BYTES("\1" VERSION NONE NONE ONE "\0" NONE NONE STEPS)},
+    {"a clear", RECORD_ANSWERED, BYTES("\1" VERSION NONE NONE ONE "\1" NONE NONE STEPS)},
+    {"an add", RECORD_ANSWERED, BYTES("\1" VERSION NONE NONE ONE "\2" NONE NONE STEPS)},
+    {"a write of no kind", RECORD_BAD_FORM, BYTES("\1" VERSION NONE NONE ONE "\3" NONE NONE STEPS)},
+    {"a write past all keys", RECORD_BAD_FORM, BYTES("\1" VERSION NONE NONE ONE "\0" ONE "\377" NONE STEPS)},
+    {"the same, and no script", RECORD_BAD_COMMAND, BYTES("\1" VERSION NONE NONE ONE "\0" ONE "\377" NONE)},
+    {"no script", RECORD_BAD_COMMAND, BYTES("\1" VERSION NONE NONE NONE "[]")},
+    {"no step", RECORD_BAD_COMMAND, BYTES("\1" VERSION NONE NONE NONE "{\"steps\":[[\"load\"]]}")},
+    {"no command", RECORD_BAD_COMMAND, BYTES("\1" VERSION NONE NONE NONE "{\"steps\":[[\"commit\",1]]}")},
+};
+
+static void try_by_hand(uint8_t *out) {
+    for (size_t it = 0; it < sizeof by_hand / sizeof *by_hand; it++) {
+        size_t written = 7;
+        uint32_t status = record_drive(by_hand[it].given, by_hand[it].given_len, out, ROOM, &written);
+        note(status == by_hand[it].status && (written == 0) == (status != RECORD_ANSWERED) && held == 0,
+             by_hand[it].what, it);
+    }
+}
+
 static uint8_t *read_bytes(FILE *file, uint32_t *len) {
     if (fread(len, sizeof *len, 1, file) != 1)
         return NULL;
@@ -161,6 +205,7 @@ int main(int argc, char **argv) {
     try_room(out);
     try_memory(out);
     try_bad_bytes(out);
+    try_by_hand(out);
     try_threads();
     printf("%zu passed, %zu failed\n", passed, failed);
     return failed != 0;

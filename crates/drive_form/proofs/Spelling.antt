@@ -1,12 +1,10 @@
 -- The bytes of lists, with one item more.
-use Rattle.std.proofs.Common.{◌≡◌, ℕ, ◌+◌, ◌<◌, List, [], ◌∷◌, ◌++◌, length, length-append, take, drop, get_or, sym, ap, subst, ◌∙◌, append_assoc, append-nil}
+use Rattle.std.proofs.Common.{◌≡◌, ℕ, ◌+◌, ◌<◌, List, [], ◌∷◌, ◌++◌, length, length-append, take, drop, get_or, sym, ap, ◌∙◌, append_assoc, append-nil}
 use Rattle.std.proofs.lemmas.List.{take_more}
 use Rattle.std.specs.Int.{w32, w64, to_le_bytes, from_le_bytes}
 use Rattle.std.proofs.lemmas.Nat.{le_bytes_4, le_bytes_8}
 use Rattle.std.proofs.lemmas.List.{take-append-drop}
-use Rattle.schedule.specs.declared.step.Command.{Command}
-use Rattle.schedule.specs.declared.step.Step.{Step}
-use Rattle.drive_form.specs.Spelled.{AreCommands, counted, each_of}
+use Rattle.drive_form.specs.Form.{counted, each_of}
 
 -- one item at the end
 each_push : {X : Type 0} (spell : X → List ℕ) (items : List X) (item : X) → each_of spell (items ++ item ∷ []) ≡ each_of spell items ++ spell item
@@ -55,20 +53,6 @@ pub texts_more : {X : Type 0} (texts : List (List ℕ)) (text : List ℕ) (items
 texts_more texts text items i item within same =
     length-append texts (text ∷ []) ∙ ap (λ n. n + 1) same ∙ sym (ap length (take_more items i item within) ∙ length-append (take i items) (get_or items i item ∷ []))
 
--- the parts of what a host tells, read one after another
-pub given_in_turn : (bytes start r1 r2 r3 r4 r5 text version ranges pairs written : List ℕ) (form : ℕ) → start ≡ bytes → start ≡ form ∷ r1 → form ≡ 1 → r1 ≡ version ++ r2 → r2 ≡ ranges ++ r3 →
-    r3 ≡ pairs ++ r4 → r4 ≡ written ++ r5 → text ≡ r5 → bytes ≡ 1 ∷ version ++ ranges ++ pairs ++ written ++ text
-given_in_turn bytes start r1 r2 r3 r4 r5 text version ranges pairs written form all first one b2 b3 b4 b5 last =
-    sym all ∙ first ∙ ap (λ n. n ∷ r1) one
-    ∙ ap (λ r. 1 ∷ r)
-    (b2 ∙ ap (λ r. version ++ r) b3 ∙ sym (append_assoc version ranges r3) ∙ ap (λ r. (version ++ ranges) ++ r) b4 ∙ sym (append_assoc (version ++ ranges) pairs r4)
-    ∙ ap (λ r. ((version ++ ranges) ++ pairs) ++ r) b5 ∙ sym (append_assoc ((version ++ ranges) ++ pairs) written r5) ∙ ap (λ r. (((version ++ ranges) ++ pairs) ++ written) ++ r) (sym last))
-
 -- the parts of an answer, written one after another
 pub done_in_turn : (start out texts reads written : List ℕ) → start ≡ 1 ∷ [] → out ≡ start ++ (texts ++ (reads ++ written)) → out ≡ 1 ∷ texts ++ reads ++ written
 done_in_turn start out texts reads written begun all = all ∙ ap (λ bs. bs ++ (texts ++ (reads ++ written))) begun ∙ ap (λ bs. 1 ∷ bs) (sym (append_assoc texts reads written))
-
--- all steps are done
-pub commands_all : (all rest : List Step) (commands : List Command) → rest ≡ [] → ((more : List Command) → AreCommands rest more → AreCommands all (commands ++ more)) → AreCommands all commands
-commands_all all rest commands none kept =
-    subst (λ x. AreCommands all x) (append-nil commands) (kept [] (subst (λ steps. AreCommands steps []) (sym none) tt))

@@ -1,6 +1,7 @@
 // Why bytes aren't taken. Used by the other modules here, and by the crate `record_c`.
 ghost use Rattle.std.specs.Prelude.{◌≡◌};
 ghost use Rattle.drive_form.specs.declared.error.FormError.TheVariants.{OutOfMemory};
+ghost use Rattle.drive_form.specs.Refused.{of_call, of_script};
 
 use drive::DriveError;
 use script::ScriptError;
@@ -38,6 +39,8 @@ impl<T: Drop> From<AllocFailed<T>> for FormError {
 }
 
 impl From<DriveError> for FormError {
+    ghost from_gives = { λ why error. error ≡ of_call why };
+
     fn from(error: DriveError) -> FormError {
         match error {
             DriveError::Write(_) => FormError::BadForm,
@@ -47,6 +50,8 @@ impl From<DriveError> for FormError {
 }
 
 impl From<ScriptError> for FormError {
+    ghost from_gives = { λ why error. error ≡ of_script why };
+
     fn from(error: ScriptError) -> FormError {
         match error {
             ScriptError::BadScript(_) => FormError::BadCommand,

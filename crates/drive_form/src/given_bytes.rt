@@ -1,11 +1,11 @@
 // What a host tells, from bytes. Called by `drive_bytes`.
-ghost use Rattle.std.specs.Prelude.{◌≡◌, ◌++◌, List, ℕ, IfOk};
+ghost use Rattle.std.specs.Prelude.{◌≡◌, ◌++◌, List, ℕ, IfErr, IfOk};
 ghost use Rattle.kv_core.specs.Range.{covers};
-ghost use Rattle.script.specs.Script.{IsScript};
-ghost use Rattle.cluster_core.specs.declared.answers.Config.{Config};
-ghost use Rattle.schedule.specs.declared.step.Step.{Step as StepValue};
-ghost use Rattle.drive_form.specs.Spelled.{AreCommands, IsGiven, counted};
-ghost use Rattle.drive_form.specs.Spelled.{mutation_bytes, pair_bytes, range_bytes};
+ghost use Rattle.drive_form.specs.Form.{FitEach, FitsMutation, FitsPair, FitsRange};
+ghost use Rattle.drive_form.specs.Form.{counted, mutation_bytes, pair_bytes, range_bytes};
+ghost use Rattle.drive_form.specs.Refused.{ExplainsGiven, ExplainsNone, ExplainsSteps};
+ghost use Rattle.drive_form.specs.Refused.{ExplainsText};
+ghost use Rattle.drive_form.specs.Spelled.{AreCommands, AreCommandsOf, IsGiven};
 
 use crate::error::FormError;
 use crate::reading::Reader;
@@ -19,8 +19,11 @@ use std::alloc::{AllocError, Global};
 const FORM: u8 = 1;
 
 fn ranges_of(alloc: Global, reader: &mut Reader<'_>) -> Result<Vec<KeyRange>, FormError>
-    ensures { IfOk result (λ ranges. reader.old.rest.now
+    ensures ok { IfOk result (λ ranges. reader.old.rest.now
         ≡ counted range_bytes ranges.items ++ reader.new.rest.now) }
+    ensures fits { IfOk result (λ ranges. FitEach FitsRange ranges.items) }
+    ensures err { IfErr result
+        (ExplainsNone (counted range_bytes) (FitEach FitsRange) reader.old.rest.now) }
 {
     let count = reader.count()?;
     let mut ranges = Vec::new(alloc);
@@ -43,8 +46,10 @@ fn coverage_of(alloc: Global, ranges: &[KeyRange]) -> Result<Coverage, AllocErro
 }
 
 fn pair_of(alloc: Global, reader: &mut Reader<'_>) -> Result<Pair, FormError>
-    ensures { IfOk result (λ pair. reader.old.rest.now
+    ensures ok { IfOk result (λ pair. reader.old.rest.now
         ≡ pair_bytes pair ++ reader.new.rest.now) }
+    ensures fits { IfOk result FitsPair }
+    ensures err { IfErr result (ExplainsNone pair_bytes FitsPair reader.old.rest.now) }
 {
     let key = reader.bytes(alloc)?;
     let value = reader.bytes(alloc)?;
@@ -52,8 +57,11 @@ fn pair_of(alloc: Global, reader: &mut Reader<'_>) -> Result<Pair, FormError>
 }
 
 fn pairs_of(alloc: Global, reader: &mut Reader<'_>) -> Result<Vec<Pair>, FormError>
-    ensures { IfOk result (λ pairs. reader.old.rest.now
+    ensures ok { IfOk result (λ pairs. reader.old.rest.now
         ≡ counted pair_bytes pairs.items ++ reader.new.rest.now) }
+    ensures fits { IfOk result (λ pairs. FitEach FitsPair pairs.items) }
+    ensures err { IfErr result
+        (ExplainsNone (counted pair_bytes) (FitEach FitsPair) reader.old.rest.now) }
 {
     let count = reader.count()?;
     let mut pairs = Vec::new(alloc);
@@ -64,26 +72,34 @@ fn pairs_of(alloc: Global, reader: &mut Reader<'_>) -> Result<Vec<Pair>, FormErr
 }
 
 fn mutation_of(alloc: Global, reader: &mut Reader<'_>) -> Result<Mutation, FormError>
-    ensures { IfOk result (λ one. reader.old.rest.now
+    ensures ok { IfOk result (λ one. reader.old.rest.now
         ≡ mutation_bytes one ++ reader.new.rest.now) }
+    ensures fits { IfOk result FitsMutation }
+    ensures err { IfErr result (ExplainsNone mutation_bytes FitsMutation reader.old.rest.now) }
 {
     match reader.byte()? {
-        0 => Ok(Mutation::Set {
-            key: reader.bytes(alloc)?,
-            value: reader.bytes(alloc)?,
-        }),
-        1 => Ok(Mutation::ClearRange(reader.range(alloc)?)),
-        2 => Ok(Mutation::Add {
-            key: reader.bytes(alloc)?,
-            operand: reader.bytes(alloc)?,
-        }),
+        0 => {
+            let (key, value) = pair_of(alloc, reader)?;
+            Ok(Mutation::Set { key, value })
+        }
+        1 => {
+            let range = reader.range(alloc)?;
+            Ok(Mutation::ClearRange(range))
+        }
+        2 => {
+            let (key, operand) = pair_of(alloc, reader)?;
+            Ok(Mutation::Add { key, operand })
+        }
         _ => Err(FormError::BadForm),
     }
 }
 
 fn written_of(alloc: Global, reader: &mut Reader<'_>) -> Result<Vec<Mutation>, FormError>
-    ensures { IfOk result (λ all. reader.old.rest.now
+    ensures ok { IfOk result (λ all. reader.old.rest.now
         ≡ counted mutation_bytes all.items ++ reader.new.rest.now) }
+    ensures fits { IfOk result (λ all. FitEach FitsMutation all.items) }
+    ensures err { IfErr result
+        (ExplainsNone (counted mutation_bytes) (FitEach FitsMutation) reader.old.rest.now) }
 {
     let count = reader.count()?;
     let mut written = Vec::new(alloc);
@@ -95,7 +111,8 @@ fn written_of(alloc: Global, reader: &mut Reader<'_>) -> Result<Vec<Mutation>, F
 
 /// The commands of these steps, where all are commands.
 fn commands_in(alloc: Global, steps: Vec<Step>) -> Result<Vec<Command>, FormError>
-    ensures { IfOk result (λ commands. AreCommands steps.items commands.items) }
+    ensures ok { IfOk result (λ commands. AreCommands steps.items commands.items) }
+    ensures err { IfErr result (ExplainsSteps steps.items) }
 {
     let mut commands = Vec::new(alloc);
     for step in steps {
@@ -109,8 +126,8 @@ fn commands_in(alloc: Global, steps: Vec<Step>) -> Result<Vec<Command>, FormErro
 
 /// The commands of a script, all whose steps are commands.
 fn commands_of(alloc: Global, text: &[u8]) -> Result<Vec<Command>, FormError>
-    ensures { IfOk result (λ commands. (config : Config) × (steps : List StepValue)
-        × IsScript text.now config steps × AreCommands steps commands.items) }
+    ensures ok { IfOk result (λ commands. AreCommandsOf text.now commands.items) }
+    ensures err { IfErr result (ExplainsText text.now) }
 {
     let script = script_of(alloc, text)?;
     let commands = commands_in(alloc, script.steps)?;
@@ -119,7 +136,8 @@ fn commands_of(alloc: Global, text: &[u8]) -> Result<Vec<Command>, FormError>
 
 /// What a host tells.
 pub fn given_of(alloc: Global, bytes: &[u8]) -> Result<Given, FormError>
-    ensures { IfOk result (IsGiven bytes.now) }
+    ensures ok { IfOk result (IsGiven bytes.now) }
+    ensures err { IfErr result (ExplainsGiven bytes.now) }
 {
     let mut reader = Reader::new(bytes);
     if reader.byte()? != FORM {

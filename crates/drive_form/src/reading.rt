@@ -1,7 +1,9 @@
 // Numbers, byte strings and ranges, read from the front of bytes. Called by `given_bytes`.
-ghost use Rattle.std.specs.Prelude.{◌≡◌, ◌<◌, ◌∷◌, ◌++◌, ℕ, get_or, IfOk};
+ghost use Rattle.std.specs.Prelude.{◌≡◌, ◌<◌, ◌^◌, [], ◌∷◌, ◌++◌, ℕ, get_or, IfOk, IfErr};
 ghost use Rattle.std.specs.Int.{w32, w64, to_le_bytes};
-ghost use Rattle.drive_form.specs.Spelled.{range_bytes, sized};
+ghost use Rattle.drive_form.specs.declared.error.FormError.TheVariants.{BadForm};
+ghost use Rattle.drive_form.specs.Form.{FitsRange, IsShort, range_bytes, sized};
+ghost use Rattle.drive_form.specs.Refused.{ExplainsNone};
 
 use crate::error::FormError;
 use kv_core::{Bytes, KeyRange};
@@ -34,7 +36,8 @@ impl<'a> Reader<'a> {
 
     /// The next byte.
     pub(crate) fn byte(&mut self) -> Result<u8, FormError>
-        ensures { IfOk result (λ byte. self.old.rest.now ≡ byte ∷ self.new.rest.now) }
+        ensures ok { IfOk result (λ byte. self.old.rest.now ≡ byte ∷ self.new.rest.now) }
+        ensures err { IfErr result (λ error. (error ≡ BadForm) × (self.old.rest.now ≡ [])) }
     {
         let Some((first, rest)) = self.rest.split_first() else {
             return Err(FormError::BadForm);
@@ -45,8 +48,11 @@ impl<'a> Reader<'a> {
 
     /// The next number of 64 bits.
     pub(crate) fn number(&mut self) -> Result<u64, FormError>
-        ensures { IfOk result (λ number. self.old.rest.now
+        ensures ok { IfOk result (λ number. self.old.rest.now
             ≡ to_le_bytes w64 number ++ self.new.rest.now) }
+        ensures fits { IfOk result (λ number. number < 2 ^ 64) }
+        ensures err { IfErr result
+            (ExplainsNone (to_le_bytes w64) (λ number. number < 2 ^ 64) self.old.rest.now) }
     {
         let Some((first, rest)) = self.rest.split_first_chunk::<8>() else {
             return Err(FormError::BadForm);
@@ -58,8 +64,11 @@ impl<'a> Reader<'a> {
 
     /// The next number of 32 bits, a length or a count.
     pub(crate) fn count(&mut self) -> Result<usize, FormError>
-        ensures { IfOk result (λ number. self.old.rest.now
+        ensures ok { IfOk result (λ number. self.old.rest.now
             ≡ to_le_bytes w32 number ++ self.new.rest.now) }
+        ensures fits { IfOk result (λ number. number < 2 ^ 32) }
+        ensures err { IfErr result
+            (ExplainsNone (to_le_bytes w32) (λ number. number < 2 ^ 32) self.old.rest.now) }
     {
         let Some((first, rest)) = self.rest.split_first_chunk::<4>() else {
             return Err(FormError::BadForm);
@@ -71,7 +80,9 @@ impl<'a> Reader<'a> {
 
     /// The next byte string, after its length.
     pub(crate) fn bytes(&mut self, alloc: Global) -> Result<Bytes, FormError>
-        ensures { IfOk result (λ bytes. self.old.rest.now ≡ sized bytes ++ self.new.rest.now) }
+        ensures ok { IfOk result (λ bytes. self.old.rest.now ≡ sized bytes ++ self.new.rest.now) }
+        ensures fits { IfOk result IsShort }
+        ensures err { IfErr result (ExplainsNone sized IsShort self.old.rest.now) }
     {
         let count = self.count()?;
         let Some((first, rest)) = self.rest.split_at_checked(count) else {
@@ -83,11 +94,16 @@ impl<'a> Reader<'a> {
 
     /// The next range: its begin and its end.
     pub(crate) fn range(&mut self, alloc: Global) -> Result<KeyRange, FormError>
-        ensures { IfOk result (λ range. self.old.rest.now
+        ensures ok { IfOk result (λ range. self.old.rest.now
             ≡ range_bytes range ++ self.new.rest.now) }
+        ensures fits { IfOk result FitsRange }
+        ensures err { IfErr result (ExplainsNone range_bytes FitsRange self.old.rest.now) }
     {
         let begin = self.bytes(alloc)?;
         let end = self.bytes(alloc)?;
-        KeyRange::new(begin, end).ok_or(FormError::BadForm)
+        let Some(range) = KeyRange::new(begin, end) else {
+            return Err(FormError::BadForm);
+        };
+        Ok(range)
     }
 }

@@ -1,10 +1,12 @@
 use Rattle.std.proofs.Common.{◌≡◌, ◌++◌, length}
 use Rattle.std.specs.Int.{w32, to_le_bytes}
-use Rattle.drive_form.specs.Spelled.{each_of, range_bytes}
+use Rattle.std.specs.List.{AllByRecursion}
+use Rattle.drive_form.specs.Form.{FitsRange, each_of, range_bytes}
 use Rattle.drive_form.proofs.given_bytes.ranges_of.Given as goal
 
 abbrev pub invariant-loop : goal.invariant-loop
 invariant-loop l = record {
   read : l.fn.reader.rest.now ≡ to_le_bytes w32 l.count ++ (each_of range_bytes l.ranges.items ++ l.reader.rest.now);
   many : length l.ranges.items ≡ l.counter;
+  fit : AllByRecursion FitsRange l.ranges.items;
 }
