@@ -16,7 +16,7 @@ enum {
     RECORD_ANSWERED = 0,      /* the answer is in `out` */
     RECORD_TOO_SHORT = 1,     /* the answer has `*written` bytes, for which `out` has no room */
     RECORD_OUT_OF_MEMORY = 2, /* memory ran out */
-    RECORD_BAD_FORM = 3,      /* `given` isn't of its form */
+    RECORD_BAD_FORM = 3,      /* `given` isn't of its form, or what it says was written is no transaction's */
     RECORD_BAD_COMMAND = 4    /* a command isn't of its form */
 };
 

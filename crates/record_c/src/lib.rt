@@ -1,8 +1,10 @@
 //! The record layer as a function of C, over bytes. `record.h` beside this folder declares it.
 #![tactic(auto)]
 
-ghost use Rattle.std.specs.Prelude.{◌≡◌, ◌<◌, ◌≤◌, ◌++◌, length, drop};
-ghost use Rattle.record_c.specs.Answered.{IsPlaced, IsTooLong};
+ghost use Rattle.std.specs.Prelude.{◌≡◌, ◌⊎◌, ◌<◌, ◌≤◌, ◌++◌, length, drop};
+ghost use Rattle.drive_form.specs.Refused.{BeginsForm, IsNotTold, TellNoCommands};
+ghost use Rattle.drive_form.specs.Refused.{TellRefusedWrites};
+ghost use Rattle.record_c.specs.Answered.{IsPlaced, IsTooLong, status_of};
 
 use drive_form::{FormError, drive_bytes};
 use std::alloc::Global;
@@ -19,8 +21,7 @@ const BAD_FORM: u32 = 3;
 const BAD_COMMAND: u32 = 4;
 
 fn status_of(error: FormError) -> u32
-    ensures none { 2 ≤ result }
-    ensures known { result ≤ 4 }
+    ensures { result ≡ status_of error }
 {
     match error {
         FormError::BadForm => BAD_FORM,
@@ -57,6 +58,9 @@ pub extern "C" fn record_drive(
     ensures too_short { result ≡ 1 → IsTooLong given.now out.old out.new written.new }
     ensures none { 2 ≤ result → written.new ≡ 0 }
     ensures left { 2 ≤ result → out.new ≡ out.old }
+    ensures no_memory { result ≡ 2 → BeginsForm given.now }
+    ensures bad_form { result ≡ 3 → IsNotTold given.now ⊎ TellRefusedWrites given.now }
+    ensures bad_command { result ≡ 4 → TellNoCommands given.now }
     ensures known { result ≤ 4 }
 {
     *written = 0;
