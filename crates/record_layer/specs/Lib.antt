@@ -1,0 +1,15 @@
+pub mod Making
+pub mod Named
+pub mod Databases
+pub use Rattle.cluster_core.specs.Cluster
+pub use Rattle.cluster_core.specs.Configuration
+pub use Rattle.cluster_core.specs.Roles
+pub use Rattle.metadata.specs.Answers
+pub use Rattle.metadata.specs.Asked
+pub use Rattle.metadata.specs.Record
+pub use Rattle.query.specs.Checked
+pub use Rattle.query.specs.Fields
+pub use Rattle.query.specs.Filter
+pub use Rattle.query.specs.View
+pub use Rattle.runtime.specs.Runs
+pub use Rattle.txn.specs.Holds

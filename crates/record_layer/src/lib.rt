@@ -1,0 +1,31 @@
+//! The record layer under one name: what an application needs of schemas, records, queries,
+//! transactions and databases, with makers that read well and one type of error.
+#![tactic(auto)]
+
+mod asking;
+mod cells;
+mod database;
+mod error;
+mod finishing;
+mod making;
+
+pub use asking::{QueryMaker, compare, is_null, starts_with};
+pub use cells::{cell_named, int_named, text_cell, text_named};
+pub use cluster_core::{Cluster, Config, ConfigError, ReadError, SubmitError};
+pub use database::{Database, NotCommitted};
+pub use error::Error;
+pub use explain::explain;
+pub use kv_core::{Bytes, KeyRange};
+pub use making::{SchemaMaker, fields, name, names, record_with};
+pub use metadata::{Cell, Cells, Fields, IndexKind, Kind, MetadataError, Names, Record, Schema};
+pub use plan_exec::{ExecError, execute, execute_each, plan_for_store};
+pub use planner::{Plan, PlanError};
+pub use query::{Filter, Operator, Query, QueryError};
+pub use record_store::{KnownSchema, Records, Store, StoreError};
+pub use runtime::{
+    Body, Built, Client, CommandError, CommitError, Done, End, EnterError, Gate, GatePoint,
+    OpenError, RunError, Seen, Txn, Waits, begin, build_worker, open,
+};
+pub use schedule::{AskedQuery, Command, Reply, SharedPlan};
+pub use tuple_codec::{ByteString, Text};
+pub use txn::{Ended, Next, Retry, Snapshot, Transaction};
