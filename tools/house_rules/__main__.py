@@ -1,7 +1,8 @@
 """Counts what breaks the house's rules, in the files of a repository. It is run at the top of the repository.
 
 1. README.md is short and narrow.
-2. The code in README.md stands in a source file.
+2. The code in README.md, in the tour and in the page on embedding stands in a file that is proved, run or tested: that
+   of Rattle in a source, a clause's in a specification or a proof, JSON and what is printed in examples/ or a stdout.
 3. No source file is long.
 4. No body of a function of Rattle is long, from its `{` to its `}`.
 5. No line of Rattle, of a specification or of Python is wide, counted in characters. Data may be: in a file of Rattle a
@@ -26,7 +27,9 @@
 15. No line of another document than README.md is wide, counted in characters, but for a row of a table, a line of a
    block of code, and a line that is one link.
 16. Each relative link of a document leads to a file that is there, and where it has an anchor to a heading of that one.
-17. Each file of Rattle, of a specification or a proof is laid out as `rt fmt` lays it out: `rt ci` proves no crate of
+17. Each of the facts of facts.py is told in one document; others link to it, and a crate's README may tell it as a
+   clause.
+18. Each file of Rattle, of a specification or a proof is laid out as `rt fmt` lays it out: `rt ci` proves no crate of
    which one isn't.
 
 A line is printed for each fault, and then one for each rule, with the number of things that it was held against. A rule

@@ -5,6 +5,7 @@ import subprocess
 import sys
 from counts import repeats, wide_clause_lines, words_with_two_homes
 from documents import links, wide_text, wrong_of_link
+from facts import told_twice
 from sources import bodies, comments, data, files, line_at, lines_of, public_items, read, wide_lines
 
 TOOLS = os.path.dirname(os.path.dirname(os.path.abspath(__file__)))
@@ -23,15 +24,18 @@ RATTLE = "crates/*/src/**/*.rt"
 SPECS = "crates/*/specs/**/*.antt"
 PROOFS = "crates/*/proofs/**/*.antt"
 PYTHON = ("tools/**/*.py", "python/**/*.py")
-DOCUMENTS = ("*.md", "docs/**/*.md", "crates/*/README.md", "examples/*.md")
+DOCUMENTS = ("*.md", "docs/**/*.md", "crates/*/README.md", "examples/*.md", "python/*.md")
 EDITS = ("crates/*/wrong-bodies/*.edits", "crates/*/must-fail/*.edit")
 OTHERS = ("crates.txt", "cases/**/*", "examples/**/*")
 
 # what stands counted of repeats, wide clauses and words with two homes
 KNOWN = "tools/house_rules/known.txt"
 
-# a block of code in a document
-CODE = re.compile(r"^```rust\n(.*?)^```$", re.M | re.S)
+# the documents whose code stands elsewhere, a block of code in one, and where each kind stands
+SHOWING = (README, "docs/guide/TOUR.md", "docs/guide/EMBEDDING.md")
+CODE = re.compile(r"^```(\w+)\n(.*?)^```$", re.M | re.S)
+SHOWN = {"rust": (RATTLE,), "antt": (SPECS, PROOFS), "json": ("examples/*.json",),
+         "text": ("examples/*.out", "crates/*/stdout")}
 
 # what the formatter says of a file, and why
 NOT_LAID_OUT = re.compile(r"(.+?)(?: is (not in the layout)|: (it does not parse: .*))")
@@ -55,13 +59,17 @@ def readme_is_short(root):
     return len(paths), faults
 
 
-def readme_code_stands(root):
-    """Each part of the code in README.md, up to a blank line, stands in a file of Rattle."""
-    code = "\n\n".join(it for path in files(root, README) for it in CODE.findall(read(root, path)))
-    parts = [part.strip("\n") for part in code.split("\n\n") if part.strip()]
-    sources = ["\n" + read(root, path) for path in files(root, RATTLE)]
-    gone = [part for part in parts if not any(f"\n{part}\n" in source for source in sources)]
-    return len(parts), [(README, f"no file has the code at '{lines_of(part)[0].strip()}'") for part in gone]
+def shown_code_stands(root):
+    """Each part of the code of these documents, up to a blank line, stands in a file of its kind, where it has one."""
+    seen, faults = 0, []
+    for path in files(root, *SHOWING):
+        blocks = [(kind, text) for kind, text in CODE.findall(read(root, path)) if kind in SHOWN]
+        parts = [(kind, part.strip("\n")) for kind, text in blocks for part in text.split("\n\n") if part.strip()]
+        texts = {kind: ["\n" + read(root, it) for it in files(root, *SHOWN[kind])] for kind, _ in parts}
+        gone = [part for kind, part in parts if not any(f"\n{part}\n" in text for text in texts[kind])]
+        seen += len(parts)
+        faults += [(path, f"no file has the code at '{lines_of(part)[0].strip()}'") for part in gone]
+    return seen, faults
 
 
 def files_are_short(root):
@@ -199,6 +207,12 @@ def links_lead_somewhere(root):
     return len(found), [(place, what) for place, what in wrong if what]
 
 
+def facts_are_told_once(root):
+    """Each fact of a list is told in its document alone: others link to it, and a crate's README may tell a clause."""
+    texts = {path: read(root, path) for path in files(root, *DOCUMENTS) if not path.startswith("crates/")}
+    return len(texts), list(told_twice(texts))
+
+
 def sources_are_laid_out(root):
     """Each file of Rattle, of a specification or a proof is laid out as `rt fmt` does it, as `rt ci` wants it."""
     paths = files(root, RATTLE, SPECS, PROOFS)
@@ -211,7 +225,7 @@ def sources_are_laid_out(root):
 
 RULES = {
     "README.md is short": readme_is_short,
-    "the code of README.md stands": readme_code_stands,
+    "the code of documents stands": shown_code_stands,
     "files are short": files_are_short,
     "bodies are short": bodies_are_short,
     "lines are narrow": lines_are_narrow,
@@ -226,5 +240,6 @@ RULES = {
     "lists have what is needed": lists_have_what_is_needed,
     "documents are narrow": documents_are_narrow,
     "links lead somewhere": links_lead_somewhere,
+    "facts are told once": facts_are_told_once,
     "sources are laid out": sources_are_laid_out,
 }
