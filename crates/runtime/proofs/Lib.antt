@@ -19,4 +19,8 @@ pub mod Serving
 pub mod CommitLocks
 pub mod Sendable
 pub mod Submissions
+pub mod Asking
+pub mod Unsettled
+pub mod Settling
+pub mod Taking
 mod SubmissionExamples

@@ -8,7 +8,7 @@ ghost use mathlib.Core.List.{IsPrefix};
 ghost use Rattle.schedule.specs.Past.{is_changed};
 ghost use Rattle.runtime.specs.Clients.{IsFresh, IsSameTransaction, knows_that};
 ghost use Rattle.runtime.specs.History.{log_prefix};
-ghost use Rattle.runtime.specs.Commits.{Answers, IsLogOf, commit_answer, unshown_answer};
+ghost use Rattle.runtime.specs.Commits.{Answers, IsDue, IsLogOf, commit_answer, unshown_answer};
 ghost use Rattle.runtime.specs.Logs.{IsWellFormedLog, attempts_of};
 ghost use Rattle.runtime.specs.Serves.{IsAnswer, IsUnanswered};
 ghost use Rattle.runtime.specs.Publication.{knows};
@@ -148,6 +148,11 @@ impl<E: End> Client<E> {
         self.me.again()
     }
 
+    /// Where the client takes memory.
+    pub(crate) fn allocator(&self) -> Global {
+        self.alloc
+    }
+
     /// Enters the published log, and begins a transaction there.
     pub(crate) fn begin_here(&mut self) -> Result<(), EnterError>
         ensures begun { OnOk result ((open_tx : _) × (self.new.begun ≡ Some open_tx)
@@ -232,13 +237,18 @@ impl<E: End> Client<E> {
         self.me = self.me.longer(&seen.prefix);
     }
 
-    /// Commits what was begun.
+    /// Commits what was begun. It gives also the log that ends with the submission's entry, where
+    /// the history has that.
     #[tactic(auto, using(crate::proofs::Serving::unchanged))]
-    pub(crate) fn commit_here<R: Wait>(&mut self, rt: &R) -> Result<Done, CommitError>
+    pub(crate) fn commit_here<R: Wait>(
+        &mut self,
+        rt: &R,
+    ) -> (Result<Done, CommitError>, Option<LogPrefix>)
         ensures answer { (open_tx : _) → self.old.begun ≡ Some open_tx →
-            Answers self.old self.new open_tx.transaction open_tx.trace result }
+            Answers self.old self.new open_tx.transaction open_tx.trace result.0 }
         ensures read_only { (open_tx : _) → self.old.begun ≡ Some open_tx →
-            is_changed (attempts_of open_tx.trace.attempts) ≡ false → result ≡ Ok Done.ReadOnly }
+            is_changed (attempts_of open_tx.trace.attempts) ≡ false → result.0 ≡ Ok Done.ReadOnly }
+        ensures due { IsDue self.old result.1 }
         ensures log { IsPrefix self.old.log self.new.log }
         ensures same { self.new
             ≡ knows_that self.old.name self.new.log self.old.number self.new.last None }
@@ -251,11 +261,11 @@ impl<E: End> Client<E> {
             },
         ) = self.begun.take()
         else {
-            return Err(CommitError::Memory);
+            return (Err(CommitError::Memory), None);
         };
         let request = transaction.into_request();
         if request.mutations.is_empty() {
-            return Ok(Done::ReadOnly);
+            return (Ok(Done::ReadOnly), None);
         }
         let told = critical_section(
             rt,
@@ -270,10 +280,11 @@ impl<E: End> Client<E> {
             outcome,
             last,
             prefix,
+            due,
         } = told;
         self.me = learnt(&self.me, &prefix);
         self.last = last;
-        answer_to(outcome, prefix)
+        (answer_to(outcome, prefix), due)
     }
 }
 
