@@ -1,41 +1,17 @@
 // The commands on a store of books. Called by `clerks`.
 ghost use Rattle.std.specs.Prelude.{◌≡◌};
-ghost use Rattle.runtime.specs.Runs.{Continues};
+ghost use Rattle.record_layer.specs.Runs.{Continues};
 
-use metadata::{Cell, Cells, Field, Fields, Kind, Names, SchemaRequest, TypeRequest};
-use runtime::{CommandError, End, Txn};
-use schedule::Command;
+use record_layer::{
+    Cell, Cells, Command, CommandError, End, Kind, SchemaMaker, Txn, name, text_cell,
+};
 use std::alloc::{AllocError, Global};
-use tuple_codec::Text;
 
-/// A field of a type.
-fn field(alloc: Global, name: &str, kind: Kind) -> Result<Field, AllocError> {
-    let name = Text::from_str(alloc, name)?;
-    Ok(Field { name, kind })
-}
-
-/// The type `book`: a title, which is its key, and how many copies there are.
-fn book_type(alloc: Global) -> Result<TypeRequest, AllocError> {
-    let title = field(alloc, "title", Kind::Text)?;
-    let copies = field(alloc, "copies", Kind::Int)?;
-    let key = Text::from_str(alloc, "title")?;
-    Ok(TypeRequest {
-        name: Text::from_str(alloc, "book")?,
-        fields: Fields::new(vec![in alloc; title, copies]?),
-        key: Names::new(vec![in alloc; key]?),
-    })
-}
-
-/// Makes the store.
+/// Makes the store of books: a title, which is the key, and how many copies there are.
 pub(crate) fn make_store(alloc: Global) -> Result<Command, AllocError> {
-    let types = vec![in alloc; book_type(alloc)?]?;
-    Ok(Command::Create(SchemaRequest::new(types, Vec::new(alloc))))
-}
-
-/// The name of the type, and the cell of a title.
-fn book_and_title(alloc: Global, title: &str) -> Result<(Text, Cell), AllocError> {
-    let book = Text::from_str(alloc, "book")?;
-    Ok((book, Cell::Text(Text::from_str(alloc, title)?)))
+    let fields = [("title", Kind::Text), ("copies", Kind::Int)];
+    let asked = SchemaMaker::new(alloc).with_type("book", &fields, &["title"])?;
+    Ok(Command::Create(asked.into_request()))
 }
 
 /// Saves how many copies there are of a book.
@@ -48,8 +24,8 @@ pub(crate) fn save_copies<E: End>(
     ensures same_reference { tx.new.client.ghost_name ≡ tx.old.client.ghost_name }
     ensures continues { Continues tx.old.client.now tx.new.client.now }
 {
-    let (book, title) = book_and_title(alloc, title)?;
-    tx.save(book, Cells::new(vec![in alloc; title, Cell::Int(copies)]?))?;
+    let cells = vec![in alloc; text_cell(alloc, title)?, Cell::Int(copies)]?;
+    tx.save(name(alloc, "book")?, Cells::new(cells))?;
     Ok(())
 }
 
@@ -62,8 +38,8 @@ pub(crate) fn copies<E: End>(
     ensures same_reference { tx.new.client.ghost_name ≡ tx.old.client.ghost_name }
     ensures continues { Continues tx.old.client.now tx.new.client.now }
 {
-    let (book, title) = book_and_title(alloc, title)?;
-    let found = tx.load(book, Cells::new(vec![in alloc; title]?))?;
+    let key = Cells::new(vec![in alloc; text_cell(alloc, title)?]?);
+    let found = tx.load(name(alloc, "book")?, key)?;
     Ok(found.map_or(0, |book| copies_in(&book)))
 }
 

@@ -1,13 +1,11 @@
 // The transactions of the shop, and the threads on which clerks run them. Called by `main`.
 
 use crate::books::{copies, make_store, save_copies};
-use crate::error::EmbedError;
-use runtime::{Body, Client, CommandError, End, Txn};
+use record_layer::{Body, Client, CommandError, End, Error, Retry, Txn};
 use std::alloc::Global;
 use std::sync::Wait;
 use std::thread;
 use std::thread::Threads;
-use txn::Retry;
 
 /// How often a transaction is tried.
 const ATTEMPTS: Retry = Retry { limit: 1_000 };
@@ -75,7 +73,7 @@ pub(crate) fn open_shop<E: End, R: Wait>(
     rt: &R,
     alloc: Global,
     client: &mut Client<E>,
-) -> Result<(), EmbedError> {
+) -> Result<(), Error> {
     client.run(rt, ATTEMPTS, false, &mut Fill { alloc })?;
     Ok(())
 }
@@ -85,18 +83,14 @@ pub(crate) fn left<E: End, R: Wait>(
     rt: &R,
     alloc: Global,
     client: &mut Client<E>,
-) -> Result<i64, EmbedError> {
+) -> Result<i64, Error> {
     let (left, _) = client.run(rt, ATTEMPTS, false, &mut Look { alloc })?;
     Ok(left)
 }
 
 /// A clerk sells copies, each in a transaction that is tried again where the other clerk's writes
 /// came between. Answers how many were sold.
-fn sell_each<E: End, R: Wait>(
-    rt: &R,
-    alloc: Global,
-    client: &mut Client<E>,
-) -> Result<i64, EmbedError> {
+fn sell_each<E: End, R: Wait>(rt: &R, alloc: Global, client: &mut Client<E>) -> Result<i64, Error> {
     let mut sold: i64 = 0;
     for _ in 0..SOLD {
         client.run(rt, ATTEMPTS, false, &mut Sell { alloc })?;
@@ -111,7 +105,7 @@ pub(crate) fn sell_beside<E: End + Send, R: Threads + Wait + Sync>(
     alloc: Global,
     one: &mut Client<E>,
     other: &mut Client<E>,
-) -> Result<(i64, i64), EmbedError> {
+) -> Result<(i64, i64), Error> {
     let (one, other) = thread::join(
         rt,
         || sell_each(rt, alloc, one),

@@ -4,12 +4,9 @@
 
 mod books;
 mod clerks;
-mod error;
 
 use clerks::{COPIES, TITLE, left, open_shop, sell_beside};
-use cluster_core::Config;
-use error::EmbedError;
-use runtime::{Client, End, Waits, open};
+use record_layer::{Client, Config, End, Error, Waits, open};
 use std::alloc::Global;
 use std::io;
 use std::process::ExitCode;
@@ -31,7 +28,7 @@ fn trade<E: End + Send, R: Threads + Wait + Sync>(
     alloc: Global,
     one: &mut Client<E>,
     other: &mut Client<E>,
-) -> Result<Day, EmbedError> {
+) -> Result<Day, Error> {
     open_shop(rt, alloc, one)?;
     let (sold, also_sold) = sell_beside(rt, alloc, one, other)?;
     let left = left(rt, alloc, one)?;
@@ -42,20 +39,21 @@ fn trade<E: End + Send, R: Threads + Wait + Sync>(
     })
 }
 
-/// Opens the database, and has its first two clients trade.
-fn open_and_trade<R: Threads + Wait + Sync>(rt: &R, alloc: Global) -> Result<Day, EmbedError> {
+/// Opens the database, and has its first two clients trade, where there are two.
+fn open_and_trade<R: Threads + Wait + Sync>(rt: &R, alloc: Global) -> Result<Option<Day>, Error> {
     let mut clients = open(rt, alloc, Waits { rt }, &Config::single(alloc))?;
     let Some((one, others)) = clients.as_mut_slice().split_first_mut() else {
-        return Err(EmbedError::NoClient);
+        return Ok(None);
     };
     let Some((other, _)) = others.split_first_mut() else {
-        return Err(EmbedError::NoClient);
+        return Ok(None);
     };
-    trade(rt, alloc, one, other)
+    let day = trade(rt, alloc, one, other)?;
+    Ok(Some(day))
 }
 
 /// The lines that tell a day.
-fn lines(alloc: Global, day: &Day) -> Result<Vec<String>, EmbedError> {
+fn lines(alloc: Global, day: &Day) -> Result<Vec<String>, Error> {
     let Day {
         sold,
         also_sold,
@@ -68,9 +66,11 @@ fn lines(alloc: Global, day: &Day) -> Result<Vec<String>, EmbedError> {
 }
 
 /// Does all of it, and answers the lines that tell it.
-fn demonstrate<R: Threads + Wait + Sync>(rt: &R, alloc: Global) -> Result<Vec<String>, EmbedError> {
-    let day = open_and_trade(rt, alloc)?;
-    lines(alloc, &day)
+fn demonstrate<R: Threads + Wait + Sync>(rt: &R, alloc: Global) -> Result<Vec<String>, Error> {
+    match open_and_trade(rt, alloc)? {
+        Some(day) => lines(alloc, &day),
+        None => Ok(vec![in alloc; String::from_str(alloc, "too few clients")?]?),
+    }
 }
 
 fn main(rt: HostRuntime) -> io::Result<ExitCode> {

@@ -1,7 +1,7 @@
 use denote.Param.Send.{sendable}
 use Rattle.std.proofs.Crossing.{crosses}
 use Rattle.std.proofs.alloc.Global.TheSendSync as heap
-use Rattle.runtime.proofs.Sendable.{client_send}
+use Rattle.record_layer.proofs.Sendable.{client_send}
 use Rattle.embed_threads.proofs.clerks.sell_beside.Goals as goal
 
 -- src/clerks.rt:142:24

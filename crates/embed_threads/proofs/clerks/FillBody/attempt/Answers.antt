@@ -1,4 +1,4 @@
-use Rattle.runtime.proofs.Attempts.{continues_trans}
+use Rattle.record_layer.proofs.Attempts.{continues_trans}
 use Rattle.embed_threads.proofs.clerks.FillBody.attempt.Goals as goal
 
 pub returns-clause-continues : goal.returns-clause-continues

@@ -1,4 +1,4 @@
-use Rattle.runtime.proofs.Attempts.{continues_trans}
+use Rattle.record_layer.proofs.Attempts.{continues_trans}
 use Rattle.embed_threads.proofs.clerks.SellBody.attempt.Goals as goal
 
 pub returns-in_err-save_copies-clause-continues : goal.returns-in_err-save_copies-clause-continues
