@@ -1,5 +1,5 @@
 -- What adding an index comes to at a store that is there.
-use Rattle.std.proofs.Common.{◌≡◌, ◌⊎◌, ◌==◌, ◌<◌, ◌^◌, ℕ, List, [], ◌∷◌, refl, sym, ap, subst, ◌∙◌, length, Option, Some, None, Ok, Err, Result}
+use Rattle.std.proofs.Common.{◌≡◌, ◌⊎◌, ◌==◌, ℕ, List, [], ◌∷◌, refl, sym, ap, subst, ◌∙◌, length, Option, Some, None, Ok, Err, Result}
 use Rattle.std.specs.Prelude.{IsNone}
 use Rattle.std.specs.List.{AllByRecursion}
 use Rattle.kv_core.specs.Range.{KeyRange}
@@ -23,7 +23,6 @@ use Rattle.metadata.specs.Lawful.{IsLawfulSchema}
 use Rattle.metadata.specs.Records.{of_type}
 use Rattle.metadata.specs.Schema.{Schema, find_type}
 use Rattle.metadata.specs.Written.{schema_bytes}
-use Rattle.metadata.proofs.StoredApart.{named_typed, number_small}
 use Rattle.record_store.specs.Store.{Store, indexed, listed_by, new_state, altered_at, state_in}
 use Rattle.record_store.specs.declared.error.StoreError.{StoreError}
 use Rattle.record_store.specs.declared.error.StoreError.TheVariants.{Memory}
@@ -68,15 +67,6 @@ type_number_is schema request index type is found =
     by_refusal : (o : Option Refusal) → ◌≡◌ {A = Result IndexDefinition Refusal} (elim o [ None ↦ Ok (index_asked schema type request) | Some refusal ↦ Err refusal ]) (Ok index) → index.type_number ≡ type.number
     by_refusal None made = let same : index_asked schema type request ≡ index = cc in ap (λ (i : IndexDefinition). i.type_number) (sym same)
     by_refusal (Some refusal) made = absurd (cc)
-
--- the number of its type is small
-pub index_type_small : (schema : Schema) (request : IndexRequest) (index : IndexDefinition) → IsLawfulSchema schema → new_index schema request ≡ Ok index → index.type_number < 2 ^ 64
-index_type_small schema request index lawful is = by_type (find_type schema request.type_name) refl
-  where
-    by_type : (o : Option TypeDefinition) → find_type schema request.type_name ≡ o → index.type_number < 2 ^ 64
-    by_type None none = absurd (type_there schema request index is none)
-    by_type (Some type) found =
-        subst (λ n. n < 2 ^ 64) (sym (type_number_is schema request index type is found)) (number_small schema type lawful (named_typed schema request.type_name type lawful found))
 
 -- ---- the call
 

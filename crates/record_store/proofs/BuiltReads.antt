@@ -108,16 +108,6 @@ stopped_within refuses asked added one whole before more last NotBuilt m same al
 module _ (opened : Opened) (number : ℕ) (position : List ℕ) where
   -- ---- one index
 
-  -- nothing is read of one of which nothing is asked
-  pub one_unasked : {maps : ℕ → Map} {old new : CommitRequest} (index : IndexDefinition) (pairs : List Pair) → asks opened number index ≡ false → pairs ≡ [] → new ≡ old → HasReadOne maps opened number position index pairs old new
-  one_unasked index pairs unasked none same = record {
-    added = [];
-    ran = ran_still same (λ m. (
-      sym (ap (λ b. cond b ((last_upto (built_place opened.prefix index.number) position).added m ∷ []) []) unasked),
-      none ∙ sym (ap (λ b. cond b ((last_upto (built_place opened.prefix index.number) position).pairs m) []) unasked),
-    ));
-  }
-
   -- what is asked of another was read
   pub one_read : {maps : ℕ → Map} {old new : CommitRequest} (index : IndexDefinition) (range : KeyRange) (pairs : List Pair) → asks opened number index ≡ true → range ≡ upto_range (built_place opened.prefix index.number) position →
       new ≡ has_read (range_read range 1 true pairs) old → ((m : Map) → Agree new.reads (maps old.read_version) m → pairs ≡ read_of (seen old m) range 1 true) → HasReadOne maps opened number position index pairs old new

@@ -141,21 +141,6 @@ module _ (prefix : List ℕ) where
         ∙ clear_leaves m (record_key prefix key) at (λ same. elsewhere.records (record_in_place prefix key at same)) ∙ holds.nothing_else at under elsewhere;
   }
 
-  -- where there is no index that is all
-  pub saved_holds : (m : Map) (store : Store) (new : Record) → store.schema.indexes ≡ [] → IsOfSchema store.schema new → IsStorable new → Holds prefix m (Some store) →
-      Holds prefix (after (Set (record_key prefix (primary_key new)) (record_value new.cells)) m) (Some (saved store new))
-  saved_holds m store new none typed can holds =
-      let then = after (Set (record_key prefix (primary_key new)) (record_value new.cells)) m in
-      saved_by m then store new typed can holds (λ at apart. refl)
-      (subst (AllByRecursion (λ index. HasIndex prefix (with_record new store.records) then index (store.status index.number))) (sym none) tt)
-
-  pub removed_holds : (m : Map) (store : Store) (key : List Item) → store.schema.indexes ≡ [] → IsTuple key → Holds prefix m (Some store) →
-      Holds prefix (after (ClearRange (point (record_key prefix key))) m) (Some (removed store key))
-  removed_holds m store key none t holds =
-      let then = after (ClearRange (point (record_key prefix key))) m in
-      removed_by m then store key t holds (λ at apart. refl)
-      (subst (AllByRecursion (λ index. HasIndex prefix (without_record key store.records) then index (store.status index.number))) (sym none) tt)
-
   -- ---- a schema
 
   -- with a schema's pair put where nothing is, nothing is at each other key

@@ -1,5 +1,5 @@
 -- How indexes follow their records by what was found of built ranges.
-use Rattle.std.proofs.Common.{◌≡◌, inl, inr, ℕ, Bool, true, false, cond, ◌&&◌, ◌==◌, ◌<◌, ◌≤◌, List, [], ◌∷◌, ◌++◌, refl, sym, ap, subst, ◌∙◌, Option, Some, append-nil, append_assoc, arith, length, take, map, pos}
+use Rattle.std.proofs.Common.{◌≡◌, inl, inr, ℕ, Bool, true, false, cond, ◌&&◌, ◌==◌, ◌<◌, List, [], ◌∷◌, ◌++◌, refl, sym, ap, subst, ◌∙◌, Option, Some, append_assoc, arith, length, take, map, pos}
 use Rattle.std.specs.Prelude.{drop, filter, get_or, reverse, suc, zero}
 use Rattle.std.specs.List.{AllByRecursion, Contains, flat_map}
 use Rattle.std.proofs.lemmas.Bool.{and_parts}
@@ -45,7 +45,6 @@ use Rattle.record_store.proofs.Held.{under}
 use Rattle.record_store.proofs.Kept.{itself, not_range, set_held}
 use Rattle.record_store.proofs.Openings.{pairs_lie}
 use Rattle.record_store.proofs.Listed.{all_there, contained_low, of_contained, schema_apart, state_told, state_told_there}
-use Rattle.record_store.proofs.StateSteps.{all_taken}
 
 abbrev Pair : Type 0
 Pair = List ℕ × List ℕ
@@ -77,13 +76,6 @@ module _ (opened : Opened) (lawful : IsLawfulSchema opened.schema) (number : ℕ
 
   asked_found : asks opened number index ≡ true → (m : Map) → found_of opened number position m index ≡ (last_upto place position).pairs m
   asked_found asked m = ap (λ b. cond b ((last_upto place position).pairs m) []) asked
-
-  -- UNASKED: nothing is found, and nothing told
-  pub told_unasked : (found : List Pair) → asks opened number index ≡ false → IsToldOf opened number position index found false
-  told_unasked found unasked = λ m is. (
-    subst (AllByRecursion (IsWritten opened.prefix opened.schema)) (sym (is ∙ unasked_found unasked m)) tt,
-    λ store holds same. sym (ap (λ b. cond b (has_position (built_of store index.number) position) false) unasked),
-  )
 
   -- pairs that stand for ranges are of the written form
   written_pairs : (pairs : List Pair) → AreWritten place pairs → AllByRecursion (IsWritten opened.prefix opened.schema) pairs
@@ -210,9 +202,6 @@ module _ (opened : Opened) (number : ℕ) (position : List ℕ) (old new : Optio
   abbrev wants : Store → IndexDefinition → List Mutation
   wants store index = one_index_writes opened number (asked_built opened number position store index) old new index
 
-  pub followed_none : (before : List Mutation) → HaveFollowed opened number position old new found [] before before
-  followed_none before = ([], sym (append-nil before), λ m is. (tt, λ store holds same. refl))
-
   pub followed_more : (i : ℕ) (index : IndexDefinition) (told : Bool) (pairs : List Pair) (before so_far after : List Mutation) → i < length opened.schema.indexes → index ≡ get_or opened.schema.indexes i index → pairs ≡ get_or found i [] →
       IsToldOf opened number position index pairs told → after ≡ so_far ++ one_index_writes opened number told old new index →
       HaveFollowed opened number position old new found (take i opened.schema.indexes) before so_far → HaveFollowed opened number position old new found (take (suc i) opened.schema.indexes) before after
@@ -237,9 +226,6 @@ module _ (opened : Opened) (number : ℕ) (position : List ℕ) (old new : Optio
       both : (xs ys : List Pair) → AllByRecursion (IsWritten opened.prefix opened.schema) xs → AllByRecursion (IsWritten opened.prefix opened.schema) ys → AllByRecursion (IsWritten opened.prefix opened.schema) (xs ++ ys)
       both [] ys all more = more
       both (x ∷ xs) ys all more = (all.0, both xs ys all.1 more)
-
-  pub followed_all : (i : ℕ) (before after : List Mutation) → length opened.schema.indexes ≤ i → HaveFollowed opened number position old new found (take i opened.schema.indexes) before after → HaveFollowed opened number position old new found opened.schema.indexes before after
-  followed_all i before after within followed = subst (λ indexes. HaveFollowed opened number position old new found indexes before after) (all_taken i opened.schema.indexes within) followed
 
   -- one index didn't
   pub not_followed : (i : ℕ) (index : IndexDefinition) (pairs : List Pair) (before so_far : List Mutation) (error : StoreError) → i < length opened.schema.indexes → index ≡ get_or opened.schema.indexes i index → pairs ≡ get_or found i [] →

@@ -95,9 +95,6 @@ module _ (prefix : List ℕ) where
   pub schema_held : (m : Map) (store : Store) → Holds prefix m (Some store) → get m (schema_key prefix) ≡ Some (schema_bytes store.schema)
   schema_held m store holds = holds.schema
 
-  pub nothing_held : (m : Map) (bytes : List ℕ) → Holds prefix m None → get m (prefix ++ bytes) ≡ None
-  nothing_held m bytes holds = holds bytes
-
   pub no_schema_held : (m : Map) → Holds prefix m None → get m (schema_key prefix) ≡ None
   no_schema_held m holds = holds (spelling (int (pos 0) ∷ []))
 

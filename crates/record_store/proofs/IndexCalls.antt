@@ -44,14 +44,6 @@ drops schema name number is = by_found (find_index schema name) is
     by_found None none = absurd (cc)
     by_found (Some index) found = let same : index.number ≡ number = cc in ap (λ n. Ok (without_index schema n)) same
 
-pub never_refused : (schema copy : Schema) (name : List ℕ) (number : ℕ) (refusal : Refusal) → copy ≡ schema → index_number (find_index schema name) ≡ Ok number → drop_index copy name ≡ Err refusal → ⊥
-never_refused schema copy name number refusal same is refused =
-    let both : ◌≡◌ {A = Result Schema Refusal} (Ok (without_index schema number)) (Err refusal) = sym (drops schema name number is) ∙ ap (λ s. drop_index s name) (sym same) ∙ refused in cc
-
-pub dropped_is : (schema copy next : Schema) (name : List ℕ) (number : ℕ) → copy ≡ schema → index_number (find_index schema name) ≡ Ok number → drop_index copy name ≡ Ok next → next ≡ without_index schema number
-dropped_is schema copy next name number same is done =
-    let both : ◌≡◌ {A = Result Schema Refusal} (Ok next) (Ok (without_index schema number)) = sym done ∙ ap (λ s. drop_index s name) same ∙ drops schema name number is in cc
-
 -- ---- calls
 
 -- the opened store that is left

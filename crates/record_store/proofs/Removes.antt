@@ -36,12 +36,12 @@ use Rattle.record_store.specs.IndexWrites.{one_index_writes, remove_writes}
 use Rattle.record_store.specs.Layout.{record_key}
 use Rattle.record_store.specs.Reading.{HasNotFound, HasNotRead, HasReadBuilt, HaveFollowed, HaveNotFollowed, IsKeyOf}
 use Rattle.record_store.specs.Reading.{IsNotFound, ReadsHaveStopped, asked_built}
-use Rattle.record_store.specs.Steps.{DidRead, no_memory, of_write}
+use Rattle.record_store.specs.Steps.{DidRead, of_write}
 use Rattle.record_store.specs.Store.{Store}
 use Rattle.record_store.proofs.Answered.{answered, answered_reading, done_with, key_given, refused_limit, refused_unread}
 use Rattle.record_store.proofs.OneRecord.{read_there}
 use Rattle.record_store.proofs.RecordCalls.{filled, remove_list, remove_served}
-use Rattle.record_store.proofs.Writing.{built_unread, follow_read, follow_unread, key_unread, memory_behind, record_unread}
+use Rattle.record_store.proofs.Writing.{built_unread, follow_read, follow_unread, key_unread, record_unread}
 
 abbrev Pair : Type 0
 Pair = List ℕ × List ℕ
@@ -131,10 +131,6 @@ module _ (opened : Opened) (name : List ℕ) (cells : List Cell) (type : TypeDef
         (subst (λ p. ReadsHaveStopped maps refuses (built_reading opened type.number p opened.schema.indexes) error mid new) is_at stop))
 
     module _ (found : List (List Pair)) {read : CommitRequest} (ranges : BuiltRead maps found mid read) where
-      -- MEMORY: it was wanting behind all reads
-      pub remove_memory : IsRefused maps refuses opened (remove_call opened name cells) no_memory old read
-      remove_memory = unread no_memory (memory_behind opened key other found type.number (position_of pk) (Some value) (λ m is. (there_added m value is, there_pairs m value is)) first (built_read ranges))
-
       -- RECORD: the pair found stands for none
       pub remove_record_refused : (error : StoreError) → IsNotFound type (spelling pk) (record_key opened.prefix pk) (Some value) error → IsRefused maps refuses opened (remove_call opened name cells) error old read
       remove_record_refused error is =

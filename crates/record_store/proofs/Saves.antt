@@ -28,10 +28,10 @@ use Rattle.record_store.specs.Meaning.{is_own, save_meaning}
 use Rattle.record_store.specs.Layout.{record_key, record_value}
 use Rattle.record_store.specs.Reading.{HasNotFound, HasNotRead, HasReadBuilt, HaveFollowed, HaveNotFollowed, IsFound}
 use Rattle.record_store.specs.Reading.{IsKeyOf, IsNotFound, ReadsHaveStopped}
-use Rattle.record_store.specs.Steps.{DidRead, no_memory, of_write}
+use Rattle.record_store.specs.Steps.{DidRead, of_write}
 use Rattle.record_store.proofs.Answered.{answered, own_found, own_typed, refused_limit, refused_unread}
 use Rattle.record_store.proofs.RecordCalls.{filled, save_accepted, save_list, save_served}
-use Rattle.record_store.proofs.Writing.{built_unread, follow_read, follow_unread, key_unread, memory_behind, record_unread}
+use Rattle.record_store.proofs.Writing.{built_unread, follow_read, follow_unread, key_unread, record_unread}
 
 abbrev Pair : Type 0
 Pair = List ℕ × List ℕ
@@ -88,10 +88,6 @@ module _ (opened : Opened) (r : Record) (own : is_own (find_type opened.schema r
       (subst (λ (t : TypeDefinition). ReadsHaveStopped maps refuses (built_reading opened t.number at opened.schema.indexes) error mid new) is_type stop)))
 
   module _ (found : List (List Pair)) (value : Option (List ℕ)) (refuses : KeyRange → ℕ → ReadError → Type 0) {maps : ℕ → Map} {old mid read : CommitRequest} (first : KeyRead maps value old mid) (built : BuiltRead maps found mid read) where
-    -- MEMORY: it was wanting behind all reads
-    pub save_memory : IsRefused maps refuses opened (save_call opened r) no_memory old read
-    save_memory = unread no_memory (memory_behind opened key other found r.definition.number (position_of (primary_key r)) value (λ m is. (refl, refl)) (key_read first) (built_read built))
-
     -- RECORD: the pair found stands for none
     pub save_record_refused : (error : StoreError) → IsNotFound type (spelling pk) (record_key opened.prefix pk) value error → IsRefused maps refuses opened (save_call opened r) error old read
     save_record_refused error is =

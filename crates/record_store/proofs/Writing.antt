@@ -25,7 +25,7 @@ use Rattle.record_store.specs.IndexWrites.{one_index_writes}
 use Rattle.record_store.specs.Layout.{record_key}
 use Rattle.record_store.specs.Reading.{HasNotFound, HasNotRead, HasReadBuilt, HaveFollowed, HaveNotFollowed, IsFound}
 use Rattle.record_store.specs.Reading.{IsKeyOf, IsNotFound, IsReadError, IsStopped, ReadsHaveStopped, asked_built}
-use Rattle.record_store.specs.Steps.{DidRead, IsBeginning, no_memory}
+use Rattle.record_store.specs.Steps.{DidRead, IsBeginning}
 use Rattle.record_store.proofs.BuiltReads.{stopped_within}
 use Rattle.record_store.proofs.Followed.{bad_behind, bad_more}
 use Rattle.record_store.proofs.OneRecord.{read_there, unread_there}
@@ -98,10 +98,6 @@ module _ (opened : Opened) (key : List ℕ) (other : Reading) where
 
     pub both_read : DidRead maps (point key ∷ built.added) old new AreFound
     both_read = ran_then first built.ran (λ m found says. (ap (λ rs. point key ∷ rs) (says.0 ∙ sym (so m found).0), (found, says.1)))
-
-    -- MEMORY: it was wanting behind both
-    pub memory_behind : {refuses : KeyRange → ℕ → ReadError → Type 0} → HasNotFound maps refuses opened reading no_memory old new
-    memory_behind = record { added = point key ∷ built.added; ran = ran_because both_read (λ m found. subst (IsBeginning (point key ∷ built.added)) found.0 (all_begin (point key ∷ built.added))) }
 
     module _ (type : TypeDefinition) (primary_key : List Item) (lawful : IsLawfulSchema opened.schema) (found_type : find_type opened.schema type.name ≡ Some type) (key_of : IsKeyOf type primary_key) (is : key ≡ record_key opened.prefix primary_key) where
       -- RECORD: what stands at the key is no record

@@ -1,13 +1,10 @@
 -- What commands come to, from what the calls that they make on the store establish.
-use Rattle.std.proofs.Common.{◌≡◌, ℕ, true, false, not, cond, ◌==◌, List, [], ◌∷◌, ◌++◌, inl, inr, refl, sym, ap, subst, ◌∙◌, append-nil, Some, None, Ok, Err, Result, length, arith}
-use Rattle.std.proofs.lemmas.Bool.{eqb-true}
+use Rattle.std.proofs.Common.{◌≡◌, ℕ, true, not, cond, List, [], ◌++◌, inl, inr, refl, sym, ap, subst, ◌∙◌, append-nil, Some, None, Ok, Err, Result}
 use Rattle.kv_core.specs.Range.{KeyRange}
 use Rattle.kv_core.specs.Map.{Map, after_all}
 use Rattle.kv_core.specs.Limits.{write_all_refusal}
 use Rattle.kv_core.specs.declared.change.CommitRequest.{CommitRequest}
-use Rattle.kv_core.specs.declared.change.Mutation.{Mutation}
 use Rattle.cluster_core.specs.declared.answers.ReadError.{ReadError}
-use Rattle.txn.specs.Runs.{Ran}
 use Rattle.txn.proofs.Running.{ran_because, ran_then}
 use Rattle.metadata.specs.declared.refusal.MetadataError.{MetadataError}
 use Rattle.metadata.specs.declared.refusal.MetadataError.TheVariants as meta
@@ -35,9 +32,9 @@ use Rattle.schedule.specs.Serve as serve
 use Rattle.schedule.specs.Past.{is_accepted, tells_change}
 use Rattle.schedule.specs.Holds.{Stands}
 use Rattle.schedule.specs.Reach.{opened_in, added_by, open_reach, own_damage, own_reading, reach, writes, footprint_writes, written_with}
-use Rattle.schedule.specs.Performed.{IsLimited, IsPerformed, IsPerformedAt, IsReadAs, IsReadRefusedAs}
+use Rattle.schedule.specs.Performed.{IsLimited, IsPerformed, IsPerformedAt, IsReadRefusedAs}
 use Rattle.schedule.specs.Calls.{IsCommandRefused}
-use Rattle.schedule.proofs.Reached.{added_begin, all_added, begin_open, next_within, opening_added, opening_asked, own_asked, sound_by, sound_none, told_accepted}
+use Rattle.schedule.proofs.Reached.{all_added, begin_open, next_within, opening_added, opening_asked, own_asked, sound_by, sound_none, told_accepted}
 use Rattle.schedule.proofs.Stops.{IsRight, IsStop, at, limit_right, memory_opened, own_right, read_right, refused_by, refused_right, opened_is, stop_memory, stopped_all, told_damage, told_limit, told_read, told_refused}
 
 -- UNOPENED: no store was opened
@@ -315,23 +312,6 @@ pub refused_asked : {maps : ℕ → Map} {refuses : KeyRange → ℕ → ReadErr
 refused_asked {maps = maps} {old = old} {mid = mid} opened command outcome meta.Memory opens here so is_opened is = memory_opened opened command opens (subst (λ o. IsOpened maps o old mid) (located opened here) is_opened)
 refused_asked {maps = maps} {old = old} {mid = mid} opened command outcome (meta.Refused refusal) opens here so is_opened is =
     refused_own opened command (Refused refusal) (so refusal is) (subst (λ o. IsOpened maps o old mid) (located opened here) is_opened)
-
--- MEMORY: it is wanting after a call that changed nothing
-pub refused_behind : {maps : ℕ → Map} {refuses : KeyRange → ℕ → ReadError → Type 0} {old mid new : CommitRequest} {A : Type 0} (opened : Opened) (command : Command) (asked : Opened → Call A) (told : A → Reply) (answer : A) → opened.prefix ≡ store_prefix →
-    Meets (at opened) command (asked (at opened)) told → tells_change (told answer) ≡ false → IsOpened maps opened old mid → IsAnswered maps opened (asked opened) answer mid new →
-    IsCommandRefused maps refuses command Memory old new
-refused_behind {maps = maps} {refuses = refuses} {old = old} {new = new} opened command asked told answer here meets reads is_opened is =
-    refused_by command so.opened Memory so.added (ran_because
-    (subst (λ ms. Ran maps so.added old new ms (λ m. IsReadAs so.opened command (told answer) so.added m × ((serial : Serial) → Stands m serial → IsPerformedAt (λ range error. ⊥) command (told answer) old.mutations so.written so.added m serial)))
-    (nothing so.written (so.changes ∙ ap not reads)) so.ran)
-    (λ m fact. stop_memory (λ range. refuses range old.read_version) so.opened command old.mutations so.added m fact.0.there (added_begin (told answer) fact.0.reads) (λ serial stands. added_begin (told answer) (fact.1 serial stands).reads)))
-  where
-    so : IsPerformed maps (λ range error. ⊥) command (told answer) old new
-    so = performed opened command asked told answer here meets is_opened is
-
-    nothing : (ms : List Mutation) → (length ms == 0) ≡ true → ms ≡ []
-    nothing [] is = refl
-    nothing (one ∷ ms) is = absurd (omega (arith, eqb-true (length (one ∷ ms)) 0 is))
 
 -- AS: the reply is an equal one
 pub answered_as : {maps : ℕ → Map} {refuses : KeyRange → ReadError → Type 0} {command : Command} {answer made : Reply} {old new : CommitRequest} → answer ≡ made → IsPerformed maps refuses command made old new → IsPerformed maps refuses command answer old new

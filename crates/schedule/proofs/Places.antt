@@ -1,13 +1,11 @@
 -- The clients' places, and what one step changes of them.
 use Rattle.std.proofs.Common.{◌≡◌, ℕ, ◌<◌, ◌≤◌, ◌==◌, Bool, true, false, cond, List, [], ◌∷◌, ◌++◌, length, get_or, map, filter, refl, sym, ap, subst, ◌∙◌, Option, Some, None, replicate, arith}
 use Rattle.std.specs.Prelude.{is_some, slice_set}
-use Rattle.std.proofs.lemmas.Bool.{eqb-true, eqb-false, ltb-true, ltb-false, true≢false}
+use Rattle.std.proofs.lemmas.Bool.{eqb-true, eqb-false, ltb-false, true≢false}
 use Rattle.std.proofs.lemmas.List.{get_or_default, get_or-replicate, get_or-set_same, get_or-set_other, set-get_or}
 use Rattle.kv_core.specs.Map.{Map}
-use Rattle.schedule.specs.declared.refusal.Refusal.TheVariants.{NoSuchClient}
 use Rattle.schedule.specs.declared.step.TheConstants.{CLIENTS}
 use Rattle.schedule.specs.declared.reply.Reply.{Reply}
-use Rattle.schedule.specs.declared.reply.Reply.TheVariants.{Refused}
 use Rattle.schedule.specs.declared.database.OpenTransaction.{OpenTransaction}
 use Rattle.schedule.specs.Past.{Attempt, Open, accepted, is_accepted}
 use Rattle.schedule.specs.Contract.{OfClient}
@@ -35,9 +33,6 @@ same_number n = by_test (n == n) refl
 -- what one client has open changes, and the others' stays
 abbrev pub changed_at : ℕ → (Option Open → Option Open) → (ℕ → Option Open) → ℕ → Option Open
 changed_at who change opens client = cond (who == client) (change (opens client)) (opens client)
-
-pub changed_here : (who : ℕ) (change : Option Open → Option Open) (opens : ℕ → Option Open) → changed_at who change opens who ≡ change (opens who)
-changed_here who change opens = ap (λ b. cond b (change (opens who)) (opens who)) (same_number who)
 
 -- its place is written
 pub places_set : (maps : ℕ → Map) (reported who : ℕ) (change : Option Open → Option Open) (opens : ℕ → Option Open) (transactions : List (Option OpenTransaction)) (value : Option OpenTransaction) →
@@ -88,9 +83,6 @@ none_from (Some x) is = absurd (true≢false is)
 
 pub client_there : (client : ℕ) (reply : Reply) (IsRight : Type 0) → client < CLIENTS → IsRight → OfClient client reply IsRight
 client_there client reply IsRight below right = (λ _. right, λ none. absurd (let above : CLIENTS ≤ client = ltb-false client CLIENTS none in omega (arith, above, below)))
-
-pub client_away : (client : ℕ) (IsRight : Type 0) → CLIENTS ≤ client → OfClient client (Refused NoSuchClient) IsRight
-client_away client IsRight above = (λ some. absurd (let below : client < CLIENTS = ltb-true client CLIENTS some in omega (arith, above, below)), λ _. refl)
 
 -- ---- accepted commands
 

@@ -1,7 +1,7 @@
 -- What a step of a resolver, a log or a server replies and leaves, over plain values.
 use Rattle.std.proofs.Common.{◌≡◌, ℕ, ◌+◌, ◌%◌, ◌<◌, ◌≤◌, Bool, true, false, cond, List, [], length, get_or, sym, ap, subst, ◌∙◌, Option, arith}
 use Rattle.std.specs.Prelude.{All, slice_index}
-use Rattle.std.proofs.lemmas.Bool.{ltb-true, lt-ltb, le-ltb}
+use Rattle.std.proofs.lemmas.Bool.{ltb-true, lt-ltb}
 use Rattle.std.proofs.lemmas.List.Elements.{All-get_or, All-set}
 use Rattle.cluster_core.specs.declared.answers.Work.{Work}
 use Rattle.cluster_core.specs.declared.answers.Work.TheVariants as works
@@ -27,9 +27,6 @@ role_done roles role may there is = sym ((λ i. cond (lt-ltb role roles there i)
 
 pub role_nothing : (roles role : ℕ) (may : Bool) → role < roles → may ≡ false → Nothing ≡ role_reply roles role may
 role_nothing roles role may there is = sym ((λ i. cond (lt-ltb role roles there i) (cond (is i) Done Nothing) (Refused NoSuchRole)))
-
-pub role_away : (roles role : ℕ) (may : Bool) → roles ≤ role → Refused NoSuchRole ≡ role_reply roles role may
-role_away roles role may away = sym ((λ i. cond (le-ltb role roles away i) (cond may Done Nothing) (Refused NoSuchRole)))
 
 -- ---- clocks that move
 

@@ -161,14 +161,6 @@ pull_worked old new server works.NothingToDo within ordered did only = idle_work
 
 -- ---- each role of a kind
 
-pub none_worked : (may : ClusterState → ℕ → Bool) (d : Database) → HaveWorked may 0 false d d
-none_worked may d = record {
-  nearer = nearer_stays d.cluster;
-  reported = refl;
-  standing = λ opens submissions s. s;
-  none = λ _ role below. absurd (omega (arith, below));
-}
-
 pub one_more_worked : (may : ClusterState → ℕ → Bool) (count : ℕ) (done now both : Bool) (old mid new : Database) → both ≡ (done || now) → HaveWorked may count done old mid → HasWorked (may mid.cluster count) now mid new →
     HaveWorked may (count + 1) both old new
 one_more_worked may count done now both old mid new is before next =
