@@ -1,4 +1,4 @@
-// The database on one thread. Used by `schedule` and `embed`, and by `txn`, which commits to it and
+// The database on one thread. Used by `schedule` and `record_layer`, and by `txn`, which commits to it and
 // reads from it.
 ghost use Rattle.std.specs.Prelude.{◌≡◌, ◌⊎◌, ◌+◌, ◌<◌, ◌≤◌, Some, IsNone, IsTrue, IfOk};
 ghost use Rattle.std.specs.Prelude.{IfErr, OnOk, OnErr, if◌then◌else◌, length};

@@ -1,4 +1,4 @@
-// Plans as one line of text. Called by `script`, `recordctl` and `embed`; ranges by `plan_tree`.
+// Plans as one line of text. Called by `script`, `recordctl` and applications; ranges by `plan_tree`.
 ghost use Rattle.std.specs.Prelude.{◌≡◌, ◌++◌, OnOk, IfOk, map, string_bytes, ℕ};
 ghost use Rattle.std.specs.List.{join_with_byte};
 ghost use Rattle.hex.specs.Hex.{encode_lower};

@@ -1,5 +1,5 @@
 // Definitions of record types, and the requests that ask for types and schemas. Used by most
-// modules here; `json_forms` and `embed` make requests, the crates above read definitions.
+// modules here; `json_forms` and `record_layer` make requests, crates above read definitions.
 ghost use Rattle.std.specs.Prelude.{◌≡◌, IfOk};
 ghost use Rattle.std.specs.Str.{bytes_eq};
 ghost use Rattle.metadata.specs.Change.{has_twice};

@@ -1,5 +1,5 @@
 // Records that fit their types, and primary keys. Used by `stored`, and by `query`, `index_maint`,
-// `record_store`, `online_builder`, `plan_exec`, `schedule` and `embed`.
+// `record_store`, `online_builder`, `plan_exec`, `schedule` and `record_layer`.
 ghost use Rattle.std.specs.Prelude.{◌≡◌, Ok, Err, IfOk, IfErr, OnOk, map};
 ghost use Rattle.tuple_codec.specs.Item.{IsTuple};
 ghost use Rattle.metadata.specs.Answers.{IsRefusedAs};

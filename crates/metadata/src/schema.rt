@@ -1,5 +1,5 @@
 // Schemas, their limits, and how types are added. Used by the modules here that change, write or
-// read one, and by `query`, `planner`, `explain`, `record_store`, `schedule` and `embed`.
+// read one, and by `query`, `planner`, `explain`, `record_store`, `schedule` and applications.
 ghost use Rattle.std.specs.Prelude.{◌≡◌, ◌∷◌, ◌==◌, ◌||◌, not, is_some, nat_lt};
 ghost use Rattle.std.specs.Prelude.{length, None, Ok, true, IfOk, IfErr, OnOk, OnErr};
 ghost use Rattle.std.specs.Option.{option_copied};

@@ -1,4 +1,4 @@
-// The errors of an execution. Used by most modules here, and by `schedule` and `embed`.
+// The errors of an execution. Used by most modules here, and by `schedule` and applications.
 ghost use Rattle.std.specs.Prelude.{◌≡◌};
 ghost use Rattle.plan_exec.specs.Errors.{exec_memory, exec_read};
 

@@ -1,4 +1,4 @@
-//! The calls that execute a plan. Called by `schedule` and `embed`.
+//! The calls that execute a plan. Called by `schedule` and applications.
 ghost use Rattle.std.specs.Prelude.{◌≡◌, ◌⊎◌, IfOk, IfErr, List};
 ghost use Rattle.metadata.specs.Record.{Record as RecordValue};
 ghost use Rattle.plan_exec.specs.Errors.{exec_memory};

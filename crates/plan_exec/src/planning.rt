@@ -1,4 +1,4 @@
-//! The plan of a query over an open store. Called by `schedule` and `embed`.
+//! The plan of a query over an open store. Called by `schedule` and applications.
 ghost use Rattle.std.specs.Prelude.{◌≡◌, All, Some, None, IfOk, IfErr, IsTrue, IsFalse};
 ghost use Rattle.metadata.specs.Schema.{find_type};
 ghost use Rattle.record_store.specs.Calls.{index_states};

@@ -1,4 +1,4 @@
-//! Copies of plans, for whoever keeps one and hands another one on. Called by `store_trials`.
+//! Copies of plans, for whoever keeps one and hands another one on. Called by tests.
 ghost use Rattle.std.specs.Prelude.{◌≡◌, map, IfOk};
 ghost use Rattle.planner.specs.View.{node_of, source_of};
 

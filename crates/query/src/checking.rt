@@ -1,4 +1,4 @@
-// The semantic check of a query against a schema. Called by `schedule`, `explain` and `embed`
+// The semantic check of a query against a schema. Called by `schedule`, `explain`, `record_layer`
 // before they plan it; `values_known` by `planner`, for its proof.
 ghost use Rattle.std.specs.Prelude.{◌≡◌, ◌+◌, ◌<◌, None, Some, not, is_none, length, map, nat_lt};
 ghost use Rattle.std.specs.Prelude.{All, MatchOption, MatchResult};

@@ -1,5 +1,5 @@
 // The abstract syntax of filters and queries, and the three truth values. Made by `json_forms`,
-// `race` and `embed`; read by the modules here, by `planner` and by `explain`.
+// `race` and `record_layer`; read by the modules here, by `planner` and by `explain`.
 use metadata::{Cell, Names};
 use tuple_codec::Text;
 

@@ -1,4 +1,4 @@
-// How a store is made. Called by `schedule` for the command `create` and by `embed`; what writes a
+// How a store is made. Called by `schedule` for `create`, and by applications; what writes a
 // schema also by `adding`, `indexes` and `types`.
 ghost use Rattle.std.specs.Prelude.{◌≡◌, [], None, IfOk, IfErr, IsTrue, OnOk};
 ghost use Rattle.kv_core.specs.Bytes.{end_of_keys, key_lt};

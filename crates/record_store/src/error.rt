@@ -1,5 +1,5 @@
 // The errors of calls on a store. Used by most modules here, and by `online_builder`, `schedule`
-// and `embed`.
+// and applications.
 ghost use Rattle.std.specs.Prelude.{◌≡◌};
 ghost use Rattle.record_store.specs.Steps.{no_memory, of_metadata, of_read, of_set, of_write};
 

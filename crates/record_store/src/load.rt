@@ -1,4 +1,4 @@
-// How a record is loaded. Called by `schedule` for the command `load` and by `embed`.
+// How a record is loaded. Called by `schedule` for the command `load` and by applications.
 ghost use Rattle.std.specs.Prelude.{IfOk, IfErr};
 ghost use Rattle.record_store.specs.Call.{IsAnswered, IsRefused};
 ghost use Rattle.record_store.specs.Calls.{load_call};

@@ -1,5 +1,5 @@
-// How a store is opened. Called by `schedule` for every command but `create`, and by `embed`; what
-// an opening reads, `create` reads too.
+// How a store is opened. Called by `schedule` for each command but `create`, and by applications;
+// what an opening reads, `create` reads too.
 ghost use Rattle.std.specs.Prelude.{◌≡◌, ◌∷◌, [], IfOk, IfErr, IfSome, IsTrue};
 ghost use Rattle.std.specs.FinMap.{get as value_at};
 ghost use Rattle.kv_core.specs.Bytes.{end_of_keys, key_lt};

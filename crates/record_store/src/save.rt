@@ -1,4 +1,4 @@
-// How a record is inserted or replaced. Called by `schedule` for the command `save` and by `embed`.
+// How a record is inserted or replaced. Called by `schedule` for `save`, and by applications.
 ghost use Rattle.std.specs.Prelude.{◌≡◌, ◌∷◌, [], All, Some, IfOk, IfErr, OnOk, map};
 ghost use Rattle.std.specs.Option.{option_copied};
 ghost use Rattle.metadata.specs.Cell.{IsCell};

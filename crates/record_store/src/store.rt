@@ -1,5 +1,5 @@
 // The open store, which has the calls here as its methods. Used by `online_builder`, `plan_exec`,
-// `schedule` and `embed`.
+// `schedule` and applications.
 ghost use Rattle.std.specs.Prelude.{◌≡◌, None, Some, IfOk, IfErr, IsTrue};
 ghost use Rattle.kv_core.specs.Bytes.{end_of_keys, key_lt};
 ghost use Rattle.metadata.specs.Lawful.{IsLawfulSchema};

@@ -1,5 +1,4 @@
-// How a running database is opened. Called by `race`, `embed_threads`,
-// `thread_trials` and `bench_threads`.
+// How a running database is opened. Called by `race`, applications, tests and measures.
 ghost use Rattle.std.specs.Prelude.{◌≡◌, ℕ, ◌+◌, ◌<◌, ◌≤◌, ◌⊎◌, [], None, Some, slice_index};
 ghost use Rattle.std.specs.Prelude.{IfOk, IfErr, IfSome, IsNone, OnOk};
 ghost use Rattle.std.specs.Arc.{arc_value};

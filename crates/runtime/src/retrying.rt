@@ -1,4 +1,4 @@
-// Transactions that are tried again. Called by `index_worker`, and by `race` and `embed_threads`.
+// Transactions that are tried again. Called by `index_worker`, and by `race` and applications.
 ghost use Rattle.std.specs.Prelude.{◌≡◌, IfOk, IfErr};
 ghost use Rattle.runtime.specs.Runs.{Continues, FailsSo, GoesOnFrom, IsRun, TriesAndEnds, ended_by};
 ghost use Rattle.runtime.specs.Runs.{failure_by};

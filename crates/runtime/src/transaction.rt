@@ -1,5 +1,5 @@
 // Open transactions, with a call for each command. Used by `retrying`, and by `race`,
-// `embed_threads`, `thread_trials` and `bench_threads`.
+// applications, tests and measures.
 ghost use Rattle.std.specs.Prelude.{◌≡◌, Some, None, false, Ok, IfErr, IfOk};
 ghost use Rattle.std.specs.Borrow.{sem, RestsIfErr};
 ghost use mathlib.Core.List.{IsPrefix};

@@ -1,5 +1,5 @@
 // The replies of steps, and reports of commits. Made by most modules here; read by `runtime`,
-// `race` and `embed_threads`, printed by `script`.
+// `race` and applications, printed by `script`.
 ghost use Rattle.std.specs.Prelude.{◌≡◌};
 
 use crate::refusal::Refusal;

@@ -1,5 +1,5 @@
 // The instructions of a schedule: commands and steps. Read from JSON by `script`; commands are also
-// made by `runtime`, `race` and `embed_threads`. Performed by the other modules here.
+// made by `runtime`, `race` and applications. Performed by the other modules here.
 ghost use Rattle.std.specs.Prelude.{◌≡◌, IfOk};
 
 use crate::asked_query::AskedQuery;

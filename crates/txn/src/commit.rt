@@ -1,4 +1,4 @@
-// Commits one at a time. Called by `embed` on a cluster, and by `runtime` on a pipeline alone.
+// Commits one at a time. Called on a cluster, as by tests, and by `runtime` on a pipeline alone.
 ghost use Rattle.std.specs.Prelude.{◌≡◌, ◌≤◌, IfOk, IfErr, IsNone, OnOk};
 ghost use Rattle.cluster_core.specs.Cluster.{ClusterState, HasPulled, IsReadable, with_pipeline};
 ghost use Rattle.cluster_core.specs.Roles.{all_handled, is_caught_up};

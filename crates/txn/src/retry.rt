@@ -1,5 +1,5 @@
-// The decision of a retry loop. Called by `runtime` and `embed`; `race` and `embed_threads` set its
-// limits.
+// The decision of a retry loop. Called by `runtime` and applications; `race` and applications set
+// its limits.
 ghost use Rattle.std.specs.Prelude.{◌≡◌, ◌<◌, ◌↔◌};
 ghost use Rattle.txn.specs.Attempts.{HasSucceeded, MayTryAgain, again_below, next_after};
 

@@ -1,5 +1,5 @@
 // Transactions with optimistic concurrency control. Used by `range_set`, `record_store`,
-// `online_builder`, `plan_exec`, `schedule`, `runtime` and `embed`.
+// `online_builder`, `plan_exec`, `schedule`, `runtime` and applications.
 ghost use Rattle.std.specs.Prelude.{◌≡◌, ◌⊎◌, ℕ, ◌≤◌, [], ◌∷◌, List, IfOk, IfErr};
 ghost use Rattle.std.specs.Prelude.{OnOk, OnErr, IsTrue, IsNone, Some};
 ghost use Rattle.std.specs.FinMap.{get as value_at};
