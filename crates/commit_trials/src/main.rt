@@ -1,8 +1,9 @@
-//! A commit of a running database, and the next one by the same client or by another. A tool has
-//! each allocation fail in turn, and compares what is printed.
+//! A commit of a running database, and the next one by the same client or by another; and the
+//! commits of a worker. A tool has each allocation fail in turn, and compares what is printed.
 #![tactic(auto)]
 
 mod clients;
+mod worker;
 
 use clients::{Told, committed, found, submit};
 use cluster_core::Config;
@@ -10,6 +11,7 @@ use runtime::{Client, End, SubmissionStatus, Waits, open};
 use std::alloc::Global;
 use std::sync::Wait;
 use std::test::Fail;
+use worker::{Wanting, built};
 
 /// Makes the store, without a record; the commit that memory runs out for, the next one, and what
 /// is loaded after both.
@@ -103,11 +105,24 @@ fn beside<R: Wait>(rt: &R, alloc: Global) -> Result<String, Fail> {
     lines(alloc, told, "another client")
 }
 
+/// A worker's commits: a line for the work itself, and one for the reply to each commit.
+fn working<R: Wait>(rt: &R, alloc: Global) -> Result<String, Fail> {
+    let mut clients = open(rt, alloc, Waits { rt }, &Config::single(alloc))?;
+    let client = clients.as_mut_slice().first_mut().ok_or("no client")?;
+    let wanting = built(rt, alloc, client)?;
+    let worked = again(wanting == Wanting::Work);
+    let step = again(wanting == Wanting::Step);
+    let mark = again(wanting == Wanting::Mark);
+    Ok(format!(in alloc; "{worked}built\n{step}told of the step\n{mark}told of the mark\n")?)
+}
+
 fn main(rt: HostRuntime) -> Result<(), Fail> {
     let alloc = rt.alloc();
     let lines = alone(&rt, alloc)?;
     rt.print(lines)?;
     let lines = beside(&rt, alloc)?;
+    rt.print(lines)?;
+    let lines = working(&rt, alloc)?;
     rt.print(lines)?;
     rt.println("all stands")?;
     Ok(())

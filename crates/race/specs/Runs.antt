@@ -7,7 +7,7 @@ use Rattle.schedule.specs.declared.reply.Reply.{Reply}
 use Rattle.script.specs.declared.race.Race.{Race}
 use Rattle.runtime.specs.declared.answers.CommandError.{CommandError}
 use Rattle.runtime.specs.declared.answers.Done.{Done}
-use Rattle.runtime.specs.declared.index_worker.Built.{Built as Totals}
+use Rattle.runtime.specs.declared.worker_progress.Built.{Built as Totals}
 use Rattle.runtime.specs.declared.index_worker.GatePoint.{GatePoint}
 use Rattle.runtime.specs.Calls.{HasCalled}
 use Rattle.runtime.specs.Clients.{Knowledge}
@@ -48,5 +48,5 @@ is_passed old place new = new ≡ old
 abbrev pub BuildsIndex : Race → Knowledge → Knowledge → Type 0
 BuildsIndex race old new =
     (totals : Totals) × ((after : _)
-    × IsWork (Works is_passed) 1000 (record { index = race.index.name; limit = race.limit; gate = record {} }, old)
-    (Ok totals) (after, new))
+    × IsWork (Works is_passed) race.index.name 1000
+    (record { index = race.index.name; limit = race.limit; gate = record {} }, old) (Ok totals) (after, new))

@@ -12,6 +12,8 @@ use Rattle.runtime.specs.declared.published_reads.EnterError.{EnterError}
 use Rattle.runtime.specs.declared.answers.CommandError.{CommandError}
 use Rattle.runtime.specs.declared.answers.CommitError.{CommitError}
 use Rattle.runtime.specs.declared.answers.CommitError.TheVariants.{Conflict, TooOld, VersionsExhausted, Unknown, Memory}
+use Rattle.runtime.specs.declared.answers.RunError.{RunError}
+use Rattle.runtime.specs.declared.retrying.Failure.{Failure}
 use Rattle.runtime.specs.declared.retrying.Failure.TheVariants as failures
 use Rattle.runtime.specs.declared.answers.RunError.TheVariants as runs
 use Rattle.txn.specs.Attempts.{MayTryAgain, next_after}
@@ -22,7 +24,7 @@ use Rattle.txn.specs.declared.retry.Next.TheVariants as nexts
 use Rattle.runtime.specs.Clients.{IsFresh, IsSameTransaction, Knowledge, knows_that}
 use Rattle.runtime.specs.Serves.{IsUnanswered}
 use Rattle.runtime.specs.Runs.{AttemptFails, Continues, Ends, FailsSo, GoesOnFrom, InTurn, IsRun, Starts, Tries}
-use Rattle.runtime.specs.Runs.{Stops, TriesAndEnds, ended_by, failure_by, is_too_old, may_follow}
+use Rattle.runtime.specs.Runs.{Stops, TriesAndEnds, ended_by, failure_by, failure_ended, is_too_old, may_follow}
 use Rattle.runtime.proofs.Beginnings.{prefix_self, prefix_trans}
 
 pub follows_self : (k : Knowledge) → GoesOnFrom k k
@@ -94,6 +96,24 @@ module _ {B A : Type 0} (did : B → Knowledge → Result A CommandError → Kno
   commit_failed old new answer Unknown tries = (answer, tries)
   commit_failed old new answer Memory tries = (answer, (Memory, refl, tries))
 
+  -- one that isn't told to be refused ended so
+  pub failed_so : (old new : B × Knowledge) (failure : Failure A) (ended : Ended) → FailsSo did old failure new → failure_ended failure ≡ Ok ended → FailsSo did old (failures.Ended ended) new
+  failed_so old new (failures.Refused error) ended is told = absurd (cc (told))
+  failed_so old new (failures.Lost answer due) ended is told =
+      let same : ends.Unknown ≡ ended = cc (told) in
+      subst (λ (e : Ended). FailsSo did old (failures.Ended e) new) same (answer, (is.0, is.1, is.2))
+  failed_so old new (failures.Ended other) ended is told =
+      let same : other ≡ ended = cc (told) in
+      subst (λ (e : Ended). FailsSo did old (failures.Ended e) new) same is
+
+  pub refused_so : (limit number : ℕ) (repeatable : Bool) (old mid new : B × Knowledge) (failure : Failure A) (error : RunError) → 1 ≤ number → number ≤ max 1 limit → InTurn (AttemptFails did repeatable) (number - 1) old mid → FailsSo did mid failure new → failure_ended failure ≡ Err error →
+      IsRun did repeatable limit old (Err error) new
+  refused_so limit number repeatable old mid new (failures.Refused why) error le most turns is told =
+      let same : runs.Refused why ≡ error = cc (told) in
+      subst (λ (e : RunError). IsRun did repeatable limit old (Err e) new) same (number - 1, omega (arith, le, most), (mid, turns, is))
+  refused_so limit number repeatable old mid new (failures.Lost answer due) error le most turns is told = absurd (cc (told))
+  refused_so limit number repeatable old mid new (failures.Ended ended) error le most turns is told = absurd (cc (told))
+
   may_more : (repeatable : Bool) (error : CommitError) → may_follow false error ≡ true → may_follow repeatable error ≡ true
   may_more repeatable (Conflict seen range) may = refl
   may_more repeatable TooOld may = refl
@@ -101,7 +121,7 @@ module _ {B A : Type 0} (did : B → Knowledge → Result A CommandError → Kno
   may_more repeatable Unknown may = absurd (true≢false (sym may))
   may_more repeatable Memory may = may
 
-  fails_more : (repeatable : Bool) (old new : B × Knowledge) → AttemptFails did false old new → AttemptFails did repeatable old new
+  pub fails_more : (repeatable : Bool) (old new : B × Knowledge) → AttemptFails did false old new → AttemptFails did repeatable old new
   fails_more repeatable old new is = elim is [
     | inl given_up ↦ inl given_up
     | inr ended ↦ inr (ended.0, (ended.1.0, may_more repeatable ended.1.0 ended.1.1, ended.1.2))

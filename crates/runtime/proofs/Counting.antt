@@ -13,11 +13,11 @@ use Rattle.kv_core.specs.Range.{KeyRange}
 use Rattle.runtime.specs.declared.log_entry.Entry.{Entry}
 use Rattle.runtime.specs.declared.outcome.Outcome.TheVariants as outcomes
 use Rattle.runtime.specs.Outcomes.{decided}
-use Rattle.runtime.specs.Logs.{cause_next, has_submission, is_once, is_same_submission}
+use Rattle.runtime.specs.Logs.{are_in_turn, cause_next, count_of, has_submission, is_once, is_same_submission}
 use Rattle.runtime.specs.Builds.{committed_behind, is_numbered_in, own_committed}
 use Rattle.runtime.proofs.WellFormed.{both_true, left_true, right_true}
 use Rattle.runtime.proofs.Numbers.{number_of_last}
-use Rattle.runtime.proofs.Submissions.{is_numbered_so}
+use Rattle.runtime.proofs.Submissions.{counted_of, is_numbered_so}
 
 not_true : (b : Bool) → not b ≡ true → b ≡ false
 not_true true p = sym p
@@ -75,7 +75,7 @@ number_here client number e xs is_client is_number =
     ap (λ b. b || has_submission client number xs) one
 
 -- nor before it
-none_before_by : (before more : List Entry) (e : Entry) (client number : ℕ) → e.client ≡ client → e.number ≡ number → is_once (before ++ e ∷ more) ≡ true → (b : Bool) → has_submission client number before ≡ b → has_submission client number before ≡ false
+pub none_before_by : (before more : List Entry) (e : Entry) (client number : ℕ) → e.client ≡ client → e.number ≡ number → is_once (before ++ e ∷ more) ≡ true → (b : Bool) → has_submission client number before ≡ b → has_submission client number before ≡ false
 none_before_by before more e client number is_client is_number once true is = absurd (true≢false (sym (number_here client number e more is_client is_number) ∙ once_apart before (e ∷ more) client number once is))
 none_before_by before more e client number is_client is_number once false is = is
 
@@ -216,6 +216,90 @@ sum_next f config client above last xs ys before e le grows ends once is_client 
     sum_between f client above last (committed_behind config [] ys) le
     ∙ (λ i. sum_by f (own_grown config client above last xs ys grows once given i) + sum_by f (own_committed config client last (last + 1) (all i)))
     ∙ ap (λ l. sum_by f (own_committed config client above last xs) + sum_by f l) (own_next config client last before ends.0 e is_client is_number once_all)
+
+-- ---- numbers that don't stand
+
+-- a wider range of numbers weighs no less
+pub sum_wider : (f : Entry → ℕ) (client above low high : ℕ) (es : List Entry) → low ≤ high → sum_by f (filter (is_numbered_in client above low) es) ≤ sum_by f (filter (is_numbered_in client above high) es)
+sum_wider f client above low high [] le = omega arith
+sum_wider f client above low high (e ∷ es) le =
+    let small : Entry → Bool = is_numbered_in client above low in
+    let large : Entry → Bool = is_numbered_in client above high in
+    let s : sum_by f (filter small (e ∷ es)) ≡ sum_by f (filter small (e ∷ [])) + sum_by f (filter small es) = parts small in
+    let l : sum_by f (filter large (e ∷ es)) ≡ sum_by f (filter large (e ∷ [])) + sum_by f (filter large es) = parts large in
+    let a : sum_by f (filter small (e ∷ [])) ≡ cond (small e) (f e) 0 = single f small e (small e) refl in
+    let b : sum_by f (filter large (e ∷ [])) ≡ cond (large e) (f e) 0 = single f large e (large e) refl in
+    let one : cond (small e) (f e) 0 ≤ cond (large e) (f e) 0 = both (small e) (large e) (f e) (wider (small e) refl) in
+    let rest : sum_by f (filter small es) ≤ sum_by f (filter large es) = sum_wider f client above low high es le in
+    omega (arith, s, l, a, b, one, rest)
+  where
+    parts : (p : Entry → Bool) → sum_by f (filter p (e ∷ es)) ≡ sum_by f (filter p (e ∷ [])) + sum_by f (filter p es)
+    parts p = ap (sum_by f) (filter-append p (e ∷ []) es) ∙ sum_by-append f (filter p (e ∷ [])) (filter p es)
+
+    both : (a b : Bool) (k : ℕ) → (a ≡ true → b ≡ true) → cond a k 0 ≤ cond b k 0
+    both true true k may = omega arith
+    both false true k may = omega arith
+    both false false k may = omega arith
+    both true false k may = absurd (true≢false (sym (may refl)))
+
+    wider : (b : Bool) → is_numbered_in client above low e ≡ b → b ≡ true → is_numbered_in client above high e ≡ true
+    wider b is holds =
+        let in_small : is_numbered_in client above low e ≡ true = is ∙ holds in
+        let range : (nat_lt above e.number && nat_le e.number low) ≡ true = right_true (e.client == client) (nat_lt above e.number && nat_le e.number low) in_small in
+        let upto : nat_le e.number low ≡ true = right_true (nat_lt above e.number) (nat_le e.number low) range in
+        let more : nat_le e.number high ≡ true = grind (arith, nat_tests) in
+        both_true (e.client == client) (nat_lt above e.number && nat_le e.number high) (left_true (e.client == client) (nat_lt above e.number && nat_le e.number low) in_small)
+        (both_true (nat_lt above e.number) (nat_le e.number high) (left_true (nat_lt above e.number) (nat_le e.number low) range) more)
+
+-- an entry is numbered alike in two ranges between which it isn't
+alike : (client above low high : ℕ) (e : Entry) → low ≤ high → ((n : ℕ) → low < n → n ≤ high → is_numbered_so client n e ≡ false) → is_numbered_in client above high e ≡ is_numbered_in client above low e
+alike client above low high e le none = by (e.client == client) refl (nat_le e.number low) refl (nat_le e.number high) refl
+  where
+    same : (e.number == e.number) ≡ true
+    same = number_same e.number e.number refl
+
+    by : (c : Bool) → (e.client == client) ≡ c → (a : Bool) → nat_le e.number low ≡ a → (b : Bool) → nat_le e.number high ≡ b → is_numbered_in client above high e ≡ is_numbered_in client above low e
+    by false is a small b large = ap (λ t. t && (nat_lt above e.number && nat_le e.number high)) is ∙ sym (ap (λ t. t && (nat_lt above e.number && nat_le e.number low)) is)
+    by true is true small true large = ap (λ t. (e.client == client) && (nat_lt above e.number && t)) (large ∙ sym small)
+    by true is false small false large = ap (λ t. (e.client == client) && (nat_lt above e.number && t)) (large ∙ sym small)
+    by true is true small false large = absurd (let n : nat_le e.number high ≡ true = grind (arith, nat_tests) in true≢false (sym n ∙ large))
+    by true is false small true large =
+        let over : low < e.number = grind (arith, nat_tests) in
+        let most : e.number ≤ high = grind (arith, nat_tests) in
+        absurd (true≢false (sym (both_true (e.client == client) (e.number == e.number) is same) ∙ none e.number over most))
+
+behind_alike : (config : Config) (client above low high : ℕ) (log xs : List Entry) → low ≤ high → ((n : ℕ) → low < n → n ≤ high → has_submission client n xs ≡ false) →
+    filter (is_numbered_in client above high) (committed_behind config log xs) ≡ filter (is_numbered_in client above low) (committed_behind config log xs)
+behind_alike config client above low high log [] le none = refl
+behind_alike config client above low high log (x ∷ xs) le none =
+    let c : Bool = is_none (cause_next config log x.request) in
+    let more : List Entry = committed_behind config (log ++ x ∷ []) xs in
+    let test : is_numbered_in client above high x ≡ is_numbered_in client above low x = alike client above low high x le (λ n over most. or_left_false (is_numbered_so client n x) (has_submission client n xs) (none n over most)) in
+    let rest : filter (is_numbered_in client above high) more ≡ filter (is_numbered_in client above low) more = behind_alike config client above low high (log ++ x ∷ []) xs le (λ n over most. or_right_false (is_numbered_so client n x) (has_submission client n xs) (none n over most)) in
+    filter-append (is_numbered_in client above high) (cond c (x ∷ []) []) more
+    ∙ (λ i. here c test i ++ rest i)
+    ∙ sym (filter-append (is_numbered_in client above low) (cond c (x ∷ []) []) more)
+  where
+    here : (c : Bool) → is_numbered_in client above high x ≡ is_numbered_in client above low x → filter (is_numbered_in client above high) (cond c (x ∷ []) []) ≡ filter (is_numbered_in client above low) (cond c (x ∷ []) [])
+    here true test = ap (λ t. cond t (x ∷ []) []) test
+    here false test = refl
+
+-- numbers that don't stand add no entry
+pub own_rest : (config : Config) (client above low high : ℕ) (log : List Entry) → low ≤ high → ((n : ℕ) → low < n → n ≤ high → has_submission client n log ≡ false) →
+    own_committed config client above high log ≡ own_committed config client above low log
+own_rest config client above low high log le none = behind_alike config client above low high [] log le none
+
+-- where a number stands each lower one does
+pub stands_below : (client low high : ℕ) (log : List Entry) → are_in_turn [] log ≡ true → 0 < low → low ≤ high → has_submission client high log ≡ true → has_submission client low log ≡ true
+stands_below client low high log turn some le there = by (nat_lt (count_of client log) high) refl
+  where
+    by : (b : Bool) → nat_lt (count_of client log) high ≡ b → has_submission client low log ≡ true
+    by true is =
+        let over : count_of client log < high = grind (arith, nat_tests) in
+        absurd (true≢false (sym there ∙ (counted_of client log turn).above high over))
+    by false is =
+        let upto : high ≤ count_of client log = grind (arith, nat_tests) in
+        (counted_of client log turn).stands low some (omega (arith, le, upto))
 
 -- ---- what is told
 

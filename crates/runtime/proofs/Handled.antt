@@ -16,7 +16,7 @@ use Rattle.runtime.specs.declared.outcome.Outcome.TheVariants.{Committed, Confli
 use Rattle.runtime.specs.CommitStates.{Adds, AddsEntry, CommitView, IsHandled, IsOneDue, LeavesEntry, commit_view, due_of}
 use Rattle.runtime.specs.History.{Name, Prefix, log_prefix, submitted_entry}
 use Rattle.runtime.specs.Logs.{AreGiven, HasEarlier, IsExhausted, cause_next, version_of}
-use Rattle.runtime.specs.Outcomes.{GivesNext, Shows, decided, next_entry, outcome_by}
+use Rattle.runtime.specs.Outcomes.{GivesNext, IsEndOf, Shows, decided, next_entry, outcome_by}
 use Rattle.runtime.proofs.Numbers.{earlier_begins, earlier_next}
 
 -- what is in flight is one submission at most
@@ -152,6 +152,15 @@ pub handled_refused : (s0 s1 s2 : CommitView) (client : ℕ) (request : CommitRe
     IsHandled s1 s2 (next_entry s1.last client request trace) outcome → IsHandled s0 s2 (next_entry s0.last client request trace) outcome
 handled_refused s0 s1 s2 client request trace outcome is waiting h =
     finished_first s0 s2 (next_entry s0.last client request trace) outcome waiting (subst (λ (s : CommitView). IsHandled s s2 (next_entry s.last client request trace) outcome) is h)
+
+-- the log that ends with its entry, once the history has that
+pub due_ends : (s0 s1 s2 : CommitView) (client : ℕ) (request : CommitRequest) (trace : Trace) (due : Option Prefix) → s1 ≡ finished s0 → IsSubmitted s1 s2 (next_entry s1.last client request trace) →
+    IfSome due (λ prefix. prefix ≡ log_prefix s2.name s2.due) → IfSome due (IsEndOf s0.name (next_entry s0.last client request trace))
+due_ends s0 s1 s2 client request trace None is taken ends = tt
+due_ends s0 s1 s2 client request trace (Some prefix) is taken ends =
+    let e : Entry = next_entry s0.last client request trace in
+    let took : IsSubmitted (finished s0) s2 e = subst (λ (s : CommitView). IsSubmitted s s2 (next_entry s.last client request trace)) is taken in
+    (ap (λ (p : Prefix). p.name) ends ∙ took.0, (s0.due, ap (λ (p : Prefix). p.log) ends ∙ took.2.1))
 
 -- ---- the log that shows it
 

@@ -19,4 +19,10 @@ pub mod Serving
 pub mod CommitLocks
 pub mod Sendable
 pub mod Submissions
+pub mod Asking
+pub mod Unsettled
+pub mod Settling
+pub mod Taking
+pub mod RoundEnds
+pub mod FirstSettled
 mod SubmissionExamples

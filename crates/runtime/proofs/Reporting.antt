@@ -23,7 +23,7 @@ use Rattle.std.specs.Prelude.{slice_index, slice_set, is_some}
 use mathlib.Core.List.{IsPrefix}
 use Rattle.runtime.specs.declared.in_flight.Due.{Due}
 use Rattle.runtime.specs.declared.in_flight.InFlight.TheVariants.{Unreported}
-use Rattle.runtime.specs.CommitStates.{IsInFlight, decided_due, due_of}
+use Rattle.runtime.specs.CommitStates.{IsInFlight, IsRecorded, decided_due, due_of}
 use Rattle.txn.specs.Finishing.{HasGoneOn}
 use Rattle.runtime.specs.History.{submitted_entry}
 use Rattle.txn.proofs.GoingOn.{handled_same, raised_length, still_unfinished}
@@ -52,21 +52,23 @@ due_decided reported.NothingToDo due log = refl
 -- a submission that comes next, of which this was reported
 pub decided_is : (n : Name) (log : List Entry) (due : Due) (q : PipelineState) (r : Reported) (why : Option Cause) (version : ℕ) → r ≡ told why version →
     due.mutations ≡ due.submitted.request.value.mutations → q ≡ pipeline_of n.config (log ++ submitted_entry due.submitted ∷ []) → IsWellFormedLog n.config (log ++ submitted_entry due.submitted ∷ []) →
-    cause_next n.config log due.submitted.request.value ≡ why → version ≡ version_of n.config log + 1 → IsInFlight n log q (decided_due r due)
-decided_is n log due q r None version is own handled law cause at =
+    cause_next n.config log due.submitted.request.value ≡ why → version ≡ version_of n.config log + 1 → IsRecorded n log due → IsInFlight n log q (decided_due r due)
+decided_is n log due q r None version is own handled law cause at recorded =
     let told_so : cause_next n.config log due.submitted.request.value ≡ None = cause in
     subst (λ (t : Reported). IsInFlight n log q (decided_due t due)) (sym is) (
       handled,
       own ∙ sym (ap (λ why. cond (is_none why) due.submitted.request.value.mutations []) told_so),
       at ∙ sym (ap (λ why. cond (is_none why) (version_of n.config log + 1) 0) told_so),
       law,
+      recorded,
     )
-decided_is n log due q r (Some why) version is own handled law cause at =
+decided_is n log due q r (Some why) version is own handled law cause at recorded =
     subst (λ (t : Reported). IsInFlight n log q (decided_due t due)) (sym is) (
       handled,
       sym (ap (λ why. cond (is_none why) due.submitted.request.value.mutations []) cause),
       sym (ap (λ why. cond (is_none why) (version_of n.config log + 1) 0) cause),
       law,
+      recorded,
     )
 
 -- there was a version for it
@@ -114,9 +116,9 @@ Taken n last log q r due =
 pub taken_next : (n : Name) (last : List ℕ) (log prefix : List Entry) (due : Due) (request : CommitRequest) (p q : PipelineState) (r : Reported) →
     IsWellFormedLog n.config log → IsPrefix prefix log → IsOpenOver n.config prefix request due.submitted.trace.attempts → due.submitted.request.value ≡ request → is_numbered last log ≡ true → due.submitted.client < length last →
     slice_index last due.submitted.client < due.submitted.number → due.submitted.number ≡ count_of due.submitted.client log + 1 →
-    p ≡ pipeline_of n.config log → q ≡ all_handled (submit request p) → r ≡ verdict request q → is_some (submit_refusal p request.read_version) ≡ false → due.mutations ≡ request.mutations →
+    p ≡ pipeline_of n.config log → q ≡ all_handled (submit request p) → r ≡ verdict request q → is_some (submit_refusal p request.read_version) ≡ false → due.mutations ≡ request.mutations → IsRecorded n log due →
     Taken n last log q r due
-taken_next n last log prefix due request p q r law begins over same num inside above turn old new told_so allowed copied =
+taken_next n last log prefix due request p q r law begins over same num inside above turn old new told_so allowed copied recorded =
     let e : Entry = submitted_entry due.submitted in
     let over_it : IsOpenOver n.config prefix e.request e.trace.attempts = subst (λ (v : CommitRequest). IsOpenOver n.config prefix v due.submitted.trace.attempts) (sym same) over in
     let handled : q ≡ all_handled (submit e.request p) = new ∙ ap (λ (v : CommitRequest). all_handled (submit v p)) (sym same) in
@@ -124,7 +126,7 @@ taken_next n last log prefix due request p q r law begins over same num inside a
     let next = commit_next n.config log e p q r old handled verdict_is in
     let room : version_of n.config log + 1 < 2 ^ 64 = room_next n.config log p request.read_version old (none_by (submit_refusal p request.read_version) allowed) in
     let more : IsWellFormedLog n.config (log ++ e ∷ []) = lawful_next n.config last log e law (open_begins n.config prefix log e begins over_it) num above turn room in (
-      decided_is n log due q r (cause_next n.config log e.request) (version_of n.config log + 1) next.1 (copied ∙ ap (λ (v : CommitRequest). v.mutations) (sym same)) next.0 more refl refl,
+      decided_is n log due q r (cause_next n.config log e.request) (version_of n.config log + 1) next.1 (copied ∙ ap (λ (v : CommitRequest). v.mutations) (sym same)) next.0 more refl refl recorded,
       numbered_more last due.submitted.client due.submitted.number log e inside above refl refl num,
     )
 
@@ -144,11 +146,11 @@ due_reported n log due p q r was new is =
     let e : Entry = submitted_entry due.submitted in
     let next : q ≡ pipeline_of n.config (log ++ e ∷ []) = new ∙ was.1 in
     let told_so : r ≡ told (cause_next n.config log e.request) (version_of n.config log + 1) = is ∙ ap (λ (s : PipelineState). outcome s (submitted s)) next ∙ told_last n.config log e in
-    decided_is n log due q r (cause_next n.config log e.request) (version_of n.config log + 1) told_so was.2 next was.3 refl refl
+    decided_is n log due q r (cause_next n.config log e.request) (version_of n.config log + 1) told_so was.2 next was.3 refl refl was.4
 
 -- some more roles have handled it
 pub due_further : (n : Name) (log : List Entry) (due : Due) (p q : PipelineState) → IsInFlight n log p (Unreported due) → HasGoneOn p q → IsInFlight n log q (Unreported due)
-due_further n log due p q was on = (still_unfinished p q was.0 on, on.0 ∙ was.1, was.2, was.3)
+due_further n log due p q was on = (still_unfinished p q was.0 on, on.0 ∙ was.1, was.2, was.3, was.4)
 
 abbrev pub Held : Name → List ℕ → List Entry → PipelineState → Due → Type 0
 Held n last log q due =
@@ -159,9 +161,9 @@ Held n last log q due =
 pub held_next : (n : Name) (last : List ℕ) (log prefix : List Entry) (due : Due) (request : CommitRequest) (p q : PipelineState) →
     IsWellFormedLog n.config log → IsPrefix prefix log → IsOpenOver n.config prefix request due.submitted.trace.attempts → due.submitted.request.value ≡ request → is_numbered last log ≡ true → due.submitted.client < length last →
     slice_index last due.submitted.client < due.submitted.number → due.submitted.number ≡ count_of due.submitted.client log + 1 →
-    p ≡ pipeline_of n.config log → HeldError holds.Unknown request (without_servers p) (without_servers q) → due.mutations ≡ request.mutations →
+    p ≡ pipeline_of n.config log → HeldError holds.Unknown request (without_servers p) (without_servers q) → due.mutations ≡ request.mutations → IsRecorded n log due →
     Held n last log q due
-held_next n last log prefix due request p q law begins over same num inside above turn old held copied =
+held_next n last log prefix due request p q law begins over same num inside above turn old held copied recorded =
     let e : Entry = submitted_entry due.submitted in
     let over_it : IsOpenOver n.config prefix e.request e.trace.attempts = subst (λ (v : CommitRequest). IsOpenOver n.config prefix v due.submitted.trace.attempts) (sym same) over in
     let stands = held.1.2.stands in
@@ -174,6 +176,6 @@ held_next n last log prefix due request p q law begins over same num inside abov
     ap all_handled stands ∙ handled_same given (first_raised held.1.0 p.resolved) (first_raised held.1.1 p.logged) (raised_length held.1.0 p.resolved) (raised_length held.1.1 p.logged) in
     let next : all_handled q ≡ pipeline_of n.config (log ++ e ∷ []) =
     handled ∙ ap (λ (s : PipelineState). all_handled (submit request s)) old ∙ ap (λ (v : CommitRequest). all_handled (submit v (pipeline_of n.config log))) (sym same) ∙ pipeline_next n.config log e in (
-      (omega (arith, more, caught, now, reported), next, copied ∙ ap (λ (v : CommitRequest). v.mutations) (sym same), lawful_next n.config last log e law (open_begins n.config prefix log e begins over_it) num above turn (room_next n.config log p request.read_version old held.0)),
+      (omega (arith, more, caught, now, reported), next, copied ∙ ap (λ (v : CommitRequest). v.mutations) (sym same), lawful_next n.config last log e law (open_begins n.config prefix log e begins over_it) num above turn (room_next n.config log p request.read_version old held.0), recorded),
       numbered_more last due.submitted.client due.submitted.number log e inside above refl refl num,
     )

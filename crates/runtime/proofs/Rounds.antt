@@ -1,17 +1,17 @@
 -- What a worker has built, round by round.
-use Rattle.std.proofs.Common.{◌≡◌, ℕ, ◌+◌, ◌<◌, ◌≤◌, Bool, true, false, ◌&&◌, ◌||◌, cond, is_none, nat_le, Some, None, List, [], ◌∷◌, ◌++◌, inl, inr, refl, sym, ap, ◌∙◌, subst, arith}
+use Rattle.std.proofs.Common.{◌≡◌, ℕ, ◌+◌, ◌<◌, ◌≤◌, Bool, true, false, ◌&&◌, ◌||◌, cond, is_none, nat_le, Some, None, List, [], ◌∷◌, ◌++◌, inl, inr, refl, sym, ap, ◌∙◌, subst, arith, true≢false}
 use Rattle.std.specs.Prelude.{count_by, sum_by}
 use Rattle.std.specs.List.{list_any}
 use Rattle.std.specs.Str.{bytes_eq}
 use Rattle.std.proofs.lemmas.Slice.Eq.{bytes_eq-Decides}
 use Rattle.std.proofs.lemmas.Bool.Decides.{nat_tests}
-use Rattle.std.proofs.lemmas.List.Sums.{sum_by-append}
+use Rattle.std.proofs.lemmas.List.Sums.{sum_by-append, sum_by-cons}
 use mathlib.Core.List.{IsPrefix}
 use Rattle.kv_core.specs.Range.{KeyRange}
 use Rattle.runtime.specs.declared.log_entry.Entry.{Entry}
 use Rattle.runtime.specs.declared.trace.Performed.{Performed}
 use Rattle.runtime.specs.declared.open_transaction.OpenTransaction.{OpenTransaction}
-use Rattle.runtime.specs.declared.index_worker.Round.TheVariants.{Built, Marked}
+use Rattle.runtime.specs.declared.worker_progress.Round.TheVariants.{Built, Marked}
 use Rattle.runtime.specs.declared.outcome.Outcome.{Outcome}
 use Rattle.runtime.specs.declared.outcome.Outcome.TheVariants as outcomes
 use Rattle.runtime.specs.Clients.{Knowledge, knows_that}
@@ -21,15 +21,9 @@ use Rattle.runtime.specs.Logs.{cause_next, has_submission, is_once, version_of}
 use Rattle.runtime.specs.Builds.{Commits, HasWorked, IsSubmission, IsWorkerRound, entry_has_built, has_marked}
 use Rattle.runtime.specs.Builds.{is_build, is_mark, own_committed, own_of, records_built, records_by}
 use Rattle.runtime.specs.Runs.{GoesOnFrom}
+use Rattle.runtime.specs.Settles.{Counted}
 use Rattle.runtime.proofs.Numbers.{number_begins, number_of_last}
 use Rattle.runtime.proofs.Counting.{or_left_false, or_right_false, own_grown, own_none, sum_next, none_decided, some_decided}
-
--- what has been built so far: each number that was given stands in the log
-pub record Counted (index : List ℕ) (old now : Knowledge) (s r : ℕ) : Type 0 where
-  pub given : (n : ℕ) → old.last < n → n ≤ now.last → has_submission old.number n now.log ≡ true
-  pub last : old.last ≤ now.last
-  pub steps : s ≡ count_by (entry_has_built index) (own_of old now)
-  pub records : r ≡ sum_by (records_built index) (own_of old now)
 
 pub counted_first : (index : List ℕ) (k : Knowledge) → Counted index k k 0 0
 counted_first index k =
@@ -46,10 +40,10 @@ counted_first index k =
 name_same : (index : List ℕ) → bytes_eq index index ≡ true
 name_same index = (bytes_eq-Decides index index).1 refl
 
-built_steps : (index : List ℕ) (records : ℕ) (attempts : List Performed) → HasWorked index (Built records) attempts → list_any (λ (one : Performed). is_build index one.command one.reply) attempts ≡ true
+pub built_steps : (index : List ℕ) (records : ℕ) (attempts : List Performed) → HasWorked index (Built records) attempts → list_any (λ (one : Performed). is_build index one.command one.reply) attempts ≡ true
 built_steps index records attempts worked = ap (list_any (λ (one : Performed). is_build index one.command one.reply)) worked.1.1 ∙ ap (λ b. b || false) (name_same index)
 
-built_records : (index : List ℕ) (records : ℕ) (attempts : List Performed) → HasWorked index (Built records) attempts → sum_by (λ (one : Performed). records_by index one.command one.reply) attempts ≡ records
+pub built_records : (index : List ℕ) (records : ℕ) (attempts : List Performed) → HasWorked index (Built records) attempts → sum_by (λ (one : Performed). records_by index one.command one.reply) attempts ≡ records
 built_records index records attempts worked =
     ap (sum_by (λ (one : Performed). records_by index one.command one.reply)) worked.1.1
     ∙ ap (λ b. 0 + cond b records 0) (name_same index)
@@ -61,14 +55,17 @@ marked_steps index attempts worked = ap (list_any (λ (one : Performed). is_buil
 marked_records : (index : List ℕ) (attempts : List Performed) → HasWorked index Marked attempts → sum_by (λ (one : Performed). records_by index one.command one.reply) attempts ≡ 0
 marked_records index attempts worked = ap (sum_by (λ (one : Performed). records_by index one.command one.reply)) worked.1
 
-marked_so : (index : List ℕ) (attempts : List Performed) → HasWorked index Marked attempts → list_any (λ (one : Performed). is_mark index one.command one.reply) attempts ≡ true
+pub marked_so : (index : List ℕ) (attempts : List Performed) → HasWorked index Marked attempts → list_any (λ (one : Performed). is_mark index one.command one.reply) attempts ≡ true
 marked_so index attempts worked =
     ap (list_any (λ (one : Performed). is_mark index one.command one.reply)) worked.1
     ∙ ap (λ b. (b && true) || false) (name_same index)
 
+built_no_mark : (index : List ℕ) (records : ℕ) (attempts : List Performed) → HasWorked index (Built records) attempts → list_any (λ (one : Performed). is_mark index one.command one.reply) attempts ≡ false
+built_no_mark index records attempts worked = ap (list_any (λ (one : Performed). is_mark index one.command one.reply)) worked.1.1
+
 -- ---- one submission more
 
-abbrev entry_by : Knowledge → OpenTransaction → Entry
+abbrev pub entry_by : Knowledge → OpenTransaction → Entry
 entry_by mid open_tx = entry mid.number (mid.last + 1) open_tx.transaction open_tx.trace
 
 ends_there : (mid new : Knowledge) (open_tx : OpenTransaction) (outcome : Outcome) → (submits : IsSubmission mid new open_tx.transaction open_tx.trace outcome) → IsPrefix (submits.1.0 ++ entry_by mid open_tx ∷ []) new.log
@@ -98,7 +95,7 @@ last_by : (index : List ℕ) (old mid new : Knowledge) (steps records : ℕ) (op
 last_by index old mid new steps records open_tx outcome counted submits = let le : old.last ≤ mid.last = counted.last in let next : new.last ≡ mid.last + 1 = submits.3 in omega (arith, le, next)
 
 -- a committed one adds what it weighs
-committed_sum : (f : Entry → ℕ) (index : List ℕ) (old mid new : Knowledge) (steps records : ℕ) (open_tx : OpenTransaction) → GoesOnFrom old mid → GoesOnFrom mid new → is_once new.log ≡ true → Counted index old mid steps records → Commits mid new open_tx true →
+pub committed_sum : (f : Entry → ℕ) (index : List ℕ) (old mid new : Knowledge) (steps records : ℕ) (open_tx : OpenTransaction) → GoesOnFrom old mid → GoesOnFrom mid new → is_once new.log ≡ true → Counted index old mid steps records → Commits mid new open_tx true →
     sum_by f (own_of old new) ≡ sum_by f (own_of old mid) + f (entry_by mid open_tx)
 committed_sum f index old mid new steps records open_tx before after once counted commits =
     let submits : IsSubmission mid new open_tx.transaction open_tx.trace (outcomes.Committed commits.0) = commits.1 in
@@ -108,7 +105,7 @@ committed_sum f index old mid new steps records open_tx before after once counte
     ∙ (let z : 0 + f (entry_by mid open_tx) ≡ f (entry_by mid open_tx) = omega arith in ap (λ n. sum_by f (own_of old mid) + n) z)
 
 -- a refused one adds nothing
-refused_sum : (f : Entry → ℕ) (index : List ℕ) (old mid new : Knowledge) (steps records : ℕ) (open_tx : OpenTransaction) (seen : ℕ) (range : KeyRange) → GoesOnFrom old mid → GoesOnFrom mid new → is_once new.log ≡ true → Counted index old mid steps records →
+pub refused_sum : (f : Entry → ℕ) (index : List ℕ) (old mid new : Knowledge) (steps records : ℕ) (open_tx : OpenTransaction) (seen : ℕ) (range : KeyRange) → GoesOnFrom old mid → GoesOnFrom mid new → is_once new.log ≡ true → Counted index old mid steps records →
     IsSubmission mid new open_tx.transaction open_tx.trace (outcomes.Conflict seen range) → sum_by f (own_of old new) ≡ sum_by f (own_of old mid)
 refused_sum f index old mid new steps records open_tx seen range before after once counted submits =
     let some : is_none (cause_next mid.name.config submits.1.0 open_tx.transaction) ≡ false = some_decided (cause_next mid.name.config submits.1.0 open_tx.transaction) (version_of mid.name.config submits.1.0 + 1) seen range submits.1.2 in
@@ -126,9 +123,14 @@ committed_next index old mid new steps records open_tx before after once counted
 }
 
 -- where no number was given the log may only have grown
+stayed_own : (index : List ℕ) (old mid new : Knowledge) (steps records : ℕ) → GoesOnFrom mid new → is_once new.log ≡ true → Counted index old mid steps records → new.last ≡ mid.last → own_of old new ≡ own_of old mid
+stayed_own index old mid new steps records after once counted same =
+    ap (λ (n : ℕ). own_committed old.name.config old.number old.last n new.log) same
+    ∙ own_grown old.name.config old.number old.last mid.last mid.log new.log after.log once counted.given
+
 stayed_next : (index : List ℕ) (old mid new : Knowledge) (steps records : ℕ) → GoesOnFrom mid new → is_once new.log ≡ true → Counted index old mid steps records → new.last ≡ mid.last → Counted index old new steps records
 stayed_next index old mid new steps records after once counted same =
-    let own : own_of old new ≡ own_of old mid = ap (λ (n : ℕ). own_committed old.name.config old.number old.last n new.log) same ∙ own_grown old.name.config old.number old.last mid.last mid.log new.log after.log once counted.given in
+    let own : own_of old new ≡ own_of old mid = stayed_own index old mid new steps records after once counted same in
     record {
       given = λ n low high. number_begins old.number n mid.log new.log after.log (counted.given n low (omega (arith, high, same)));
       last = let le : old.last ≤ mid.last = counted.last in omega (arith, le, same);
@@ -181,13 +183,13 @@ counted_marked index old mid new steps records before after once counted is =
     subst (λ (n : ℕ). Counted index old new n records) s
     (subst (λ (n : ℕ). Counted index old new (steps + 0) n) r (subst (λ (n : ℕ). Counted index old new (steps + 0) (records + n)) adds (subst (λ (b : Bool). Counted index old new (steps + cond b 1 0) (records + records_built index e)) weighs (committed_next index old mid new steps records is.0 before after once counted is.2))))
 
-none_counted : {X : Type 0} (p : X → Bool) (xs : List X) → list_any p xs ≡ false → count_by p xs ≡ 0
+pub none_counted : {X : Type 0} (p : X → Bool) (xs : List X) → list_any p xs ≡ false → count_by p xs ≡ 0
 none_counted p [] none = refl
 none_counted p (x ∷ xs) none =
     let here : count_by p (x ∷ []) ≡ 0 = ap (λ b. 0 + cond b 1 0) (or_left_false (p x) (list_any p xs) none) in
     sum_by-append (λ y. cond (p y) 1 0) (x ∷ []) xs ∙ (λ i. here i + none_counted p xs (or_right_false (p x) (list_any p xs) none) i)
 
-some_counted : {X : Type 0} (p : X → Bool) (xs : List X) (b : Bool) → list_any p xs ≡ b → 0 < count_by p xs → list_any p xs ≡ true
+pub some_counted : {X : Type 0} (p : X → Bool) (xs : List X) (b : Bool) → list_any p xs ≡ b → 0 < count_by p xs → list_any p xs ≡ true
 some_counted p xs true is some = is
 some_counted p xs false is some = absurd (let none : count_by p xs ≡ 0 = none_counted p xs is in omega (arith, some, none))
 
@@ -195,7 +197,37 @@ positive : (b : Bool) → b ≡ true → 0 < cond b 1 0
 positive true is = omega arith
 positive false is = absurd (cc)
 
--- the last round marks the index
+counted_head : {X : Type 0} (p : X → Bool) (x : X) (xs : List X) (b : Bool) → p x ≡ b → list_any p (x ∷ xs) ≡ true → (list_any p xs ≡ true → 0 < count_by p xs) → 0 < count_by p (x ∷ xs)
+counted_head p x xs true is some rest =
+    let all : count_by p (x ∷ xs) ≡ cond (p x) 1 0 + count_by p xs = sum_by-cons (λ y. cond (p y) 1 0) x xs in
+    let one : ◌≡◌ {A = ℕ} (cond (p x) 1 0) 1 = ap (λ t. cond t 1 0) is in
+    omega (arith, all, one)
+counted_head p x xs false is some rest =
+    let all : count_by p (x ∷ xs) ≡ cond (p x) 1 0 + count_by p xs = sum_by-cons (λ y. cond (p y) 1 0) x xs in
+    let more : 0 < count_by p xs = rest (sym (ap (λ t. t || list_any p xs) is) ∙ some) in
+    omega (arith, all, more)
+
+counted_some : {X : Type 0} (p : X → Bool) (xs : List X) → list_any p xs ≡ true → 0 < count_by p xs
+counted_some p [] some = absurd (true≢false (sym some))
+counted_some p (x ∷ xs) some = counted_head p x xs (p x) refl some (counted_some p xs)
+
+-- whether one passes is told by how many do
+pub same_any : {X : Type 0} (p : X → Bool) (xs ys : List X) → count_by p ys ≡ count_by p xs → list_any p ys ≡ list_any p xs
+same_any p xs ys same = by (list_any p xs) refl (list_any p ys) refl
+  where
+    by : (a : Bool) → list_any p xs ≡ a → (b : Bool) → list_any p ys ≡ b → list_any p ys ≡ list_any p xs
+    by true is true are = are ∙ sym is
+    by false is false are = are ∙ sym is
+    by true is false are =
+        let some : 0 < count_by p xs = counted_some p xs is in
+        let none : count_by p ys ≡ 0 = none_counted p ys are in
+        absurd (omega (arith, some, none, same))
+    by false is true are =
+        let some : 0 < count_by p ys = counted_some p ys are in
+        let none : count_by p xs ≡ 0 = none_counted p xs is in
+        absurd (omega (arith, some, none, same))
+
+-- a round that marks the index
 pub marked_next : (index : List ℕ) (old mid new : Knowledge) (steps records : ℕ) → GoesOnFrom old mid → GoesOnFrom mid new → is_once new.log ≡ true → Counted index old mid steps records → IsWorkerRound index (Some Marked) mid new →
     list_any (has_marked index) (own_of old new) ≡ true
 marked_next index old mid new steps records before after once counted is =
@@ -205,10 +237,34 @@ marked_next index old mid new steps records before after once counted is =
     let one : 0 < cond (has_marked index e) 1 0 = positive (has_marked index e) weighs in
     some_counted (has_marked index) (own_of old new) (list_any (has_marked index) (own_of old new)) refl (omega (arith, sum, one))
 
+-- one that builds a part marks none
+pub built_marks : (index : List ℕ) (more : ℕ) (old mid new : Knowledge) (steps records : ℕ) → GoesOnFrom old mid → GoesOnFrom mid new → is_once new.log ≡ true → Counted index old mid steps records → IsWorkerRound index (Some (Built more)) mid new →
+    list_any (has_marked index) (own_of old new) ≡ list_any (has_marked index) (own_of old mid)
+built_marks index more old mid new steps records before after once counted is =
+    let e : Entry = entry_by mid is.0 in
+    let weighs : has_marked index e ≡ false = built_no_mark index more is.0.trace.attempts is.1 in
+    let sum : count_by (has_marked index) (own_of old new) ≡ count_by (has_marked index) (own_of old mid) + cond (has_marked index e) 1 0 = committed_sum (λ (e : Entry). cond (has_marked index e) 1 0) index old mid new steps records is.0 before after once counted is.2 in
+    let none : ◌≡◌ {A = ℕ} (cond (has_marked index e) 1 0) 0 = ap (λ b. cond b 1 0) weighs in
+    same_any (has_marked index) (own_of old mid) (own_of old new) (omega (arith, sum, none))
+
+-- nor does one that comes to nothing
+pub nothing_marks : (index : List ℕ) (old mid new : Knowledge) (steps records : ℕ) → GoesOnFrom old mid → GoesOnFrom mid new → is_once new.log ≡ true → Counted index old mid steps records → IsWorkerRound index None mid new →
+    list_any (has_marked index) (own_of old new) ≡ list_any (has_marked index) (own_of old mid)
+nothing_marks index old mid new steps records before after once counted is = elim is [
+  | inl same ↦ ap (list_any (has_marked index)) (stayed_own index old mid new steps records after once counted same)
+  | inr told ↦ refused told.0 told.1
+]
+  where
+    refused : (open_tx : OpenTransaction) → Commits mid new open_tx false → list_any (has_marked index) (own_of old new) ≡ list_any (has_marked index) (own_of old mid)
+    refused open_tx commits = elim commits [
+      | inl same ↦ ap (list_any (has_marked index)) (stayed_own index old mid new steps records after once counted same)
+      | inr told ↦ same_any (has_marked index) (own_of old mid) (own_of old new) (refused_sum (λ (e : Entry). cond (has_marked index e) 1 0) index old mid new steps records open_tx told.0 told.1.0 before after once counted told.1.1)
+    ]
+
 -- ---- the commit of a round
 
 -- what a client is told stays where its name, number and last number were the same before
-submits_from : (a b c : Knowledge) (open_tx : OpenTransaction) (outcome : Outcome) → b.name ≡ a.name → b.number ≡ a.number → b.last ≡ a.last → IsSubmission b c open_tx.transaction open_tx.trace outcome → IsSubmission a c open_tx.transaction open_tx.trace outcome
+pub submits_from : (a b c : Knowledge) (open_tx : OpenTransaction) (outcome : Outcome) → b.name ≡ a.name → b.number ≡ a.number → b.last ≡ a.last → IsSubmission b c open_tx.transaction open_tx.trace outcome → IsSubmission a c open_tx.transaction open_tx.trace outcome
 submits_from a b c open_tx outcome name number last submits =
     let with_name : IsSubmission (knows_that a.name b.log b.number b.last b.begun) c open_tx.transaction open_tx.trace outcome = subst (λ (n : Name). IsSubmission (knows_that n b.log b.number b.last b.begun) c open_tx.transaction open_tx.trace outcome) name submits in
     let with_number : IsSubmission (knows_that a.name b.log a.number b.last b.begun) c open_tx.transaction open_tx.trace outcome = subst (λ (n : ℕ). IsSubmission (knows_that a.name b.log n b.last b.begun) c open_tx.transaction open_tx.trace outcome) number with_name in

@@ -32,13 +32,27 @@ after_one : (b more : Bool) (next rest mine tail : SubmissionStatus) → rest �
 after_one true more next rest mine tail is = refl
 after_one false more next rest mine tail is = is
 
+-- with more entries: by the first ones where they have it, and else by the others
+pub status_append : (config : Config) (log es more : List Entry) (client number : ℕ) →
+    status_after config log (es ++ more) client number ≡ cond (has_submission client number es) (status_after config log es client number) (status_after config (log ++ es) more client number)
+status_append config log [] more client number = ap (λ l. status_after config l more client number) (sym (append-nil log))
+status_append config log (x ∷ xs) more client number =
+    let own : SubmissionStatus = status_after config (log ++ x ∷ []) xs client number in
+    after_one (is_numbered_so client number x) (has_submission client number xs) (status_next config log x.request) (status_after config (log ++ x ∷ []) (xs ++ more) client number) own (status_after config (log ++ x ∷ xs) more client number)
+    (status_append config (log ++ x ∷ []) xs more client number ∙ ap (λ l. cond (has_submission client number xs) own (status_after config l more client number)) (append_assoc log (x ∷ []) xs))
+
 status_snoc : (config : Config) (log es : List Entry) (e : Entry) (client number : ℕ) →
     status_after config log (es ++ e ∷ []) client number ≡ cond (has_submission client number es) (status_after config log es client number) (status_after config (log ++ es) (e ∷ []) client number)
-status_snoc config log [] e client number = ap (λ l. status_after config l (e ∷ []) client number) (sym (append-nil log))
-status_snoc config log (x ∷ xs) e client number =
-    let own : SubmissionStatus = status_after config (log ++ x ∷ []) xs client number in
-    after_one (is_numbered_so client number x) (has_submission client number xs) (status_next config log x.request) (status_after config (log ++ x ∷ []) (xs ++ e ∷ []) client number) own (status_after config (log ++ x ∷ xs) (e ∷ []) client number)
-    (status_snoc config (log ++ x ∷ []) xs e client number ∙ ap (λ l. cond (has_submission client number xs) own (status_after config l (e ∷ []) client number)) (append_assoc log (x ∷ []) xs))
+status_snoc config log es e client number = status_append config log es (e ∷ []) client number
+
+-- of an entry by those before it, which don't have its number
+pub outcome_of_entry : (config : Config) (before more : List Entry) (e : Entry) → has_submission e.client e.number before ≡ false → outcome_in config (before ++ e ∷ more) e.client e.number ≡ status_next config before e.request
+outcome_of_entry config before more e none =
+    let c : (e.client == e.client) ≡ true = grind (arith, nat_tests) in
+    let m : (e.number == e.number) ≡ true = grind (arith, nat_tests) in
+    status_append config [] before (e ∷ more) e.client e.number
+    ∙ ap (λ b. cond b (outcome_in config before e.client e.number) (status_after config before (e ∷ more) e.client e.number)) none
+    ∙ (λ i. cond (c i && m i) (status_next config before e.request) (status_after config (before ++ e ∷ []) more e.client e.number))
 
 count_snoc : (client : ℕ) (log : List Entry) (e : Entry) → count_of client (log ++ e ∷ []) ≡ count_of client log + cond (e.client == client) 1 0
 count_snoc client log e =
@@ -261,7 +275,7 @@ counted_of client log turn = all [] log (counted_first client) turn
 
 -- ---- what is read
 
-pending_none : (config : Config) (log es : List Entry) (client number : ℕ) → has_submission client number es ≡ false → status_after config log es client number ≡ Pending
+pub pending_none : (config : Config) (log es : List Entry) (client number : ℕ) → has_submission client number es ≡ false → status_after config log es client number ≡ Pending
 pending_none config log [] client number none = refl
 pending_none config log (x ∷ xs) client number none =
     ap (λ b. cond b (status_next config log x.request) (status_after config (log ++ x ∷ []) xs client number)) (or_left (is_numbered_so client number x) (has_submission client number xs) none)

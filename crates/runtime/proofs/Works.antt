@@ -1,6 +1,6 @@
 -- What the rounds of a worker come to: what each performs, and which entries of its client follow from that.
-use Rattle.std.proofs.Common.{◌≡◌, ℕ, suc, ◌+◌, ◌<◌, arith, true, false, List, [], ◌∷◌, ◌++◌, Some, None, inl, inr, refl, sym, ap, ◌∙◌, subst, true≢false}
-use Rattle.std.specs.Prelude.{Result, Ok, Err, IfOk, IfErr, Option}
+use Rattle.std.proofs.Common.{◌≡◌, ℕ, suc, ◌+◌, ◌<◌, arith, true, false, List, [], ◌∷◌, ◌++◌, Option, Some, None, inl, inr, refl, sym, ap, ◌∙◌, subst, true≢false}
+use Rattle.std.specs.Prelude.{Result, Ok, Err}
 use Rattle.schedule.specs.declared.step.Command.{Command}
 use Rattle.schedule.specs.declared.step.Command.TheVariants.{Build, Readable}
 use Rattle.schedule.specs.declared.reply.Reply.{Reply}
@@ -15,13 +15,9 @@ use Rattle.runtime.specs.declared.answers.Done.{Done}
 use Rattle.runtime.specs.declared.answers.RunError.{RunError}
 use Rattle.runtime.specs.declared.answers.RunError.TheVariants.{Refused, GaveUp}
 use Rattle.runtime.specs.declared.answers.Done.TheVariants.{Committed, ReadOnly}
-use Rattle.txn.specs.declared.retry.Ended.{Ended}
-use Rattle.txn.specs.declared.retry.Ended.TheVariants as ends
-use Rattle.runtime.specs.declared.retrying.Failure.TheVariants as failures
-use Rattle.runtime.specs.declared.index_worker.Built.{Built as Totals}
 use Rattle.runtime.specs.declared.index_worker.GatePoint.{GatePoint}
-use Rattle.runtime.specs.declared.index_worker.Round.{Round}
-use Rattle.runtime.specs.declared.index_worker.Round.TheVariants.{Built, Marked}
+use Rattle.runtime.specs.declared.worker_progress.Round.{Round}
+use Rattle.runtime.specs.declared.worker_progress.Round.TheVariants.{Built, Marked}
 use Rattle.runtime.specs.declared.index_worker.Worker.{Worker}
 use Rattle.runtime.specs.Builds.{Commits, HasWorked, IsWorkerRound}
 use Rattle.runtime.specs.Calls.{HasPerformed, marked_reply, part_reply}
@@ -29,9 +25,12 @@ use Rattle.runtime.specs.Clients.{Knowledge}
 use Rattle.runtime.specs.Commits.{Answers}
 use Rattle.runtime.specs.Errors.{accepted_reply}
 use Rattle.runtime.specs.Logs.{attempts_of}
-use Rattle.runtime.specs.Runs.{AttemptFails, Continues, Ends, FailsSo, Starts, Tries, TriesAndEnds, may_follow}
-use Rattle.runtime.specs.Works.{Asks, CommitsRound, EndsRound, EndsWork, HasTaken, IsWork, Performs, TakesRound, Works, after_round}
-use Rattle.runtime.proofs.Attempts.{continues_trans, follows_self, stops_more}
+use Rattle.runtime.specs.History.{Prefix}
+use Rattle.runtime.specs.Outcomes.{IsEndOf, entry}
+use Rattle.runtime.specs.Runs.{AttemptFails, Continues, Ends, IsLost, IsRefusal, Starts, Tries, TriesAndEnds, may_follow}
+use Rattle.runtime.specs.Settles.{IsUnsettled}
+use Rattle.runtime.specs.Works.{Asks, CommitsRound, EndsWork, GoesFurther, HasTaken, IsWork, Performs, ThenAsks, Works}
+use Rattle.runtime.proofs.Attempts.{continues_trans, follows_self}
 use Rattle.runtime.proofs.Replying.{unrefused}
 use Rattle.runtime.proofs.Rounds.{commits_from}
 
@@ -111,7 +110,7 @@ refused_by mid new VersionsExhausted open_tx may a = absurd (cc)
 refused_by mid new Unknown open_tx may a = absurd (cc)
 refused_by mid new Memory open_tx may a = absurd (cc)
 
-worker_round : (index : List ℕ) (round : Round) (old new : Knowledge) (open_tx : OpenTransaction) → HasWorked index round open_tx.trace.attempts → Commits old new open_tx true → IsWorkerRound index (Some round) old new
+pub worker_round : (index : List ℕ) (round : Round) (old new : Knowledge) (open_tx : OpenTransaction) → HasWorked index round open_tx.trace.attempts → Commits old new open_tx true → IsWorkerRound index (Some round) old new
 worker_round index (Built records) old new open_tx worked commits = (open_tx, worked, commits)
 worker_round index Marked old new open_tx worked commits = (open_tx, worked, commits)
 
@@ -151,6 +150,30 @@ module _ {G : Type 0} (passed : G → GatePoint → G → Type 0) where
           let commits : Commits mid new open_tx false = refused_by mid new error open_tx may both.2.answer.2 in
           inr (open_tx, commits_from old mid new open_tx false (goes.follows.name ∙ starts.follows.name) (goes.follows.number ∙ starts.follows.number) (goes.last ∙ starts.last) commits)
 
+  -- of one of which the client wasn't told what became, the log ends with its entry
+  pub round_lost : (worker after : Worker G) (round : Round) (prefix : Prefix) (old new : Knowledge) → IsLost (Works passed) (worker, old) round (Some prefix) (after, new) →
+      IsUnsettled worker.index new (record { number = new.last; round = round; prefix = prefix }) × (new.last ≡ old.last + 1)
+  round_lost worker after round prefix old new is =
+      let mid : Knowledge = is.0 in
+      let start : Knowledge = is.1.0 in
+      let starts : Starts old start = is.1.1 in
+      let works : Works passed worker start (Ok round) mid after = is.1.2 in
+      let ended : Ends mid (Err Unknown) new = is.2 in
+      let worked = worked_by worker.index worker.limit start mid round works.performed starts.begun.0 starts.begun.1 starts.begun.2.attempts in
+      let goes : Continues start mid = performs_continues worker.index worker.limit start mid (Ok round) works.performed in
+      let last : new.last ≡ mid.last + 1 = ended.answer.2.1.last in
+      let ends : IsEndOf mid.name (entry mid.number (mid.last + 1) worked.0.transaction worked.0.trace) prefix = is.3 worked.0 worked.1 in (
+        (worked.0.transaction, (worked.0.trace, (ends.0 ∙ sym ended.follows.name, (ends.1.0, ends.1.1 ∙ (λ i. ends.1.0 ++ entry (sym ended.follows.number i) (sym last i) worked.0.transaction worked.0.trace ∷ []))), worked.2)),
+        last ∙ ap (λ (n : ℕ). n + 1) (goes.last ∙ starts.last),
+      )
+
+  -- one that was refused has no number
+  pub round_refused : (worker after : Worker G) (error : CommandError) (old new : Knowledge) → IsRefusal (Works passed) (worker, old) error (after, new) → new.last ≡ old.last
+  round_refused worker after error old new is = elim is [
+    | inl none ↦ ap (λ (p : Worker G × Knowledge). p.1.last) none.1
+    | inr tried ↦ (performs_continues worker.index worker.limit tried.1.0 new (Err error) tried.1.2.performed).last ∙ tried.1.1.last
+  ]
+
   -- it is the same index after a round
   pub index_failed : (worker after : Worker G) (old new : Knowledge) → AttemptFails (Works passed) false (worker, old) (after, new) → after.index ≡ worker.index
   index_failed worker after old new is = elim is [
@@ -161,28 +184,24 @@ module _ {G : Type 0} (passed : G → GatePoint → G → Type 0) where
   pub index_committed : (worker after : Worker G) (round : Round) (old new : Knowledge) → CommitsRound (Works passed) (worker, old) round (after, new) → after.index ≡ worker.index
   index_committed worker after round old new is = is.1.1.2.index
 
--- an attempt that failed otherwise than by its age or a conflict stops the work
-module _ {B : Type 0} (did : B → Knowledge → Result Round CommandError → Knowledge → B → Type 0) (old new : B × Knowledge) where
-  abbrev pub Follows : Result (Option Round) RunError → Type 0
-  Follows after = IfOk after (λ round. EndsRound did old round new) × IfErr after (λ error. EndsWork did old error new)
+  pub index_lost : (worker after : Worker G) (round : Round) (due : Option Prefix) (old new : Knowledge) → IsLost (Works passed) (worker, old) round due (after, new) → after.index ≡ worker.index
+  index_lost worker after round due old new is = is.1.2.index
 
-  pub follows_so : (ended : Ended) → FailsSo did old (failures.Ended ended) new → Follows (after_round ended)
-  follows_so ends.Conflict is = (is, tt)
-  follows_so ends.TooOld is = (is, tt)
-  follows_so ends.Other is = (tt, stops_more did false old new is)
-  follows_so ends.Unknown is = (tt, (is.0, (Unknown, refl, is.1)))
-  follows_so ends.Committed is = absurd is
-  follows_so ends.ReadOnly is = absurd is
-  follows_so ends.FutureVersion is = absurd is
+  pub index_refused : (worker after : Worker G) (error : CommandError) (old new : Knowledge) → IsRefusal (Works passed) (worker, old) error (after, new) → after.index ≡ worker.index
+  index_refused worker after error old new is = elim is [
+    | inl none ↦ ap (λ (p : Worker G × Knowledge). p.0.index) none.1
+    | inr tried ↦ tried.1.2.index
+  ]
 
 -- ---- round after round
 
 module _ {B : Type 0} (did : B → Knowledge → Result Round CommandError → Knowledge → B → Type 0) where
-  pub taken_more : (n : ℕ) (old mid new : B × Knowledge) (before after : Totals) → HasTaken did n old mid before → TakesRound did (mid, before) (new, after) → HasTaken did (n + 1) old new after
-  taken_more n old mid new before after taken takes =
+  pub taken_more : (n : ℕ) (old mid new : B × Knowledge) → HasTaken did n old mid → ThenAsks did (GoesFurther did) mid new → HasTaken did (n + 1) old new
+  taken_more n old mid new taken takes =
       let same : suc n ≡ n + 1 = omega arith in
-      subst (λ (k : ℕ). HasTaken did k old new after) same ((mid, before), taken, takes)
+      subst (λ (k : ℕ). HasTaken did k old new) same (mid, taken, takes)
 
-  pub ended_so : (limit n : ℕ) (old mid new : B × Knowledge) (totals : Totals) (error : RunError) → n < limit → HasTaken did n old mid totals → EndsWork did mid error new → IsWork did limit old (Err error) new
-  ended_so limit n old mid new totals (Refused error) below taken is = (n, below, (mid, (totals, taken, is)))
-  ended_so limit n old mid new totals GaveUp below taken is = inr (n, below, (mid, (totals, taken, inl is)))
+  -- it ended so in a round
+  pub ended_so : (index : List ℕ) (limit n : ℕ) (old mid new : B × Knowledge) (error : RunError) → n < limit → HasTaken did n old mid → EndsWork did index old.1 mid error new → IsWork did index limit old (Err error) new
+  ended_so index limit n old mid new (Refused error) below taken is = (n, below, (mid, taken, is))
+  ended_so index limit n old mid new GaveUp below taken is = inr (n, below, (mid, taken, is))

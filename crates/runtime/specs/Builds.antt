@@ -1,5 +1,5 @@
 -- What a worker that builds an index comes to, by the committed entries of its own.
-use Rattle.std.specs.Prelude.{◌≡◌, ◌⊎◌, ℕ, ◌+◌, Bool, true, false, ◌&&◌, ◌==◌, nat_lt, nat_le}
+use Rattle.std.specs.Prelude.{◌≡◌, ◌⊎◌, ℕ, ◌+◌, ◌<◌, ◌≤◌, ◌^◌, Bool, true, false, ◌&&◌, ◌==◌, nat_lt, nat_le}
 use Rattle.std.specs.Prelude.{List, [], ◌∷◌, ◌++◌, filter, count_by, sum_by, is_none, if◌then◌else◌}
 use Rattle.std.specs.Prelude.{Option, Some, None}
 use Rattle.std.specs.List.{list_any}
@@ -17,14 +17,16 @@ use Rattle.runtime.specs.declared.log_entry.Entry.{Entry}
 use Rattle.runtime.specs.declared.trace.Performed.{Performed}
 use Rattle.runtime.specs.declared.trace.Trace.{Trace}
 use Rattle.runtime.specs.declared.open_transaction.OpenTransaction.{OpenTransaction}
-use Rattle.runtime.specs.declared.index_worker.Round.{Round}
-use Rattle.runtime.specs.declared.index_worker.Round.TheVariants.{Built, Marked}
-use Rattle.runtime.specs.declared.index_worker.Built.{Built as Totals}
+use Rattle.runtime.specs.declared.worker_progress.Round.{Round}
+use Rattle.runtime.specs.declared.worker_progress.Round.TheVariants.{Built, Marked}
+use Rattle.runtime.specs.declared.worker_progress.Built.{Built as Totals}
 use Rattle.runtime.specs.declared.outcome.Outcome.{Outcome}
 use Rattle.runtime.specs.declared.outcome.Outcome.TheVariants as outcomes
-use Rattle.runtime.specs.Clients.{Knowledge}
+use Rattle.runtime.specs.declared.submission_status.SubmissionStatus.TheVariants.{Forgotten}
+use Rattle.runtime.specs.Clients.{Knowledge, knows_that}
 use Rattle.runtime.specs.Logs.{cause_next}
 use Rattle.runtime.specs.Outcomes.{EndsWith, entry}
+use Rattle.runtime.specs.Submissions.{recent_outcome}
 
 -- ---- entries of one's own
 
@@ -79,6 +81,24 @@ pub record IsBuilt (index : List ℕ) (old new : Knowledge) (totals : Totals) : 
   pub marked : list_any (has_marked index) (own_of old new) ≡ true
   pub steps : totals.steps ≡ count_by (entry_has_built index) (own_of old new)
   pub records : totals.records ≡ sum_by (records_built index) (own_of old new)
+
+-- the numbers don't suffice for what it built
+abbrev pub IsTooMuch : List ℕ → Knowledge → Knowledge → Type 0
+IsTooMuch index old new =
+    (2 ^ 64 ≤ sum_by (records_built index) (own_of old new))
+    ⊎ (2 ^ 64 ≤ count_by (entry_has_built index) (own_of old new))
+
+-- ---- its client asks
+
+-- the client asked what became of its submissions: only its log may have grown
+abbrev pub HasAsked : Knowledge → Knowledge → Type 0
+HasAsked old new = IsPrefix old.log new.log × (new ≡ knows_that old.name new.log old.number old.last old.begun)
+
+-- what became of one of its submissions in between is forgotten
+abbrev pub HasForgotten : Knowledge → Knowledge → Type 0
+HasForgotten old new =
+    (number : ℕ) × (old.last < number) × (number ≤ new.last)
+    × (recent_outcome new.name.config new.log new.number number ≡ Forgotten)
 
 -- ---- rounds of a worker
 

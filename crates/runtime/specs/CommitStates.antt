@@ -1,5 +1,5 @@
 -- The locked state, what is in flight in it, and what it tells of a request.
-use Rattle.std.specs.Prelude.{◌≡◌, ◌⊎◌, ℕ, List, [], ◌∷◌, ◌++◌}
+use Rattle.std.specs.Prelude.{◌≡◌, ◌⊎◌, ℕ, List, [], ◌∷◌, ◌++◌, IfSome}
 use Rattle.cluster_core.specs.Roles.{PipelineState, all_handled}
 use Rattle.cluster_core.specs.declared.answers.Reported.{Reported}
 use Rattle.cluster_core.specs.declared.answers.Reported.TheVariants as reported
@@ -11,7 +11,7 @@ use Rattle.runtime.specs.declared.outcome.Outcome.{Outcome}
 use Rattle.runtime.specs.declared.outcome.Outcome.TheVariants.{Committed, Conflict, TooOld, VersionsExhausted}
 use Rattle.runtime.specs.declared.outcome.Outcome.TheVariants.{Unknown, Memory}
 use Rattle.txn.specs.Finishing.{IsUnfinished}
-use Rattle.runtime.specs.History.{Name, submitted_entry}
+use Rattle.runtime.specs.History.{Name, log_prefix, submitted_entry}
 use Rattle.runtime.specs.Logs.{HasEarlier, IsWellFormedLog, logged_next, pipeline_of}
 use Rattle.runtime.specs.Outcomes.{GivesOne, IsReason}
 use Rattle.runtime.specs.Publication.{Leads}
@@ -27,8 +27,13 @@ due_of (Added step) log = log ++ submitted_entry step.submitted ∷ []
 -- Private: a submission of which this was reported
 abbrev pub decided_due : Reported → Due → InFlight
 decided_due (reported.Committed version) due = Decided due version
-decided_due (reported.Conflict seen range) due = Decided (record { submitted = due.submitted; mutations = [] }) 0
-decided_due reported.NothingToDo due = Decided (record { submitted = due.submitted; mutations = [] }) 0
+decided_due (reported.Conflict seen range) due = Decided (record due { mutations = [] }) 0
+decided_due reported.NothingToDo due = Decided (record due { mutations = [] }) 0
+
+-- Private: the log that ends with its entry is that, where the history has it
+abbrev pub IsRecorded : Name → List Entry → Due → Type 0
+IsRecorded name log due =
+    IfSome due.prefix (λ prefix. prefix ≡ log_prefix name (log ++ submitted_entry due.submitted ∷ []))
 
 -- Private: how far the pipeline is, and what leads on from the log
 abbrev pub IsInFlight : Name → List Entry → PipelineState → InFlight → Type 0
@@ -38,11 +43,13 @@ IsInFlight name log p (Unreported due) =
     × (all_handled p ≡ pipeline_of name.config (log ++ submitted_entry due.submitted ∷ []))
     × (due.mutations ≡ due.submitted.request.value.mutations)
     × IsWellFormedLog name.config (log ++ submitted_entry due.submitted ∷ [])
+    × IsRecorded name log due
 IsInFlight name log p (Decided due version) =
     (p ≡ pipeline_of name.config (log ++ submitted_entry due.submitted ∷ []))
     × (due.mutations ≡ logged_next name.config log due.submitted.request.value)
     × (version ≡ version_next name.config log due.submitted.request.value)
     × IsWellFormedLog name.config (log ++ submitted_entry due.submitted ∷ [])
+    × IsRecorded name log due
 IsInFlight name log p (Added step) =
     (p ≡ pipeline_of name.config (log ++ submitted_entry step.submitted ∷ [])) × Leads name log step
 

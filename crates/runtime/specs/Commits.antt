@@ -1,10 +1,11 @@
 -- What a commit answers, and what the client knows then.
-use Rattle.std.specs.Prelude.{◌≡◌, ◌+◌, false, List, Option, Some, None, Result, Ok, Err, if◌then◌else◌}
+use Rattle.std.specs.Prelude.{◌≡◌, ◌+◌, false, List, Option, Some, None, Result, Ok, Err, IfSome, if◌then◌else◌}
 use mathlib.Core.List.{IsPrefix}
 use Rattle.kv_core.specs.declared.change.CommitRequest.{CommitRequest}
 use Rattle.schedule.specs.Past.{is_changed}
 use Rattle.runtime.specs.declared.log_entry.Entry.{Entry}
 use Rattle.runtime.specs.declared.trace.Trace.{Trace}
+use Rattle.runtime.specs.declared.open_transaction.OpenTransaction.{OpenTransaction}
 use Rattle.runtime.specs.declared.outcome.Outcome.{Outcome}
 use Rattle.runtime.specs.declared.outcome.Outcome.TheVariants as outcomes
 use Rattle.runtime.specs.declared.answers.Done.{Done}
@@ -13,7 +14,7 @@ use Rattle.runtime.specs.declared.answers.CommitError.{CommitError}
 use Rattle.runtime.specs.declared.answers.CommitError.TheVariants.{Conflict, TooOld, VersionsExhausted, Unknown, Memory}
 use Rattle.runtime.specs.History.{Name, Prefix}
 use Rattle.runtime.specs.Logs.{attempts_of}
-use Rattle.runtime.specs.Outcomes.{Shows, entry, gives_number, last_then}
+use Rattle.runtime.specs.Outcomes.{IsEndOf, Shows, entry, gives_number, last_then}
 use Rattle.runtime.specs.Clients.{Knowledge}
 
 -- the outcome of which an error tells
@@ -40,6 +41,12 @@ Answers old new request trace (Ok (Committed version seen)) =
 Answers old new request trace (Ok ReadOnly) =
     (new.last ≡ old.last) × (is_changed (attempts_of trace.attempts) ≡ false)
 Answers old new request trace (Err error) = (log : List Entry) × Learns old new request trace (told_outcome error) log
+
+-- Private: the log ends with the entry of the client's open transaction
+abbrev pub IsDue : Knowledge → Option Prefix → Type 0
+IsDue old due =
+    (open_tx : OpenTransaction) → old.begun ≡ Some open_tx →
+    IfSome due (IsEndOf old.name (entry old.number (old.last + 1) open_tx.transaction open_tx.trace))
 
 -- Private: the log is of this database
 abbrev pub IsLogOf : Name → Option Prefix → Type 0

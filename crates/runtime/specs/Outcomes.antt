@@ -12,6 +12,7 @@ use Rattle.runtime.specs.declared.outcome.Outcome.{Outcome}
 use Rattle.runtime.specs.declared.outcome.Outcome.TheVariants.{Committed, Conflict, TooOld, VersionsExhausted}
 use Rattle.runtime.specs.declared.outcome.Outcome.TheVariants.{Unknown, Memory}
 use Rattle.runtime.specs.declared.trace.Trace.{Trace}
+use Rattle.runtime.specs.History.{Name, Prefix}
 use Rattle.runtime.specs.Logs.{HasEarlier, IsExhausted, cause_next, version_of}
 
 -- the entry of a client's submission
@@ -62,6 +63,10 @@ IsReason config log e Memory = Unit {0}
 abbrev pub EndsWith : Config → List Entry → Entry → Outcome → Type 0
 EndsWith config log e outcome =
     (before : List Entry) × (log ≡ before ++ e ∷ []) × IsReason config before e outcome
+
+-- the log is of this database, and ends with the entry
+abbrev pub IsEndOf : Name → Entry → Prefix → Type 0
+IsEndOf name e prefix = (prefix.name ≡ name) × ((before : List Entry) × (prefix.log ≡ before ++ e ∷ []))
 
 -- the log shows the outcome: it ends with the entry where that was decided, and else it is the reason; and it has each
 -- earlier submission of the entry's client

@@ -1,6 +1,6 @@
 -- What a run of transactions comes to: attempts, one after another, and how the last one ended.
 use Rattle.std.specs.Prelude.{◌≡◌, ◌⊎◌, ℕ, zero, suc, ◌<◌, max, Bool, true, false}
-use Rattle.std.specs.Prelude.{Some, Result, Ok, Err, if◌then◌else◌}
+use Rattle.std.specs.Prelude.{Option, Some, Result, Ok, Err, if◌then◌else◌}
 use mathlib.Core.List.{IsPrefix}
 use Rattle.schedule.specs.declared.refusal.Refusal.{Refusal}
 use Rattle.schedule.specs.declared.refusal.Refusal.TheVariants as refusals
@@ -19,7 +19,8 @@ use Rattle.runtime.specs.declared.answers.RunError.TheVariants as runs
 use Rattle.runtime.specs.declared.retrying.Failure.{Failure}
 use Rattle.runtime.specs.declared.retrying.Failure.TheVariants as failures
 use Rattle.runtime.specs.Clients.{IsFresh, IsSameTransaction, Knowledge}
-use Rattle.runtime.specs.Commits.{Answers}
+use Rattle.runtime.specs.Commits.{Answers, IsDue}
+use Rattle.runtime.specs.History.{Prefix}
 
 -- the client is the same, and its log begins with the one before
 pub record GoesOnFrom (old new : Knowledge) : Type 0 where
@@ -73,8 +74,14 @@ may_follow repeatable Unknown = repeatable
 may_follow repeatable Memory = false
 
 -- Private: how an attempt failed that its body gave up
-abbrev pub failure_by : CommandError → Failure
+abbrev pub failure_by : {A : Type 0} → CommandError → Failure A
 failure_by error = if is_too_old error then failures.Ended ends.TooOld else failures.Refused error
+
+-- Private: how a failed attempt ended, or why its run is refused
+abbrev pub failure_ended : {A : Type 0} → Failure A → Result Ended RunError
+failure_ended (failures.Refused error) = Err (runs.Refused error)
+failure_ended (failures.Lost answer due) = Ok ends.Unknown
+failure_ended (failures.Ended ended) = Ok ended
 
 -- Private: how an attempt ended whose commit was refused
 abbrev pub ended_by : CommitError → Ended
@@ -117,9 +124,15 @@ module _ {B A : Type 0} (did : B → Knowledge → Result A CommandError → Kno
   abbrev pub LosesReply : B × Knowledge → B × Knowledge → Type 0
   LosesReply old new = (answer : A) × TriesAndEnds old answer (Err Unknown) new
 
+  -- Private: the same, where the body had this answer, and the log ends with the entry
+  abbrev pub IsLost : B × Knowledge → A → Option Prefix → B × Knowledge → Type 0
+  IsLost old answer due new =
+      (mid : Knowledge) × Tries old (Ok answer) (new.0, mid) × Ends mid (Err Unknown) new.1 × IsDue mid due
+
   -- Private: how an attempt failed
-  abbrev pub FailsSo : B × Knowledge → Failure → B × Knowledge → Type 0
+  abbrev pub FailsSo : B × Knowledge → Failure A → B × Knowledge → Type 0
   FailsSo old (failures.Refused error) new = IsRefusal old error new
+  FailsSo old (failures.Lost answer due) new = IsLost old answer due new
   FailsSo old (failures.Ended ends.Conflict) new = AttemptFails false old new
   FailsSo old (failures.Ended ends.TooOld) new = AttemptFails false old new
   FailsSo old (failures.Ended ends.Unknown) new = LosesReply old new

@@ -1,5 +1,6 @@
 -- What a worker that builds an index does: rounds, one after another, and how the last one ended.
-use Rattle.std.specs.Prelude.{◌≡◌, ◌⊎◌, ℕ, ◌+◌, ◌<◌, ◌≤◌, ◌^◌, List, Option, Some, None, Result, Ok, Err, false}
+use Rattle.std.specs.Prelude.{◌≡◌, ◌⊎◌, ℕ, ◌<◌, Bool, true, false, List, Some, None, Result, Ok, Err}
+use Rattle.std.specs.List.{list_any}
 use Rattle.kv_core.specs.Range.{KeyRange}
 use Rattle.schedule.specs.declared.step.Command.{Command}
 use Rattle.schedule.specs.declared.step.Command.TheVariants.{Build, Readable}
@@ -7,16 +8,17 @@ use Rattle.schedule.specs.declared.reply.Reply.{Reply}
 use Rattle.txn.specs.declared.retry.Ended.{Ended}
 use Rattle.txn.specs.declared.retry.Ended.TheVariants as ends
 use Rattle.runtime.specs.declared.answers.CommandError.{CommandError}
-use Rattle.runtime.specs.declared.answers.CommandError.TheVariants.{Memory}
+use Rattle.runtime.specs.declared.answers.CommandError.TheVariants.{Memory, NotEntered}
 use Rattle.runtime.specs.declared.answers.Done.{Done}
 use Rattle.runtime.specs.declared.answers.RunError.{RunError}
 use Rattle.runtime.specs.declared.answers.RunError.TheVariants.{Refused, GaveUp}
-use Rattle.runtime.specs.declared.index_worker.Built.{Built as Totals}
+use Rattle.runtime.specs.declared.worker_progress.Built.{Built as Totals}
 use Rattle.runtime.specs.declared.index_worker.GatePoint.{GatePoint}
 use Rattle.runtime.specs.declared.index_worker.GatePoint.TheVariants.{Begun, BeforeCommit}
-use Rattle.runtime.specs.declared.index_worker.Round.{Round}
-use Rattle.runtime.specs.declared.index_worker.Round.TheVariants.{Built, Marked}
+use Rattle.runtime.specs.declared.worker_progress.Round.{Round}
+use Rattle.runtime.specs.declared.worker_progress.Round.TheVariants.{Built, Marked}
 use Rattle.runtime.specs.declared.index_worker.Worker.{Worker}
+use Rattle.runtime.specs.Builds.{HasAsked, HasForgotten, IsTooMuch, has_marked, own_of}
 use Rattle.runtime.specs.Calls.{HasCalled, marked_reply, part_reply}
 use Rattle.runtime.specs.Clients.{Knowledge}
 use Rattle.runtime.specs.Runs.{AttemptFails, InTurn, IsRefusal, Stops, TriesAndEnds}
@@ -54,54 +56,68 @@ pub record Works {G : Type 0} (passed : G → GatePoint → G → Type 0) (old :
 
 -- ---- round after round
 
--- Private: another round may come to more after an attempt that ended so, or none does
-abbrev pub after_round : Ended → Result (Option Round) RunError
-after_round ends.Conflict = Ok None
-after_round ends.TooOld = Ok None
-after_round ended = Err GaveUp
+-- Private: another round may come to more after an attempt that ended so
+abbrev pub MayGoOn : Ended → Type 0
+MayGoOn ended = (ended ≡ ends.Conflict) ⊎ (ended ≡ ends.TooOld)
 
 module _ {B : Type 0} (did : B → Knowledge → Result Round CommandError → Knowledge → B → Type 0) where
   -- a round came to this, and its transaction is committed
   abbrev pub CommitsRound : B × Knowledge → Round → B × Knowledge → Type 0
   CommitsRound old round new = (done : Done) × TriesAndEnds did old round (Ok done) new
 
-  -- Private: a round came to nothing, and another one may come to more; or it came to this
-  abbrev pub EndsRound : B × Knowledge → Option Round → B × Knowledge → Type 0
-  EndsRound old None new = AttemptFails did false old new
-  EndsRound old (Some round) new = CommitsRound old round new
+  -- a round that another one may follow: it read too long ago, was refused with a conflict, or isn't known to be
+  -- committed; or it built so many records
+  abbrev pub GoesFurther : B × Knowledge → B × Knowledge → Type 0
+  GoesFurther old new = AttemptFails did true old new ⊎ ((records : ℕ) × CommitsRound old (Built records) new)
 
-  -- one round more, with what was built before it and after: it comes to nothing, and another one may come to more; or
-  -- it built so many records
-  abbrev pub TakesRound : (B × Knowledge) × Totals → (B × Knowledge) × Totals → Type 0
-  TakesRound old new =
-      (AttemptFails did false old.0 new.0 × (new.1 ≡ old.1))
-      ⊎ ((records : ℕ) × CommitsRound old.0 (Built records) new.0
-      × (new.1.records ≡ old.1.records + records) × (new.1.steps ≡ old.1.steps + 1))
+  -- a round, whatever it came to: such a one, or one that marked the index, or whose transaction was given up
+  abbrev pub IsWorkRound : B × Knowledge → B × Knowledge → Type 0
+  IsWorkRound old new =
+      GoesFurther old new ⊎ (CommitsRound old Marked new ⊎ ((error : CommandError) × IsRefusal did old error new))
 
-  -- so many rounds, from nothing built
-  abbrev pub HasTaken : ℕ → B × Knowledge → B × Knowledge → Totals → Type 0
-  HasTaken n old new totals = InTurn TakesRound n (old, record { records = 0; steps = 0 }) (new, totals)
+  -- such a round, and then the client asked what became of earlier ones
+  abbrev pub ThenAsks : (B × Knowledge → B × Knowledge → Type 0) → B × Knowledge → B × Knowledge → Type 0
+  ThenAsks Round old new = (mid : B × Knowledge) × Round old mid × (new.0 ≡ mid.0) × HasAsked mid.1 new.1
 
-  -- Private: the last round was refused, or its commit was, for another reason than its age or a conflict
-  abbrev pub EndsWork : B × Knowledge → RunError → B × Knowledge → Type 0
-  EndsWork old (Refused error) new = IsRefusal did old error new
-  EndsWork old GaveUp new = Stops did false old new
+  -- Private: a round after which the index is known to be marked, or isn't
+  abbrev pub TakesRound : Bool → B × Knowledge → B × Knowledge → Type 0
+  TakesRound false old new = ThenAsks GoesFurther old new
+  TakesRound true old new = ThenAsks IsWorkRound old new
 
-  -- a round built so many records, for which the numbers don't suffice
-  abbrev pub Overflows : B × Knowledge → Totals → B × Knowledge → Type 0
-  Overflows old totals new =
-      (records : ℕ) × CommitsRound old (Built records) new
-      × ((2 ^ 64 ≤ totals.records + records) ⊎ (2 ^ 64 ≤ totals.steps + 1))
+  -- so many rounds, each of which another one may follow
+  abbrev pub HasTaken : ℕ → B × Knowledge → B × Knowledge → Type 0
+  HasTaken n old new = InTurn (ThenAsks GoesFurther) n old new
 
-  -- what a worker comes to, of at most so many rounds. It answers what it built where its last round marked the index
-  abbrev pub IsWork : ℕ → B × Knowledge → Result Totals RunError → B × Knowledge → Type 0
-  IsWork limit old (Ok totals) new =
-      (before : ℕ) × (before < limit) × ((mid : B × Knowledge) × HasTaken before old mid totals
-      × CommitsRound mid Marked new)
-  IsWork limit old (Err (Refused error)) new =
-      (before : ℕ) × (before < limit) × ((mid : B × Knowledge) × ((totals : Totals) × HasTaken before old mid totals
-      × IsRefusal did mid error new))
-  IsWork limit old (Err GaveUp) new =
-      ((totals : Totals) × HasTaken limit old new totals)
-      ⊎ ((before : ℕ) × (before < limit) × ((mid : B × Knowledge) × ((totals : Totals) × HasTaken before old mid totals
-      × (Stops did false mid new ⊎ Overflows mid totals new))))
+  -- why a work is refused that began so: there was no memory to begin the round; or its transaction wasn't begun or was
+  -- given up, and no mark of its own stands in the log; or the state wasn't entered to ask
+  abbrev pub RefusesWork : List ℕ → Knowledge → B × Knowledge → CommandError → B × Knowledge → Type 0
+  RefusesWork index start old error new =
+      ((error ≡ Memory) × (new ≡ old))
+      ⊎ ((ThenAsks (λ a b. IsRefusal did a error b) old new
+      × (list_any (has_marked index) (own_of start new.1) ≡ false))
+      ⊎ ((error ≡ NotEntered) × ThenAsks IsWorkRound old new))
+
+  -- why it gives up in a round: the commit ended otherwise, or no token was had of one that isn't known to be
+  -- committed; or the numbers don't suffice for what was built; or what became of an earlier one is forgotten
+  abbrev pub GivesUp : List ℕ → Knowledge → B × Knowledge → B × Knowledge → Type 0
+  GivesUp index start old new =
+      Stops did false old new
+      ⊎ (ThenAsks IsWorkRound old new × (IsTooMuch index start new.1 ⊎ HasForgotten start new.1))
+
+  -- Private: why it ends so in a round
+  abbrev pub EndsWork : List ℕ → Knowledge → B × Knowledge → RunError → B × Knowledge → Type 0
+  EndsWork index start old (Refused error) new = RefusesWork index start old error new
+  EndsWork index start old GaveUp new = GivesUp index start old new
+
+  -- what a worker comes to, of at most so many rounds. Where it answers, the last one marked the index, or the client
+  -- found a mark of its own when it asked then
+  abbrev pub IsWork : List ℕ → ℕ → B × Knowledge → Result Totals RunError → B × Knowledge → Type 0
+  IsWork index limit old (Ok totals) new =
+      (before : ℕ) × (before < limit) × ((mid : B × Knowledge) × HasTaken before old mid × ThenAsks IsWorkRound mid new)
+  IsWork index limit old (Err (Refused error)) new =
+      (before : ℕ) × (before < limit)
+      × ((mid : B × Knowledge) × HasTaken before old mid × RefusesWork index old.1 mid error new)
+  IsWork index limit old (Err GaveUp) new =
+      HasTaken limit old new
+      ⊎ ((before : ℕ) × (before < limit)
+      × ((mid : B × Knowledge) × HasTaken before old mid × GivesUp index old.1 mid new))

@@ -1,14 +1,14 @@
 // Clients, each with a reader of its own. Made by `db` for whoever opens a database; used by
 // `transaction`, `retrying` and `index_worker`.
 ghost use Rattle.std.specs.Prelude.{◌≡◌, ℕ, ◌++◌, ◌∷◌, [], Some, None, IfOk, IfErr, IfSome, OnOk, OnErr, Ok};
-ghost use Rattle.std.specs.Prelude.{false, Err, ◌<◌, ◌^◌};
+ghost use Rattle.std.specs.Prelude.{false, Err, ◌<◌, ◌≤◌, ◌^◌};
 ghost use Rattle.std.specs.Arc.{arc_value};
 ghost use Rattle.left_right.specs.Sides.{view as knowledge};
 ghost use mathlib.Core.List.{IsPrefix};
 ghost use Rattle.schedule.specs.Past.{is_changed};
 ghost use Rattle.runtime.specs.Clients.{IsFresh, IsSameTransaction, knows_that};
 ghost use Rattle.runtime.specs.History.{log_prefix};
-ghost use Rattle.runtime.specs.Commits.{Answers, IsLogOf, commit_answer, unshown_answer};
+ghost use Rattle.runtime.specs.Commits.{Answers, IsDue, IsLogOf, commit_answer, unshown_answer};
 ghost use Rattle.runtime.specs.Logs.{IsWellFormedLog, attempts_of};
 ghost use Rattle.runtime.specs.Serves.{IsAnswer, IsUnanswered};
 ghost use Rattle.runtime.specs.Publication.{knows};
@@ -119,7 +119,8 @@ impl<E: End> Client<E> {
         ensures log { IsPrefix self.old.log self.new.log }
         ensures same { self.new
             ≡ knows_that self.old.name self.new.log self.old.number self.old.last self.old.begun }
-        ensures why { IfErr result (λ error. error ≡ EnterError.NotEntered) }
+        ensures why { IfErr result (λ error.
+            (error ≡ EnterError.NotEntered) × (1 ≤ number) × (number ≤ self.old.last)) }
         ensures refused { OnErr result (self.new ≡ self.old) }
     {
         if number == 0 || self.last < number {
@@ -146,6 +147,11 @@ impl<E: End> Client<E> {
         ensures { result ≡ log_prefix self.now.name self.now.log }
     {
         self.me.again()
+    }
+
+    /// Where the client takes memory.
+    pub(crate) fn allocator(&self) -> Global {
+        self.alloc
     }
 
     /// Enters the published log, and begins a transaction there.
@@ -232,13 +238,18 @@ impl<E: End> Client<E> {
         self.me = self.me.longer(&seen.prefix);
     }
 
-    /// Commits what was begun.
+    /// Commits what was begun. It gives also the log that ends with the submission's entry, where
+    /// the history has that.
     #[tactic(auto, using(crate::proofs::Serving::unchanged))]
-    pub(crate) fn commit_here<R: Wait>(&mut self, rt: &R) -> Result<Done, CommitError>
+    pub(crate) fn commit_here<R: Wait>(
+        &mut self,
+        rt: &R,
+    ) -> (Result<Done, CommitError>, Option<LogPrefix>)
         ensures answer { (open_tx : _) → self.old.begun ≡ Some open_tx →
-            Answers self.old self.new open_tx.transaction open_tx.trace result }
+            Answers self.old self.new open_tx.transaction open_tx.trace result.0 }
         ensures read_only { (open_tx : _) → self.old.begun ≡ Some open_tx →
-            is_changed (attempts_of open_tx.trace.attempts) ≡ false → result ≡ Ok Done.ReadOnly }
+            is_changed (attempts_of open_tx.trace.attempts) ≡ false → result.0 ≡ Ok Done.ReadOnly }
+        ensures due { IsDue self.old result.1 }
         ensures log { IsPrefix self.old.log self.new.log }
         ensures same { self.new
             ≡ knows_that self.old.name self.new.log self.old.number self.new.last None }
@@ -251,11 +262,11 @@ impl<E: End> Client<E> {
             },
         ) = self.begun.take()
         else {
-            return Err(CommitError::Memory);
+            return (Err(CommitError::Memory), None);
         };
         let request = transaction.into_request();
         if request.mutations.is_empty() {
-            return Ok(Done::ReadOnly);
+            return (Ok(Done::ReadOnly), None);
         }
         let told = critical_section(
             rt,
@@ -270,10 +281,11 @@ impl<E: End> Client<E> {
             outcome,
             last,
             prefix,
+            due,
         } = told;
         self.me = learnt(&self.me, &prefix);
         self.last = last;
-        answer_to(outcome, prefix)
+        (answer_to(outcome, prefix), due)
     }
 }
 

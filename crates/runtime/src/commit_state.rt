@@ -1,7 +1,7 @@
 // The commit side, under the commit lock: one request at a time, which the pipeline orders, the
 // history records and the publisher shows. Made by `db`, used by `critical_section`.
 ghost use Rattle.std.specs.Prelude.{◌≡◌, ℕ, ◌+◌, ◌-◌, ◌^◌, ◌<◌, [], length, slice_index};
-ghost use Rattle.std.specs.Prelude.{IfOk, IfErr, IsNone, MatchResult, OnOk, Some, Err, ◌⊎◌};
+ghost use Rattle.std.specs.Prelude.{IfOk, IfErr, IfSome, IsNone, MatchResult, OnOk, Some, Err, ◌⊎◌};
 ghost use Rattle.std.specs.Bool.{OnTrue, OnFalse};
 ghost use Rattle.left_right.specs.Sides.{view as knowledge};
 ghost use Rattle.cluster_core.specs.Configuration.{config_refusal};
@@ -9,13 +9,13 @@ ghost use Rattle.cluster_core.specs.Roles.{told};
 ghost use Rattle.runtime.specs.CommitStates.{IsHandled, IsOneDue, LeavesEntry, commit_view};
 ghost use Rattle.runtime.specs.History.{log_prefix};
 ghost use Rattle.runtime.specs.Logs.{AreGiven, HasEarlier, IsOpenOver, cause_next, version_of};
-ghost use Rattle.runtime.specs.Outcomes.{GivesNext, next_entry};
+ghost use Rattle.runtime.specs.Outcomes.{GivesNext, IsEndOf, next_entry};
 ghost use Rattle.runtime.specs.Publication.{knows};
 
-use crate::in_flight::{Due, InFlight, decided, report};
+use crate::in_flight::{Due, InFlight, added, decided, recorded, report};
 use crate::log_entry::{RequestView, Submitted};
-use crate::log_prefix::{LogHead, LogPrefix};
-use crate::outcome::Outcome;
+use crate::log_prefix::{LogHead, LogPrefix, again};
+use crate::outcome::{HandedIn, Outcome};
 use crate::publication::StateReader;
 use crate::published::Step;
 use crate::publisher::Publisher;
@@ -27,9 +27,6 @@ use std::marker::Model;
 use std::mem::replace;
 use std::sync::Wait;
 use txn::{Commit, HoldError as Held};
-
-/// The history has room for so many entries.
-const MOST: u64 = 1 << 60;
 
 /// The locked state: the pipeline, and the writer's side of what it reported.
 ///
@@ -90,29 +87,30 @@ impl CommitState {
         }
     }
 
-    /// Adds to the history what was reported.
+    /// Adds to the history what is in flight, where that doesn't have it yet.
     fn record(&mut self)
         ensures { self.new ≡ self.old }
     {
         match replace(&mut self.in_flight, InFlight::Idle) {
+            InFlight::Unreported(due) => {
+                self.in_flight = InFlight::Unreported(recorded(&self.head, &self.prefix, due));
+            }
             InFlight::Decided(due, version) => {
-                let mut prefix = self.prefix.again();
-                if prefix.len() < MOST && prefix.add(&self.head, &due.submitted) {
-                    let Due {
-                        submitted,
-                        mutations,
-                    } = due;
-                    self.in_flight = InFlight::Added(Step {
-                        submitted,
-                        mutations,
-                        version,
-                        prefix,
-                    });
-                } else {
-                    self.in_flight = InFlight::Decided(due, version);
-                }
+                let due = recorded(&self.head, &self.prefix, due);
+                self.in_flight = added(due, version);
             }
             other => self.in_flight = other,
+        }
+    }
+
+    /// The log that ends with what is in flight, once the history has that.
+    fn due(&self) -> Option<LogPrefix>
+        ensures { IfSome result (λ prefix. prefix ≡ log_prefix self.now.name self.now.due) }
+    {
+        match &self.in_flight {
+            InFlight::Idle => None,
+            InFlight::Unreported(due) | InFlight::Decided(due, _) => again(&due.prefix),
+            InFlight::Added(step) => Some(step.prefix.again()),
         }
     }
 
@@ -231,6 +229,7 @@ impl CommitState {
                 trace,
             },
             mutations,
+            prefix: None,
         };
         prove!(self.prefix.len() <= u64::MAX);
         match self.pipeline.commit(request) {
@@ -265,24 +264,41 @@ impl CommitState {
         prefix: &LogPrefix,
         request: CommitRequest,
         trace: Trace,
-    ) -> Outcome
+    ) -> HandedIn
         requires name { prefix.now.name ≡ self.old.name }
         requires open { IsOpenOver self.old.name.config prefix.now.log request trace.attempts }
         ensures handled { IsHandled self.old self.new
-            (next_entry self.old.last client request trace) result }
+            (next_entry self.old.last client request trace) result.outcome }
+        ensures due { IfSome result.due (IsEndOf self.old.name
+            (next_entry self.old.last client request trace)) }
     {
         if !self.finish() {
-            return Outcome::Memory;
+            return HandedIn::without(Outcome::Memory);
         }
         match self.submit(client, prefix, request, trace) {
             Ok(reported) => {
+                self.record();
+                let due = self.due();
                 if self.finish() {
-                    Outcome::of(reported)
+                    HandedIn {
+                        outcome: Outcome::of(reported),
+                        due,
+                    }
                 } else {
-                    Outcome::Unknown
+                    HandedIn {
+                        outcome: Outcome::Unknown,
+                        due,
+                    }
                 }
             }
-            Err(outcome) => outcome,
+            Err(Outcome::Unknown) => {
+                self.record();
+                HandedIn {
+                    outcome: Outcome::Unknown,
+                    due: self.due(),
+                }
+            }
+            Err(outcome) => HandedIn::without(outcome),
         }
     }
 

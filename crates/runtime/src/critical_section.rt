@@ -5,12 +5,12 @@ ghost use Rattle.runtime.specs.CommitLocks.{with_last};
 ghost use Rattle.runtime.specs.Commits.{IsLogOf};
 ghost use Rattle.runtime.specs.History.{log_prefix};
 ghost use Rattle.runtime.specs.Logs.{IsOpenOver};
-ghost use Rattle.runtime.specs.Outcomes.{GivesOne, Shows, entry, last_then, next_entry};
+ghost use Rattle.runtime.specs.Outcomes.{GivesOne, IsEndOf, Shows, entry, last_then, next_entry};
 
 use crate::commit_lock::{CommitLock, LockKey, Lockable};
 use crate::commit_state::CommitState;
 use crate::log_prefix::LogPrefix;
-use crate::outcome::Outcome;
+use crate::outcome::{HandedIn, Outcome};
 use crate::trace::Trace;
 use kv_core::CommitRequest;
 use std::sync::Wait;
@@ -62,13 +62,15 @@ impl<E: End> LockedState<E> {
     }
 }
 
-/// What a client is told of its request: what became of it, the client's last number then, and the
-/// log that shows the outcome, where that was published.
+/// What a client is told of its request: what became of it, the client's last number then, the log
+/// that shows the outcome, where that was published, and the one that ends with its entry, where it
+/// has one.
 #[derive(Drop)]
 pub struct Told {
     pub outcome: Outcome,
     pub last: u64,
     pub prefix: Option<LogPrefix>,
+    pub due: Option<LogPrefix>,
 }
 
 /// The log that is published once the request was handed in. None where nothing is told of that
@@ -107,9 +109,11 @@ fn request_and_publish<R: Wait>(
     ensures prefix { IsLogOf state.name result.1.prefix }
     ensures shows { IfSome result.1.prefix (λ prefix. Shows prefix.name.config prefix.log
         (next_entry state.last client request trace) result.1.outcome) }
+    ensures due { IfSome result.1.due (IsEndOf state.name
+        (next_entry state.last client request trace)) }
 {
     let mut state = state;
-    let outcome = state.request(client, prefix, request, trace);
+    let HandedIn { outcome, due } = state.request(client, prefix, request, trace);
     let last = state.last_number(client);
     let (state, prefix) = shown(rt, state, &outcome);
     (
@@ -118,6 +122,7 @@ fn request_and_publish<R: Wait>(
             outcome,
             last,
             prefix,
+            due,
         },
     )
 }
@@ -142,6 +147,8 @@ pub fn critical_section<E: End, R: Wait>(
     ensures prefix { IsLogOf key.old.me.0.about.value.state.name result.prefix }
     ensures shows { IfSome result.prefix (λ prefix. Shows prefix.name.config prefix.log
         (entry client (key.old.me.0.last + 1) request trace) result.outcome) }
+    ensures due { IfSome result.due (IsEndOf key.old.me.0.about.value.state.name
+        (entry client (key.old.me.0.last + 1) request trace)) }
 {
     let guard = lock.wait(rt);
     let (state, end) = lock.take(rt, key).into_parts();

@@ -1,10 +1,12 @@
 // The worker that builds an index beside other clients. Called by `race`.
-ghost use Rattle.std.specs.Prelude.{◌≡◌, ◌+◌, ◌≤◌, ◌^◌, ◌⊎◌, IfErr, IfOk, MatchOption};
+ghost use Rattle.std.specs.Prelude.{◌≡◌, IfErr, IfOk, MatchResult, OnOk};
 ghost use Rattle.runtime.specs.Builds.{IsBuilt};
 ghost use Rattle.runtime.specs.Calls.{marked_reply, part_reply};
+ghost use Rattle.runtime.specs.Clients.{Knowledge};
 ghost use Rattle.runtime.specs.Runs.{GoesOnFrom};
-ghost use Rattle.runtime.specs.Works.{Asks, EndsRound, EndsWork, IsWork, Performs, Works};
-ghost use Rattle.runtime.specs.Works.{after_round};
+ghost use Rattle.runtime.specs.Settles.{AreTokensOf, IsProgress, IsSettledUpto};
+ghost use Rattle.runtime.specs.Works.{Asks, EndsWork, IsWork, MayGoOn, Performs, TakesRound};
+ghost use Rattle.runtime.specs.Works.{Works};
 
 use crate::answers::{CommandError, RunError};
 use crate::client::Client;
@@ -12,6 +14,7 @@ use crate::critical_section::End;
 use crate::replies::{marked, part};
 use crate::retrying::{Body, Failure, attempt};
 use crate::transaction::Txn;
+use crate::worker_progress::{Built, Progress, Round, Unsettled, settle};
 use kv_core::KeyRange;
 use schedule::Command;
 use std::sync::Wait;
@@ -37,35 +40,6 @@ pub trait Gate: Drop {
     /// Passes the place. It may wait there.
     fn pass(&mut self, place: GatePoint)
         ensures passed { passed self.old place self.new };
-}
-
-/// What a worker built: so many records, in so many transactions.
-#[derive(Clone, Copy, Debug, PartialEq, Eq)]
-pub struct Built {
-    pub records: u64,
-    pub steps: u64,
-}
-
-/// What a round comes to whose transaction is committed.
-#[derive(Clone, Copy)]
-pub(crate) enum Round {
-    /// So many records were built.
-    Built(usize),
-    /// The index is marked readable.
-    Marked,
-}
-
-impl Built {
-    /// With a part of so many records more. None where the numbers don't suffice.
-    fn with(self, more: usize) -> Option<Built>
-        ensures { MatchOption result
-            ((2 ^ 64 ≤ self.records + more) ⊎ (2 ^ 64 ≤ self.steps + 1))
-            (λ new. (new.records ≡ self.records + more) × (new.steps ≡ self.steps + 1)) }
-    {
-        let records = self.records.checked_add(more as u64)?;
-        let steps = self.steps.checked_add(1)?;
-        Some(Built { records, steps })
-    }
 }
 
 /// Asks for a part of the index in an open transaction. It answers how many records the part has,
@@ -134,32 +108,67 @@ impl<E: End, G: Gate> Body<E> for Worker<G> {
     }
 }
 
-/// What follows a round that ended so: another one, or none.
-fn round_after(ended: Ended) -> Result<Option<Round>, RunError>
-    ensures { result ≡ after_round ended }
+/// Whether another round may come to more after one that ended so. It gives up where none does.
+fn go_on(ended: Ended) -> Result<(), RunError>
+    ensures { MatchResult result (λ _. MayGoOn ended)
+        (λ error. (error ≡ RunError.GaveUp) × (MayGoOn ended → ⊥)) }
 {
     match ended {
-        Ended::Conflict | Ended::TooOld => Ok(None),
+        Ended::Conflict | Ended::TooOld => Ok(()),
         _ => Err(RunError::GaveUp),
     }
 }
 
-/// One round. It answers what it came to, or None where another one may come to more.
+/// One round, and then what became of it and of those before it, as far as that is known.
 fn take_round<E: End, R: Wait, G: Gate>(
     rt: &R,
     client: &mut Client<E>,
     worker: &mut Worker<G>,
-) -> Result<Option<Round>, RunError>
+    progress: &mut Progress,
+) -> Result<(), RunError>
+    requires names { AreTokensOf client.old.name progress.old.lost.items }
     ensures follows { GoesOnFrom client.old client.new }
-    ensures round { IfOk result (λ round.
-        EndsRound (Works G.passed) (worker.old, client.old) round (worker.new, client.new)) }
-    ensures ended { IfErr result (λ error.
-        EndsWork (Works G.passed) (worker.old, client.old) error (worker.new, client.new)) }
+    ensures index { OnOk result (worker.new.index ≡ worker.old.index) }
+    ensures round { OnOk result (TakesRound (Works G.passed) progress.new.marked
+        (worker.old, client.old) (worker.new, client.new)) }
+    ensures progress { (start : Knowledge) →
+        IsProgress worker.old.index start client.old client.old.last progress.old →
+        OnOk result (IsSettledUpto worker.old.index start client.new client.new.last progress.new) }
+    ensures ended { (start : Knowledge) →
+        IsProgress worker.old.index start client.old client.old.last progress.old →
+        IfErr result (λ error. EndsWork (Works G.passed) worker.old.index start
+        (worker.old, client.old) error (worker.new, client.new)) }
 {
-    match attempt(rt, client, worker) {
-        Ok((round, _)) => Ok(Some(round)),
-        Err(Failure::Refused(error)) => Err(RunError::Refused(error)),
-        Err(Failure::Ended(ended)) => round_after(ended),
+    progress.lost.reserve(1)?;
+    let ended = attempt(rt, client, worker);
+    prove!(client.submissions() <= u64::MAX);
+    match ended {
+        Ok((round, _)) => {
+            settle(client, progress)?;
+            progress.count(round)
+        }
+        Err(Failure::Lost(round, Some(prefix))) => {
+            let number = client.submissions();
+            progress.lost.push_reserved(Unsettled {
+                number,
+                round,
+                prefix,
+            });
+            settle(client, progress)
+        }
+        Err(Failure::Lost(_, None)) => Err(RunError::GaveUp),
+        Err(Failure::Ended(ended)) => {
+            go_on(ended)?;
+            settle(client, progress)
+        }
+        Err(Failure::Refused(error)) => {
+            settle(client, progress)?;
+            if progress.marked {
+                Ok(())
+            } else {
+                Err(RunError::Refused(error))
+            }
+        }
     }
 }
 
@@ -167,9 +176,12 @@ fn take_round<E: End, R: Wait, G: Gate>(
 /// position of it is built, and marks it readable then.
 ///
 /// It passes the gate in each round. A round that read too long ago or was refused with a conflict
-/// is followed by the next one. A refusal of a command is `Refused`, and so is `NotEntered`, and
-/// want of memory before a command. `GaveUp` is told where a commit isn't known to be one, where
-/// the numbers of what is built don't suffice, and after so many rounds.
+/// is followed by the next one, and so is one of which it isn't known what became: as soon as the
+/// log has its entry, what it built is counted where it is committed. A refusal of a command is
+/// `Refused`, and so is `NotEntered`, and want of memory before a command; but where a mark of
+/// which it wasn't known is committed, the work is done. `GaveUp` is told where a commit is refused
+/// otherwise, where an outcome is forgotten, where the numbers of what is built don't suffice, and
+/// after so many rounds.
 pub fn build_worker<E: End, R: Wait, G: Gate>(
     rt: &R,
     client: &mut Client<E>,
@@ -180,28 +192,18 @@ pub fn build_worker<E: End, R: Wait, G: Gate>(
 ) -> Result<Built, RunError>
     ensures follows { GoesOnFrom client.old client.new }
     ensures built { IfOk result (λ built. IsBuilt index client.old client.new built) }
-    ensures work { (after : _) × IsWork (Works G.passed) rounds
+    ensures work { (after : _) × IsWork (Works G.passed) index rounds
         (record { index = index; limit = limit; gate = gate }, client.old) result
         (after, client.new) }
 {
     let mut worker = Worker { index, limit, gate };
-    let mut built = Built {
-        records: 0,
-        steps: 0,
-    };
+    let mut progress = Progress::new(client.allocator());
     for round in 0..rounds {
-        let ended = take_round(rt, client, &mut worker)?;
+        take_round(rt, client, &mut worker, &mut progress)?;
         prove!(client.submissions() <= u64::MAX);
-        let Some(ended) = ended else {
-            continue;
-        };
-        let Round::Built(more) = ended else {
-            return Ok(built);
-        };
-        let Some(more_built) = built.with(more) else {
-            return Err(RunError::GaveUp);
-        };
-        built = more_built;
+        if progress.marked {
+            return Ok(progress.built);
+        }
     }
     Err(RunError::GaveUp)
 }

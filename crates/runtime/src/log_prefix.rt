@@ -242,3 +242,13 @@ impl LogPrefix {
         found == count
     }
 }
+
+/// An equal log, where there is one.
+pub(crate) fn again(prefix: &Option<LogPrefix>) -> Option<LogPrefix>
+    ensures { result ≡ prefix.now }
+{
+    match prefix {
+        Some(prefix) => Some(prefix.again()),
+        None => None,
+    }
+}

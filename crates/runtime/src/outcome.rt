@@ -1,9 +1,10 @@
 // What becomes of a request that a client hands in. Told by `commit_state`, handed on by
 // `critical_section`, and made an answer by `client`.
-ghost use Rattle.std.specs.Prelude.{◌≡◌};
+ghost use Rattle.std.specs.Prelude.{◌≡◌, None};
 ghost use Rattle.runtime.specs.Outcomes.{outcome_by};
 ghost use Rattle.runtime.specs.declared.outcome.Outcome.TheVariants.{Memory};
 
+use crate::log_prefix::LogPrefix;
 use cluster_core::Reported;
 use kv_core::KeyRange;
 use std::alloc::AllocError;
@@ -44,5 +45,22 @@ impl Outcome {
             Reported::Conflict { seen, range } => Outcome::Conflict { seen, range },
             Reported::NothingToDo => Outcome::Unknown,
         }
+    }
+}
+
+/// What became of a request that was handed in, and the log that ends with its entry, where it has
+/// one and the history has that.
+#[derive(Drop)]
+pub struct HandedIn {
+    pub outcome: Outcome,
+    pub due: Option<LogPrefix>,
+}
+
+impl HandedIn {
+    /// One of a request that has no entry.
+    pub fn without(outcome: Outcome) -> HandedIn
+        ensures { (result.outcome ≡ outcome) × (result.due ≡ None) }
+    {
+        HandedIn { outcome, due: None }
     }
 }

@@ -1,11 +1,12 @@
 // Transactions that are tried again. Called by `index_worker`, and by `race` and applications.
 ghost use Rattle.std.specs.Prelude.{◌≡◌, IfOk, IfErr};
 ghost use Rattle.runtime.specs.Runs.{Continues, FailsSo, GoesOnFrom, IsRun, TriesAndEnds, ended_by};
-ghost use Rattle.runtime.specs.Runs.{failure_by};
+ghost use Rattle.runtime.specs.Runs.{failure_by, failure_ended};
 
 use crate::answers::{CommandError, CommitError, Done, RunError};
 use crate::client::Client;
 use crate::critical_section::End;
+use crate::log_prefix::LogPrefix;
 use crate::transaction::Txn;
 use schedule::Refusal;
 use std::sync::Wait;
@@ -31,16 +32,33 @@ pub trait Body<E: End> {
         ensures did { did self.old tx.old.client.now result tx.new.client.now self.new };
 }
 
-/// How an attempt failed.
-pub(crate) enum Failure {
+/// How an attempt failed, where its body has an answer of this type.
+#[derive(Drop)]
+pub(crate) enum Failure<A: Drop> {
     /// It wasn't begun, or its body gave it up, but not for its age.
     Refused(CommandError),
+    /// It isn't known what became of it. The body had this answer in it, and the log ends with its
+    /// entry, where it has one.
+    Lost(A, Option<LogPrefix>),
     /// It ended so.
     Ended(Ended),
 }
 
+impl<A: Drop> Failure<A> {
+    /// How it ended, or why the run is refused.
+    fn ended(self) -> Result<Ended, RunError>
+        ensures { result ≡ failure_ended self }
+    {
+        match self {
+            Failure::Refused(error) => Err(RunError::Refused(error)),
+            Failure::Lost(..) => Ok(Ended::Unknown),
+            Failure::Ended(ended) => Ok(ended),
+        }
+    }
+}
+
 /// How an attempt failed that its body gave up.
-fn failure_of(error: CommandError) -> Failure
+fn failure_of<A: Drop>(error: CommandError) -> Failure<A>
     ensures { result ≡ failure_by error }
 {
     match error {
@@ -80,7 +98,7 @@ pub(crate) fn attempt<E: End, R: Wait, B: Body<E>>(
     rt: &R,
     client: &mut Client<E>,
     body: &mut B,
-) -> Result<(B::Answer, Done), Failure>
+) -> Result<(B::Answer, Done), Failure<B::Answer>>
     ensures follows { GoesOnFrom client.old client.new }
     ensures done { IfOk result (λ both.
         TriesAndEnds B.did (body.old, client.old) both.0 (Ok both.1) (body.new, client.new)) }
@@ -94,8 +112,10 @@ pub(crate) fn attempt<E: End, R: Wait, B: Body<E>>(
         Ok(answer) => answer,
         Err(error) => return Err(failure_of(error)),
     };
-    match client.commit_here(rt) {
+    let (result, due) = client.commit_here(rt);
+    match result {
         Ok(done) => Ok((answer, done)),
+        Err(CommitError::Unknown) => Err(Failure::Lost(answer, due)),
         Err(error) => Err(Failure::Ended(ended_of(&error))),
     }
 }
@@ -118,10 +138,13 @@ impl<E: End> Client<E> {
     {
         let mut number = 1u64;
         loop {
-            let ended = match attempt(rt, self, body) {
+            let failure = match attempt(rt, self, body) {
                 Ok(both) => return Ok(both),
-                Err(Failure::Refused(error)) => return Err(RunError::Refused(error)),
-                Err(Failure::Ended(ended)) => ended,
+                Err(failure) => failure,
+            };
+            let ended = match failure.ended() {
+                Ok(ended) => ended,
+                Err(error) => return Err(error),
             };
             match retry.next(ended, number, repeatable) {
                 Next::Again => number += 1,

@@ -152,6 +152,6 @@ impl<E: End> Txn<'_, E> {
             self.entry.client.now.number self.exit.0.now.last None }
     {
         let Txn { client } = self;
-        client.commit_here(rt)
+        client.commit_here(rt).0
     }
 }

@@ -4,5 +4,5 @@ use Rattle.runtime.proofs.critical_section.request_and_publish.Goals as goal
 
 pub returns-clause-shows : goal.returns-clause-shows
 returns-clause-shows g c =
-    shows_by c.args.state c.request-outcome.new.self (next_entry c.args.state.last c.args.client c.args.request c.args.trace) c.request-outcome.result c.shown-state.result.1
+    shows_by c.args.state c.request-outcome.new.self (next_entry c.args.state.last c.args.client c.args.request c.args.trace) c.request-outcome.result.outcome c.shown-state.result.1
     c.request-outcome.ensures.handled c.shown-state.ensures.log

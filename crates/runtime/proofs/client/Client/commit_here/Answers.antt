@@ -8,7 +8,7 @@ use Rattle.left_right.specs.Sides.{view as knowledge}
 use Rattle.runtime.specs.Clients.{HasReader, IsBegun, Knowledge, Remembers, knows_that}
 use Rattle.runtime.specs.declared.outcome.Outcome.{Outcome}
 use Rattle.runtime.specs.Commits.{Answers}
-use Rattle.runtime.specs.Outcomes.{Shows, entry, last_then}
+use Rattle.runtime.specs.Outcomes.{IsEndOf, Shows, entry, last_then}
 use Rattle.runtime.proofs.Serving.{nothing_written}
 use Rattle.runtime.proofs.Answering.{IsTold, answers_by, told_by}
 use Rattle.runtime.proofs.Known.{reader_later}
@@ -54,3 +54,18 @@ returns-then-is_empty-clause-log g c = subst (λ log. IsPrefix log c.self.inside
 
 pub returns-clause-log : goal.returns-clause-log
 returns-clause-log g c = subst (λ log. IsPrefix log c.learnt.result.log) (ap (λ (k : Knowledge). k.log) c.self.view_is) c.learnt.ensures.log
+
+pub returns-clause-due : goal.returns-clause-due
+returns-clause-due g c w is =
+    let begun : c.self.inside.begun ≡ c.args.self.now.begun = ap (λ (k : Knowledge). k.begun) c.self.view_is in
+    let some : Some c.in-Some.field-0 ≡ Some w = sym c.in-Some.is ∙ c.take.ensures.value ∙ begun ∙ is in
+    let same : c.in-Some.field-0 ≡ w = cc (some) in
+    let t : c.in-Some.field-0.trace ≡ w.trace = ap (λ (v : OpenTransaction). v.trace) same in
+    let own : c.into_request-request.result ≡ c.in-Some.field-0.transaction = search rules in
+    let r : c.into_request-request.result ≡ w.transaction = own ∙ ap (λ (v : OpenTransaction). v.transaction) same in
+    let due : Option Prefix = c.critical_section-told.result.due in
+    let named : IfSome due (IsEndOf c.self.inside.me.name (entry c.self.inside.number (c.self.inside.key.me.0.last + 1) c.into_request-request.result c.in-Some.field-0.trace)) =
+    subst (λ (n : Name). IfSome due (IsEndOf n (entry c.self.inside.number (c.self.inside.key.me.0.last + 1) c.into_request-request.result c.in-Some.field-0.trace))) c.self.invariant.2 c.critical_section-told.ensures.due in
+    let ends : IfSome due (IsEndOf c.self.inside.me.name (entry c.self.inside.number (c.self.inside.last + 1) c.into_request-request.result c.in-Some.field-0.trace)) =
+    subst (λ (own : ℕ). IfSome due (IsEndOf c.self.inside.me.name (entry c.self.inside.number (own + 1) c.into_request-request.result c.in-Some.field-0.trace))) c.self.invariant.6 named in
+    rw (← c.self.view_is, ← r, ← t) ends

@@ -1,4 +1,4 @@
-use Rattle.std.proofs.Common.{◌≡◌, ℕ, ◌+◌, ◌<◌, arith, true, List, [], ◌∷◌, ◌++◌, length, sym, ap, ◌∙◌, refl, subst}
+use Rattle.std.proofs.Common.{◌≡◌, ℕ, ◌+◌, ◌<◌, arith, true, None, List, [], ◌∷◌, ◌++◌, length, sym, ap, ◌∙◌, refl, subst}
 use Rattle.std.specs.Prelude.{slice_index, slice_set}
 use mathlib.Core.List.{IsPrefix}
 use Rattle.cluster_core.specs.Cluster.{without_servers}
@@ -33,10 +33,10 @@ invariant_of-self c =
     let next : c.in_ok-number.number ≡ slice_index last c.args.client + 1 = some.0 in
     let above : slice_index last c.args.client < c.in_ok-number.number = omega (arith, next) in
     let turn : c.in_ok-number.number ≡ count_of c.args.client log + 1 = next ∙ ap (λ (n : ℕ). n + 1) (counted.counts c.args.client) in
-    let due : Due = record { submitted = record { client = c.args.client; number = c.in_ok-number.number; request = c.of.result; trace = c.args.trace }; mutations = c.in_ok-mutations.mutations } in
+    let due : Due = record { submitted = record { client = c.args.client; number = c.in_ok-number.number; request = c.of.result; trace = c.args.trace }; mutations = c.in_ok-mutations.mutations; prefix = None } in
     let e : Entry = submitted_entry due.submitted in
     let t = taken_next n last log c.args.prefix.now.log due c.args.request c.self.inside.pipeline c.commit.new.self c.in-Ok.reported
-    law begins over c.of.ensures num some.1 above turn old c.in-Ok.ensures.handled c.in-Ok.ensures.decided c.in-Ok.ensures.allowed c.in_ok-mutations.ensures in
+    law begins over c.of.ensures num some.1 above turn old c.in-Ok.ensures.handled c.in-Ok.ensures.decided c.in-Ok.ensures.allowed c.in_ok-mutations.ensures tt in
     let at : due_of c.decided.result log ≡ log ++ e ∷ [] = ap (λ f. due_of f log) c.decided.ensures ∙ due_decided c.in-Ok.reported due log in (
       i.0,
       i.1,
@@ -63,11 +63,11 @@ invariant_of-self-in-Err-Unknown c =
     let next : c.in_ok-number.number ≡ slice_index last c.args.client + 1 = some.0 in
     let above : slice_index last c.args.client < c.in_ok-number.number = omega (arith, next) in
     let turn : c.in_ok-number.number ≡ count_of c.args.client log + 1 = next ∙ ap (λ (n : ℕ). n + 1) (counted.counts c.args.client) in
-    let due : Due = record { submitted = record { client = c.args.client; number = c.in_ok-number.number; request = c.of.result; trace = c.args.trace }; mutations = c.in_ok-mutations.mutations } in
+    let due : Due = record { submitted = record { client = c.args.client; number = c.in_ok-number.number; request = c.of.result; trace = c.args.trace }; mutations = c.in_ok-mutations.mutations; prefix = None } in
     let e : Entry = submitted_entry due.submitted in
     let held = subst (λ (e : HoldError). HeldError e c.args.request (without_servers c.self.inside.pipeline) (without_servers c.commit.new.self)) c.in-Err-Unknown.field-0-is c.in-Err-Unknown.ensures.refused in
     let t = held_next n last log c.args.prefix.now.log due c.args.request c.self.inside.pipeline c.commit.new.self
-    law begins over c.of.ensures num some.1 above turn old held c.in_ok-mutations.ensures in
+    law begins over c.of.ensures num some.1 above turn old held c.in_ok-mutations.ensures tt in
     (i.0, i.1, t.0, t.1, given_next last c.args.client c.in_ok-number.number log e some.1 refl refl next are, counted_next last c.args.client c.in_ok-number.number log e some.1 refl next counted)
 
 pub returns-in-Ok-clause-told : goal.returns-in-Ok-clause-told
@@ -89,7 +89,7 @@ returns-in-Ok-clause-taken c =
     let due = log ++ entry c.args.client c.in_ok-number.number c.of.result.value c.args.trace ∷ [] in
     let made : due ≡ log ++ entry c.args.client c.in_ok-number.number c.args.request c.args.trace ∷ [] = ap (λ (r : CommitRequest). log ++ entry c.args.client c.in_ok-number.number r c.args.trace ∷ []) c.of.ensures in
     let next : due ≡ log ++ next_entry c.args.self.now.last c.args.client c.args.request c.args.trace ∷ [] = made ∙ ap (λ (number : ℕ). log ++ entry c.args.client number c.args.request c.args.trace ∷ []) c.in_ok-number.ensures.next in
-    let given : Due = record { submitted = record { client = c.args.client; number = c.in_ok-number.number; request = c.of.result; trace = c.args.trace }; mutations = c.in_ok-mutations.mutations } in
+    let given : Due = record { submitted = record { client = c.args.client; number = c.in_ok-number.number; request = c.of.result; trace = c.args.trace }; mutations = c.in_ok-mutations.mutations; prefix = None } in
     let at : due_of c.decided.result log ≡ due = ap (λ f. due_of f log) c.decided.ensures ∙ due_decided c.in-Ok.reported given log in
     subst
     (λ (h : CommitView). (n ≡ h.name) × (c.self.inside.publisher.published ≡ h.published) × ((log ≡ h.due) × (due_of c.decided.result log ≡ h.due ++ next_entry c.args.self.now.last c.args.client c.args.request c.args.trace ∷ []))) c.self.view_is
