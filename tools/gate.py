@@ -24,7 +24,7 @@ import threading
 import time
 
 PROGRAMS = ["crates/recordctl/out/recordctl", "crates/recordctl/out/recordctl.by-rattle"]
-FAILING = [f"crates/{it}/out/{it}{end}" for it in ("memory_trials", "commit_trials", "reply_trials")
+FAILING = [f"crates/{it}/out/{it}{end}" for it in ("test_memory", "test_commits", "test_replies")
            for end in ("", ".by-rattle")]
 TESTED_TOOLS = ("wrong_bodies", "house_rules", "quick_build", "model")
 PROGRAM_TESTS = (("the program", "program_tests", PROGRAMS), ("want of memory", "refused_growths", FAILING + PROGRAMS),

@@ -5,6 +5,7 @@
 Prints a line for each case that fails. The last line is 'N passed, M failed', and the status is 0 where M is 0.
 """
 import os
+import re
 import resource
 import subprocess
 import sys
@@ -15,6 +16,8 @@ from edges import MANY_STEPS, MEMORY_LIMITS, SETTLE, byte_cases, command_line_ca
 SECONDS = 60
 # how often each race is run again
 RACES = 20
+# the source that tells the commit of an archive
+VERSION = "crates/command_line/src/version.rt"
 
 
 def first_difference(wanted, found):
@@ -73,6 +76,20 @@ def race_fault(program, case, runs):
     return next((it for it in (fault_of(program, case) for _ in range(runs)) if it), None)
 
 
+def archive_fault():
+    """What is wrong with the commit that git writes into an archive of the sources, where a checkout has none.
+
+    Nothing is where git tells no commit, as in such an archive.
+    """
+    told = subprocess.run(["git", "rev-parse", "HEAD"], capture_output=True, text=True, check=False)
+    if told.returncode:
+        return None
+    done = subprocess.run(["git", "archive", "HEAD", VERSION], capture_output=True, check=False)
+    found = re.search(rb'COMMIT: &str = "([0-9a-f]{7,40})";', done.stdout)
+    is_it = found and told.stdout.startswith(found[1].decode())
+    return None if is_it else f"{told.stdout!r} isn't told: {done.stderr[:200]!r}"
+
+
 def faults(program, folder):
     """What each case shows, and what is wrong with it, or None."""
     cases = [*cases_in("cases"), *example_cases("examples"), *long_cases(), *byte_cases(), *command_line_cases(folder)]
@@ -85,6 +102,7 @@ def faults(program, folder):
     for words, given in ([["run"], SETTLE.encode()], [["pack", "[1]"], b""], [["unpack", "14"], b""],
                          [["race"], race.given]):
         yield f"output that can't be written: {words[0]}", closed_output_fault(program, words, given)
+    yield "an archive tells its commit", archive_fault()
     yield "want of memory for a script", memory_fault(program, *MANY_STEPS, False)
     yield "want of memory for a line", memory_fault(program, *long_line(), True)
 

@@ -148,4 +148,6 @@ def command_line_cases(folder):
         *[Case(f"a command line that isn't taken: {it}", it, b"", 2, b"", None) for it in refused],
         Case("help goes to standard error", ["--help"], b"", 2, b"", None),
         Case("help of a command", ["run", "--help"], b"", 2, b"", None),
+        Case("what it was built from", ["--version"], b"", 0, b"recordctl, built from a checkout\n", b""),
+        Case("the version of a command", ["run", "--version"], b"", 2, b"", None),
     ]

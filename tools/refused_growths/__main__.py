@@ -1,13 +1,13 @@
 #!/usr/bin/env python3
 """Runs programs with each of their allocations failing in turn: python3 tools/refused_growths PROGRAM..
 
-Each line of memory_trials and of commit_trials but the last tells of something for which memory must run out at some
+Each line of test_memory and of test_commits but the last tells of something for which memory must run out at some
 of them: it is done again then, 'again ' stands before the line, and all else is as it is when none fails. Where an
 allocation fails elsewhere the program may stop. A program 'recordctl' runs the scripts of cases/memory.steps, and must
-print what it prints when none fails, or the first lines of that, or none, and 'out of memory'. A program 'reply_trials'
+print what it prints when none fails, or the first lines of that, or none, and 'out of memory'. A program 'test_replies'
 is run with one allocation in so many failing, and must print what it prints when none fails; in one run at least it
 must tell that replies were lost. The last line is 'N passed, M failed', where each allocation counts, and each run of
-'reply_trials'; where there is no C compiler ('cc') one failure is counted.
+'test_replies'; where there is no C compiler ('cc') one failure is counted.
 """
 import os
 import subprocess
@@ -157,7 +157,7 @@ def trials_of(program):
 
 def judge_of(trial):
     """Which runs of a program are judged."""
-    return lost if os.path.basename(trial.program).startswith("reply_trials") else tried
+    return lost if os.path.basename(trial.program).startswith("test_replies") else tried
 
 
 def main():

@@ -12,8 +12,8 @@ doesn't fit any more, the edit is tried again with this answer set aside.
 
 Edits stand in crates/NAME/wrong-bodies/SOURCE.edits, which is those of src/SOURCE.rt. Each begins with a line
 'name: NAME', then a line 'bug: TEXT' where the name doesn't say what is wrong, and pairs of lines 'old: TEXT' and
-'new: TEXT'; each old text stands once in its file, which a line 'file: PATH' names where it is another one. A file
-crates/NAME/must-fail/NAME.edit is one edit.
+'new: TEXT'; each old text stands once in its file, which a line 'file: PATH' names where it is another one. One with a
+line 'error: NAME' must be refused by the compiler, with that error. A file crates/NAME/must-fail/NAME.edit is one edit.
 
 With --recorded an edit isn't tried again where tools/wrong_bodies/refused.txt says that it was refused over the same
 texts: its function's own, and what that leads to of what its crate and those below it say without their bodies and

@@ -6,6 +6,8 @@ from bodies import bodies_in, innermost, innermost_function, is_proof_of
 PARTS = ("src", "specs", "proofs")
 # the folders of a crate that hold edits
 FOLDERS = ("wrong-bodies", "must-fail")
+# what begins the line of an edit that names the error with which the compiler must refuse it
+ERROR = "error: "
 # why the second edit of a name is none
 TWICE = "another edit of this crate has its name"
 # where an answer to a goal of a function begins in its file of answers
@@ -21,15 +23,20 @@ class BadEdit(Exception):
 class Edit:
     """A change of a crate's text: pairs of a text that stands once in a file and the text in its place.
 
-    Beside its pairs it has answers that are set aside: files of answers, each with the goals whose answers go.
+    Beside its pairs it has answers that are set aside: files of answers, each with the goals whose answers go. Where it
+    names an error, the compiler must refuse it with that, before any proof.
     """
 
-    def __init__(self, name, pairs, aside=frozenset()):
-        self.name, self.pairs, self.aside = name, pairs, aside
+    def __init__(self, name, pairs, aside=frozenset(), error=None):
+        self.name, self.pairs, self.aside, self.error = name, pairs, aside, error
 
     def without(self, answers):
         """The same edit with these answers set aside too."""
-        return Edit(self.name, self.pairs, self.aside | answers)
+        return Edit(self.name, self.pairs, self.aside | answers, self.error)
+
+    def written(self):
+        """What the edit is, as a text: its pairs, and the error that it names, if it does."""
+        return repr((self.error, self.pairs) if self.error else self.pairs)
 
     def applied(self, texts):
         """The texts of a crate, by file, after the edit."""
@@ -44,10 +51,13 @@ class Edit:
     def bodies(self, texts):
         """The bodies that the edit changes, or None where it changes anything else than these and their own proofs.
 
+        It is None too for one that the compiler must refuse, which is tried alone so.
         What only adds a text changes the function into which it is put, as where a clause that ends a function's head
         gets a body behind it, and the right body another head.
         """
         changed, proofs = set(), set()
+        if self.error:
+            return None
         for file, old, new in self.pairs:
             if file.startswith("proofs/"):
                 proofs.add(os.path.dirname(file).removeprefix("proofs/"))
@@ -75,11 +85,16 @@ def pairs_in(lines, file=None):
                 raise BadEdit("a line 'new:' stands before its lines 'file:' and 'old:'")
             pairs.append((file, old, line[len("new:"):].removeprefix(" ")))
             old = None
-        elif line.strip() and not line.startswith("bug: "):
-            raise BadEdit(f"it has a line that is none of 'bug:', 'file:', 'old:' and 'new:': {line[:60]}")
+        elif line.strip() and not line.startswith(("bug: ", ERROR)):
+            raise BadEdit(f"it has a line that is none of 'bug:', 'error:', 'file:', 'old:' and 'new:': {line[:60]}")
     if not pairs or old is not None:
         raise BadEdit("it has no pair of lines 'old:' and 'new:', or half of one")
     return pairs
+
+
+def error_in(lines):
+    """The error that these lines of an edit name, if they do."""
+    return next((line.removeprefix(ERROR).strip() for line in lines if line.startswith(ERROR)), None)
 
 
 def written_in(path):
@@ -114,7 +129,7 @@ def edits_in(folder):
                 pairs = pairs_in(lines, source)
                 if name in edits:
                     raise BadEdit(TWICE)
-                edits[name] = Edit(name, pairs)
+                edits[name] = Edit(name, pairs, error=error_in(lines))
             except BadEdit as why:
                 bad.append((name, str(why)))
     return list(edits.values()), bad

@@ -104,7 +104,7 @@ class Sums:
                 if not (bodies and it[0].startswith("proofs/"))]
         imports = [self.reach.imported(texts.get(file, ""), words_in(text)) for file, text in code]
         reached = self.reach.reached(name, [text for _, text in code], imports)
-        written = [("logic", logic()), ("edit", repr(edit.pairs)), *own]
+        written = [("logic", logic()), ("edit", edit.written()), *own]
         return Sum(sum_of([*written, *reached]), sum_of([*written, *self.near(name, contracts_of(texts, bodies, own))]))
 
     def near(self, name, contracts):
@@ -124,7 +124,7 @@ class Sums:
         """A sum of all crates' texts and edits, which tells one tree from another."""
         rows = [(name, *it) for name in self.crates for it in self.texts(name).items()]
         for name in self.crates:
-            rows += [(name, it.name, repr(it.pairs)) for it in all_edits(self.root, name)[0]]
+            rows += [(name, it.name, it.written()) for it in all_edits(self.root, name)[0]]
         return sum_of(rows)
 
 

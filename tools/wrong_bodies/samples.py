@@ -170,7 +170,17 @@ EDITS = {
 }
 
 
+# Edits of low that the compiler must refuse with an error, and what must be said of each.
+ERRORS = {
+    "text_for_a_number": ("mismatched-types", "number + STEP", '"one"', "refused"),
+    "text_let_go": ("linear-value-let-go", "number + STEP", '"one"', "BAD EDIT"),
+    "zero_for_a_number": ("mismatched-types", "number + STEP", "0", "NOT REFUSED"),
+}
+
+
 NAMED = "".join(f"name: {name}\nold: {old}\nnew: {new}\n\n" for name, (old, new, _) in EDITS.items())
+NAMED += "".join(f"name: {name}\nerror: {error}\nold: {old}\nnew: {new}\n\n"
+                 for name, (error, old, new, _) in ERRORS.items())
 
 
 def edit_text(old, new, file="src/lib.rt"):

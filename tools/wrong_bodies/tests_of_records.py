@@ -3,7 +3,7 @@ import os
 import tempfile
 import unittest
 from records import Grade, Sum, Sums, all_edits, record, recorded, row, rows_in
-from samples import EDITS, LOW, NAMED, TOLD, TYPES, WORDS, crew_of, repository, write
+from samples import EDITS, ERRORS, LOW, NAMED, TOLD, TYPES, WORDS, crew_of, repository, write
 
 # A further source of high, whose function names types of low.
 NAMING = """use low::{Modelled as Other, Seen};
@@ -143,7 +143,7 @@ class Recording(unittest.TestCase):
                 ("high", "third_is_fourth"), ("low", "next_is_later"), ("low", "next_is_same")])
             crew = crew_of(root, recorded=True)
             # one of low's is recorded over other texts
-            self.assertEqual((sorted(crew.edits), len(crew.edits["low"])), (["low"], len(EDITS) - 1))
+            self.assertEqual((sorted(crew.edits), len(crew.edits["low"])), (["low"], len(EDITS) + len(ERRORS) - 1))
             self.assertEqual(crew.refused, {("low", "next_is_same"), ("high", "third_is_fourth")})
             # what was passed over isn't recorded again
             self.assertEqual(crew.rows(), {})

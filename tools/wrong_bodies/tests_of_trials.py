@@ -4,7 +4,7 @@ import subprocess
 import tempfile
 import unittest
 from records import Sums, all_edits, record, tenth
-from samples import AGING, EDITS, RESTING, WEAKER, crew_of, ran, repository, write
+from samples import AGING, EDITS, ERRORS, RESTING, WEAKER, crew_of, ran, repository, write
 
 
 class ByTheProver(unittest.TestCase):
@@ -12,11 +12,11 @@ class ByTheProver(unittest.TestCase):
         with tempfile.TemporaryDirectory() as root:
             repository(root)
             status, lines, said = ran(root, "--verbose")
-        for name, (_, _, verdict) in EDITS.items():
+        for name, (*_, verdict) in [*EDITS.items(), *ERRORS.items()]:
             self.assertTrue(said.get(f"low/{name}", "").startswith(f"low/{name}: {verdict}"), lines)
         self.assertIn("BAD EDIT", said["low/no_edit"])
         self.assertIn("refused", said["high/third_is_fourth"])
-        self.assertEqual((status, lines[-1]), (1, "5 refused, 6 not"))
+        self.assertEqual((status, lines[-1]), (1, "6 refused, 8 not"))
         # three edits of each of two functions make three rounds; then come those that are right, and one that an
         # answer alone refuses, in further rounds
         self.assertEqual(sum(line.startswith("low: a round of 2,") for line in lines), 4, lines)

@@ -8,7 +8,7 @@ from dataclasses import dataclass
 from bodies import module_of
 from edits import PARTS, all_applied, texts_of
 from toolchain import stamp_libraries
-from verdicts import Verdict, reached_prover, verdict_alone, verdict_of
+from verdicts import Verdict, reached_prover, verdict_alone, verdict_of, verdict_of_error
 
 # what earlier checks of a crate kept
 WORK, LIBRARY = "out/incremental", "out/rlib"
@@ -119,6 +119,8 @@ class Workshop:
         Of an edit of anything else than bodies, which are none then, the whole crate's check says it.
         """
         check = self.check(name, [edit], bodies)
+        if edit.error:
+            return verdict_of_error(edit.error, check.lines), check
         if not reached_prover(check.lines):
             return (Verdict.UNREAD, first_error(check), frozenset()), check
         return verdict_alone(check.status, check.lines), check

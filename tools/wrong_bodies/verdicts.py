@@ -19,7 +19,7 @@ ERROR = re.compile(r"\S+:\d+:\d+: error")
 class Verdict(Enum):
     """What a check says of an edit."""
 
-    # a goal of the function is open: its contract refuses the body
+    # a goal of the function is open: its contract refuses the body; or the compiler refuses it with the error named
     REFUSED = "refused"
     # only answers in the function's proof don't fit any more, which may be the answer's fault: it is tried without them
     UNFIT = "refused by a term of a proof alone, which says nothing of the contract"
@@ -29,6 +29,8 @@ class Verdict(Enum):
     UNTOLD = "NOT REFUSED: the crate is still proved"
     # the check of the edit alone ended before it said whether the crate is proved: it says nothing of the contract
     SILENT = "NOT REFUSED: its check ended without a verdict"
+    # the edit must be refused before any proof, and isn't
+    COMPILED = "NOT REFUSED: it compiles"
     # the edit can't be read or applied, or the edited text doesn't reach the prover
     UNREAD = "BAD EDIT"
     # its crate isn't proved without any edit, or one below it
@@ -92,6 +94,16 @@ def verdict_of(bodies, lines):
 def reached_prover(lines):
     """Whether a check got as far as the proofs."""
     return any(re.match(r"logic=|only=\d+ proved=|rattle: no verdict", line) for line in lines)
+
+
+def verdict_of_error(error, lines):
+    """What a check says of an edit that the compiler must refuse with this error, and the line that says so."""
+    told = next((line for line in lines if f"error[{error}]" in line), None)
+    if told:
+        return Verdict.REFUSED, told, frozenset()
+    if reached_prover(lines):
+        return Verdict.COMPILED, "", frozenset()
+    return Verdict.UNREAD, next((line for line in lines if "error" in line), ""), frozenset()
 
 
 def verdict_alone(status, lines):

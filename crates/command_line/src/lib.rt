@@ -2,5 +2,7 @@
 #![tactic(auto)]
 
 mod request;
+mod version;
 
 pub use request::{CommandLineError, PlanForm, Request, request_of};
+pub use version::version_line;

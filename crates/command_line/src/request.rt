@@ -26,6 +26,8 @@ pub enum Request {
     Unpack(String),
     /// To run the race in this file, or without one that on standard input.
     Race(Option<String>),
+    /// To print what the program was built from.
+    Version,
 }
 
 /// Why a command line asks for nothing.
@@ -97,6 +99,7 @@ fn command_line<'a>(alloc: Global) -> Result<Command<'a>, AllocError> {
         .about(
             "Runs scripts and races over a record store, shows plans of queries, and packs and unpacks tuples",
         )
+        .version("")
         .subcommand_required(true)
         .subcommand(run_command(alloc)?)?
         .subcommand(explain_command(alloc)?)?
@@ -174,6 +177,7 @@ fn request_in(alloc: Global, matches: &ArgMatches) -> Result<Request, AllocError
 pub fn request_of(alloc: Global, words: &[String]) -> Result<Request, CommandLineError> {
     let matches = match matches_of(alloc, words) {
         Ok(matches) => matches,
+        Err(error) if error.kind() == ErrorKind::DisplayVersion => return Ok(Request::Version),
         Err(error) => return Err(not_taken(alloc, &error)),
     };
     let request = request_in(alloc, &matches)?;

@@ -35,6 +35,12 @@ pub record IsFinished (standing : PipelineState) (new : DatabaseView) : Type 0 w
   pub handled : new.cluster.pipeline ≡ all_handled standing
   pub settled : new.is_settled ≡ true
 
+-- the request was taken, and is committed at this version, as the resolvers decide
+pub record IsCommit (request : CommitRequest) (version : ℕ) (old new : DatabaseView) : Type 0 where
+  pub taken : IsTaken request old
+  pub finished : IsFinished (submit request old.cluster.pipeline) new
+  pub decided : verdict request new.cluster.pipeline ≡ Committed version
+
 -- what stood submitted still does, and isn't reported yet
 pub record IsWaiting (standing : PipelineState) (new : DatabaseView) : Type 0 where
   pub stands : HasGoneOn standing new.cluster.pipeline

@@ -1,6 +1,9 @@
 pub mod Making
 pub mod Named
 pub mod Databases
+pub mod Lent
+pub mod Sessions
+pub mod Working
 pub use Rattle.cluster_core.specs.Cluster
 pub use Rattle.cluster_core.specs.Configuration
 pub use Rattle.cluster_core.specs.Roles

@@ -4,8 +4,10 @@ ghost use Rattle.metadata.specs.declared.cells.Cell.TheVariants.{Text as TextVal
 ghost use Rattle.query.specs.Checked.{query_refusal};
 ghost use Rattle.query.specs.Filter.{all_of, compare, no_filters, null_field, starts};
 ghost use Rattle.query.specs.View.{filter_of, query_of};
+ghost use Rattle.record_layer.specs.Lent.{lent_cell};
 ghost use Rattle.record_layer.specs.Making.{names_of};
 
+use crate::cells::{CellRef, cell_of};
 use crate::making::names;
 use metadata::{Cell, Names, Schema};
 use query::{Filter, Operator, Query, QueryError};
@@ -17,11 +19,13 @@ pub fn compare(
     alloc: Global,
     field: &str,
     operator: Operator,
-    value: Cell,
+    value: CellRef<'_>,
 ) -> Result<Filter, AllocError>
-    ensures { IfOk result (λ filter. filter_of filter ≡ compare field.now operator value) }
+    ensures { IfOk result (λ filter.
+        filter_of filter ≡ compare field.now operator (lent_cell value.entry)) }
 {
     let field = Text::from_str(alloc, field)?;
+    let value = cell_of(alloc, value)?;
     Ok(Filter::Compare {
         field,
         operator,

@@ -1,20 +1,50 @@
-// The cells of records, by the names of their fields. Called by applications.
+// Cells that are lent, and the cells of records by the names of their fields. Called by applications.
 ghost use Rattle.std.specs.Prelude.{◌≡◌, IfOk, unwrap_or};
 ghost use Rattle.std.specs.Option.{option_copied};
-ghost use Rattle.metadata.specs.declared.cells.Cell.TheVariants.{Null, Text as TextValue};
+ghost use Rattle.metadata.specs.declared.cells.Cell.TheVariants.{Null};
 ghost use Rattle.metadata.specs.Schema.{place_of};
 ghost use Rattle.query.specs.Fields.{cell_named};
+ghost use Rattle.record_layer.specs.Lent.{lent_cell, lent_cells};
 ghost use Rattle.record_layer.specs.Named.{whole_number_in, text_in};
 
-use metadata::{Cell, Field, Record};
+use metadata::{Cell, Cells, Field, Record};
 use std::alloc::{AllocError, Global};
-use tuple_codec::Text;
+use tuple_codec::{ByteString, Text};
 
-/// A cell of this text.
-pub fn text_cell(alloc: Global, text: &str) -> Result<Cell, AllocError>
-    ensures { IfOk result (λ made. made ≡ TextValue text.now) }
+/// A cell that is lent: what a field, a column or a filter is given.
+#[derive(Clone, Copy, Debug)]
+pub enum CellRef<'a> {
+    /// No value.
+    Null,
+    /// A whole number of 64 bits.
+    Int(i64),
+    /// A text.
+    Text(&'a str),
+    /// A byte string.
+    Bytes(&'a [u8]),
+}
+
+/// The cell that was lent, copied.
+pub(crate) fn cell_of(alloc: Global, lent: CellRef<'_>) -> Result<Cell, AllocError>
+    ensures { IfOk result (λ made. made ≡ lent_cell lent.entry) }
 {
-    Ok(Cell::Text(Text::from_str(alloc, text)?))
+    match lent {
+        CellRef::Null => Ok(Cell::Null),
+        CellRef::Int(number) => Ok(Cell::Int(number)),
+        CellRef::Text(text) => Ok(Cell::Text(Text::from_str(alloc, text)?)),
+        CellRef::Bytes(bytes) => Ok(Cell::Bytes(ByteString::new(Vec::from_slice(alloc, bytes)?))),
+    }
+}
+
+/// These cells, copied.
+pub fn cells_of(alloc: Global, lent: &[CellRef<'_>]) -> Result<Cells, AllocError>
+    ensures { IfOk result (λ made. made ≡ lent_cells lent.now) }
+{
+    let mut cells = Vec::with_capacity(alloc, lent.len())?;
+    for &one in lent {
+        cells.push(cell_of(alloc, one)?)?;
+    }
+    Ok(Cells::new(cells))
 }
 
 /// The place of the field of this name.

@@ -1,5 +1,8 @@
 // One error over those of all calls. Used by applications.
+ghost use Rattle.std.specs.Prelude.{◌≡◌};
+
 use crate::database::NotCommitted;
+use crate::not_done::NotDone;
 use cluster_core::ConfigError;
 use metadata::MetadataError;
 use plan_exec::ExecError;
@@ -8,6 +11,7 @@ use query::QueryError;
 use record_store::StoreError;
 use runtime::{CommandError, CommitError, OpenError, RunError};
 use std::alloc::{AllocError, AllocFailed};
+use std::io;
 use thiserror::Error;
 
 /// Why an application's call has no answer.
@@ -18,22 +22,22 @@ pub enum Error {
     Config(#[from] ConfigError),
     /// A schema or a record is refused.
     #[error("{0}")]
-    Schema(#[from] MetadataError),
+    Schema(MetadataError),
     /// A call on a store isn't answered.
     #[error("{0}")]
-    Store(#[from] StoreError),
+    Store(StoreError),
     /// A query may not be asked.
     #[error("{0}")]
-    Query(#[from] QueryError),
+    Query(QueryError),
     /// A query isn't planned.
     #[error("{0}")]
-    Plan(#[from] PlanError),
+    Plan(PlanError),
     /// A plan isn't executed.
     #[error("{0}")]
-    Execution(#[from] ExecError),
+    Execution(ExecError),
     /// A transaction isn't committed.
     #[error("{0}")]
-    Commit(#[from] NotCommitted),
+    Commit(NotCommitted),
     /// A running database isn't opened.
     #[error("{0}")]
     Open(#[from] OpenError),
@@ -46,6 +50,9 @@ pub enum Error {
     /// A run of transactions has no answer.
     #[error("{0}")]
     Run(#[from] RunError),
+    /// What is told isn't written.
+    #[error("{0}")]
+    Output(#[from] io::Error),
     /// Memory ran out.
     #[error("out of memory")]
     Memory,
@@ -66,12 +73,86 @@ impl Drop for Error {
             Error::Command(error) => drop(error),
             Error::Ended(error) => drop(error),
             Error::Run(error) => drop(error),
+            Error::Output(error) => drop(error),
             Error::Memory => {}
         }
     }
 }
 
+impl From<MetadataError> for Error {
+    ghost use Rattle.record_layer.specs.declared.error.Error.{Error};
+
+    ghost from_gives = { λ error made. made ≡ Error.Schema error };
+
+    fn from(error: MetadataError) -> Error {
+        Error::Schema(error)
+    }
+}
+
+impl From<StoreError> for Error {
+    ghost use Rattle.record_layer.specs.declared.error.Error.{Error};
+
+    ghost from_gives = { λ error made. made ≡ Error.Store error };
+
+    fn from(error: StoreError) -> Error {
+        Error::Store(error)
+    }
+}
+
+impl From<QueryError> for Error {
+    ghost use Rattle.record_layer.specs.declared.error.Error.{Error};
+
+    ghost from_gives = { λ error made. made ≡ Error.Query error };
+
+    fn from(error: QueryError) -> Error {
+        Error::Query(error)
+    }
+}
+
+impl From<PlanError> for Error {
+    ghost use Rattle.record_layer.specs.declared.error.Error.{Error};
+
+    ghost from_gives = { λ error made. made ≡ Error.Plan error };
+
+    fn from(error: PlanError) -> Error {
+        Error::Plan(error)
+    }
+}
+
+impl From<ExecError> for Error {
+    ghost use Rattle.record_layer.specs.declared.error.Error.{Error};
+
+    ghost from_gives = { λ error made. made ≡ Error.Execution error };
+
+    fn from(error: ExecError) -> Error {
+        Error::Execution(error)
+    }
+}
+
+impl From<NotCommitted> for Error {
+    ghost use Rattle.record_layer.specs.declared.error.Error.{Error};
+
+    ghost from_gives = { λ error made. made ≡ Error.Commit error };
+
+    fn from(error: NotCommitted) -> Error {
+        Error::Commit(error)
+    }
+}
+
+impl From<NotDone> for Error {
+    fn from(error: NotDone) -> Error {
+        match error {
+            NotDone::Refused(error) => error,
+            NotDone::NotCommitted(why) => Error::Commit(why),
+        }
+    }
+}
+
 impl From<AllocError> for Error {
+    ghost use Rattle.record_layer.specs.declared.error.Error.{Error};
+
+    ghost from_gives = { λ _ made. made ≡ Error.Memory };
+
     fn from(_error: AllocError) -> Error {
         Error::Memory
     }

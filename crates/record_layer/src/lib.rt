@@ -8,9 +8,14 @@ mod database;
 mod error;
 mod finishing;
 mod making;
+mod not_done;
+mod places;
+mod session;
+mod shown;
+mod working;
 
 pub use asking::{QueryMaker, compare, is_null, starts_with};
-pub use cells::{cell_named, int_named, text_cell, text_named};
+pub use cells::{CellRef, cell_named, cells_of, int_named, text_named};
 pub use cluster_core::{Cluster, Config, ConfigError, ReadError, SubmitError};
 pub use database::{Database, NotCommitted};
 pub use error::Error;
@@ -18,6 +23,8 @@ pub use explain::explain;
 pub use kv_core::{Bytes, KeyRange};
 pub use making::{SchemaMaker, fields, name, names, record_with};
 pub use metadata::{Cell, Cells, Fields, IndexKind, Kind, MetadataError, Names, Record, Schema};
+pub use not_done::NotDone;
+pub use places::{Place, place_of};
 pub use plan_exec::{ExecError, execute, execute_each, plan_for_store};
 pub use planner::{Plan, PlanError};
 pub use query::{Filter, Operator, Query, QueryError};
@@ -27,5 +34,7 @@ pub use runtime::{
     OpenError, RunError, Seen, Txn, Waits, begin, build_worker, open,
 };
 pub use schedule::{AskedQuery, Command, Reply, SharedPlan};
+pub use session::Session;
+pub use shown::Span;
 pub use tuple_codec::{ByteString, Text};
 pub use txn::{Ended, Next, Retry, Snapshot, Transaction};

@@ -4,11 +4,13 @@ ghost use Rattle.metadata.specs.declared.index.IndexKind.TheVariants.{Value, Cou
 ghost use Rattle.metadata.specs.Record.{record_of};
 ghost use Rattle.metadata.specs.Asked.{schema_asked};
 ghost use Rattle.metadata.specs.Answers.{IsRefusedAs};
+ghost use Rattle.record_layer.specs.Lent.{lent_cells};
 ghost use Rattle.record_layer.specs.Making.{asked_index, asked_type, field_with, names_of};
 
+use crate::cells::{CellRef, cells_of};
 use metadata::{
-    Cell, Cells, Field, Fields, IndexKind, IndexRequest, Kind, MetadataError, Names, Record,
-    Schema, SchemaRequest, TypeRequest,
+    Field, Fields, IndexKind, IndexRequest, Kind, MetadataError, Names, Record, Schema,
+    SchemaRequest, TypeRequest,
 };
 use std::alloc::{AllocError, Global};
 use std::marker::Model;
@@ -58,14 +60,15 @@ pub fn record_with(
     alloc: Global,
     schema: &Schema,
     type_name: &str,
-    cells: Vec<Cell>,
+    cells: &[CellRef<'_>],
 ) -> Result<Record, MetadataError>
-    ensures made { IfOk result (λ made. record_of schema.now type_name.now cells.items ≡ Ok made) }
+    ensures made { IfOk result (λ made.
+        record_of schema.now type_name.now (lent_cells cells.now) ≡ Ok made) }
     ensures refused { IfErr result (λ error.
-        IsRefusedAs error (record_of schema.now type_name.now cells.items)) }
+        IsRefusedAs error (record_of schema.now type_name.now (lent_cells cells.now))) }
 {
     let type_name = Text::from_str(alloc, type_name)?;
-    let made = Record::new(alloc, schema, &type_name, Cells::new(cells))?;
+    let made = Record::new(alloc, schema, &type_name, cells_of(alloc, cells)?)?;
     Ok(made)
 }
 

@@ -14,11 +14,13 @@ mod racing;
 mod run;
 mod tuples;
 
-use command_line::{CommandLineError, PlanForm, Request, request_of};
+use command_line::{CommandLineError, PlanForm, Request, request_of, version_line};
 use fault::Fault;
 use plans::print_plan;
+use printing::print_line;
 use racing::run_race;
 use run::{refuse, run};
+use std::alloc::Global;
 use std::fs::File;
 use std::io::{Read, Write};
 use std::process::ExitCode;
@@ -90,6 +92,16 @@ fn race_file<H: Files + AllocGlobal + Threads + Wait + Sync, W: Write, E: Write>
     }
 }
 
+// Prints what the program was built from.
+fn print_version<W: Write, E: Write>(alloc: Global, output: &mut W, errors: &mut E) -> ExitCode
+    ensures { exit_status result ≤ 1 }
+{
+    match version_line(alloc) {
+        Ok(line) => print_line(output, errors, Ok(line)),
+        Err(_) => refuse(errors, Fault::OutOfMemory),
+    }
+}
+
 // Does what the words of the command line ask for, where a text that isn't in a file is read from the input.
 fn perform<H: Files + AllocGlobal + Threads + Wait + Sync, R: Read, W: Write, E: Write>(
     rt: &H,
@@ -112,6 +124,7 @@ fn perform<H: Files + AllocGlobal + Threads + Wait + Sync, R: Read, W: Write, E:
         Ok(Request::Unpack(word)) => unpack(alloc, word.as_str(), output, errors),
         Ok(Request::Race(Some(path))) => race_file(rt, path.as_str(), output, errors),
         Ok(Request::Race(None)) => run_race(rt, alloc, input, output, errors),
+        Ok(Request::Version) => print_version(alloc, output, errors),
         Err(error) => refuse_command_line(errors, &error),
     }
 }

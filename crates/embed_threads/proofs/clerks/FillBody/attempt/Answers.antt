@@ -1,6 +1,0 @@
-use Rattle.runtime.proofs.Attempts.{continues_trans}
-use Rattle.embed_threads.proofs.clerks.FillBody.attempt.Goals as goal
-
-pub returns-clause-continues : goal.returns-clause-continues
-returns-clause-continues g c =
-    continues_trans c.call.ensures.called.performed.continues c.save_copies.ensures.continues

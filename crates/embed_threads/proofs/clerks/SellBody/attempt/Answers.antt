@@ -1,9 +1,0 @@
-use Rattle.runtime.proofs.Attempts.{continues_trans}
-use Rattle.embed_threads.proofs.clerks.SellBody.attempt.Goals as goal
-
-pub returns-in_err-save_copies-clause-continues : goal.returns-in_err-save_copies-clause-continues
-returns-in_err-save_copies-clause-continues g c =
-    continues_trans c.copies.ensures.continues c.save_copies.ensures.continues
-
-pub returns-clause-continues : goal.returns-clause-continues
-returns-clause-continues g c = continues_trans c.copies.ensures.continues c.save_copies.ensures.continues

@@ -1,0 +1,309 @@
+// The texts of errors. Run as a test.
+use cluster_core::{ConfigError, ReadError, Reported, SubmitError};
+use explain::ExplainError;
+use kv_core::{Bytes, WriteError};
+use metadata::{MetadataError, Refusal};
+use plan_exec::ExecError;
+use planner::PlanError;
+use query::QueryError;
+use record_store::StoreError;
+use std::alloc::{AllocError, Global};
+use std::test::Fail;
+use test_parts::same;
+use tuple_codec::{StripError, UnpackError, UnpackErrorKind, UnpackFailure};
+use txn::HoldError;
+
+/// An error of any of the libraries.
+#[derive(Clone, Copy)]
+enum AnyError {
+    Write(WriteError),
+    Config(ConfigError),
+    Submit(SubmitError),
+    Read(ReadError),
+    Held(SubmitError),
+    HeldUnknown,
+    HeldBehind,
+    Schema(Refusal),
+    Metadata(Refusal),
+    MetadataMemory,
+    StoreMemory,
+    StoreRead(ReadError),
+    StoreWrite(WriteError),
+    StoreCorrupt,
+    StoreRefused(Refusal),
+    NoStore,
+    AlreadyThere,
+    OtherSchema,
+    NotAggregate,
+    NotReadable,
+    WrongState,
+    NotBuilt,
+    ExecSchema,
+    ExecIndex,
+    ExecRead(ReadError),
+    ExecCorrupt,
+    ExecMemory,
+    Unpack(UnpackError),
+    Failure(UnpackFailure),
+    Strip(StripError),
+    Query(QueryError),
+    Plan(PlanError),
+    Explain(ExplainError),
+}
+
+const TRUNCATED: UnpackError = UnpackError {
+    at: 7,
+    kind: UnpackErrorKind::Truncated,
+};
+
+/// Every error, and its text.
+static TEXTS: [(AnyError, &str); 65] = [
+    (
+        AnyError::Write(WriteError::KeyOutside),
+        "the key lies outside the keys, which end before the byte FF",
+    ),
+    (
+        AnyError::Write(WriteError::KeyTooLarge),
+        "the key is too large",
+    ),
+    (
+        AnyError::Write(WriteError::ValueTooLarge),
+        "the value is too large",
+    ),
+    (
+        AnyError::Write(WriteError::TransactionTooLarge),
+        "the transaction is too large",
+    ),
+    (AnyError::Write(WriteError::Memory), "out of memory"),
+    (
+        AnyError::Config(ConfigError::BadCount),
+        "the number of a role or the window is out of its bounds",
+    ),
+    (
+        AnyError::Config(ConfigError::BadSplits),
+        "the splits don't rise, or one of them is empty, too long or beyond the keys",
+    ),
+    (AnyError::Config(ConfigError::Memory), "out of memory"),
+    (
+        AnyError::Submit(SubmitError::VersionsExhausted),
+        "there is no version left",
+    ),
+    (
+        AnyError::Submit(SubmitError::TooOld),
+        "the request read too long ago",
+    ),
+    (AnyError::Submit(SubmitError::Memory), "out of memory"),
+    (
+        AnyError::Read(ReadError::FutureVersion),
+        "the version isn't there yet",
+    ),
+    (
+        AnyError::Read(ReadError::TooOld),
+        "the version lies too long ago",
+    ),
+    (AnyError::Read(ReadError::Memory), "out of memory"),
+    (
+        AnyError::Held(SubmitError::VersionsExhausted),
+        "there is no version left",
+    ),
+    (
+        AnyError::HeldUnknown,
+        "out of memory before the request was reported",
+    ),
+    (
+        AnyError::HeldBehind,
+        "out of memory before the servers had pulled the request",
+    ),
+    (
+        AnyError::Schema(Refusal::BadName),
+        "a name isn't 1 to 32 of a-z A-Z 0-9 _",
+    ),
+    (
+        AnyError::Schema(Refusal::NameTaken),
+        "a name is given twice, or stands already",
+    ),
+    (
+        AnyError::Schema(Refusal::UnknownType),
+        "there is no type of this name",
+    ),
+    (
+        AnyError::Schema(Refusal::UnknownIndex),
+        "there is no index of this name",
+    ),
+    (
+        AnyError::Schema(Refusal::UnknownField),
+        "the type has no field of this name",
+    ),
+    (
+        AnyError::Schema(Refusal::WrongKind),
+        "a cell isn't of its field's kind, or there are not as many cells as fields",
+    ),
+    (AnyError::Schema(Refusal::NullKey), "a key field is null"),
+    (AnyError::Schema(Refusal::BadSchema), "the schema isn't one"),
+    (
+        AnyError::Schema(Refusal::TooMany),
+        "there are more types, fields, key fields, indexes or columns than there may be",
+    ),
+    (AnyError::Metadata(Refusal::NullKey), "a key field is null"),
+    (AnyError::MetadataMemory, "out of memory"),
+    (AnyError::StoreMemory, "out of memory"),
+    (
+        AnyError::StoreRead(ReadError::TooOld),
+        "the version lies too long ago",
+    ),
+    (
+        AnyError::StoreWrite(WriteError::KeyTooLarge),
+        "the key is too large",
+    ),
+    (
+        AnyError::StoreCorrupt,
+        "the pair of the key 1501ff isn't one that a store has there",
+    ),
+    (
+        AnyError::StoreRefused(Refusal::UnknownType),
+        "there is no type of this name",
+    ),
+    (AnyError::NoStore, "there is no store"),
+    (AnyError::AlreadyThere, "the store is there already"),
+    (
+        AnyError::OtherSchema,
+        "the record's type isn't that of the store's schema",
+    ),
+    (
+        AnyError::NotAggregate,
+        "the index is neither a COUNT nor a SUM index",
+    ),
+    (AnyError::NotReadable, "the index isn't readable"),
+    (AnyError::WrongState, "the index isn't write-only"),
+    (
+        AnyError::NotBuilt,
+        "not every position of the index is built",
+    ),
+    (
+        AnyError::ExecSchema,
+        "the plan's type isn't that of the store's schema",
+    ),
+    (AnyError::ExecIndex, "an index of the plan isn't readable"),
+    (
+        AnyError::ExecRead(ReadError::TooOld),
+        "the version lies too long ago",
+    ),
+    (
+        AnyError::ExecCorrupt,
+        "the pair of the key 1501ff isn't one that a store has there",
+    ),
+    (AnyError::ExecMemory, "out of memory"),
+    (AnyError::Unpack(TRUNCATED), "Truncated at 7"),
+    (AnyError::Failure(UnpackFailure::Memory), "out of memory"),
+    (
+        AnyError::Failure(UnpackFailure::Refused(TRUNCATED)),
+        "refused: Truncated at 7",
+    ),
+    (AnyError::Strip(StripError::Memory), "out of memory"),
+    (AnyError::Strip(StripError::Outside), "outside the subspace"),
+    (
+        AnyError::Strip(StripError::Bad(TRUNCATED)),
+        "refused behind the prefix: Truncated at 7",
+    ),
+    (
+        AnyError::Query(QueryError::UnknownType),
+        "there is no type of this name",
+    ),
+    (
+        AnyError::Query(QueryError::TooDeep),
+        "the filter has more than 32 levels",
+    ),
+    (
+        AnyError::Query(QueryError::TooLarge),
+        "the filter has more than 256 nodes, or there are more than 8 sort fields",
+    ),
+    (
+        AnyError::Query(QueryError::UnknownField),
+        "the type has no field of this name",
+    ),
+    (
+        AnyError::Query(QueryError::WrongKind),
+        "a value isn't of its field's kind",
+    ),
+    (
+        AnyError::Query(QueryError::SortTwice),
+        "a sort field stands twice",
+    ),
+    (
+        AnyError::Plan(PlanError::SortNotServed),
+        "neither the primary key nor an index serves the sort",
+    ),
+    (AnyError::Plan(PlanError::Memory), "out of memory"),
+    (AnyError::Explain(ExplainError::BadForm), "bad form"),
+    (
+        AnyError::Explain(ExplainError::BadSchema(Refusal::NullKey)),
+        "a key field is null",
+    ),
+    (
+        AnyError::Explain(ExplainError::UnknownIndex),
+        "there is no index of this name",
+    ),
+    (
+        AnyError::Explain(ExplainError::BadQuery(QueryError::SortTwice)),
+        "a sort field stands twice",
+    ),
+    (
+        AnyError::Explain(ExplainError::SortNotServed),
+        "neither the primary key nor an index serves the sort",
+    ),
+    (
+        AnyError::Explain(ExplainError::OutOfMemory),
+        "out of memory",
+    ),
+];
+
+/// A key under the states of the store that the schedules use.
+fn damaged_key(alloc: Global) -> Result<Bytes, AllocError> {
+    Ok(Bytes::new(Vec::from_slice(alloc, &[0x15, 0x01, 0xff])?))
+}
+
+fn printed(alloc: Global, error: AnyError) -> Result<String, AllocError> {
+    match error {
+        AnyError::Write(error) => error.to_string(alloc),
+        AnyError::Config(error) => error.to_string(alloc),
+        AnyError::Submit(error) => error.to_string(alloc),
+        AnyError::Read(error) => error.to_string(alloc),
+        AnyError::Held(error) => HoldError::Submit(error).to_string(alloc),
+        AnyError::HeldUnknown => HoldError::Unknown.to_string(alloc),
+        AnyError::HeldBehind => HoldError::Behind(Reported::NothingToDo).to_string(alloc),
+        AnyError::Schema(refusal) => refusal.to_string(alloc),
+        AnyError::Metadata(refusal) => MetadataError::Refused(refusal).to_string(alloc),
+        AnyError::MetadataMemory => MetadataError::Memory.to_string(alloc),
+        AnyError::StoreMemory => StoreError::Memory.to_string(alloc),
+        AnyError::StoreRead(error) => StoreError::Read(error).to_string(alloc),
+        AnyError::StoreWrite(error) => StoreError::Write(error).to_string(alloc),
+        AnyError::StoreCorrupt => StoreError::Corrupt(damaged_key(alloc)?).to_string(alloc),
+        AnyError::StoreRefused(refusal) => StoreError::Refused(refusal).to_string(alloc),
+        AnyError::NoStore => StoreError::NoStore.to_string(alloc),
+        AnyError::AlreadyThere => StoreError::AlreadyThere.to_string(alloc),
+        AnyError::OtherSchema => StoreError::OtherSchema.to_string(alloc),
+        AnyError::NotAggregate => StoreError::NotAggregate.to_string(alloc),
+        AnyError::NotReadable => StoreError::NotReadable.to_string(alloc),
+        AnyError::WrongState => StoreError::WrongState.to_string(alloc),
+        AnyError::NotBuilt => StoreError::NotBuilt.to_string(alloc),
+        AnyError::ExecSchema => ExecError::OtherSchema.to_string(alloc),
+        AnyError::ExecIndex => ExecError::IndexNotReadable.to_string(alloc),
+        AnyError::ExecRead(error) => ExecError::Read(error).to_string(alloc),
+        AnyError::ExecCorrupt => ExecError::Corrupt(damaged_key(alloc)?).to_string(alloc),
+        AnyError::ExecMemory => ExecError::Memory.to_string(alloc),
+        AnyError::Unpack(error) => error.to_string(alloc),
+        AnyError::Failure(error) => error.to_string(alloc),
+        AnyError::Strip(error) => error.to_string(alloc),
+        AnyError::Query(error) => error.to_string(alloc),
+        AnyError::Plan(error) => error.to_string(alloc),
+        AnyError::Explain(error) => error.to_string(alloc),
+    }
+}
+
+#[test]
+fn errors_are_printed(rt: HostRuntime) -> Result<(), Fail> {
+    for (error, text) in &TEXTS {
+        same(printed(rt.alloc(), *error)?.as_str(), text)?;
+    }
+    Ok(())
+}

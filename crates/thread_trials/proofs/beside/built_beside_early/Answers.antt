@@ -1,9 +1,0 @@
-use denote.Param.Send.{sendable}
-use Rattle.std.proofs.Crossing.{crosses}
-use Rattle.std.proofs.alloc.Global.TheSendSync as heap
-use Rattle.std.proofs.sync.atomic.AtomicBool.TheSendSync as flag
-use Rattle.runtime.proofs.Sendable.{client_send}
-use Rattle.thread_trials.proofs.beside.built_beside_early.Goals as goal
-
-pub join-requires-send-F : goal.join-requires-send-F
-join-requires-send-F g c κs within = search (client_send, heap.the_sync, flag.the_sync, sendable, crosses) depth 20

@@ -1,7 +1,0 @@
-use Rattle.thread_trials.proofs.Named.{first_of}
-use Rattle.thread_trials.proofs.in_turn.opened.Goals as goal
-
-pub four_turns-requires : goal.four_turns-requires
-four_turns-requires g c =
-    let fresh = c.in-Ok.ensures.clients in
-    first_of _ fresh.0 c.args.config.now.places fresh.2
