@@ -41,6 +41,7 @@ fn copies_index(alloc: Global) -> Result<IndexRequest, AllocError>
         kind: IndexKind::Value,
         columns: only(alloc, "copies")?,
         summed: None,
+        clear_when_zero: false,
     })
 }
 
