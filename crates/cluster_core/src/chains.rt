@@ -19,7 +19,7 @@ use crate::chain::Chain;
 use kv_core::{Bytes, KeyRange, Mutation, Pair, add_le, is_operand};
 use std::alloc::{AllocError, Global};
 use std::collections::BTreeMap;
-use std::collections::btree_map::Range;
+use std::collections::btree_map::{Entry, Range};
 use std::mem;
 
 /// The chains of a server's keys, and the keys that were written at the version to come.
@@ -45,11 +45,13 @@ fn put_at(
     ensures err { OnErr result ((own : List ℕ) →
         links_at chains.new own ≡ links_at chains.old own) }
 {
-    if let Some(chain) = chains.get_mut(key) {
-        return chain.put(version, value);
+    match chains.entry(key.copy()?)? {
+        Entry::Occupied(entry) => entry.into_mut().put(version, value),
+        Entry::Vacant(entry) => {
+            entry.insert(Chain::new(alloc, version, value));
+            Ok(())
+        }
     }
-    chains.insert(key.copy()?, Chain::new(alloc, version, value))?;
-    Ok(())
 }
 
 /// Takes back what was put at a key at this version.
