@@ -10,8 +10,11 @@ import resource
 import subprocess
 import sys
 import tempfile
+from agreement import agreement_faults
 from cases import cases_in, example_cases
-from edges import MANY_STEPS, MEMORY_LIMITS, SETTLE, byte_cases, command_line_cases, long_cases, long_line
+from drawings import drawing_faults
+from edges import (
+    MANY_STEPS, MEMORY_LIMITS, SETTLE, byte_cases, command_line_cases, echo_cases, long_cases, long_line)
 
 SECONDS = 60
 # how often each race is run again
@@ -92,12 +95,15 @@ def archive_fault():
 
 def faults(program, folder):
     """What each case shows, and what is wrong with it, or None."""
-    cases = [*cases_in("cases"), *example_cases("examples"), *long_cases(), *byte_cases(), *command_line_cases(folder)]
+    cases = [*cases_in("cases"), *example_cases("examples"), *long_cases(), *byte_cases(), *echo_cases(),
+             *command_line_cases(folder)]
     for case in cases:
         yield case.shows, fault_of(program, case)
     for case in cases:
         if "race" in case.words[:1] and case.status == 0:
             yield f"{RACES} runs: {case.shows}", race_fault(program, case, RACES)
+    yield from agreement_faults(program, cases)
+    yield from drawing_faults(program, cases)
     race = next(case for case in cases if "race" in case.words[:1] and case.status == 0)
     for words, given in ([["run"], SETTLE.encode()], [["pack", "[1]"], b""], [["unpack", "14"], b""],
                          [["race"], race.given]):

@@ -6,20 +6,25 @@ ghost use Rattle.std.specs.Prelude.{◌≡◌, ◌≤◌};
 ghost use Rattle.std.specs.Process.{exit_status};
 ghost use Rattle.recordctl.specs.Status.{refused_status};
 
+mod checks;
+mod echo;
 mod fault;
 mod input;
 mod plans;
 mod printing;
 mod racing;
 mod run;
+mod simulating;
 mod tuples;
 
-use command_line::{CommandLineError, PlanForm, Request, request_of, version_line};
+use checks::{check_files, check_input};
+use command_line::{CommandLineError, PlanForm, Request, RunForm, request_of, version_line};
 use fault::Fault;
 use plans::print_plan;
 use printing::print_line;
 use racing::run_race;
 use run::{refuse, run};
+use simulating::simulate;
 use std::alloc::Global;
 use std::fs::File;
 use std::io::{Read, Write};
@@ -49,6 +54,7 @@ fn refuse_command_line<E: Write>(errors: &mut E, error: &CommandLineError) -> Ex
 // Runs the script in a file.
 fn run_file<H: Files + AllocGlobal, W: Write, E: Write>(
     rt: &H,
+    form: RunForm,
     path: &str,
     output: &mut W,
     errors: &mut E,
@@ -56,7 +62,7 @@ fn run_file<H: Files + AllocGlobal, W: Write, E: Write>(
     ensures { exit_status result ≤ 1 }
 {
     match File::open(rt, path) {
-        Ok(mut file) => run(rt.alloc(), &mut file, output, errors),
+        Ok(mut file) => run(rt.alloc(), form, &mut file, output, errors),
         Err(_) => refuse(errors, Fault::CannotRead),
     }
 }
@@ -114,8 +120,10 @@ fn perform<H: Files + AllocGlobal + Threads + Wait + Sync, R: Read, W: Write, E:
 {
     let alloc = rt.alloc();
     match request_of(alloc, words) {
-        Ok(Request::Run(Some(path))) => run_file(rt, path.as_str(), output, errors),
-        Ok(Request::Run(None)) => run(alloc, input, output, errors),
+        Ok(Request::Run(form, Some(path))) => run_file(rt, form, path.as_str(), output, errors),
+        Ok(Request::Run(form, None)) => run(alloc, form, input, output, errors),
+        Ok(Request::Check(paths)) if paths.is_empty() => check_input(alloc, input, output, errors),
+        Ok(Request::Check(paths)) => check_files(rt, paths.as_slice(), output, errors),
         Ok(Request::Explain(form, Some(path))) => {
             explain_file(rt, form, path.as_str(), output, errors)
         }
@@ -125,6 +133,7 @@ fn perform<H: Files + AllocGlobal + Threads + Wait + Sync, R: Read, W: Write, E:
         Ok(Request::Race(Some(path))) => race_file(rt, path.as_str(), output, errors),
         Ok(Request::Race(None)) => run_race(rt, alloc, input, output, errors),
         Ok(Request::Version) => print_version(alloc, output, errors),
+        Ok(Request::Simulate(words)) => simulate(alloc, words, output, errors),
         Err(error) => refuse_command_line(errors, &error),
     }
 }
