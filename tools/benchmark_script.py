@@ -7,8 +7,7 @@ By default 10,000 saves in transactions of 100 records by 4 clients, and no load
 without records, which --disabled disables: each opening of the store reads their states. With --together the clients
 begin together, save and commit in turn, and are settled together. With --build an index of this kind is built over the
 saved records in the end, --records of them in a transaction. With --sql the same work is printed for the shell of
-SQLite (`sqlite3 :memory: < FILE`), one transaction after another, and with --bound as what
-tools/compare_sqlite/prepared.c reads.
+SQLite (`sqlite3 :memory: < FILE`), one transaction after another.
 """
 
 import argparse
@@ -131,56 +130,39 @@ def steps(options):
 
 
 def insert_sql(options, number):
-    yield "INSERT INTO t VALUES (?, ?, ?)", cells(options, number)
+    shown = (f"'{it}'" if isinstance(it, str) else str(it) for it in cells(options, number))
+    yield f"INSERT INTO t VALUES ({', '.join(shown)});"
     if options.loaded:
         yield from load_sql(options, earlier(options, number))
 
 
 def load_sql(options, number):
-    yield "SELECT * FROM t WHERE k = ?", [number % max(1, options.saves)]
+    yield f"SELECT * FROM t WHERE k = {number % max(1, options.saves)};"
 
 
 def query_sql(options, number):
-    yield "SELECT * FROM t WHERE a = ?", [asked(options, number)]
+    yield f"SELECT * FROM t WHERE a = {asked(options, number)};"
 
 
 def whole_query_sql(_, __):
-    yield "SELECT * FROM t", []
+    yield "SELECT * FROM t;"
 
 
 def statements(options):
-    """The same work in SQL, one transaction after another: statements, each with the values of its parameters."""
+    """The same work in SQL, one transaction after another."""
     columns = [f"{name} {SQL_KINDS[kind]}" for name, kind in fields(options)]
     columns[0] += " PRIMARY KEY"
-    yield f"CREATE TABLE t ({', '.join(columns)})", []
+    yield f"CREATE TABLE t ({', '.join(columns)});"
     for index in INDEXES[:options.indexes]:
-        yield f"CREATE INDEX {index['name']} ON t ({', '.join(index['columns'])})", []
+        yield f"CREATE INDEX {index['name']} ON t ({', '.join(index['columns'])});"
     works = ((insert_sql, options.saves), (load_sql, options.loads),
              (query_sql, options.queries), (whole_query_sql, options.whole))
     for work, count in works:
         for first in range(0, count, options.records):
-            yield "BEGIN", []
+            yield "BEGIN;"
             for number in range(first, min(first + options.records, count)):
                 yield from work(options, number)
-            yield "COMMIT", []
-
-
-def sql_lines(options):
-    """The statements with their values in place of the parameters."""
-    for statement, values in statements(options):
-        shown = [f"'{it}'" if isinstance(it, str) else it for it in values]
-        yield statement.replace("?", "{}").format(*shown) + ";"
-
-
-def bound_lines(options):
-    """A statement where it first comes, and a line for each time: its number, and the values that are bound to it."""
-    numbers = {}
-    for statement, values in statements(options):
-        if statement not in numbers:
-            numbers[statement] = len(numbers)
-            yield f"+{statement}"
-        shown = [f"'{it}" if isinstance(it, str) else str(it) for it in values]
-        yield "\t".join([str(numbers[statement]), *shown])
+            yield "COMMIT;"
 
 
 def main():
@@ -199,12 +181,10 @@ def main():
     parser.add_argument("--values", type=int, default=7, help="how many values the field a takes")
     parser.add_argument("--numbers", action="store_true", help="the field b is a whole number in place of a text")
     parser.add_argument("--build", choices=BUILT, help="the kind of an index that is built in the end")
-    form = parser.add_mutually_exclusive_group()
-    form.add_argument("--sql", action="store_true", help="print SQL in place of a script")
-    form.add_argument("--bound", action="store_true", help="print statements, and values to bind, in its place")
+    parser.add_argument("--sql", action="store_true", help="print SQL in place of a script")
     options = parser.parse_args()
-    if options.sql or options.bound:
-        print(*(sql_lines if options.sql else bound_lines)(options), sep="\n")
+    if options.sql:
+        print(*statements(options), sep="\n")
     else:
         print(json.dumps({"steps": list(steps(options))}, separators=(",", ":")))
 

@@ -1,16 +1,12 @@
-"""Compares a built program `recordctl` with SQLite over the same works, and prints a table in Markdown.
+"""Compares a built program `recordctl` with the shell of SQLite over the same works, and prints a table in Markdown.
 
-    compare_sqlite PROGRAM [--sizes SIZE..] [--works WORK..] [--instructions] [--prepared]
+    compare_sqlite PROGRAM [--sizes SIZE..] [--works WORK..] [--instructions]
 
-SQLite is the shell, `sqlite3 :memory:`, and SQLite in C: prepared.c beside this file, which does the same by prepared
-statements, and is compiled with `cc` and Debian's libsqlite3-dev. Where it can't be, that is told on standard error,
-and the shell is alone; with --prepared that ends the tool, with the status 2.
-
-A work is what tools/benchmark_script.py prints: a script for `recordctl run`, SQL for the shell, and statements with
-values to bind for SQLite in C. First each program runs it with a query of all records in the end, and the rows that
-they show must be the same, in the same order; where they aren't, that is told on standard error and the status is 1.
-Then they run in turn, three times each, and the least time of the processor counts, user and system. From that of loads
-and queries the time is taken off that a script of the saves before them takes.
+A work is what tools/benchmark_script.py prints: a script for `recordctl run`, and SQL for `sqlite3 :memory:`. First
+each program runs it with a query of all records in the end, and the rows that the two show must be the same, in the
+same order; where they aren't, that is told on standard error and the status is 1. Then they run in turn, three times
+each, and the least time of the processor counts, user and system. From that of loads and queries the time is taken off
+that a script of the saves before them takes.
 
 Growth is the exponent with which the figure grows from that of a smaller size. There are as many queries at each size,
 so theirs is that of the table below them. With --instructions valgrind counts instructions too, at small sizes. A work
@@ -21,8 +17,7 @@ import os
 import shutil
 import sys
 import tempfile
-from prepared import built
-from runs import Fault, Programs
+from runs import Pair
 from table import INSTRUCTED, Table
 from works import WORKS
 
@@ -37,7 +32,6 @@ def options_given():
     parser.add_argument("--beginning", type=int, default=4_000, help="the size from which growth is told")
     parser.add_argument("--rounds", type=int, default=3, help="how often each program runs each script")
     parser.add_argument("--instructions", action="store_true", help=f"count them, up to {INSTRUCTED:,} records")
-    parser.add_argument("--prepared", action="store_true", help="don't go on without SQLite in C")
     options = parser.parse_args()
     options.program = os.path.abspath(options.program)
     for command in (options.program, "sqlite3", *(["valgrind"] if options.instructions else [])):
@@ -49,15 +43,7 @@ def options_given():
 def main():
     options, loads = options_given(), [os.getloadavg()[0]]
     with tempfile.TemporaryDirectory(prefix="compare-sqlite-") as folder:
-        prepared = None
-        try:
-            prepared = built(folder)
-        except Fault as fault:
-            print(f"{fault}{'' if options.prepared else '; the shell is alone'}", file=sys.stderr, flush=True)
-            if options.prepared:
-                return 2
-        table = Table(Programs(folder, options.program, prepared, options.rounds), options.beginning,
-                      options.instructions)
+        table = Table(Pair(folder, options.program, options.rounds), options.beginning, options.instructions)
         table.print_head()
         for name in options.works:
             table.print_work(WORKS[name], options.sizes)

@@ -1,4 +1,4 @@
-"""Compares the rows that the programs show, each as the shell of SQLite prints it."""
+"""Compares the rows that both programs show, each as the shell of SQLite prints it."""
 import itertools
 import json
 import re
@@ -24,12 +24,11 @@ def rows_in(replies):
             raise Fault(f"a step's reply is '{reply[:200]}'")
 
 
-def compare(programs, words):
-    """A fault where the programs don't show the same rows, in the same order, or where they show none."""
-    number, lines = 0, [it.lines(words) for it in programs.others]
-    for number, (row, *others) in enumerate(itertools.zip_longest(rows_in(programs.store.lines(words)), *lines), 1):
-        for program, other in zip(programs.others, others):
-            if other != row:
-                raise Fault(f"the rows differ: row {number} is {row}, and that of {program.title} is {other}")
+def compare(pair, words):
+    """A fault where the two programs don't show the same rows, in the same order, or where they show none."""
+    number, rows = 0, itertools.zip_longest(rows_in(pair.store.lines(words)), pair.shell.lines(words))
+    for number, (one, other) in enumerate(rows, 1):
+        if one != other:
+            raise Fault(f"the rows differ: row {number} is {one}, and SQLite's is {other}")
     if not number:
         raise Fault("no row is shown that could be compared")

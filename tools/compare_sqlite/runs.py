@@ -1,4 +1,4 @@
-"""Runs the programs over a work: what each has taken, and its instructions."""
+"""Runs both programs over a work: what each has taken, and its instructions."""
 import math
 import os
 import re
@@ -19,10 +19,10 @@ class Fault(Exception):
 
 
 class Program:
-    """A command that is given works in its form, which the generator prints for some more words, and its title."""
+    """A command that is given works in its form, which the generator prints for some more words."""
 
-    def __init__(self, folder, title, command, form):
-        self.folder, self.title, self.command, self.form = folder, title, command, form
+    def __init__(self, folder, command, form):
+        self.folder, self.command, self.form = folder, command, form
 
     def given(self, words):
         """The file of the work of these words, which is written where it isn't there."""
@@ -67,17 +67,12 @@ class Program:
             yield from (line.removesuffix("\n") for line in printed)
 
 
-class Programs:
-    """A program `recordctl` and those beside it, each of which runs so many times.
+class Pair:
+    """A program `recordctl` and the shell of SQLite, each of which runs so many times."""
 
-    They are the shell of SQLite, and where its path is given the program that `prepared.built` compiles.
-    """
-
-    def __init__(self, folder, program, prepared, rounds):
-        self.store = Program(folder, "`recordctl`", [program, "run"], [])
-        self.others = [Program(folder, "SQLite", ["sqlite3", ":memory:"], ["--sql"])]
-        if prepared:
-            self.others.append(Program(folder, "SQLite in C", [prepared], ["--bound"]))
+    def __init__(self, folder, program, rounds):
+        self.store = Program(folder, [program, "run"], [])
+        self.shell = Program(folder, ["sqlite3", ":memory:"], ["--sql"])
         self.rounds = rounds
 
     def fitting(self, work, size):
@@ -96,7 +91,7 @@ class Programs:
 
     def least(self, scripts, measure, rounds):
         """Of each program the least that it took over the first script, less that over the others; they run in turn."""
-        found, programs = {}, (self.store, *self.others)
+        found, programs = {}, (self.store, self.shell)
         for turn in [(it, words) for _ in range(rounds) for words in scripts for it in programs]:
             found[turn] = min(found.get(turn, math.inf), measure(*turn))
         return [found[it, scripts[0]] - sum(found[it, words] for words in scripts[1:]) for it in programs]

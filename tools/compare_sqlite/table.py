@@ -6,6 +6,8 @@ from runs import Fault
 
 # the most records of a work whose instructions are counted
 INSTRUCTED = 16_000
+HEAD = ["Work", "Size", "`recordctl`", "SQLite", "Quotient", "Goal", "Growth from {beginning:,}"]
+INSTRUCTIONS_HEAD = ["Instructions", "SQLite", "Quotient", "Growth from {beginning:,}"]
 
 
 def time_told(seconds):
@@ -38,25 +40,15 @@ def print_row(cells):
 
 
 class Table:
-    """What is printed of programs: growth from this size, and instructions where they are asked for."""
+    """What is printed of a pair of programs: growth from this size, and instructions where they are asked for."""
 
-    def __init__(self, programs, beginning, is_instructed):
-        self.programs, self.beginning, self.is_instructed = programs, beginning, is_instructed
+    def __init__(self, pair, beginning, is_instructed):
+        self.pair, self.beginning, self.is_instructed = pair, beginning, is_instructed
         self.faults = 0
 
-    def titles(self):
-        """The titles of the columns."""
-        beside = [it for other in self.programs.others for it in (other.title, "Quotient", "Goal")]
-        return ["Work", "Size", self.programs.store.title, *beside, f"Growth from {self.beginning:,}"]
-
-    def instruction_titles(self):
-        """The titles of the columns on instructions, if they are asked for."""
-        beside = [it for other in self.programs.others for it in (other.title, "Quotient")]
-        return ["Instructions", *beside, f"Growth from {self.beginning:,}"] if self.is_instructed else []
-
     def print_head(self):
-        titles = self.titles() + self.instruction_titles()
-        print_row(titles)
+        titles = [*HEAD, *(INSTRUCTIONS_HEAD if self.is_instructed else [])]
+        print_row(it.format(beginning=self.beginning) for it in titles)
         print_row("---" for _ in titles)
 
     def print_work(self, work, sizes):
@@ -71,28 +63,23 @@ class Table:
 
     def figures(self, work, size):
         """What a work of this size takes, once its rows were compared, and its instructions, or None."""
-        compare(self.programs, work.words_compared(size))
+        compare(self.pair, work.words_compared(size))
         is_counted = self.is_instructed and not work.is_memory and size <= INSTRUCTED
-        return self.programs.spent(work, size), self.programs.instructions(work, size) if is_counted else None
+        return self.pair.spent(work, size), self.pair.instructions(work, size) if is_counted else None
 
     def row(self, work, wanted, small):
         """The cells of a row."""
-        size = self.programs.fitting(work, wanted)
+        size = self.pair.fitting(work, wanted)
         spent, counts = self.figures(work, size)
         told = memory_told if work.is_memory else time_told
         size_told = work.size_told(size) + (f", in place of {wanted:,}" if size < wanted else "")
-        cells = [work.title, size_told, told(spent[0])]
-        for other, goal in zip(spent[1:], work.goals):
-            cells += [told(other), quotient_told(spent[0], other), goal]
-        cells.append(growth_told(size, spent[0], self.beginning, small[0][0]))
+        cells = [work.title, size_told, *map(told, spent), quotient_told(*spent), work.goal,
+                 growth_told(size, spent[0], self.beginning, small[0][0])]
         return cells + (self.instruction_cells(size, counts, small[1]) if self.is_instructed else [])
 
     def instruction_cells(self, size, counts, small_counts):
         """The cells of a row on instructions, which are empty where none were counted."""
         if not counts:
-            return [""] * len(self.instruction_titles())
-        cells = [instructions_told(counts[0])]
-        for other in counts[1:]:
-            cells += [instructions_told(other), quotient_told(counts[0], other)]
+            return [""] * len(INSTRUCTIONS_HEAD)
         growth = growth_told(size, counts[0], self.beginning, small_counts[0]) if small_counts else ""
-        return [*cells, growth]
+        return [*map(instructions_told, counts), quotient_told(*counts), growth]

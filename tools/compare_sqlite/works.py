@@ -1,4 +1,4 @@
-"""The works over which the programs are compared, as words of tools/benchmark_script.py."""
+"""The works over which both programs are compared, as words of tools/benchmark_script.py."""
 from dataclasses import dataclass
 
 # the most bytes of a script
@@ -13,16 +13,15 @@ BY_5000 = "--records 5000 --clients 1 --saves {size} --numbers --loaded"
 
 @dataclass(frozen=True)
 class Work:
-    """A work: the words that prepare it, those that are added for what is measured, and the quotients that are wanted.
+    """A work: the words that prepare it, those that are added for what is measured, and the quotient that is wanted.
 
-    Where none are added, what would prepare it is measured. `{size}` is the size, `{tenth}` a tenth of it. One quotient
-    is that beside the shell of SQLite, the other that beside SQLite in C, or nothing where none is wanted.
+    Where none are added, what would prepare it is measured. `{size}` is the size, `{tenth}` a tenth of it.
     """
 
     title: str
     prepared: str
     added: str
-    goals: tuple
+    goal: str
     count: str = "{size:,}"
     is_memory: bool = False
 
@@ -47,16 +46,15 @@ def filled(form, size):
 
 
 WORKS = {
-    "saves": Work(f"{SAVES} 500", f"{BY_500} --indexes 1", "", ("0.5", "1.2")),
-    "short": Work(f"{SAVES} 10", f"{BY_10} --clients 1", "", ("0.6", "1.2")),
-    "turns": Work(f"{SAVES} 10, by 16 clients in turn", f"{BY_10} --clients 16", "", ("0.6", "1.2")),
-    "together": Work(f"{SAVES} 10, 16 open together", f"{BY_10} --clients 16 --together", "", ("0.6", "1.2")),
-    "loads": Work("loads in transactions of 500", f"{BY_500} --numbers", "--loads {size}", ("0.25", "1.3")),
-    "writes": Work("saves with a load after each, in transactions of 5,000", BY_5000, "", ("0.45", "")),
+    "saves": Work(f"{SAVES} 500", f"{BY_500} --indexes 1", "", "0.5"),
+    "short": Work(f"{SAVES} 10", f"{BY_10} --clients 1", "", "0.6"),
+    "turns": Work(f"{SAVES} 10, by 16 clients in turn", f"{BY_10} --clients 16", "", "0.6"),
+    "together": Work(f"{SAVES} 10, 16 open together", f"{BY_10} --clients 16 --together", "", "0.6"),
+    "loads": Work("loads in transactions of 500", f"{BY_500} --numbers", "--loads {size}", "0.25"),
+    "writes": Work("saves with a load after each, in transactions of 5,000", BY_5000, "", "0.45"),
     "queries": Work("queries of 10 rows along an index", f"{BY_500} --numbers --indexes 1 --values {{tenth}}",
-                    f"--queries {QUERIES}", ("0.5", "1.2"), f"{QUERIES:,} over {{size:,}}"),
-    "whole": Work("queries of the whole type", f"{BY_500} --numbers --indexes 1", f"--whole {WHOLE_QUERIES}",
-                  ("0.5", "1.2"), f"{WHOLE_QUERIES} over {{size:,}}"),
-    "memory": Work(f"peak of memory of {SAVES} 500", f"{BY_500} --indexes 1", "", ("80 MB at 64,000", ""),
-                   is_memory=True),
+                    f"--queries {QUERIES}", "0.5", f"{QUERIES:,} over {{size:,}}"),
+    "whole": Work("queries of the whole type", f"{BY_500} --numbers --indexes 1", f"--whole {WHOLE_QUERIES}", "0.5",
+                  f"{WHOLE_QUERIES} over {{size:,}}"),
+    "memory": Work(f"peak of memory of {SAVES} 500", f"{BY_500} --indexes 1", "", "80 MB at 64,000", is_memory=True),
 }

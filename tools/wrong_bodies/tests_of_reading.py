@@ -110,15 +110,9 @@ class Reading(unittest.TestCase):
             found = verdict_of([body], lines)
             self.assertEqual((found[0], found[2]), (verdict, answers), lines)
             found = verdict_alone(1, [*lines, "logic=not-proved"])
-            alone = Verdict.SILENT if verdict is Verdict.UNTOLD else verdict
-            self.assertEqual((found[0], found[2]), (alone, answers), lines)
+            self.assertEqual((found[0], found[2]), (verdict, answers), lines)
             self.assertIs(verdict_alone(0, lines)[0], Verdict.UNTOLD)
             self.assertEqual(verdict_alone(1, [*lines, "killed", ""])[:2], (Verdict.SILENT, "killed"), lines)
-        lacks = [f"{at}`half` is not in scope"]
-        for goal, verdict in [("half", Verdict.UNFIT), ("other", Verdict.WEAK)]:
-            aside = {("proofs/maps/of/Answers.antt", goal)}
-            self.assertEqual(verdict_of([body], lacks, aside)[::2], (verdict, {answer}))
-            self.assertEqual(verdict_alone(1, [*lacks, "logic=not-proved"], aside)[::2], (verdict, {answer}))
 
     def test_edits_beside_bodies(self):
         texts = {"src/lib.rt": LOW, "proofs/next/Answers.antt": "a", "proofs/second/Answers.antt": "a"}

@@ -105,7 +105,7 @@ class Workshop:
         check = self.check(name, edits, frozenset().union(*(bodies[it] for it in edits)))
         if reached_prover(check.lines):
             # lines are counted in the edited text, but an edit stays within its lines
-            return {it: verdict_of(bodies[it], check.lines, it.aside) for it in edits}, [check]
+            return {it: verdict_of(bodies[it], check.lines) for it in edits}, [check]
         if len(edits) == 1:
             return {edits[0]: (Verdict.UNREAD, first_error(check), frozenset())}, [check]
         half = len(edits) // 2
@@ -123,7 +123,7 @@ class Workshop:
             return verdict_of_error(edit.error, check.lines), check
         if not reached_prover(check.lines):
             return (Verdict.UNREAD, first_error(check), frozenset()), check
-        return verdict_alone(check.status, check.lines, edit.aside), check
+        return verdict_alone(check.status, check.lines), check
 
     def check(self, name, edits, bodies):
         """What a check answers of a copy of a crate with these edits, of these functions alone where there are any."""

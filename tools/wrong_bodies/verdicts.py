@@ -6,8 +6,6 @@ from bodies import is_goal_of, is_proof_of
 
 # a proof file that names what the edit took away
 STALE = re.compile(r"has no field|\(nearest: |is not in scope|has no `|was not admitted|were not checked")
-# how such a line names what isn't there
-MISSING = re.compile(r"`([^`]+)` is not in scope")
 NOTE = re.compile(r"note: (?:\./)?(\S+?):(\d+):\d+: (?:it is not proved|`search` found no proof)")
 # how such a note names its goal
 GOAL = re.compile(r"\(`([^`]+)`\)")
@@ -73,34 +71,24 @@ def speaks_of(body, line):
     return bool(answer) and is_proof_of(body, answer[2]) and is_goal_of(body, answer[2], answer[4] or "")
 
 
-def is_stale(line, aside):
-    """Whether a line says that a proof file names what the edit took away, and not an answer that is set aside."""
-    missing = MISSING.search(line)
-    return bool(STALE.search(line)) and not (missing and missing[1] in {goal for _, goal in aside})
-
-
-def verdict_of_lines(told, aside):
+def verdict_of_lines(told):
     """What lines on an edited function say of the edit, and the goals that are open, or else the line that says it.
 
-    Only an open goal says something of the contract. An answer that doesn't fit says that this term proves it no more;
-    so it is with an answer that uses one of those that are set aside.
+    Only an open goal says something of the contract. An answer that doesn't fit says that this term proves it no more.
     """
     open_goals = [line for line in told if NOTE.match(line) or OPEN.match(line)]
     if open_goals:
         return Verdict.REFUSED, ", ".join(dict.fromkeys(goal for line in open_goals for goal in goals_in(line)))
-    unfit = next((line for line in told if not is_stale(line, aside)), None)
+    unfit = next((line for line in told if not STALE.search(line)), None)
     if unfit:
         return Verdict.UNFIT, unfit
     return (Verdict.WEAK, told[0]) if told else (Verdict.UNTOLD, "")
 
 
-def verdict_of(bodies, lines, aside=frozenset()):
-    """What the lines of a check say of an edit that changed these bodies, and the lines that say so.
-
-    Aside are the answers that were set aside for the check, each by its file and its goal.
-    """
+def verdict_of(bodies, lines):
+    """What the lines of a check say of an edit that changed these bodies, and the lines that say so."""
     told = [line for line in joined(lines) if any(speaks_of(body, line) for body in bodies)]
-    return *verdict_of_lines(told, aside), answers_in(told)
+    return *verdict_of_lines(told), answers_in(told)
 
 
 def reached_prover(lines):
@@ -118,13 +106,11 @@ def verdict_of_error(error, lines):
     return Verdict.UNREAD, next((line for line in lines if "error" in line), ""), frozenset()
 
 
-def verdict_alone(status, lines, aside=frozenset()):
+def verdict_alone(status, lines):
     """What a check of a crate with one edit says of it, the line that says so, and the answers that don't fit."""
     if status == 0:
         return Verdict.UNTOLD, "", frozenset()
     if not any(re.match(r"logic=not-proved|only=\d+ proved=", line) for line in lines):
         return Verdict.SILENT, next((line for line in reversed(lines) if line), f"status {status}"), frozenset()
     told = [line for line in joined(lines) if NOTE.match(line) or OPEN.match(line) or ERROR.match(line)]
-    if not told:
-        return Verdict.SILENT, next((line for line in lines if "error" in line), f"status {status}"), frozenset()
-    return *verdict_of_lines(told, aside), answers_in(told)
+    return *verdict_of_lines(told), answers_in(told)

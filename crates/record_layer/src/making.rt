@@ -155,6 +155,7 @@ impl SchemaMaker {
             type_name: Text::from_str(made.alloc, type_name)?,
             columns: names(made.alloc, columns)?,
             summed,
+            clear_when_zero: false,
         };
         made.indexes.push(request)?;
         Ok(made)

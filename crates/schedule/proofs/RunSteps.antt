@@ -94,15 +94,20 @@ next_run config steps replies step reply old new run next = record {
 abbrev pub RunsWith : Config → List Step → List Reply → Database → List (Option AskedPlan) → Type 0
 RunsWith config steps replies database plans = HasRun config steps replies database × AreKept (past_of [] steps replies) plans
 
+-- so it is after one step more
+pub longer_run : (config : Config) (steps : List Step) (replies : List Reply) (step : Step) (reply : Reply) (old new : Database) (plans kept : List (Option AskedPlan)) →
+    RunsWith config steps replies old plans → IsSteppedWith plans step reply old new → ((past : Past) → AreKept past plans → AreKept ((step, reply) ∷ past) kept) → RunsWith config (steps ++ step ∷ []) (replies ++ reply ∷ []) new kept
+longer_run config steps replies step reply old new plans kept run stepped_so keeps = (
+  next_run config steps replies step reply old new run.0 (stepped_so (past_of [] steps replies) run.0.stands run.1),
+  subst (λ past. AreKept past kept) (sym (one_more_past config steps replies step reply old run.0)) (keeps (past_of [] steps replies) run.1),
+)
+
 -- a turn of the loop over steps
 pub turn : (config : Config) (steps : List Step) (i : ℕ) (step : Step) (before after : List Reply) (reply : Reply) (old new : Database) (plans kept : List (Option AskedPlan)) → i < length steps → step ≡ get_or steps i step → after ≡ before ++ reply ∷ [] →
     RunsWith config (take i steps) before old plans → IsSteppedWith plans step reply old new → ((past : Past) → AreKept past plans → AreKept ((step, reply) ∷ past) kept) → RunsWith config (take (i + 1) steps) after new kept
 turn config steps i step before after reply old new plans kept within is pushed run stepped_so keeps =
     let longer : take (i + 1) steps ≡ take i steps ++ step ∷ [] = take_more steps i step within ∙ ap (λ s. take i steps ++ s ∷ []) (sym is) in
-    subst₂ (λ ss rs. RunsWith config ss rs new kept) (sym longer) (sym pushed) (
-      next_run config (take i steps) before step reply old new run.0 (stepped_so (past_of [] (take i steps) before) run.0.stands run.1),
-      subst (λ past. AreKept past kept) (sym (one_more_past config (take i steps) before step reply old run.0)) (keeps (past_of [] (take i steps) before) run.1),
-    )
+    subst₂ (λ ss rs. RunsWith config ss rs new kept) (sym longer) (sym pushed) (longer_run config (take i steps) before step reply old new plans kept run stepped_so keeps)
 
 -- ---- the end
 
