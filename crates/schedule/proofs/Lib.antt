@@ -31,3 +31,5 @@ pub mod Written
 pub mod ReachWrites
 pub mod ReachReads
 pub mod Rightly
+pub mod Within
+pub mod Isolated

@@ -27,6 +27,7 @@ use Rattle.schedule.specs.Commits.{committed_store}
 use Rattle.schedule.specs.Standing.{cluster_after, cluster_stepped}
 use Rattle.schedule.specs.Running.{AreKept, HasRun, IsFirst, IsStandingAt, IsStillOpen, IsSteppedWith, StandsAfter, Steps, kept}
 use Rattle.schedule.proofs.ClientSteps.{standing_as}
+use Rattle.schedule.proofs.Isolated.{isolated_in}
 use Rattle.schedule.proofs.Composed.{are_requests, holds_all, is_serial, open_served}
 use Rattle.schedule.proofs.Promised.{all_answered, exact_indexes}
 use Rattle.schedule.proofs.Transactions.{opened_next}
@@ -139,9 +140,9 @@ headline_ends config steps answers database run legal =
     record {
       rows = λ transaction was.
           let still = run.opened transaction was in
-          all_answered (committed_store database.commits.items transaction.read_version) transaction.attempts
-          (subst (λ commits. IsSerialAt (committed_store commits transaction.read_version) transaction.attempts) (sym s.commits) (open_served c.pipeline subs legal s.submitted transaction still.request still.is));
-      indexes = λ version from upto. exact_indexes (database_at c version) (committed_store database.commits.items version) (holds version from upto);
+          all_answered (committed_store transaction.store database.commits.items transaction.read_version) transaction.attempts
+          (subst (λ commits. IsSerialAt (committed_store transaction.store commits transaction.read_version) transaction.attempts) (sym s.commits) (open_served c.pipeline subs legal s.submitted transaction still.request still.is));
+      indexes = λ number lawful version from upto. exact_indexes number (database_at c version) (committed_store number database.commits.items version) ((holds version from upto).each number lawful);
     }
 
 -- RIGHT, but for what follows from what is exact
@@ -168,6 +169,7 @@ run_ends config steps answers database run legal =
         holds = subst (HoldsCommitted c) (sym s.commits) (holds_all c subs legal s.submitted);
         serial = serial_right c database.commits.items subs exact.serial;
         requests = requests_right (database_at c) database.commits.items subs c.pipeline.requests exact.requests;
+        isolated = isolated_in (database_at c) database.commits.items c.pipeline subs s.submitted (requests_right (database_at c) database.commits.items subs c.pipeline.requests exact.requests);
         refusals = refusals_leave config c.pipeline.requests steps answers exact.replies;
       };
     }

@@ -6,7 +6,9 @@ use Rattle.std.proofs.lemmas.List.{length-map}
 use Rattle.serde_json.specs.Data.{Data}
 use Rattle.serde_json.specs.View.{view}
 use Rattle.serde_json.specs.declared.value.Value.{Value}
-use Rattle.script.specs.Steps.{command_with, numbered_step, step_of_number}
+use Rattle.std.specs.Prelude.{option_map}
+use Rattle.schedule.specs.declared.step.Step.TheVariants.{Perform}
+use Rattle.script.specs.Steps.{command_with, numbered_step, step_of_number, step_with_part}
 
 differs : (word name : List ℕ) → (name ≡ word → ⊥) → bytes_eq word name ≡ false
 differs word name other = by (bytes_eq word name) refl
@@ -26,6 +28,10 @@ pub no_command_with : (name : List ℕ) (part : Data) → (name ≡ codes "creat
     → (name ≡ codes "drop" → ⊥) → (name ≡ codes "disable" → ⊥) → (name ≡ codes "write_only" → ⊥) → (name ≡ codes "readable" → ⊥) → (name ≡ codes "state" → ⊥) → command_with name part ≡ None
 no_command_with name part n1 n2 n3 n4 n5 n6 n7 n8 n9 n10 =
     rw (differs _ name n1, differs _ name n2, differs _ name n3, differs _ name n4, differs _ name n5, differs _ name n6, differs _ name n7, differs _ name n8, differs _ name n9, differs _ name n10)
+
+-- a step with one part whose name isn't that of a beginning performs a command
+pub performs_with : (name : List ℕ) (number : ℕ) (part : Data) → (name ≡ codes "begin" → ⊥) → step_with_part name number part ≡ option_map (Perform number) (command_with name part)
+performs_with name number part other = rw (differs (codes "begin") name other) refl
 
 -- no step has three parts behind its number
 three_parts : (name : List ℕ) (number : ℕ) (parts : List Data) → 3 ≤ length parts → numbered_step name number parts ≡ None
