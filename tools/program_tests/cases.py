@@ -12,7 +12,11 @@ A file NAME.words has lines 'KIND `TEXT` => LINE'. The text is given to the prog
 `pack` and `unpack`), as a script (`script`), as the second step of one (`step`) or as its configuration (`config`), or
 as a race (`race`), as what it says of the index and the clients (`raced`) or as its configuration (`race_config`). The
 line is what must be printed, alone, or the lines between which ' / ' stands; behind '! ' it is the line of a fault,
-with status 1 and nothing printed.
+with status 1 and nothing printed. A text of the kind `check`, in which '⏎' stands for a line's end, or one of those
+steps of the kind `check_step`, is given to `check`; nothing is printed where nothing is wrong.
+
+A file NAME.lines has what is typed at the shell. A line '# TEXT' begins a session and says what it shows; each other
+line is 'LINE => LINES', what is typed and the lines that it tells, between which ' / ' stands.
 
 The folder scripts/ has whole scripts, each beside its output, as examples/ has.
 """
@@ -30,6 +34,8 @@ FRAMES = {
     "script": "%s",
     "step": '{"steps":[["begin",0],%s,[]]}',
     "config": '{"config":%s,"steps":[["settle"]]}',
+    "check": "%s",
+    "check_step": '{"steps":[["begin",0],%s,["settle"]]}',
     "race": "%s",
     "raced": RACE % '"before":[[1,7,0],[2,null,5]],%s',
     "race_config": RACE % f'"before":[],"index":{COUNT},"limit":1,"clients":[[],[]],"config":%s',
@@ -101,12 +107,43 @@ def told_case(shows, words, given, wanted):
     return Case(shows, words, given, 0, (wanted + "\n").encode(), b"")
 
 
+def check_case(shows, given, wanted):
+    """The case of a text, and of the lines that `check` says of it; none where nothing is wrong."""
+    lines = "".join(f"stdin:{it}\n" for it in wanted.split(" / ") if it)
+    return Case(shows, ["check"], given.replace("⏎", "\n").encode(), 1 if lines else 0, lines.encode(), b"")
+
+
+def typed_case(shows, lines):
+    """The case of a session by pairs of what is typed and what it tells."""
+    given = "".join(f"{typed}\n" for typed, _ in lines)
+    told = "".join(f"{it}\n" for _, told in lines for it in told.split(" / "))
+    return Case(shows, ["shell"], given.encode(), 0, told.encode(), b"")
+
+
+def typed_cases(name, text):
+    """The cases of a file of sessions."""
+    cases, shows, lines = [], None, []
+    for line in [*text.split("\n"), "# "]:
+        if line.startswith("# "):
+            if shows is not None:
+                cases.append(typed_case(f"{name}: {shows}", lines))
+            shows, lines = line[2:], []
+        elif line:
+            typed, arrow, told = line.partition(" => ")
+            if not arrow:
+                raise ValueError(f"{name}: a line tells nothing: {line}")
+            lines.append((typed, told))
+    return cases
+
+
 def word_case(name, line):
     """The case of a line of a file of words."""
     found = WORD.fullmatch(line)
     if not found:
         raise ValueError(f"{name}: a line is no case: {line}")
     kind, text, wanted = found[1], found[2], (found[3] or "") + (found[4] or "")
+    if kind.startswith("check"):
+        return check_case(f"{name}: {line}", FRAMES[kind] % text, wanted)
     command = "race" if kind.startswith("race") else "run"
     words, given = ([kind, text], b"") if kind in ("pack", "unpack") else ([command], (FRAMES[kind] % text).encode())
     return told_case(f"{name}: {line}", words, given, wanted.replace(" / ", "\n"))
@@ -124,10 +161,12 @@ def cases_in(folder):
             cases += plan_cases(name, text, ["explain"])
         elif name.endswith(".trees"):
             cases += plan_cases(name, text, ["explain", "--tree"], " / ")
+        elif name.endswith(".lines"):
+            cases += typed_cases(name, text)
         elif name.endswith(".words"):
             cases += [word_case(name, it) for it in text.split("\n") if it and not it.startswith("# ")]
         else:
-            raise ValueError(f"{name}: a case file is named .steps, .plans, .trees or .words")
+            raise ValueError(f"{name}: a case file is named .steps, .plans, .trees, .lines or .words")
     return cases
 
 

@@ -127,6 +127,92 @@ def byte_cases():
     ]
 
 
+# steps on several lines, the same each on one, and what they reply
+LAID_OUT = b"""{ "steps": [
+  ["begin", 0] ,
+  ["create", 0, {
+    "types": [{"name":"t", "fields":[["k","int"],["s","text"]], "key":["k"]}]
+  }], ["save",0,"t",[1,"a  b, "]],["load",0,
+\t"t",[ 1 ]
+\r
+] ]}
+"""
+ECHOED = b"""["begin", 0]
+1 begun 0
+["create", 0, { "types": [{"name":"t", "fields":[["k","int"],["s","text"]], "key":["k"]}] }]
+2 ok
+["save",0,"t",[1,"a  b, "]]
+3 saved new
+["load",0, "t",[ 1 ] ]
+4 found [1,"a  b, "]
+"""
+
+
+def echo_cases():
+    """Scripts whose steps are printed before their replies."""
+    return [
+        Case("steps on several lines, echoed", ["run", "--echo"], LAID_OUT, 0, ECHOED, b""),
+        Case("no steps, echoed", ["run", "--echo"], b'{"steps":[]}', 0, b"", b""),
+        Case("the last of two keys is echoed", ["run", "--echo"],
+             b'{"steps":[["begin",0]],"steps":[["lost"],["log",0]]}', 0,
+             b'["lost"]\n1 nothing\n["log",0]\n2 nothing\n', b""),
+        Case("a bad script, echoed", ["run", "--echo"], b'{"steps":[["settle"],["settl"]]}', 1, b"",
+             b"bad script at step 2\n"),
+    ]
+
+
+# what is typed, and what is told of it with the step before each reply
+TYPED = b"""begin
+create
+type t k int, s text key k
+save t 1 "a"
+save t 2 null
+query t
+query t where k = 3
+commit
+"""
+TYPED_ECHOED = b"""["begin",0]
+begun 0
+["create",0,{"types":[]}]
+ok
+["type",0,{"name":"t","fields":[["k","int"],["s","text"]],"key":["k"]}]
+ok
+["save",0,"t",[1,"a"]]
+saved new
+["save",0,"t",[2,null]]
+saved new
+["query",0,{"type":"t"}]
+[1,"a"]
+[2,null]
+["query",0,{"type":"t","filter":["=","k",3]}]
+["commit",0],["settle"]
+submitted 1
+client 0 committed 1
+"""
+
+
+def shell_cases(folder):
+    """What is typed at the shell: with steps told before their replies, in files, cut short, or not as text."""
+    path = f"{folder}/typed"
+    with open(path, "wb") as file:
+        file.write(TYPED)
+    read = f".read {path}\nbegin\n.quit\nbegin\n".encode()
+    told = (b"begun 0\nok\nok\nsaved new\nsaved new\nrows [[1,\"a\"],[2,null]]\nrows []\n"
+            b"submitted 1\nclient 0 committed 1\n")
+    return [
+        Case("typed, echoed as JSON", ["shell", "--echo", "--json"], TYPED, 0, TYPED_ECHOED, b""),
+        Case("a file of lines", ["shell"], read, 0, told + b"begun 1\n", b""),
+        Case("nothing is typed", ["shell"], b"", 0, b"", b""),
+        Case("a line without an end", ["shell"], b"settle", 0, b"nothing\n", b""),
+        Case("lines of Windows", ["shell"], b"settle\r\n\r\nlost\r\n", 0, b"nothing\nnothing\n", b""),
+        Case("a line that isn't UTF-8", ["shell"], b"\xff\nsettle\n", 0,
+             b"column 1: this line isn't UTF-8\nnothing\n", b""),
+        Case("a line of 200,000 words", ["shell"], b"save t" + b" 1" * 200_000 + b"\n", 0,
+             b"refused NoTransaction\n", b""),
+        Case("20,000 lines", ["shell"], b"settle\n" * 20_000, 0, b"nothing\n" * 20_000, b""),
+    ]
+
+
 def command_line_cases(folder):
     """What the words of the command line are taken for: FILE or standard input, or nothing, with status 2."""
     script = f"{folder}/script.json"
@@ -136,9 +222,13 @@ def command_line_cases(folder):
             file.write(text)
     refused = [[], ["walk"], ["pack"], ["unpack"], ["pack", "[]", "[]"], ["run", script, script], ["--frobnicate"],
                ["race", script, script], ["explain", "--tree", "--tree"], ["explain", "--tree=yes"],
-               ["run", "--tree", script]]
+               ["run", "--tree", script], ["run", "--echo", "--echo"], ["race", "--echo", script],
+               ["explain", "--svg", "--tree", plan], ["simulate", "7"], ["simulate", "--clients", "17"],
+               ["simulate", "--clients", "0"], ["simulate", "--seed", "-1"], ["simulate", "--steps", "20001"],
+               ["simulate", "--seed", "18446744073709551616"], ["shell", script], ["shell", "--json=1"]]
     return [
         Case("a script in a file", ["run", script], b"not this", 0, b"1 nothing\n", b""),
+        Case("a script in a file, echoed", ["run", script, "--echo"], b"not this", 0, b'["settle"]\n1 nothing\n', b""),
         Case("no such file", ["run", f"{folder}/absent.json"], SETTLE.encode(), 1, b"", b"cannot read input\n"),
         Case("a folder for a file", ["run", folder], SETTLE.encode(), 1, b"", b"cannot read input\n"),
         Case("the tree of a plan in a file", ["explain", plan, "--tree"], b"not this", 0, TREE, b""),

@@ -38,10 +38,3 @@ pub record IsTranscriptOf (text : List ℕ) (transcript : Transcript) : Type 0 w
   pub script : IsScript text config steps
   pub right : IsRightRun config steps transcript
   pub allowed : IsNone (config_refusal config)
-
--- a text is a script that can be run: there is a database of its configuration
-pub record IsRunnable (text : List ℕ) : Type 0 where
-  pub config : Config
-  pub steps : List Step
-  pub script : IsScript text config steps
-  pub allowed : IsNone (config_refusal config)

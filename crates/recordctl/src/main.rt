@@ -6,23 +6,30 @@ ghost use Rattle.std.specs.Prelude.{◌≡◌, ◌≤◌};
 ghost use Rattle.std.specs.Process.{exit_status};
 ghost use Rattle.recordctl.specs.Status.{refused_status};
 
+mod checks;
+mod echo;
 mod fault;
 mod input;
 mod plans;
 mod printing;
 mod racing;
 mod run;
+mod shelling;
+mod simulating;
 mod tuples;
 
-use command_line::{CommandLineError, PlanForm, Request, request_of, version_line};
+use checks::{check_files, check_input};
+use command_line::{CommandLineError, PlanForm, Request, RunForm, request_of, version_line};
 use fault::Fault;
 use plans::print_plan;
 use printing::print_line;
 use racing::run_race;
 use run::{refuse, run};
+use shelling::{Terminals, run_typed};
+use simulating::simulate;
 use std::alloc::Global;
 use std::fs::File;
-use std::io::{Read, Write};
+use std::io::{IsTerminal, Read, Write};
 use std::process::ExitCode;
 use std::rt::Files;
 use std::sync::Wait;
@@ -49,6 +56,7 @@ fn refuse_command_line<E: Write>(errors: &mut E, error: &CommandLineError) -> Ex
 // Runs the script in a file.
 fn run_file<H: Files + AllocGlobal, W: Write, E: Write>(
     rt: &H,
+    form: RunForm,
     path: &str,
     output: &mut W,
     errors: &mut E,
@@ -56,7 +64,7 @@ fn run_file<H: Files + AllocGlobal, W: Write, E: Write>(
     ensures { exit_status result ≤ 1 }
 {
     match File::open(rt, path) {
-        Ok(mut file) => run(rt.alloc(), &mut file, output, errors),
+        Ok(mut file) => run(rt.alloc(), form, &mut file, output, errors),
         Err(_) => refuse(errors, Fault::CannotRead),
     }
 }
@@ -106,6 +114,7 @@ fn print_version<W: Write, E: Write>(alloc: Global, output: &mut W, errors: &mut
 fn perform<H: Files + AllocGlobal + Threads + Wait + Sync, R: Read, W: Write, E: Write>(
     rt: &H,
     words: &[String],
+    terminals: Terminals,
     input: &mut R,
     output: &mut W,
     errors: &mut E,
@@ -114,8 +123,10 @@ fn perform<H: Files + AllocGlobal + Threads + Wait + Sync, R: Read, W: Write, E:
 {
     let alloc = rt.alloc();
     match request_of(alloc, words) {
-        Ok(Request::Run(Some(path))) => run_file(rt, path.as_str(), output, errors),
-        Ok(Request::Run(None)) => run(alloc, input, output, errors),
+        Ok(Request::Run(form, Some(path))) => run_file(rt, form, path.as_str(), output, errors),
+        Ok(Request::Run(form, None)) => run(alloc, form, input, output, errors),
+        Ok(Request::Check(paths)) if paths.is_empty() => check_input(alloc, input, output, errors),
+        Ok(Request::Check(paths)) => check_files(rt, paths.as_slice(), output, errors),
         Ok(Request::Explain(form, Some(path))) => {
             explain_file(rt, form, path.as_str(), output, errors)
         }
@@ -125,7 +136,17 @@ fn perform<H: Files + AllocGlobal + Threads + Wait + Sync, R: Read, W: Write, E:
         Ok(Request::Race(Some(path))) => race_file(rt, path.as_str(), output, errors),
         Ok(Request::Race(None)) => run_race(rt, alloc, input, output, errors),
         Ok(Request::Version) => print_version(alloc, output, errors),
+        Ok(Request::Simulate(words)) => simulate(alloc, words, output, errors),
+        Ok(Request::Shell(words)) => run_typed(rt, words, terminals, input, output, errors),
         Err(error) => refuse_command_line(errors, &error),
+    }
+}
+
+// Whether people are at the terminals.
+fn terminals_of(rt: &HostRuntime) -> Terminals {
+    Terminals {
+        is_read: rt.stdout().is_terminal(),
+        is_typed: rt.stdin().is_terminal(),
     }
 }
 
@@ -140,6 +161,7 @@ fn main(rt: HostRuntime) -> ExitCode {
         Ok(words) => perform(
             &rt,
             words.as_slice(),
+            terminals_of(&rt),
             &mut rt.stdin(),
             &mut rt.stdout(),
             &mut rt.stderr(),

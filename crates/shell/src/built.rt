@@ -1,0 +1,107 @@
+// Which positions of a write-only index are built, in words. Called by `described`.
+use crate::opened::{Opened, PREFIX};
+use cluster_core::Cluster;
+use json_forms::cells_text;
+use kv_core::{Bytes, KeyRange, Pair};
+use metadata::Cells;
+use std::alloc::{AllocError, Global};
+use std::fmt::Write;
+use tuple_codec::{Element, TupleInt, pack_int, unpack_first};
+
+// The place of built positions in the store.
+const BUILT: i128 = 6;
+
+// Bytes behind which the elements of a tuple stand.
+fn push_number(bytes: &mut Vec<u8>, number: i128) -> Result<(), AllocError> {
+    match TupleInt::new(number) {
+        Some(number) => pack_int(number, bytes),
+        None => Ok(()),
+    }
+}
+
+// What the keys of the built ranges of an index begin with.
+fn place_of(alloc: Global, number: u64) -> Result<Vec<u8>, AllocError> {
+    let mut place = Vec::from_slice(alloc, &PREFIX)?;
+    push_number(&mut place, BUILT)?;
+    push_number(&mut place, i128::from(number))?;
+    Ok(place)
+}
+
+// The keys that begin so.
+fn keys_behind(alloc: Global, place: &[u8]) -> Result<Option<KeyRange>, AllocError> {
+    let begin = Vec::from_slice(alloc, place)?;
+    let mut end = Vec::from_slice(alloc, place)?;
+    end.push(0xff)?;
+    Ok(KeyRange::new(Bytes::new(begin), Bytes::new(end)))
+}
+
+// The cells of a key in JSON, where bytes are those of a key.
+fn cells_in(alloc: Global, bytes: &[u8]) -> Result<Option<String>, AllocError> {
+    match Cells::unpack(alloc, bytes)? {
+        Some(cells) => Ok(Some(cells_text(alloc, &cells)?)),
+        None => Ok(None),
+    }
+}
+
+// A position in words: a part that is built ends just behind a record.
+fn position_words(alloc: Global, position: &[u8]) -> Result<String, AllocError> {
+    match position {
+        [] => return String::from_str(alloc, "the first"),
+        [0xff] => return String::from_str(alloc, "the last"),
+        _ => {}
+    }
+    if let Some(before) = position.strip_suffix(&[0]) {
+        if let Some(cells) = cells_in(alloc, before)? {
+            return Ok(cells);
+        }
+    }
+    match cells_in(alloc, position)? {
+        Some(cells) => format!(in alloc; "before {cells}"),
+        None => hex::encode(alloc, position),
+    }
+}
+
+// Writes a built range.
+fn push_range(
+    alloc: Global,
+    out: &mut String,
+    place: &[u8],
+    pair: &Pair,
+) -> Result<(), AllocError> {
+    let rest = pair.0.as_slice().strip_prefix(place).unwrap_or(&[]);
+    if let Some((Element::Bytes(begin), _)) = unpack_first(alloc, rest)? {
+        let begin = position_words(alloc, begin.as_slice())?;
+        let end = position_words(alloc, pair.1.as_slice())?;
+        write!(out, " from {begin} to {end}")?;
+    }
+    Ok(())
+}
+
+/// Writes which positions of the index of a number are built: each range by the keys of the records
+/// between which it lies.
+pub(crate) fn push_built(
+    alloc: Global,
+    out: &mut String,
+    cluster: &Cluster,
+    opened: &mut Opened,
+    number: u64,
+) -> Result<(), AllocError> {
+    let place = place_of(alloc, number)?;
+    let Some(range) = keys_behind(alloc, place.as_slice())? else {
+        return Ok(());
+    };
+    let Ok(pairs) = opened.tx.get_all(cluster, &range) else {
+        return Ok(());
+    };
+    out.push_str("; built")?;
+    if pairs.is_empty() {
+        out.push_str(" nothing")?;
+    }
+    let mut separator = "";
+    for pair in &pairs {
+        out.push_str(separator)?;
+        push_range(alloc, out, place.as_slice(), pair)?;
+        separator = " and";
+    }
+    Ok(())
+}
