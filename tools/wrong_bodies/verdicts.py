@@ -29,7 +29,7 @@ class Verdict(Enum):
     WEAK = "refused only because a proof file names what it took away: change a value, and keep the names"
     # nothing is said of the function, or only that it calls one that isn't proved; alone this is 'still proved'
     UNTOLD = "NOT REFUSED: the crate is still proved"
-    # the check of the edit alone ended before it said whether the crate is proved: it says nothing of the contract
+    # the check of the edit alone says nothing of the contract: it ended too early, or fails without a word on the edit
     SILENT = "NOT REFUSED: its check ended without a verdict"
     # the edit must be refused before any proof, and isn't
     COMPILED = "NOT REFUSED: it compiles"
