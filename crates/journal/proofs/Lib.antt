@@ -1,0 +1,13 @@
+mod Headers
+mod Firsts
+mod Heads
+mod Readings
+mod Moments
+mod Gates
+mod Batches
+mod Contents
+mod Repairs
+mod Replays
+mod Splits
+pub mod Parts
+mod Recoveries

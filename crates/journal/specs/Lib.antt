@@ -1,0 +1,12 @@
+pub mod Device
+pub mod Form
+pub mod Words
+pub mod Block
+pub mod Journal
+pub mod Standing
+pub mod Told
+pub mod Recovery
+pub mod Past
+pub mod Memory
+pub mod Sinks
+pub mod Laws

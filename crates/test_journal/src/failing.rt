@@ -1,0 +1,49 @@
+// A device that fails in each call of a run, with what it writes there torn. Run as tests.
+use crate::parts::{BATCHES, appended, are_first, damage_of, holds};
+use journal::{Fuse, Kept, Memory, Unrecovered, recover};
+use std::alloc::Global;
+use std::test::Fail;
+
+/// How much of the failing call's write stands: nothing, a part of a head, a part of an entry, all.
+static TORN: [usize; 5] = [0, 1, 20, 55, 1000];
+
+/// A run over a device that fails once: how many batches are acknowledged, and what file is left.
+fn left(alloc: Global, device: Fuse<Memory>) -> Result<(usize, Vec<u8>), Fail> {
+    let mut kept = Kept::new(alloc);
+    match recover(alloc, device, &mut kept) {
+        Ok(mut journal) => {
+            let count = appended(alloc, &mut journal)?;
+            let file = journal.into_device().into_inner();
+            Ok((count, file.bytes().to_vec(alloc)?))
+        }
+        Err(Unrecovered { device, error: _ }) => {
+            Ok((0, device.into_inner().bytes().to_vec(alloc)?))
+        }
+    }
+}
+
+/// After a failure the file has all acknowledged batches, and the next one whole or not at all.
+fn is_whole(alloc: Global, calls: usize, torn: usize) -> Result<usize, Fail> {
+    let memory = Memory::new(alloc, Vec::new(alloc));
+    let (count, file) = left(alloc, Fuse::new(memory, calls, torn))?;
+    let mut kept = Kept::new(alloc);
+    holds(damage_of(alloc, file, &mut kept)?.is_none(), "a torn file")?;
+    let found = kept.entries();
+    let has_next = count < 3 && are_first(found, 2 * (count.min(2) + 1));
+    holds(has_next || are_first(found, 2 * count.min(3)), "entries")?;
+    Ok(count)
+}
+
+#[test]
+fn batches_outlive_failures(rt: HostRuntime) -> Result<(), Fail> {
+    for calls in 0..20 {
+        for torn in &TORN {
+            is_whole(rt.alloc(), calls, *torn)?;
+        }
+    }
+    holds(is_whole(rt.alloc(), 18, 0)? == 2, "the last call fails")?;
+    holds(
+        is_whole(rt.alloc(), 19, 0)? == BATCHES.len(),
+        "no call fails",
+    )
+}
