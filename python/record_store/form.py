@@ -6,7 +6,7 @@ from struct import pack, unpack_from
 from typing import NamedTuple
 
 FORM = 1
-SET, CLEAR, ADD = range(3)
+SET, CLEAR, ADD, COMPARE_AND_CLEAR = range(4)
 
 
 class Want(NamedTuple):
@@ -27,7 +27,10 @@ class Read(NamedTuple):
 
 
 class Mutation(NamedTuple):
-    """A write: SET key value, CLEAR begin end, or ADD key operand (least significant byte first)."""
+    """A write: SET key value, CLEAR begin end, ADD key operand (least significant byte first), or COMPARE_AND_CLEAR.
+
+    That one has a key and an operand, and takes the key's pair out where its value is just the operand.
+    """
 
     kind: int
     first: bytes

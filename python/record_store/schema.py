@@ -16,6 +16,7 @@ Record = dict[str, Any]
 KINDS = {int: "int", str: "text", bytes: "bytes"}
 KIND_NUMBERS = {1: int, 2: str, 3: bytes}
 INDEX_KINDS = {1: "value", 2: "count", 3: "sum"}
+FORMS = 1, 2
 LEAST, MOST = -(1 << 63), (1 << 63) - 1
 
 
@@ -92,18 +93,23 @@ class RecordType:
 
 @dataclass(frozen=True)
 class Index:
-    """An index over a type: of the kind value, count or sum, with its columns; of a sum, the summed field."""
+    """An index over a type: of the kind value, count or sum, with its columns; of a sum, the summed field.
+
+    Of a count, whether a total that comes back to 0 is taken out.
+    """
 
     name: str
     type: str
     columns: str | Sequence[str]
     kind: str = "value"
     summed: str | None = None
+    clear_when_zero: bool = False
 
     def json(self) -> dict[str, Any]:
         """The index as the record layer reads it."""
         made = {"name": self.name, "kind": self.kind, "type": self.type, "columns": names(self.columns)}
-        return made | ({"summed": self.summed} if self.summed is not None else {})
+        made |= {"summed": self.summed} if self.summed is not None else {}
+        return made | ({"clear_when_zero": True} if self.clear_when_zero else {})
 
     def group_cells(self, group: Mapping[str, Cell]) -> list[Any]:
         """The values of the columns, each of which is to be given, and no other."""
@@ -118,9 +124,9 @@ def value_index(name: str, record_type: str, *columns: str) -> Index:
     return Index(name, record_type, columns)
 
 
-def count_index(name: str, record_type: str, *columns: str) -> Index:
-    """How many records there are in each group of records with the same columns."""
-    return Index(name, record_type, columns, "count")
+def count_index(name: str, record_type: str, *columns: str, clear_when_zero: bool = False) -> Index:
+    """How many records there are in each group of records with the same columns, perhaps stored only where some are."""
+    return Index(name, record_type, columns, "count", clear_when_zero=clear_when_zero)
 
 
 def sum_index(name: str, record_type: str, *columns: str, summed: str) -> Index:
@@ -174,24 +180,24 @@ class Schema:
 
     @staticmethod
     def of_bytes(data: bytes) -> Schema:
-        """The schema that a store keeps in these bytes."""
+        """The schema that a store keeps in these bytes, in either form: how types have grown isn't told."""
         form, _, _, types, indexes = unpacked(data)
-        if form != 1:
+        if form not in FORMS:
             raise RecordError(f"a schema of the form {form}")
         made = {}
-        for number, name, fields, key in types:
+        for number, name, fields, key, *_ in types:
             fields = {field: KIND_NUMBERS[kind] for field, kind in fields}
             made[number] = RecordType(name, fields, [list(fields)[place] for place in key])
         return Schema(made.values(), [index_of(made, *it) for it in indexes])
 
 
 def index_of(types: Mapping[int, RecordType], _: int, name: str, kind: int, type_number: int,
-             columns: Sequence[int], summed: int | None) -> Index:
+             columns: Sequence[int], summed: int | None, clear_when_zero: bool = False) -> Index:
     """The index that a schema's bytes tell of."""
     owner = types[type_number]
     fields = list(owner.fields)
     return Index(name, owner.name, [fields[it] for it in columns], INDEX_KINDS[kind],
-                 None if summed is None else fields[summed])
+                 None if summed is None else fields[summed], clear_when_zero)
 
 
 def compact(value: Any) -> str:

@@ -11,14 +11,14 @@ from .errors import Closed, Corrupt, NoStore, RecordError, refusal
 from .filters import Filter
 from .form import NOTHING_WRITTEN, Answer, Given, Read, Want, answered, mutations
 from .library import drive
-from .schema import Cell, Index, Record, RecordType, Schema, compact, names, several
+from .schema import KINDS, Cell, Index, Record, RecordType, Schema, compact, names, several
 
 # where a store keeps its schema, and the states of its indexes: each command reads both
 SCHEMA_KEY = bytes.fromhex("150114")
 STATES = bytes.fromhex("1501150500"), bytes.fromhex("15011505ff")
 # a script has 4,000,000 bytes at most, of which some stand around its steps
 LONGEST_SCRIPT = 3_999_900
-SCHEMA_COMMANDS = {"create", "type", "index", "drop"}
+SCHEMA_COMMANDS = {"create", "type", "field", "index", "drop"}
 OPENING = (Want(SCHEMA_KEY, SCHEMA_KEY + b"\0", 1), Want(*STATES, 64))
 
 
@@ -164,6 +164,12 @@ class Transaction:
     def add_type(self, record_type: RecordType) -> None:
         """Adds a type of records to the store."""
         self.ask("type", record_type.json())
+
+    def add_field(self, record_type: str, name: str, kind: type) -> None:
+        """Appends a field to a type. Records that are there have None in it."""
+        if kind not in KINDS:
+            raise TypeError(f"a field is of int, str or bytes, and {name} of {kind!r}")
+        self.ask("field", record_type, [name, KINDS[kind]])
 
     def add_index(self, index: Index) -> str:
         """Adds an index, and answers its state: readable, or disabled where there are records of its type."""

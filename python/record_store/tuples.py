@@ -1,9 +1,9 @@
-"""The tuples that a store's schema is written in: whole numbers, texts, null and nested tuples."""
+"""The tuples that a store's schema is written in: whole numbers, texts, truth values, null and nested tuples."""
 from __future__ import annotations
 
 from typing import Any
 
-NULL, TEXT, NESTED, ZERO = 0x00, 0x02, 0x05, 0x14
+NULL, TEXT, NESTED, ZERO, FALSE, TRUE = 0x00, 0x02, 0x05, 0x14, 0x26, 0x27
 
 
 def text_at(data: bytes, at: int) -> tuple[str, int]:
@@ -28,6 +28,8 @@ def element_at(data: bytes, at: int) -> tuple[object, int]:
     if ZERO <= code <= ZERO + 8:
         end = at + 1 + code - ZERO
         return int.from_bytes(data[at + 1:end], "big"), end
+    if code in (FALSE, TRUE):
+        return code == TRUE, at + 1
     raise ValueError(f"a schema has no element of the code {code}")
 
 

@@ -8,7 +8,7 @@ from typing import Any, NamedTuple
 
 from record_store.engines.memory import Memory
 from record_store.errors import Conflict
-from record_store.form import ADD, CLEAR, SET, Mutation, Want
+from record_store.form import ADD, CLEAR, COMPARE_AND_CLEAR, SET, Mutation, Want
 
 MANY = 1 << 20
 NOT_COMMITTED = 1020
@@ -64,6 +64,9 @@ class Transaction:
 
     def add(self, key: bytes, param: bytes) -> None:
         self.mutations.append(Mutation(ADD, key, param))
+
+    def compare_and_clear(self, key: bytes, param: bytes) -> None:
+        self.mutations.append(Mutation(COMPARE_AND_CLEAR, key, param))
 
     def commit(self) -> Future:
         return Future(self.committed)

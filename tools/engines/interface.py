@@ -13,7 +13,7 @@ from record_store.transaction import SCHEMA_KEY
 
 BOOK = RecordType("book", {"title": str, "author": str, "copies": int, "cover": bytes}, "title")
 LOAN = RecordType("loan", {"title": str, "day": int, "who": str}, ("title", "day"))
-TAG = RecordType("tag", {"word": str}, "word")
+TAG, MARK = RecordType("tag", {"word": str}, "word"), RecordType("mark", {"word": str}, "word")
 BOOKS = Schema([BOOK, LOAN], [value_index("by_author", "book", "author"), count_index("books", "book"),
                               sum_index("copies_of", "book", "author", summed="copies")])
 EMMA: dict[str, Any] = {"title": "Emma", "author": "Austen", "copies": 3, "cover": b"\x00\xff"}
@@ -63,6 +63,14 @@ ROWS: list[tuple[Callable[[Any], Any], Any]] = [
     (lambda tx: tx.state("by_copies"), errors.UnknownIndex),
     (lambda tx: [tx.add_type(TAG), tx.save("tag", {"word": "new"}), tx.load("tag", "new"), sorted(tx.schema.types)],
      [None, None, {"word": "new"}, ["book", "loan", "tag"]]),
+    (lambda tx: [tx.add_type(MARK), tx.save("mark", {"word": "new"})], [None, None]),
+    (lambda tx: [tx.add_field("mark", "uses", int), tx.load("mark", "new"), list(tx.schema.type("mark").fields)],
+     [None, {"word": "new", "uses": None}, ["word", "uses"]]),
+    (lambda tx: tx.save("mark", {"word": "new", "uses": 2}), {"word": "new", "uses": None}),
+    (lambda tx: tx.add_field("mark", "uses", str), errors.NameTaken),
+    (lambda tx: tx.add_field("mark", "share", float), TypeError),
+    (lambda tx: [tx.add_index(count_index("marks", "mark", "uses", clear_when_zero=True)),
+                 tx.schema.index("marks").clear_when_zero, tx.drop_index("marks")], ["disabled", True, None]),
     (lambda tx: tx.create(BOOKS), errors.AlreadyThere),
     (lambda tx: tx.save("film", {}), errors.UnknownType),
     (lambda tx: tx.save("book", {"title": None}), errors.NullKey),

@@ -14,6 +14,7 @@ INDEXES: list[dict[str, Any]] = [
     {"name": "by_a", "kind": "value", "type": "t", "columns": ["a"]},
     {"name": "by_ab", "kind": "value", "type": "t", "columns": ["a", "b"]},
     {"name": "n", "kind": "count", "type": "t", "columns": ["a"]},
+    {"name": "kept", "kind": "count", "type": "t", "columns": ["a"], "clear_when_zero": True},
     {"name": "sum", "kind": "sum", "type": "t", "columns": [], "summed": "k"},
     {"name": "by_s", "kind": "value", "type": "u", "columns": ["a", "k"]},
 ]
@@ -79,12 +80,12 @@ class Writer:
         if kind == "total":
             return ["aggregate", client, "sum", []]
         if kind == "aggregate":
-            return [kind, client, pick(["n", "late"]), pick([cells[2:3], cells[3:]])]
+            return [kind, client, pick(["n", "kept", "late"]), pick([cells[2:3], cells[3:]])]
         name = pick(NAMES)
         made = [["state", client, name], ["build", client, name, pick([1, 2, 50])], ["index", client, LATE],
                 ["write_only", client, name], ["readable", client, name], ["disable", client, name],
                 ["build", client, name, 3], ["build", client, name, 100], ["readable", client, name],
-                ["plan", client, self.query(client)[2]]]
+                ["plan", client, self.query(client)[2]], ["field", client, own, pick([["c", "int"], ["d", "text"]])]]
         return self.chance.choice(made)
 
     def steps(self) -> list[list[Any]]:

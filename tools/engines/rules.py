@@ -12,14 +12,14 @@ from contextlib import closing, suppress
 
 from record_store.engine import Engine
 from record_store.errors import Conflict, TooLarge
-from record_store.form import ADD, CLEAR, SET, Mutation, Want
+from record_store.form import ADD, CLEAR, COMPARE_AND_CLEAR, SET, Mutation, Want
 
 Pairs = Sequence[tuple[bytes, bytes]]
 
 MANY = 1 << 20
 # so many threads write one key at once, so many times
 AT_ONCE, TURNS = 4, 10
-ONE, TWO = (1).to_bytes(8, "little"), (2).to_bytes(8, "little")
+NOUGHT, ONE, TWO = bytes(8), (1).to_bytes(8, "little"), (2).to_bytes(8, "little")
 LESS = (2**64 - 1).to_bytes(8, "little")
 AA, AB, AC, B, C, Z = b"aa", b"ab", b"ac", b"b", b"c", b"z"
 THREE = [(AA, b"1"), (AB, b"2"), (AC, b"3")]
@@ -44,6 +44,10 @@ def add(key: bytes, operand: bytes = ONE) -> Mutation:
     return Mutation(ADD, key, operand)
 
 
+def compare(key: bytes, operand: bytes = NOUGHT) -> Mutation:
+    return Mutation(COMPARE_AND_CLEAR, key, operand)
+
+
 ALL = Want(b"a", b"b", MANY)
 # what a row shows, the pairs before, the read, what another one commits, and whether the reader may commit after that
 ROWS: list[tuple[str, Pairs, Want, list[Mutation], bool]] = [
@@ -54,6 +58,10 @@ ROWS: list[tuple[str, Pairs, Want, list[Mutation], bool]] = [
     ("a key that wasn't there is written", [], point(AB), [put(AB)], False),
     ("a key that was there is added to", [(AB, ONE)], point(AB), [add(AB)], False),
     ("a key that wasn't there is added to", [], point(AB), [add(AB)], False),
+    ("a key that was there is compared, and cleared", [(AB, ONE)], point(AB), [compare(AB, ONE)], False),
+    ("a key that was there is added to, compared and cleared", [(AB, ONE)], point(AB), [add(AB, LESS), compare(AB)],
+     False),
+    ("a key in a range is compared, and cleared", THREE, ALL, [compare(AB, b"2")], False),
     ("a key in a range is written", THREE, ALL, [put(AB)], False),
     ("a key in a range is cleared", THREE, ALL, [clear(AB, AC)], False),
     ("all keys in a range are cleared", THREE, ALL, [clear(b"a", b"b")], False),
@@ -80,7 +88,7 @@ KEPT: list[tuple[str, Pairs]] = [
     ("keys of 2,500 bytes", [(b"a" + LARGE[it:it + 2499], LARGE[it:it + 9]) for it in range(0, 50_000, 2499)]),
 ]
 # what a row shows, the value before, what two transactions write to one key that neither has read, and what stands then
-SUMS: list[tuple[str, bytes | None, list[Mutation], list[Mutation], bytes]] = [
+SUMS: list[tuple[str, bytes | None, list[Mutation], list[Mutation], bytes | None]] = [
     ("two add where nothing is", None, [add(C)], [add(C)], TWO),
     ("two add", ONE, [add(C)], [add(C, LESS)], ONE),
     ("one puts, one adds", ONE, [put(C, TWO)], [add(C)], (3).to_bytes(8, "little")),
@@ -89,6 +97,16 @@ SUMS: list[tuple[str, bytes | None, list[Mutation], list[Mutation], bytes]] = [
     ("a sum wraps", ONE, [add(C, LESS)], [add(C, LESS)], LESS),
     ("a sum is as long as what is added", b"\xff\xff\xff", [add(C, b"\x01\x00")], [], b"\x00\x00"),
     ("a short value is longer then", b"\xff", [add(C, b"\x01\x00")], [], b"\x00\x01"),
+    ("two take one each, and the last one clears", TWO, [add(C, LESS), compare(C)], [add(C, LESS), compare(C)], None),
+    ("one takes the last one, one adds", ONE, [add(C, LESS), compare(C)], [add(C)], ONE),
+    ("one adds, one takes one", ONE, [add(C)], [add(C, LESS), compare(C)], ONE),
+    ("another value is compared", ONE, [compare(C)], [compare(C, TWO)], ONE),
+    ("fewer zero bytes are compared", NOUGHT, [compare(C, bytes(7))], [compare(C, bytes(9))], NOUGHT),
+    ("nothing is compared", None, [compare(C)], [compare(C, b"")], None),
+    ("an empty value is compared", b"", [compare(C, b"")], [], None),
+    ("what was put is compared, and put again", ONE, [put(C, NOUGHT), compare(C), compare(C)], [add(C, TWO)], TWO),
+    ("what is cleared is compared", NOUGHT, [clear(B, Z), compare(C), add(C)], [compare(C, ONE), add(C)], ONE),
+    ("what is compared is added to", NOUGHT, [compare(C), add(C)], [compare(C), add(C)], TWO),
 ]
 
 

@@ -11,7 +11,7 @@ from record_store.engines.etcd import Etcd, EtcdSnapshot
 from record_store.engines.memory import Memory, MemorySnapshot
 from record_store.engines.sqlite import Sqlite, SqliteSnapshot
 from record_store.errors import Conflict, TooLarge
-from record_store.form import ADD, CLEAR, Mutation, Read, Want, added
+from record_store.form import ADD, CLEAR, COMPARE_AND_CLEAR, Mutation, Read, Want, added
 
 if TYPE_CHECKING:
     from test import Tests
@@ -118,6 +118,9 @@ class SerializableSnapshot:
     def apply(self, kind: int, first: bytes, second: bytes) -> None:
         if kind == CLEAR:
             self.connection.execute("delete from plain where key >= %s and key < %s", (first, second))
+            return
+        if kind == COMPARE_AND_CLEAR:
+            self.connection.execute("delete from plain where key = %s and value = %s", (first, second))
             return
         if kind == ADD:
             row = self.connection.execute("select value from plain where key = %s", (first,), binary=True).fetchone()

@@ -5,7 +5,7 @@ from filters import check, query_of
 from keys import FIRST, JUST_AFTER, Range
 from planning import plan_of
 from replies import cells_of, cells_text, rows_text
-from schemas import KINDS, VALUE, Refused, schema_bytes, schema_of, with_index, with_type, without_index
+from schemas import KINDS, VALUE, Refused, schema_bytes, schema_of, with_field, with_index, with_type, without_index
 from store import (DISABLED, READABLE, WRITE_ONLY, Write, changes, cleared_index, first_gap, kept_changes,
                    record_write)
 
@@ -58,6 +58,16 @@ def add_type(tx, asked):
     schema = with_type(view.schema, asked)
     tx.write([schema_write(schema)])
     view.schema = schema
+    return "ok"
+
+
+def add_field(tx, name, asked):
+    """No record is written: those that are there have null in the new field."""
+    view = opened(tx)
+    schema = with_field(view.schema, name, asked)
+    tx.write([schema_write(schema)])
+    view.schema = schema
+    view.widen(schema.type_named(name).number)
     return "ok"
 
 
@@ -229,7 +239,7 @@ def execute(tx, kept):
 
 
 COMMANDS = {
-    "create": create, "type": add_type, "index": add_index, "drop": drop, "disable": disable,
+    "create": create, "type": add_type, "field": add_field, "index": add_index, "drop": drop, "disable": disable,
     "write_only": write_only, "readable": readable, "state": state, "build": build, "aggregate": aggregate,
     "save": save, "load": load, "remove": remove, "plan": plan, "query": query, "execute": execute,
 }

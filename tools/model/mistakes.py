@@ -193,6 +193,26 @@ def unlimited(right):
     return total
 
 
+def short_passed_over(right):
+    """A field that is appended, behind which records that lack it aren't found."""
+    def add_field(tx, name, asked):
+        reply = right(tx, name, asked)
+        number = tx.view.schema.type_named(name).number
+        tx.view.records = {key: record for key, record in tx.view.records.items() if key[0] != number}
+        return reply
+    return add_field
+
+
+def exact_type(right):
+    """A kept plan that wants the fields with which it was made, and no more."""
+    def accept(view, plan):
+        of = next((it for it in view.schema.types if it.number == plan.type.number), None)
+        if of is not None and len(of.fields) != len(plan.type.fields):
+            raise schemas.Refused("OtherSchema")
+        return right(view, plan)
+    return accept
+
+
 def null_last(right):
     """A sort in which null comes last."""
     def compared(one, other):
@@ -264,6 +284,8 @@ MISTAKES = [
     Mistake("an index over records is readable at once", COMMANDS, "index", readable_at_once),
     Mistake("a total is told that is being built", COMMANDS, "aggregate", told_early),
     Mistake("a total isn't cut to 64 bits", store.Store, "total", unlimited),
+    Mistake("records that lack an appended field aren't found", COMMANDS, "field", short_passed_over),
+    Mistake("a kept plan is refused where a field was appended", course, "accept", exact_type),
     Mistake("a batch has a pair fewer", course, "BATCH", lambda right: 63),
     Mistake("a cleared range's end isn't in the size", store.Write, "size",
             lambda right: lambda write: len(write.range.begin.spelled) + (write.length or 0)),

@@ -15,12 +15,16 @@ class Refused(Exception):
 
 
 class Type(NamedTuple):
-    """A type: its number, its name, the names and kinds of its fields, and the places of its key fields."""
+    """A type: its number, its name, the names and kinds of its fields, the places of its key fields.
+
+    And with how many fields it was added; the others were appended.
+    """
 
     number: int
     name: str
     fields: tuple
     key: tuple
+    first: int
 
     def place(self, name):
         """Where a field stands, or None."""
@@ -35,7 +39,10 @@ class Type(NamedTuple):
 
 
 class Index(NamedTuple):
-    """An index: its number, its name, its kind, its type's number, the places of columns and of the summed field."""
+    """An index: its number, its name, its kind, its type's number, the places of columns and of the summed field.
+
+    And whether a total that comes back to 0 is taken out.
+    """
 
     number: int
     name: str
@@ -43,6 +50,7 @@ class Index(NamedTuple):
     type: int
     columns: tuple
     summed: int | None
+    clears: bool = False
 
     def group(self, cells):
         """The cells of a record at its columns."""
@@ -104,8 +112,18 @@ def with_type(schema, asked):
          or len(schema.types) == MOST_TYPES),
     ])
     fields = tuple((name, kind) for name, kind in asked["fields"])
-    made = Type(len(schema.types) + 1, asked["name"], fields, tuple(names.index(it) for it in asked["key"]))
+    key = tuple(names.index(it) for it in asked["key"])
+    made = Type(len(schema.types) + 1, asked["name"], fields, key, len(fields))
     return schema._replace(types=schema.types + (made,))
+
+
+def with_field(schema, name, asked):
+    """The schema with one more field of a type, behind its other fields."""
+    refuse_first([("BadName", not NAME.fullmatch(asked[0]))])
+    of = schema.type_named(name)
+    refuse_first([("NameTaken", of.place(asked[0]) is not None), ("TooMany", len(of.fields) == MOST_FIELDS)])
+    made = of._replace(fields=of.fields + (tuple(asked),))
+    return schema._replace(types=tuple(made if it == of else it for it in schema.types))
 
 
 def with_index(schema, asked):
@@ -125,7 +143,8 @@ def with_index(schema, asked):
         ("BadSchema", is_twice(columns) or (asked["kind"] == VALUE and not columns)),
         ("TooMany", len(columns) > MOST_COLUMNS or len(schema.indexes) == MOST_INDEXES or schema.last == LAST_INDEX),
     ])
-    made = Index(schema.last + 1, asked["name"], asked["kind"], of.number, tuple(places), place)
+    clears = asked.get("clear_when_zero", False)
+    made = Index(schema.last + 1, asked["name"], asked["kind"], of.number, tuple(places), place, clears)
     return schema._replace(indexes=schema.indexes + (made,), last=made.number)
 
 
@@ -143,17 +162,23 @@ def spelled_within(thing):
     """The spelling of a part of a nested thing."""
     if isinstance(thing, (tuple, list)):
         return nested(thing)
+    if isinstance(thing, bool):
+        return b"\x27" if thing else b"\x26"
     return b"\0\xff" if thing is None else element(thing).spelled
 
 
 def schema_bytes(schema):
-    """What a schema is written as."""
+    """What a schema is written as: in the second form where the first can't tell it."""
     kinds = [*KINDS]
     types = [(it.number, it.name, [(name, kinds.index(kind) + 1) for name, kind in it.fields], it.key)
              for it in schema.types]
     indexes = [(it.number, it.name, [VALUE, COUNT, SUM].index(it.kind) + 1, it.type, it.columns, it.summed)
                for it in schema.indexes]
-    parts = (1, len(types), schema.last, types, indexes)
+    is_second = any(it.first < len(it.fields) for it in schema.types) or any(it.clears for it in schema.indexes)
+    if is_second:
+        types = [(*it, of.first) for it, of in zip(types, schema.types)]
+        indexes = [(*it, index.clears) for it, index in zip(indexes, schema.indexes)]
+    parts = (2 if is_second else 1, len(types), schema.last, types, indexes)
     return b"".join(spelled_within(it) for it in parts)
 
 

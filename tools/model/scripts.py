@@ -5,19 +5,20 @@ clients have a transaction: most steps are such as do something, and some are re
 """
 import keys
 from replies import cells_of
-from values import Values
+from values import WRONG_NAMES, Values
 
 # how often a command of a kind is made in a scene
 SCENES = {
     "writers": {"save": 10, "load": 3, "remove": 4, "query": 4, "aggregate": 3, "plan": 1, "execute": 2},
     "readers": {"save": 4, "remove": 1, "query": 12, "plan": 4, "execute": 5, "state": 1, "mark": 1, "aggregate": 2},
     "builders": {"save": 9, "remove": 4, "build": 9, "readable": 4, "write_only": 1, "index": 1, "aggregate": 3,
-                 "query": 3, "load": 1, "state": 1, "plan": 1, "execute": 1},
-    "definitions": {"type": 3, "wrong_type": 3, "index": 4, "wrong_index": 4, "create": 1, "drop": 3, "mark": 3,
-                    "save": 5, "query": 3, "plan": 3, "execute": 6, "state": 2, "aggregate": 2, "remove": 1, "load": 1,
-                    "renew": 2},
+                 "query": 3, "load": 1, "state": 1, "plan": 1, "execute": 1, "field": 1},
+    "definitions": {"type": 3, "field": 4, "wrong_type": 3, "index": 4, "wrong_index": 4, "create": 1, "drop": 3,
+                    "mark": 3, "save": 5, "query": 3, "plan": 3, "execute": 6, "state": 2, "aggregate": 2, "remove": 1,
+                    "load": 1, "renew": 2},
     "mixed": {"save": 8, "load": 2, "remove": 3, "query": 5, "plan": 2, "execute": 3, "aggregate": 3, "build": 4,
-              "readable": 2, "write_only": 1, "disable": 1, "index": 1, "drop": 1, "state": 1, "type": 1, "renew": 1},
+              "readable": 2, "write_only": 1, "disable": 1, "index": 1, "drop": 1, "state": 1, "type": 1, "field": 2,
+              "renew": 1},
 }
 SHARES = {"writers": 5, "readers": 5, "builders": 7, "definitions": 3, "mixed": 5}
 ROLES = ("resolve", "log", "pull")
@@ -204,7 +205,8 @@ class Maker(Values):
         if kind == "execute" and client not in self.planned and self.likely(0.95):
             kind = "plan"
         makers = {"mark": self.mark, "save": self.save, "index": self.new_index, "type": self.new_type,
-                  "build": self.build, "aggregate": self.aggregate, "create": self.create, "renew": self.renew}
+                  "build": self.build, "aggregate": self.aggregate, "create": self.create, "renew": self.renew,
+                  "field": self.new_field}
         if kind in makers:
             makers[kind](client)
         elif kind in ("query", "plan"):
@@ -285,6 +287,14 @@ class Maker(Values):
         if made["name"] not in [it["name"] for it in self.types]:
             self.types.append(made)
         self.add("type", client, made)
+
+    def new_field(self, client):
+        """A field is appended to a type; records and indexes that are asked for later have it."""
+        of = self.pick(self.types)
+        made = self.field(of)
+        if made[0] not in [*WRONG_NAMES, *(name for name, _ in of["fields"])]:
+            self.types[self.types.index(of)] = {**of, "fields": [*of["fields"], made]}
+        self.add("field", client, of["name"] if self.likely(0.98) else "none", made)
 
     def create(self, client):
         """The store is asked for again, with other definitions or with wrong ones."""

@@ -53,6 +53,13 @@ class Store:
         else:
             self.records[of.number, cells] = record
 
+    def widen(self, number):
+        """The records of a type have null in one field more."""
+        self.sorted = {}
+        for (own, cells), record in list(self.records.items()):
+            if own == number:
+                self.records[own, cells] = record + (None,)
+
     def record_pairs(self, of):
         """The records of a type with their places, in order."""
         if of.number not in self.sorted:
@@ -100,7 +107,13 @@ def changes(of, index, old, new):
     shares = [(index.group(it), sign * index.share(it)) for it, sign in ((old, -1), (new, 1)) if it is not None]
     if len(shares) == 2 and shares[0][0] == shares[1][0]:
         shares = [(shares[0][0], shares[0][1] + shares[1][1])]
-    return [Write(keys.point(keys.total_key(index.number, group)), 8) for group, share in shares if share]
+    return [write for group, share in shares if share for write in total_writes(index, group, share)]
+
+
+def total_writes(index, group, share):
+    """What is written of a total: what is added, and behind what goes from a COUNT cleared at zero a comparison."""
+    write = Write(keys.point(keys.total_key(index.number, group)), 8)
+    return [write, write] if index.clears and share < 0 else [write]
 
 
 def kept_changes(view, of, old, new):

@@ -11,7 +11,7 @@ from examples import EXAMPLES, S
 from filters import truth
 from keys import AFTER, FIRST, JUST_AFTER, Cut, before_beginning, behind_beginning, element, elements, key
 from mistakes import MISTAKES, made
-from schemas import Type, schema_bytes, schema_of
+from schemas import Type, schema_bytes, schema_of, with_field
 from scripts import script_of
 from splits import cut_of
 from values import NUMBERS, STRINGS, TEXTS
@@ -33,6 +33,9 @@ TRUTHS = [
 ]
 # what the schema S is written as
 WRITTEN = "1501150114050515010274000505026b0015010005026100150100050262001501000005140000000500"
+# and with a field c of whole numbers appended
+WIDENED = ("1502150114050515010274000505026b00150100050261001501000502620015010005026300150100000514001503000005"
+           "00")
 # splits that spell no whole place, and between which places they stand
 SPLITS = [
     ("15", None, key(0)), ("1501", None, key(0)), ("16", key(6, 99, "z"), None), ("1501150500", key(5), key(5, 1)),
@@ -69,6 +72,7 @@ class Places(unittest.TestCase):
             self.assertEqual(element(cell).spelled.hex(), wanted)
         self.assertEqual(elements(()), Cut((), b""))
         self.assertEqual(schema_bytes(schema_of(S)).hex(), WRITTEN)
+        self.assertEqual(schema_bytes(with_field(schema_of(S), "t", ["c", "int"])).hex(), WIDENED)
 
 
 def single(cuts):
@@ -82,7 +86,7 @@ class Meaning(unittest.TestCase):
     """What is replied."""
 
     def test_truth(self):
-        of = Type(1, "t", (("k", "int"), ("a", "int")), (0,))
+        of = Type(1, "t", (("k", "int"), ("a", "int")), (0,), 2)
         for one, wanted in TRUTHS:
             self.assertEqual([truth(of, one, (1, it)) for it in (None, 4, 5)], list(wanted), one)
 

@@ -62,7 +62,13 @@ class Values:
         least = 1 if kind == VALUE else 0
         columns = self.chance.sample(names, self.chance.randint(least, min(len(names), 3)))
         index = {"name": name, "kind": kind, "type": of["name"], "columns": columns}
+        if kind == COUNT and self.likely(0.6):
+            index["clear_when_zero"] = self.likely(0.8)
         return {**index, "summed": self.pick(whole)} if kind == SUM else index
+
+    def field(self, of):
+        """A field that is appended to a type, which has one of this name or none."""
+        return [self.pick([*FIELDS, "c", "d", "e", self.pick(WRONG_NAMES)]), self.pick(["int", "int", "text", "bytes"])]
 
     def large_schema(self):
         """A type of many records, with indexes that have many entries for a value."""

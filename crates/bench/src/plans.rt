@@ -77,6 +77,7 @@ fn index_request(alloc: Global, number: u32) -> Result<IndexRequest, AllocError>
         type_name: Text::from_str(alloc, "t")?,
         columns: Names::new(columns),
         summed: None,
+        clear_when_zero: false,
     })
 }
 

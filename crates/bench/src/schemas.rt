@@ -58,6 +58,7 @@ fn index_request(alloc: Global, number: u32) -> Result<IndexRequest, AllocError>
         type_name: name(alloc, 't', number % TYPES)?,
         columns: Names::new(columns),
         summed: None,
+        clear_when_zero: false,
     })
 }
 

@@ -27,6 +27,7 @@ pub mod Ordered
 pub mod InOrder
 pub mod Newest
 pub mod TreeNodes
+pub mod Balanced
 pub mod Segmented
 pub mod Overlaid
 pub mod Dropped

@@ -7,11 +7,11 @@ use Rattle.std.specs.Ordering.{is_eq}
 use Rattle.kv_core.specs.Bytes.{key_cmp, key_lt}
 use Rattle.kv_core.specs.Addition.{added}
 use Rattle.kv_core.specs.Change.{write_range}
-use Rattle.kv_core.specs.Map.{Map, after, after_all}
+use Rattle.kv_core.specs.Map.{Map, after, after_all, is_just}
 use Rattle.kv_core.specs.Range.{KeyRange, common, contains, has_keys, point}
 use Rattle.kv_core.specs.declared.change.Mutation.{Mutation}
-use Rattle.kv_core.specs.declared.change.Mutation.TheVariants.{Set, ClearRange, Add}
-use Rattle.kv_core.proofs.Changes.{get-after, get-kept, get-set, same_maps}
+use Rattle.kv_core.specs.declared.change.Mutation.TheVariants.{Set, ClearRange, Add, CompareAndClear}
+use Rattle.kv_core.proofs.Changes.{get-after, get-compared, get-kept, get-set, same_maps}
 use Rattle.kv_core.proofs.Order.{contains-point, tied_keys}
 use Rattle.cluster_core.specs.Decision.{Owned, cut, owns}
 use Rattle.cluster_core.specs.Tier.{part}
@@ -60,6 +60,10 @@ applied-own owner (ClearRange r) m kept h = own_alone owner (after (ClearRange r
     get-kept m (λ k. Rattle.std.proofs.Common.not (contains r k)) q
     ∙ ap (λ o. cond (Rattle.std.proofs.Common.not (contains r q)) o None) (none_elsewhere owner m q kept other)
     ∙ either_way (Rattle.std.proofs.Common.not (contains r q)) None)
+applied-own owner (CompareAndClear k o) m kept h = own_alone owner (after (CompareAndClear k o) m) (λ q other.
+    get-compared m k o q
+    ∙ ap (λ v. cond (is_eq (key_cmp q k) && is_just o v) None v) (none_elsewhere owner m q kept other)
+    ∙ either_way (is_eq (key_cmp q k) && is_just o None) None)
 
 -- a mutation of no key of the part leaves the part of the map
 pub skipped-own : (owner : Owned) (c : Mutation) (m : Map) → part owner m ≡ m → has_keys (cut owner (write_range c)) ≡ false → part owner (after c m) ≡ m

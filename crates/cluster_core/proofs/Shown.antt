@@ -16,11 +16,11 @@ use Rattle.std.specs.Map.{keys_of, lookup}
 use Rattle.std.specs.Ordering.{is_eq, is_le}
 use Rattle.std.specs.declared.cmp.Ordering.TheVariants.{Less}
 use Rattle.kv_core.specs.Bytes.{has_key, key_cmp}
-use Rattle.kv_core.specs.Map.{Map, after, pairs_in}
+use Rattle.kv_core.specs.Map.{Map, after, is_just, pairs_in}
 use Rattle.kv_core.specs.Range.{KeyRange, contains, entries_in}
 use Rattle.kv_core.specs.Read.{read_of}
-use Rattle.kv_core.specs.declared.change.Mutation.TheVariants.{ClearRange}
-use Rattle.kv_core.proofs.Changes.{get-set, same_maps}
+use Rattle.kv_core.specs.declared.change.Mutation.TheVariants.{ClearRange, CompareAndClear}
+use Rattle.kv_core.proofs.Changes.{compared_here, compared_other, get-set, same_maps}
 use Rattle.kv_core.proofs.Order.{tied_swap}
 use Rattle.kv_core.proofs.Pairs.{All-reverse, entries-kept}
 use Rattle.kv_core.proofs.Stored.{between_is, get-stored, looked_up, full, pairs_in-stored, stops, stored, stored-without, turn}
@@ -220,16 +220,29 @@ at_version v = le-leb v v (omega arith)
 pub value_at-put : (v : ℕ) (o : Option (List ℕ)) (links : List Link) → value_at v (put v o links) ≡ o
 value_at-put v o links = ap (λ b. cond b o (value_at v (without v links))) (at_version v)
 
-pub shown_put : (old new : Tree) (v : ℕ) (k x : List ℕ) → ChangesAt k (put v (Some x)) old new → shown new.entries v ≡ insert (shown old.entries v) k x
-shown_put old new v k x changes = same_maps _ _ (λ q.
+-- a value that is put at a key, or that there is none, is put into the map
+pub shown_with : (old new : Tree) (v : ℕ) (k : List ℕ) (o : Option (List ℕ)) → ChangesAt k (put v o) old new → shown new.entries v ≡ with_value (shown old.entries v) k o
+shown_with old new v k o changes = same_maps _ _ (λ q.
     get-shown new v q ∙ ap (value_at v) (changes q)
-    ∙ elim (is_eq (key_cmp k q)) as (λ b. value_at v (cond b (put v (Some x) (links_at old q)) (links_at old q)) ≡ cond b (Some x) (value_at v (links_at old q))) [
-      | true ↦ value_at-put v (Some x) (links_at old q)
+    ∙ elim (is_eq (key_cmp k q)) as (λ b. value_at v (cond b (put v o (links_at old q)) (links_at old q)) ≡ cond b o (value_at v (links_at old q))) [
+      | true ↦ value_at-put v o (links_at old q)
       | false ↦ refl
     ]
-    ∙ ap (λ b. cond b (Some x) (value_at v (links_at old q))) (tied_swap k q)
-    ∙ ap (cond (is_eq (key_cmp q k)) (Some x)) (sym (get-shown old v q))
-    ∙ sym (get-set (shown old.entries v) k x q))
+    ∙ ap (λ b. cond b o (value_at v (links_at old q))) (tied_swap k q)
+    ∙ ap (cond (is_eq (key_cmp q k)) o) (sym (get-shown old v q))
+    ∙ sym (get-with_value (shown old.entries v) k o q))
+
+pub shown_put : (old new : Tree) (v : ℕ) (k x : List ℕ) → ChangesAt k (put v (Some x)) old new → shown new.entries v ≡ insert (shown old.entries v) k x
+shown_put old new v k x changes = shown_with old new v k (Some x) changes
+
+-- a key whose value is just the operand is cleared, and another one stays
+pub shown_compared : (old new : Tree) (v : ℕ) (k o : List ℕ) → is_just o (value_at v (links_at old k)) ≡ true → ChangesAt k (put v None) old new →
+    shown new.entries v ≡ after (CompareAndClear k o) (shown old.entries v)
+shown_compared old new v k o here changes =
+    shown_with old new v k None changes ∙ compared_here (shown old.entries v) k o (ap (is_just o) (get-shown old v k) ∙ here)
+
+pub shown_uncompared : (old : Tree) (v : ℕ) (k o : List ℕ) → is_just o (value_at v (links_at old k)) ≡ false → shown old.entries v ≡ after (CompareAndClear k o) (shown old.entries v)
+shown_uncompared old v k o other = compared_other (shown old.entries v) k o (ap (is_just o) (get-shown old v k) ∙ other)
 
 -- a map without the keys that another one has in a range
 stored_again : (m : Map) → stored (entries m) ≡ m

@@ -4,8 +4,8 @@ use Rattle.std.specs.declared.alloc.Global.{Global}
 use Rattle.std.specs.Prelude.{IfNone}
 use Rattle.cluster_core.specs.declared.segments.Segment.{Segment}
 use Rattle.cluster_core.specs.declared.tree.Node.{Node}
-use Rattle.cluster_core.specs.Tree.{InOrder}
-use Rattle.cluster_core.specs.TreeNode.{entries}
+use Rattle.cluster_core.specs.Tree.{InOrder, Shape, forked}
+use Rattle.cluster_core.specs.TreeNode.{shape}
 use Rattle.cluster_core.proofs.InOrder.{Key, Run}
 
 -- the segments es are these, on both sides of one of them
@@ -21,10 +21,14 @@ has_parts es l e r is order = record {
   shorter = subst (λ xs. (length l < length xs) × (length r < length xs)) (sym is) (omega (arith, length-append l (e ∷ r)));
 }
 
-pub has_node : {es : Run} {root : Option (Box Node Global)} {node : Box Node Global} {n : Node} → entries root ≡ es → InOrder es → root ≡ Some node → n ≡ node.value →
-    HasParts es n.left (n.begin, n.segment) n.right
-has_node {es} {root} {node} {n} view order top same =
-    has_parts es n.left (n.begin, n.segment) n.right (sym view ∙ ap entries top ∙ ap (λ m. m.left ++ (m.begin, m.segment) ∷ m.right) (sym same)) order
+pub has_fork : (tree left right : Shape) (begin : Key) (segment : Segment) → tree ≡ forked left begin segment right → InOrder tree.entries →
+    HasParts tree.entries left.entries (begin, segment) right.entries
+has_fork tree left right begin segment is order = has_parts tree.entries left.entries (begin, segment) right.entries (ap (λ (t : Shape). t.entries) is) order
+
+pub has_node : {tree : Shape} {root : Option (Box Node Global)} {node : Box Node Global} {n : Node} → shape root ≡ tree → InOrder tree.entries → root ≡ Some node → n ≡ node.value →
+    HasParts tree.entries n.left.entries (n.begin, n.segment) n.right.entries
+has_node {tree} {root} {node} {n} view order top same =
+    has_fork tree n.left n.right n.begin n.segment (sym view ∙ ap shape top ∙ ap (λ m. forked m.left m.begin m.segment m.right) (sym same)) order
 
 pub none_then : {X : Type 0} (r : Option X) (P Q : Type 0) → IfNone r P → (P → Q) → IfNone r Q
 none_then None P Q h f = f h

@@ -1,9 +1,39 @@
 -- Private: segments in the order of their begins, and what a tree of them answers.
-use Rattle.std.specs.Prelude.{◌≡◌, ◌++◌, ◌&&◌, ℕ, max, IsTrue, Option, None, Some, List, [], ◌∷◌}
+use Rattle.std.specs.Prelude.{◌≡◌, ◌≤◌, ◌+◌, ◌*◌, ◌^◌, ◌&&◌, ℕ, max, IsTrue, Option, None, Some}
+use Rattle.std.specs.Prelude.{List, [], ◌∷◌, ◌++◌, length}
 use Rattle.std.specs.List.{AllByRecursion, filter}
 use Rattle.kv_core.specs.Bytes.{key_le, key_lt}
 use Rattle.cluster_core.specs.declared.segments.Segment.{Segment}
 use Rattle.cluster_core.specs.Segments.{Begins}
+
+-- what a tree is seen as: its segments in order, and how many nodes there are from its top down to the farthest
+pub record Shape : Type 0 where
+  pub entries : List (List ℕ × Segment)
+  pub height : ℕ
+
+abbrev pub empty : Shape
+empty = record { entries = []; height = 0 }
+
+-- a node with a tree on each side
+abbrev pub forked : Shape → List ℕ → Segment → Shape → Shape
+forked left begin segment right = record {
+  entries = left.entries ++ (begin, segment) ∷ right.entries;
+  height = max left.height right.height + 1;
+}
+
+-- neither height is by more than this above the other one
+abbrev pub AreNear : ℕ → ℕ → ℕ → Type 0
+AreNear by left right = (left ≤ right + by) × (right ≤ left + by)
+
+-- the height is at most twice the binary logarithm of the number of segments and one
+abbrev pub IsShallow : Shape → Type 0
+IsShallow tree = 2 ^ tree.height ≤ (length tree.entries + 1) * (length tree.entries + 1)
+
+-- the segments of two trees with one between them, in a tree that is as high as the higher one, or by one higher
+pub record IsJoined (left : Shape) (begin : List ℕ) (segment : Segment) (right new : Shape) : Type 0 where
+  pub entries : new.entries ≡ left.entries ++ (begin, segment) ∷ right.entries
+  pub least : max left.height right.height ≤ new.height
+  pub most : new.height ≤ max left.height right.height + 1
 
 -- each begins before those that follow it
 abbrev pub InOrder : List (List ℕ × Segment) → Type 0

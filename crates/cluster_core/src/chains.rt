@@ -10,16 +10,16 @@ ghost use Rattle.kv_core.specs.Bytes.{has_key, key_cmp};
 ghost use Rattle.kv_core.specs.Map.{after, pairs_in};
 ghost use Rattle.kv_core.specs.Range.{point};
 ghost use Rattle.kv_core.specs.Read.{read_of};
-ghost use Rattle.kv_core.specs.declared.change.Mutation.TheVariants.{ClearRange};
+ghost use Rattle.kv_core.specs.declared.change.Mutation.TheVariants.{ClearRange, CompareAndClear};
 ghost use Rattle.cluster_core.specs.Chains.{AreBelow, AreFalling, Writes, links_at, needed, put};
 ghost use Rattle.cluster_core.specs.Chains.{shown, value_at, without};
 ghost use Rattle.cluster_core.specs.Server.{turned};
 
 use crate::chain::Chain;
-use kv_core::{Bytes, KeyRange, Mutation, Pair, add_le};
+use kv_core::{Bytes, KeyRange, Mutation, Pair, add_le, is_operand};
 use std::alloc::{AllocError, Global};
 use std::collections::BTreeMap;
-use std::collections::btree_map::Range;
+use std::collections::btree_map::{Entry, Range};
 use std::mem;
 
 /// The chains of a server's keys, and the keys that were written at the version to come.
@@ -45,11 +45,13 @@ fn put_at(
     ensures err { OnErr result ((own : List ℕ) →
         links_at chains.new own ≡ links_at chains.old own) }
 {
-    if let Some(chain) = chains.get_mut(key) {
-        return chain.put(version, value);
+    match chains.entry(key.copy()?)? {
+        Entry::Occupied(entry) => entry.into_mut().put(version, value),
+        Entry::Vacant(entry) => {
+            entry.insert(Chain::new(alloc, version, value));
+            Ok(())
+        }
     }
-    chains.insert(key.copy()?, Chain::new(alloc, version, value))?;
-    Ok(())
 }
 
 /// Takes back what was put at a key at this version.
@@ -182,6 +184,26 @@ impl Chains {
         Ok(())
     }
 
+    /// Clears a key whose value at this version is just the operand, and lists it then.
+    fn compare_and_clear(
+        &mut self,
+        version: u64,
+        key: &Bytes,
+        operand: &Bytes,
+    ) -> Result<(), AllocError>
+        requires { AreBelow version self.old.chains }
+        ensures ok { OnOk result (shown self.new.chains.entries version
+            ≡ after (CompareAndClear key.now operand.now) (shown self.old.chains.entries version)) }
+        ensures writes { Writes version self.old.written.items self.old.chains
+            self.new.written.items self.new.chains }
+    {
+        if is_operand(value_of(&self.chains, version, key), operand) {
+            self.write(version, key, None)
+        } else {
+            Ok(())
+        }
+    }
+
     /// Applies a mutation at this version, and lists the keys that it writes. Where memory runs
     /// out some of its writes are done.
     pub(crate) fn apply(&mut self, version: u64, mutation: &Mutation) -> Result<(), AllocError>
@@ -201,6 +223,9 @@ impl Chains {
                 self.write(version, key, Some(sum))
             }
             Mutation::ClearRange(range) => self.clear(version, range),
+            Mutation::CompareAndClear { key, operand } => {
+                self.compare_and_clear(version, key, operand)
+            }
         }
     }
 

@@ -65,6 +65,7 @@ fn put_mutation(
     match mutation {
         Mutation::Set { key, value: _ } => put_key(segments, part, key, place),
         Mutation::Add { key, operand: _ } => put_key(segments, part, key, place),
+        Mutation::CompareAndClear { key, operand: _ } => put_key(segments, part, key, place),
         Mutation::ClearRange(range) => if part.meets(range) {
             segments.put(range.begin().copy()?, range.end().copy()?, place)
         } else {

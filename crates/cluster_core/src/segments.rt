@@ -23,10 +23,10 @@ pub(crate) struct Segment {
 
 /// The segment that begins last of those that begin at the key or before it, if it has the key.
 fn segment_over<'a>(segments: &'a Tree, key: &Bytes) -> Option<&'a Node>
-    requires { InOrder segments.now }
+    requires { InOrder segments.now.entries }
     ensures some { IfSome result (λ over.
-        IsOver segments.now key.now over.now.begin over.now.segment) }
-    ensures none { IfNone result ((at : ℕ) → ¬ IsCovered segments.now key.now at) }
+        IsOver segments.now.entries key.now over.now.begin over.now.segment) }
+    ensures none { IfNone result ((at : ℕ) → ¬ IsCovered segments.now.entries key.now at) }
 {
     match segments.last_upto(key) {
         Some(last) => if key.is_before(&last.segment.end) {
@@ -40,9 +40,9 @@ fn segment_over<'a>(segments: &'a Tree, key: &Bytes) -> Option<&'a Node>
 
 /// The newest place of a segment that has a key from one on and before another.
 fn newest_between(segments: &Tree, begin: &Bytes, end: &Bytes) -> Option<usize>
-    requires keys { HaveKeys segments.now }
-    requires order { InOrder segments.now }
-    ensures { IsNewestOver segments.now (from_to begin.now end.now) result }
+    requires keys { HaveKeys segments.now.entries }
+    requires order { InOrder segments.now.entries }
+    ensures { IsNewestOver segments.now.entries (from_to begin.now end.now) result }
 {
     if !begin.is_before(end) {
         return None;
@@ -56,8 +56,8 @@ fn newest_between(segments: &Tree, begin: &Bytes, end: &Bytes) -> Option<usize>
 
 /// The part from a key on of the segment over it, if that one begins before the key.
 fn part_from(segments: &Tree, key: &Bytes) -> Result<Option<Segment>, AllocError>
-    requires { InOrder segments.now }
-    ensures { IfOk result (IsPartFrom segments.now key.now) }
+    requires { InOrder segments.now.entries }
+    ensures { IfOk result (IsPartFrom segments.now.entries key.now) }
 {
     let Some(over) = segment_over(segments, key) else {
         return Ok(None);
@@ -74,9 +74,10 @@ fn part_from(segments: &Tree, key: &Bytes) -> Result<Option<Segment>, AllocError
 
 /// The part from a key on of the segment over it, if that one begins before the key, as a tree.
 fn rest_from(alloc: Global, segments: &Tree, key: &Bytes) -> Result<Tree, AllocError>
-    requires { InOrder segments.now }
-    ensures { IfOk result (λ rest. (part : Option Segment)
-        × IsPartFrom segments.now key.now part × (rest ≡ at_key key.now part)) }
+    requires { InOrder segments.now.entries }
+    ensures rest { IfOk result (λ rest. (part : Option Segment)
+        × IsPartFrom segments.now.entries key.now part × (rest.entries ≡ at_key key.now part)) }
+    ensures height { IfOk result (λ rest. rest.height ≤ 1) }
 {
     match part_from(segments, key)? {
         Some(part) => Ok(Tree::single(Node::new(alloc, key.copy()?, part)?)),
@@ -93,15 +94,19 @@ fn overlay(
     end: Bytes,
     place: usize,
 ) -> Result<(), AllocError>
-    requires keys { HaveKeys segments.old }
-    requires order { InOrder segments.old }
+    requires keys { HaveKeys segments.old.entries }
+    requires order { InOrder segments.old.entries }
     requires some { IsTrue (key_lt begin end) }
-    ensures keys { HaveKeys segments.new }
-    ensures order { InOrder segments.new }
-    ensures overlays { Overlays (contains (from_to begin end)) place segments.old segments.new }
+    ensures keys { HaveKeys segments.new.entries }
+    ensures order { InOrder segments.new.entries }
+    ensures overlays { Overlays (contains (from_to begin end)) place
+        segments.old.entries segments.new.entries }
     ensures covered { OnOk result ((key : List ℕ) → IsTrue (contains (from_to begin end) key) →
-        IsCovered segments.new key place) }
+        IsCovered segments.new.entries key place) }
 {
+    if !segments.has_room() {
+        return Err(AllocError);
+    }
     let rest = rest_from(alloc, segments, &end)?;
     let node = Node::new(alloc, begin, Segment { end, place })?;
     segments.lay(node, rest);
@@ -110,10 +115,11 @@ fn overlay(
 
 /// Drops the segments with a place before this one.
 fn drop_before(segments: &mut Tree, least: usize)
-    requires { InOrder segments.old }
-    ensures order { InOrder segments.new }
-    ensures dropped { (begin : List ℕ) (segment : Segment) → Begins segments.new begin segment
-        ↔ (Begins segments.old begin segment × least ≤ segment.place) }
+    requires { InOrder segments.old.entries }
+    ensures order { InOrder segments.new.entries }
+    ensures dropped { (begin : List ℕ) (segment : Segment) →
+        Begins segments.new.entries begin segment
+        ↔ (Begins segments.old.entries begin segment × least ≤ segment.place) }
 {
     *segments = mem::replace(segments, Tree::new()).since(least);
 }
@@ -136,9 +142,9 @@ impl Model for Segments {
 
     ghost Value = { List (List ℕ × Segment) };
 
-    ghost view = { λ a. a.segments };
+    ghost view = { λ a. a.segments.entries };
 
-    ghost invariant = { λ a. HaveKeys a.segments × InOrder a.segments };
+    ghost invariant = { λ a. HaveKeys a.segments.entries × InOrder a.segments.entries };
 }
 
 impl Segments {

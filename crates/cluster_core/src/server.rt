@@ -42,6 +42,7 @@ fn writes_own(owner: &Part, mutation: &Mutation) -> bool
     match mutation {
         Mutation::Set { key, value: _ } => owner.owns(key),
         Mutation::Add { key, operand: _ } => owner.owns(key),
+        Mutation::CompareAndClear { key, operand: _ } => owner.owns(key),
         Mutation::ClearRange(range) => owner.meets(range),
     }
 }

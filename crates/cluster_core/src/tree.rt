@@ -1,17 +1,22 @@
 //! Segments in key order, in a balanced tree. Used by `segments`.
 
-ghost use Rattle.std.specs.Prelude.{◌≡◌, ◌++◌, ◌∷◌, [], ℕ, nat_le, IsTrue, List, Some, None};
-ghost use Rattle.std.specs.Prelude.{IfNone, IfOk, IfSome, MatchOption};
+ghost use Rattle.std.specs.Prelude.{◌≡◌, ◌≤◌, ◌<◌, ◌+◌, ◌++◌, ◌∷◌, [], ℕ, max, nat_le, IsTrue};
+ghost use Rattle.std.specs.Prelude.{List, Some, None, IfNone, IfOk, IfSome, MatchBool, MatchOption};
 ghost use Rattle.std.specs.List.{filter};
 ghost use Rattle.kv_core.specs.Bytes.{key_lt};
 ghost use Rattle.cluster_core.specs.Segments.{Begins};
-ghost use Rattle.cluster_core.specs.Tree.{InOrder, IsLaid, IsLastUpto, IsSplit, between, later, newest_of};
+ghost use Rattle.cluster_core.specs.Tree.{AreNear, InOrder, IsJoined, IsLaid, IsLastUpto, between};
+ghost use Rattle.cluster_core.specs.Tree.{IsShallow, IsSplit, empty, forked, later, newest_of};
+ghost use Rattle.cluster_core.specs.declared.tree.TheConstants.{MOST_LEVELS};
 
 use crate::segments::Segment;
 use kv_core::Bytes;
 use std::alloc::{AllocError, Global};
 use std::marker::Model;
 use std::mem;
+
+/// How high a tree may be into which a node is laid, which makes it by three higher at most.
+const MOST_LEVELS: u8 = 250;
 
 /// Segments in the order of their begins. The sides of each node differ in height by two at most,
 /// so the height is logarithmic in the number of segments.
@@ -34,19 +39,18 @@ pub(crate) struct Node {
 }
 
 impl Model for Tree {
-    ghost use Rattle.std.specs.Prelude.{◌≡◌, ℕ, List, length};
-    ghost use Rattle.cluster_core.specs.declared.segments.Segment.{Segment};
+    ghost use Rattle.std.specs.Prelude.{length};
+    ghost use Rattle.cluster_core.specs.Tree.{Shape};
 
-    ghost Value = { List (List ℕ × Segment) };
+    ghost Value = { Shape };
 
-    ghost use Rattle.cluster_core.specs.Tree.{newest_of};
-    ghost use Rattle.cluster_core.specs.TreeNode.{entries, newest_kept};
+    ghost use Rattle.cluster_core.specs.TreeNode.{IsBalanced, shape};
 
-    ghost view = { λ a. entries a.root };
+    ghost view = { λ a. shape a.root };
 
-    ghost invariant = { λ a. newest_kept a.root ≡ newest_of (entries a.root) };
+    ghost invariant = { λ a. IsBalanced a.root };
 
-    ghost size = { length };
+    ghost size = { λ tree. length tree.entries };
 
     ghost use Rattle.std.proofs.Common.{arith, length-append};
 
@@ -84,20 +88,24 @@ impl Node {
 impl Tree {
     /// No segments, which takes no memory.
     pub fn new() -> Tree
-        ensures { result ≡ [] }
+        ensures { result ≡ empty }
     {
         Tree { root: None }
     }
 
     /// One segment.
     pub fn single(node: Box<Node>) -> Tree
-        ensures { result ≡ (node.value.begin, node.value.segment) ∷ [] }
+        ensures { result ≡ forked empty node.value.begin node.value.segment empty }
     {
         fork(Tree::new(), node, Tree::new())
     }
 
-    /// How many nodes there are from the top down to the farthest.
-    fn height(&self) -> u8 {
+    /// How many nodes there are from the top down to the farthest: at most twice the logarithm of
+    /// their number.
+    fn height(&self) -> u8
+        ensures height { result ≡ self.now.height }
+        ensures shallow { IsShallow self.now }
+    {
         match &self.root {
             Some(node) => node.height,
             None => 0,
@@ -105,13 +113,25 @@ impl Tree {
     }
 
     /// Whether this tree is too high to stand beside another one.
-    fn is_too_high(&self, other: &Tree) -> bool {
+    fn is_too_high(&self, other: &Tree) -> bool
+        ensures { MatchBool result (other.now.height + 2 < self.now.height)
+            (self.now.height ≤ other.now.height + 2) }
+    {
         self.height() > other.height().saturating_add(2)
+    }
+
+    /// Whether nodes may be laid into this tree. One that is too high for it has 2^125 segments, so
+    /// there is always room.
+    pub fn has_room(&self) -> bool
+        ensures { MatchBool result (self.now.height ≤ MOST_LEVELS)
+            (MOST_LEVELS < self.now.height) }
+    {
+        self.height() <= MOST_LEVELS
     }
 
     /// The newest place.
     fn newest(&self) -> Option<usize>
-        ensures { result ≡ newest_of self.now }
+        ensures { result ≡ newest_of self.now.entries }
     {
         match &self.root {
             Some(node) => Some(node.newest),
@@ -121,8 +141,8 @@ impl Tree {
 
     /// The newest place of the segments that begin after a key.
     fn newest_after(&self, low: &Bytes) -> Option<usize>
-        requires { InOrder self.now }
-        ensures { result ≡ newest_of (filter (λ e. key_lt low.now e.0) self.now) }
+        requires { InOrder self.now.entries }
+        ensures { result ≡ newest_of (filter (λ e. key_lt low.now e.0) self.now.entries) }
     {
         let Some(node) = &self.root else {
             return None;
@@ -137,8 +157,8 @@ impl Tree {
 
     /// The newest place of the segments that begin before a key.
     fn newest_before(&self, high: &Bytes) -> Option<usize>
-        requires { InOrder self.now }
-        ensures { result ≡ newest_of (filter (λ e. key_lt e.0 high.now) self.now) }
+        requires { InOrder self.now.entries }
+        ensures { result ≡ newest_of (filter (λ e. key_lt e.0 high.now) self.now.entries) }
     {
         let Some(node) = &self.root else {
             return None;
@@ -153,8 +173,8 @@ impl Tree {
 
     /// The newest place of the segments that begin after one key and before another.
     pub fn newest_between(&self, low: &Bytes, high: &Bytes) -> Option<usize>
-        requires { InOrder self.now }
-        ensures { result ≡ newest_of (between low.now high.now self.now) }
+        requires { InOrder self.now.entries }
+        ensures { result ≡ newest_of (between low.now high.now self.now.entries) }
     {
         let Some(node) = &self.root else {
             return None;
@@ -172,11 +192,11 @@ impl Tree {
 
     /// The last segment that begins at a key or before it.
     pub fn last_upto(&self, key: &Bytes) -> Option<&Node>
-        requires { InOrder self.now }
+        requires { InOrder self.now.entries }
         ensures some { IfSome result (λ node.
-            IsLastUpto self.now key.now node.now.begin node.now.segment) }
+            IsLastUpto self.now.entries key.now node.now.begin node.now.segment) }
         ensures none { IfNone result ((begin : List ℕ) (segment : Segment) →
-            Begins self.now begin segment → IsTrue (key_lt key.now begin)) }
+            Begins self.now.entries begin segment → IsTrue (key_lt key.now begin)) }
     {
         let Some(node) = &self.root else {
             return None;
@@ -193,8 +213,10 @@ impl Tree {
 
     /// The node at the top, between what is on its left and on its right.
     fn open(self) -> Option<(Tree, Box<Node>, Tree)>
-        ensures { MatchOption result (self ≡ []) (λ parts.
-            self ≡ parts.0 ++ (parts.1.value.begin, parts.1.value.segment) ∷ parts.2) }
+        ensures parts { MatchOption result (self ≡ empty) (λ parts.
+            self ≡ forked parts.0 parts.1.value.begin parts.1.value.segment parts.2) }
+        ensures near { IfSome result (λ parts. AreNear 2 parts.0.height parts.2.height) }
+        ensures height { self.height < 256 }
     {
         let mut node = self.root?;
         let left = mem::replace(&mut node.left, Tree::new());
@@ -204,8 +226,10 @@ impl Tree {
 
     /// The segments that begin before a key, and those that begin from it on.
     pub fn split(self, key: &Bytes) -> (Tree, Tree)
-        requires { InOrder self }
-        ensures { IsSplit self key.now result.0 result.1 }
+        requires { InOrder self.entries }
+        ensures parts { IsSplit self.entries key.now result.0.entries result.1.entries }
+        ensures before { result.0.height ≤ self.height }
+        ensures from { result.1.height ≤ self.height }
     {
         let Some((left, node, right)) = self.open() else {
             return (Tree::new(), Tree::new());
@@ -222,8 +246,11 @@ impl Tree {
     /// Puts a node in the place of those that begin from its begin on and before its end, and
     /// behind it the rest of the last of them.
     pub fn lay(&mut self, node: Box<Node>, rest: Tree)
-        requires { InOrder self.old }
-        ensures { IsLaid node.value.begin node.value.segment rest self.old self.new }
+        requires order { InOrder self.old.entries }
+        requires room { self.old.height ≤ MOST_LEVELS }
+        requires single { rest.height ≤ 1 }
+        ensures { IsLaid node.value.begin node.value.segment rest.entries
+            self.old.entries self.new.entries }
     {
         let (before, onward) = mem::replace(self, Tree::new()).split(&node.begin);
         let (_, after) = onward.split(&node.segment.end);
@@ -232,8 +259,9 @@ impl Tree {
 
     /// The last node, and what is before it.
     fn take_last(self) -> Option<(Tree, Box<Node>)>
-        ensures { MatchOption result (self ≡ []) (λ parts.
-            self ≡ parts.0 ++ (parts.1.value.begin, parts.1.value.segment) ∷ []) }
+        ensures parts { MatchOption result (self ≡ empty) (λ parts. self.entries
+            ≡ parts.0.entries ++ (parts.1.value.begin, parts.1.value.segment) ∷ []) }
+        ensures height { IfSome result (λ parts. parts.0.height ≤ self.height) }
     {
         let (left, node, right) = self.open()?;
         match right.take_last() {
@@ -244,7 +272,8 @@ impl Tree {
 
     /// The segments with this place or a later one.
     pub fn since(self, least: usize) -> Tree
-        ensures { result ≡ filter (λ e. nat_le least e.1.place) self }
+        ensures entries { result.entries ≡ filter (λ e. nat_le least e.1.place) self.entries }
+        ensures height { result.height ≤ self.height }
     {
         let Some((left, node, right)) = self.open() else {
             return Tree::new();
@@ -259,11 +288,13 @@ impl Tree {
     }
 }
 
-/// A tree with this node at the top.
+/// A tree with this node at the top, between sides that are about as high.
 fn fork(left: Tree, mut top: Box<Node>, right: Tree) -> Tree
-    ensures { result ≡ left ++ (top.value.begin, top.value.segment) ∷ right }
+    requires near { AreNear 2 left.height right.height }
+    requires room { max left.height right.height < 255 }
+    ensures { result ≡ forked left top.value.begin top.value.segment right }
 {
-    let height = left.height().max(right.height()).saturating_add(1);
+    let height = left.height().max(right.height()) + 1;
     let newest = later(right.newest(), later(left.newest(), top.segment.place));
     let node: &mut Node = &mut top;
     node.height = height;
@@ -276,7 +307,9 @@ fn fork(left: Tree, mut top: Box<Node>, right: Tree) -> Tree
 /// The same as `fork`, for a left side that is too high: its node comes to the top, or the node on
 /// the right below that one.
 fn turn_right(left: Tree, top: Box<Node>, right: Tree) -> Tree
-    ensures { result ≡ left ++ (top.value.begin, top.value.segment) ∷ right }
+    requires high { left.height ≡ right.height + 3 }
+    requires room { left.height < 255 }
+    ensures { IsJoined left top.value.begin top.value.segment right result }
 {
     let Some((outer, child, inner)) = left.open() else {
         return fork(Tree::new(), top, right);
@@ -293,7 +326,9 @@ fn turn_right(left: Tree, top: Box<Node>, right: Tree) -> Tree
 /// The same as `fork`, for a right side that is too high: its node comes to the top, or the node on
 /// the left below that one.
 fn turn_left(left: Tree, top: Box<Node>, right: Tree) -> Tree
-    ensures { result ≡ left ++ (top.value.begin, top.value.segment) ∷ right }
+    requires high { right.height ≡ left.height + 3 }
+    requires room { right.height < 255 }
+    ensures { IsJoined left top.value.begin top.value.segment right result }
 {
     let Some((inner, child, outer)) = right.open() else {
         return fork(left, top, Tree::new());
@@ -309,7 +344,11 @@ fn turn_left(left: Tree, top: Box<Node>, right: Tree) -> Tree
 
 /// The same as `fork`, for sides whose heights differ by three at most.
 fn balance(left: Tree, top: Box<Node>, right: Tree) -> Tree
-    ensures { result ≡ left ++ (top.value.begin, top.value.segment) ∷ right }
+    requires near { AreNear 3 left.height right.height }
+    requires room { max left.height right.height < 255 }
+    ensures joined { IsJoined left top.value.begin top.value.segment right result }
+    ensures even { AreNear 2 left.height right.height →
+        result.height ≡ max left.height right.height + 1 }
 {
     if left.is_too_high(&right) {
         turn_right(left, top, right)
@@ -323,7 +362,8 @@ fn balance(left: Tree, top: Box<Node>, right: Tree) -> Tree
 /// A tree of a node between two others of any heights. It goes down the higher one until both are
 /// about as high.
 fn join(left: Tree, middle: Box<Node>, right: Tree) -> Tree
-    ensures { result ≡ left ++ (middle.value.begin, middle.value.segment) ∷ right }
+    requires { max left.height right.height < 255 }
+    ensures { IsJoined left middle.value.begin middle.value.segment right result }
 {
     if left.is_too_high(&right) {
         let Some((outer, top, inner)) = left.open() else {
@@ -342,7 +382,9 @@ fn join(left: Tree, middle: Box<Node>, right: Tree) -> Tree
 
 /// The segments of two trees, one after the other.
 fn concat(left: Tree, right: Tree) -> Tree
-    ensures { result ≡ left ++ right }
+    requires { max left.height right.height < 255 }
+    ensures entries { result.entries ≡ left.entries ++ right.entries }
+    ensures height { result.height ≤ max left.height right.height + 1 }
 {
     match left.take_last() {
         Some((rest, last)) => join(rest, last, right),

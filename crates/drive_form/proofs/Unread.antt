@@ -6,7 +6,7 @@ use Rattle.std.specs.List.{AllByRecursion}
 use Rattle.std.specs.Int.{w32, w64, to_le_bytes, from_le_bytes}
 use Rattle.std.proofs.lemmas.Nat.{from_le_bytes-to_le_bytes_4, from_le_bytes-to_le_bytes_8}
 use Rattle.kv_core.specs.Range.{KeyRange, is_key_range}
-use Rattle.kv_core.specs.declared.change.Mutation.TheVariants.{Set, ClearRange, Add}
+use Rattle.kv_core.specs.declared.change.Mutation.TheVariants.{Set, ClearRange, Add, CompareAndClear}
 use Rattle.drive_form.specs.declared.error.FormError.{FormError}
 use Rattle.drive_form.specs.declared.error.FormError.TheVariants.{BadForm, BadCommand, OutOfMemory}
 use Rattle.txn.proofs.Exits.{exit_with}
@@ -128,18 +128,28 @@ mutation_once (ClearRange a) (ClearRange b) s t fits less same = let parts = ran
 mutation_once (Add a x) (Add b y) s t fits less same =
     let parts = two_once sized IsShort sized IsShort sized_once sized_once a b x y s t fits.0 less.0 fits.1 less.1 (ap (drop 1) same) in
     (cc, parts.2)
+mutation_once (CompareAndClear a x) (CompareAndClear b y) s t fits less same =
+    let parts = two_once sized IsShort sized IsShort sized_once sized_once a b x y s t fits.0 less.0 fits.1 less.1 (ap (drop 1) same) in
+    (cc, parts.2)
 mutation_once (Set a x) (ClearRange b) s t fits less same = absurd (cc (ap (λ bs. get_or bs 0 9) same))
 mutation_once (Set a x) (Add b y) s t fits less same = absurd (cc (ap (λ bs. get_or bs 0 9) same))
+mutation_once (Set a x) (CompareAndClear b y) s t fits less same = absurd (cc (ap (λ bs. get_or bs 0 9) same))
 mutation_once (ClearRange a) (Set b y) s t fits less same = absurd (cc (ap (λ bs. get_or bs 0 9) same))
 mutation_once (ClearRange a) (Add b y) s t fits less same = absurd (cc (ap (λ bs. get_or bs 0 9) same))
+mutation_once (ClearRange a) (CompareAndClear b y) s t fits less same = absurd (cc (ap (λ bs. get_or bs 0 9) same))
 mutation_once (Add a x) (Set b y) s t fits less same = absurd (cc (ap (λ bs. get_or bs 0 9) same))
 mutation_once (Add a x) (ClearRange b) s t fits less same = absurd (cc (ap (λ bs. get_or bs 0 9) same))
+mutation_once (Add a x) (CompareAndClear b y) s t fits less same = absurd (cc (ap (λ bs. get_or bs 0 9) same))
+mutation_once (CompareAndClear a x) (Set b y) s t fits less same = absurd (cc (ap (λ bs. get_or bs 0 9) same))
+mutation_once (CompareAndClear a x) (ClearRange b) s t fits less same = absurd (cc (ap (λ bs. get_or bs 0 9) same))
+mutation_once (CompareAndClear a x) (Add b y) s t fits less same = absurd (cc (ap (λ bs. get_or bs 0 9) same))
 
 -- a write begins with its kind
 pub mutation_none_empty : (bytes : List ℕ) → bytes ≡ [] → BeginWithNone mutation_bytes FitsMutation bytes
 mutation_none_empty bytes none (Set key value) rest fits is = absurd (cc)
 mutation_none_empty bytes none (ClearRange range) rest fits is = absurd (cc)
 mutation_none_empty bytes none (Add key value) rest fits is = absurd (cc)
+mutation_none_empty bytes none (CompareAndClear key value) rest fits is = absurd (cc)
 
 -- the first of bytes, and those after it
 heads : (a b : ℕ) (s t : List ℕ) → a ∷ s ≡ b ∷ t → (a ≡ b) × (s ≡ t)
@@ -150,22 +160,33 @@ mutation_none_set bytes left kind read zero none (Set key value) rest fits is =
     none (key, value) rest fits (heads kind 0 left ((sized key ++ sized value) ++ rest) (sym read ∙ is)).1
 mutation_none_set bytes left kind read zero none (ClearRange range) rest fits is = let same = heads kind 1 left (range_bytes range ++ rest) (sym read ∙ is) in absurd (omega (arith, same.0))
 mutation_none_set bytes left kind read zero none (Add key value) rest fits is = let same = heads kind 2 left ((sized key ++ sized value) ++ rest) (sym read ∙ is) in absurd (omega (arith, same.0))
+mutation_none_set bytes left kind read zero none (CompareAndClear key value) rest fits is = let same = heads kind 3 left ((sized key ++ sized value) ++ rest) (sym read ∙ is) in absurd (omega (arith, same.0))
 
 pub mutation_none_clear : (bytes left : List ℕ) (kind : ℕ) → bytes ≡ kind ∷ left → kind ≡ 1 → BeginWithNone range_bytes FitsRange left → BeginWithNone mutation_bytes FitsMutation bytes
 mutation_none_clear bytes left kind read one none (Set key value) rest fits is = let same = heads kind 0 left ((sized key ++ sized value) ++ rest) (sym read ∙ is) in absurd (omega (arith, same.0))
 mutation_none_clear bytes left kind read one none (ClearRange range) rest fits is = none range rest fits (heads kind 1 left (range_bytes range ++ rest) (sym read ∙ is)).1
 mutation_none_clear bytes left kind read one none (Add key value) rest fits is = let same = heads kind 2 left ((sized key ++ sized value) ++ rest) (sym read ∙ is) in absurd (omega (arith, same.0))
+mutation_none_clear bytes left kind read one none (CompareAndClear key value) rest fits is = let same = heads kind 3 left ((sized key ++ sized value) ++ rest) (sym read ∙ is) in absurd (omega (arith, same.0))
 
 pub mutation_none_add : (bytes left : List ℕ) (kind : ℕ) → bytes ≡ kind ∷ left → kind ≡ 2 → BeginWithNone pair_bytes FitsPair left → BeginWithNone mutation_bytes FitsMutation bytes
 mutation_none_add bytes left kind read two none (Set key value) rest fits is = let same = heads kind 0 left ((sized key ++ sized value) ++ rest) (sym read ∙ is) in absurd (omega (arith, same.0))
 mutation_none_add bytes left kind read two none (ClearRange range) rest fits is = let same = heads kind 1 left (range_bytes range ++ rest) (sym read ∙ is) in absurd (omega (arith, same.0))
 mutation_none_add bytes left kind read two none (Add key value) rest fits is =
     none (key, value) rest fits (heads kind 2 left ((sized key ++ sized value) ++ rest) (sym read ∙ is)).1
+mutation_none_add bytes left kind read two none (CompareAndClear key value) rest fits is = let same = heads kind 3 left ((sized key ++ sized value) ++ rest) (sym read ∙ is) in absurd (omega (arith, same.0))
 
-pub mutation_none_kind : (bytes left : List ℕ) (kind : ℕ) → bytes ≡ kind ∷ left → (kind ≡ 0 → ⊥) → (kind ≡ 1 → ⊥) → (kind ≡ 2 → ⊥) → BeginWithNone mutation_bytes FitsMutation bytes
-mutation_none_kind bytes left kind read a b c (Set key value) rest fits is = a (heads kind 0 left ((sized key ++ sized value) ++ rest) (sym read ∙ is)).0
-mutation_none_kind bytes left kind read a b c (ClearRange range) rest fits is = b (heads kind 1 left (range_bytes range ++ rest) (sym read ∙ is)).0
-mutation_none_kind bytes left kind read a b c (Add key value) rest fits is = c (heads kind 2 left ((sized key ++ sized value) ++ rest) (sym read ∙ is)).0
+pub mutation_none_compared : (bytes left : List ℕ) (kind : ℕ) → bytes ≡ kind ∷ left → kind ≡ 3 → BeginWithNone pair_bytes FitsPair left → BeginWithNone mutation_bytes FitsMutation bytes
+mutation_none_compared bytes left kind read three none (Set key value) rest fits is = let same = heads kind 0 left ((sized key ++ sized value) ++ rest) (sym read ∙ is) in absurd (omega (arith, same.0))
+mutation_none_compared bytes left kind read three none (ClearRange range) rest fits is = let same = heads kind 1 left (range_bytes range ++ rest) (sym read ∙ is) in absurd (omega (arith, same.0))
+mutation_none_compared bytes left kind read three none (Add key value) rest fits is = let same = heads kind 2 left ((sized key ++ sized value) ++ rest) (sym read ∙ is) in absurd (omega (arith, same.0))
+mutation_none_compared bytes left kind read three none (CompareAndClear key value) rest fits is =
+    none (key, value) rest fits (heads kind 3 left ((sized key ++ sized value) ++ rest) (sym read ∙ is)).1
+
+pub mutation_none_kind : (bytes left : List ℕ) (kind : ℕ) → bytes ≡ kind ∷ left → (kind ≡ 0 → ⊥) → (kind ≡ 1 → ⊥) → (kind ≡ 2 → ⊥) → (kind ≡ 3 → ⊥) → BeginWithNone mutation_bytes FitsMutation bytes
+mutation_none_kind bytes left kind read a b c d (Set key value) rest fits is = a (heads kind 0 left ((sized key ++ sized value) ++ rest) (sym read ∙ is)).0
+mutation_none_kind bytes left kind read a b c d (ClearRange range) rest fits is = b (heads kind 1 left (range_bytes range ++ rest) (sym read ∙ is)).0
+mutation_none_kind bytes left kind read a b c d (Add key value) rest fits is = c (heads kind 2 left ((sized key ++ sized value) ++ rest) (sym read ∙ is)).0
+mutation_none_kind bytes left kind read a b c d (CompareAndClear key value) rest fits is = d (heads kind 3 left ((sized key ++ sized value) ++ rest) (sym read ∙ is)).0
 
 -- ---- lists
 

@@ -4,7 +4,7 @@ use Rattle.std.specs.List.{AllByRecursion}
 use Rattle.std.specs.Int.{w32, w64, to_le_bytes}
 use Rattle.kv_core.specs.Range.{KeyRange, is_key_range}
 use Rattle.kv_core.specs.declared.change.Mutation.{Mutation}
-use Rattle.kv_core.specs.declared.change.Mutation.TheVariants.{Set, ClearRange, Add}
+use Rattle.kv_core.specs.declared.change.Mutation.TheVariants.{Set, ClearRange, Add, CompareAndClear}
 use Rattle.drive.specs.declared.wanted.Want.{Want}
 
 -- a byte string after its length
@@ -30,6 +30,7 @@ abbrev pub mutation_bytes : Mutation → List ℕ
 mutation_bytes (Set key value) = 0 ∷ sized key ++ sized value
 mutation_bytes (ClearRange range) = 1 ∷ range_bytes range
 mutation_bytes (Add key operand) = 2 ∷ sized key ++ sized operand
+mutation_bytes (CompareAndClear key operand) = 3 ∷ sized key ++ sized operand
 
 abbrev pub want_bytes : Want → List ℕ
 want_bytes want =
@@ -50,6 +51,7 @@ abbrev pub FitsMutation : Mutation → Type 0
 FitsMutation (Set key value) = IsShort key × IsShort value
 FitsMutation (ClearRange range) = FitsRange range
 FitsMutation (Add key operand) = IsShort key × IsShort operand
+FitsMutation (CompareAndClear key operand) = IsShort key × IsShort operand
 
 abbrev pub FitsWant : Want → Type 0
 FitsWant want = FitsRange want.range × (want.limit < 2 ^ 64)

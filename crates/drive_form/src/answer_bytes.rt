@@ -96,6 +96,11 @@ fn push_mutation(out: &mut Vec<u8>, mutation: &Mutation) -> Result<(), AllocErro
             push_bytes(out, key.as_slice())?;
             push_bytes(out, operand.as_slice())
         }
+        Mutation::CompareAndClear { key, operand } => {
+            out.push(3)?;
+            push_bytes(out, key.as_slice())?;
+            push_bytes(out, operand.as_slice())
+        }
     }
 }
 

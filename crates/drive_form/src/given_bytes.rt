@@ -90,6 +90,10 @@ fn mutation_of(alloc: Global, reader: &mut Reader<'_>) -> Result<Mutation, FormE
             let (key, operand) = pair_of(alloc, reader)?;
             Ok(Mutation::Add { key, operand })
         }
+        3 => {
+            let (key, operand) = pair_of(alloc, reader)?;
+            Ok(Mutation::CompareAndClear { key, operand })
+        }
         _ => Err(FormError::BadForm),
     }
 }

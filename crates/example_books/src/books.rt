@@ -1,4 +1,5 @@
 // The schema of a store of books. Called by `copies`.
+use record_layer::IndexOf::Value;
 use record_layer::{Kind, MetadataError, Schema, SchemaMaker};
 use std::alloc::Global;
 
@@ -7,6 +8,6 @@ pub(crate) fn books(alloc: Global) -> Result<Schema, MetadataError> {
     let fields = [("title", Kind::Text), ("copies", Kind::Int)];
     SchemaMaker::new(alloc)
         .with_type("book", &fields, &["title"])?
-        .with_value_index("by_copies", "book", &["copies"])?
+        .with_index(Value, "by_copies", "book", &["copies"])?
         .into_schema()
 }

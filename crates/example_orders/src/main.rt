@@ -6,6 +6,7 @@ ghost use Rattle.std.specs.Prelude.{IfOk};
 ghost use Rattle.record_layer.specs.Databases.{IsCommittedAt};
 
 use record_layer::CellRef::{Int, Text};
+use record_layer::IndexOf::{Count, Value};
 use record_layer::{
     Config, Database, Error, Kind, Operator, QueryMaker, Retry, SchemaMaker, Session, compare,
     int_named,
@@ -24,8 +25,8 @@ fn make(alloc: Global, db: &mut Database) -> Result<u64, Error> {
     ];
     let schema = SchemaMaker::new(alloc)
         .with_type("order", &fields, &["id"])?
-        .with_value_index("by_customer", "order", &["customer"])?
-        .with_count_index("orders", "order", &["customer"])?
+        .with_index(Value, "by_customer", "order", &["customer"])?
+        .with_index(Count, "orders", "order", &["customer"])?
         .into_schema()?;
     Ok(db.create(alloc, &schema)?)
 }

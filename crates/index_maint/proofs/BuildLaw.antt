@@ -25,10 +25,11 @@ use Rattle.index_maint.specs.Changes.{entries_map, value_changes}
 use Rattle.index_maint.specs.Entries.{entry_of, is_indexed}
 use Rattle.index_maint.specs.Kept.{HasPart, changes_by, records_within}
 use Rattle.index_maint.specs.Layout.{entries_prefix}
-use Rattle.index_maint.specs.Totals.{HasTotals, IsGroup, IsTotal, Share, group_key, group_of, part_of, same_group, total, total_changes, count_share, sum_share}
+use Rattle.index_maint.specs.Totals.{Clearing, HasTotals, IsGroup, IsTotal, Share, count_clears, count_share, difference, group_key, group_of, part_of, same_group, sum_clears, sum_share, total, total_changes}
 use Rattle.index_maint.proofs.RecordLists.{all_filter}
 use Rattle.index_maint.proofs.SomeEntries.{IsBetween, entries_at, nothing_stands, tells_only, tells_those, told}
-use Rattle.index_maint.proofs.TotalLaw.{no_part, part_comes, parts_left, total_is, value_after_all-append, weight}
+use Rattle.index_maint.proofs.TotalLaw.{CountsOnes, count_ones, none_weighs, sum_ones, weighs_none}
+use Rattle.index_maint.proofs.TotalParts.{no_part, one_left, part_comes, parts_left, same_group_key, total_is, value_after_all-append, weight}
 use Rattle.index_maint.proofs.ValueLaw.{has_entry, is_entry_key, there}
 
 -- ---- totals: what each record of the range counts is added
@@ -88,24 +89,24 @@ only_type share index group p (r ∷ records) = by_tests (p r) (is_indexed index
     by_tests false false b i rest = rest
 
 -- each record of the type is added in turn
-abbrev all_come : Share → List ℕ → IndexDefinition → List Record → List Mutation
-all_come share prefix index records = flat_map (λ r. total_changes share prefix index None (Some r)) records
+abbrev all_come : Share → Clearing → List ℕ → IndexDefinition → List Record → List Mutation
+all_come share clears prefix index records = flat_map (λ r. total_changes share clears prefix index None (Some r)) records
 
-sums_come : (share : Share) (prefix : List ℕ) (index : IndexDefinition) (group : List Cell) (records : List Record) (n : ℕ) (value : Option (List ℕ)) → All IsCell group →
+sums_come : (share : Share) (clears : Clearing) (prefix : List ℕ) (index : IndexDefinition) (group : List Cell) (records : List Record) (n : ℕ) (value : Option (List ℕ)) → All IsCell group →
     AllByRecursion IsStorable records → AllByRecursion (λ r. is_indexed index r ≡ true) records → IsTotal value (n % 2 ^ 64) →
-    IsTotal (value_after_all (all_come share prefix index records) (group_key prefix index.number group) value) ((n + sum_by (weight share index group) records) % 2 ^ 64)
-sums_come share prefix index group [] n value k storable of is = subst (λ x. IsTotal value (x % 2 ^ 64)) same is
+    IsTotal (value_after_all (all_come share clears prefix index records) (group_key prefix index.number group) value) ((n + sum_by (weight share index group) records) % 2 ^ 64)
+sums_come share clears prefix index group [] n value k storable of is = subst (λ x. IsTotal value (x % 2 ^ 64)) same is
   where
     same : n ≡ n + 0
     same = omega arith
-sums_come share prefix index group (r ∷ records) n value k storable of is =
+sums_come share clears prefix index group (r ∷ records) n value k storable of is =
     let at = group_key prefix index.number group in
-    let first = total_changes share prefix index None (Some r) in
+    let first = total_changes share clears prefix index None (Some r) in
     let then = value_after_all first at value in
-    subst (λ v. IsTotal v ((n + sum_by (weight share index group) (r ∷ records)) % 2 ^ 64)) (sym (value_after_all-append first (all_come share prefix index records) at value))
-    (subst (λ x. IsTotal (value_after_all (all_come share prefix index records) at then) (x % 2 ^ 64))
+    subst (λ v. IsTotal v ((n + sum_by (weight share index group) (r ∷ records)) % 2 ^ 64)) (sym (value_after_all-append first (all_come share clears prefix index records) at value))
+    (subst (λ x. IsTotal (value_after_all (all_come share clears prefix index records) at then) (x % 2 ^ 64))
     (turned (weight share index group r) n (sum_by (weight share index group) records) ∙ ap (λ x. n + x) (sym (sum_by-cons (weight share index group) r records)))
-    (sums_come share prefix index group records (weight share index group r + n) then k storable.1 of.1
+    (sums_come share clears prefix index group records (weight share index group r + n) then k storable.1 of.1
     (subst (λ w. IsTotal then ((w + n) % 2 ^ 64)) (sym (ap (λ b. cond b (cond (same_group group (group_of index r)) (share index r) 0) 0) of.0))
     (part_comes prefix index.number (part_of share index r) group n value (all-cells_at r.cells index.columns storable.0.cells) k
     (subst (λ x. IsTotal value (x % 2 ^ 64)) (sym (zero-add n)) is)))))
@@ -114,15 +115,38 @@ sums_come share prefix index group (r ∷ records) n value k storable of is =
     turned a x y = omega arith
 
 -- bytes that are no group's stay
-none_come : (share : Share) (prefix : List ℕ) (index : IndexDefinition) (bytes : List ℕ) (records : List Record) (value : Option (List ℕ)) → AllByRecursion IsStorable records →
+none_come : (share : Share) (clears : Clearing) (prefix : List ℕ) (index : IndexDefinition) (bytes : List ℕ) (records : List Record) (value : Option (List ℕ)) → AllByRecursion IsStorable records →
     ((group : List Cell) → IsGroup index group → bytes ≡ spelling (items_of group) → ⊥) →
-    value_after_all (all_come share prefix index records) (entries_prefix prefix index.number ++ bytes) value ≡ value
-none_come share prefix index bytes [] value storable none = refl
-none_come share prefix index bytes (r ∷ records) value storable none =
+    value_after_all (all_come share clears prefix index records) (entries_prefix prefix index.number ++ bytes) value ≡ value
+none_come share clears prefix index bytes [] value storable none = refl
+none_come share clears prefix index bytes (r ∷ records) value storable none =
     let at = entries_prefix prefix index.number ++ bytes in
-    value_after_all-append (total_changes share prefix index None (Some r)) (all_come share prefix index records) at value
-    ∙ none_come share prefix index bytes records (value_after_all (total_changes share prefix index None (Some r)) at value) storable.1 none
-    ∙ parts_left prefix index.number None (Some (part_of share index r)) at value tt (no_part share prefix index bytes (Some r) storable.0 none)
+    value_after_all-append (total_changes share clears prefix index None (Some r)) (all_come share clears prefix index records) at value
+    ∙ none_come share clears prefix index bytes records (value_after_all (total_changes share clears prefix index None (Some r)) at value) storable.1 none
+    ∙ parts_left (clears index) prefix index.number None (Some (part_of share index r)) at value tt (no_part share prefix index bytes (Some r) storable.0 none)
+
+-- a group of none of the records stays, where each record counts 1
+others_come : (share : Share) (clears : Clearing) (prefix : List ℕ) (index : IndexDefinition) (group : List Cell) → ((r : Record) → share index r ≡ 1) → (records : List Record) (value : Option (List ℕ)) → All IsCell group →
+    AllByRecursion IsStorable records → AllByRecursion (λ r. is_indexed index r ≡ true) records → sum_by (weight share index group) records ≡ 0 →
+    value_after_all (all_come share clears prefix index records) (group_key prefix index.number group) value ≡ value
+others_come share clears prefix index group ones [] value k storable of none = refl
+others_come share clears prefix index group ones (r ∷ records) value k storable of none =
+    let at = group_key prefix index.number group in
+    let first = total_changes share clears prefix index None (Some r) in
+    let w = weight share index group in
+    let sum : w r + sum_by w records ≡ 0 = sym (sum_by-cons w r records) ∙ none in
+    let own : w r ≡ 0 = omega (arith, sum) in
+    let later : sum_by w records ≡ 0 = omega (arith, sum) in
+    let other : same_group group (group_of index r) ≡ false =
+    apart (same_group group (group_of index r)) (share index r) (ones r) (ap (λ b. cond b (cond (same_group group (group_of index r)) (share index r) 0) 0) (sym of.0) ∙ own) in
+    value_after_all-append first (all_come share clears prefix index records) at value
+    ∙ others_come share clears prefix index group ones records (value_after_all first at value) k storable.1 of.1 later
+    ∙ one_left prefix index.number (group_of index r) (difference 0 (share index r)) at value
+    (same_group_key prefix index.number (group_of index r) group (all-cells_at r.cells index.columns storable.0.cells) k ∙ other)
+  where
+    apart : (b : Bool) (amount : ℕ) → amount ≡ 1 → cond b amount 0 ≡ 0 → b ≡ false
+    apart true amount one nothing = absurd (omega (arith, one, nothing))
+    apart false amount one nothing = refl
 
 indexed_all : (index : IndexDefinition) (p : Record → Bool) (records : List Record) → AllByRecursion (λ r. is_indexed index r ≡ true) (filter p (of_type index.type_number records))
 indexed_all index p records = all_filter (λ r. is_indexed index r ≡ true) p (of_type index.type_number records) (each records)
@@ -137,13 +161,13 @@ indexed_all index p records = all_filter (λ r. is_indexed index r ≡ true) p (
         by_test false is rest = rest
 
 -- BUILD: the totals over the records at built positions are those with the range, once what its records count is added
-pub totals_built : (share : Share) (prefix : List ℕ) (index : IndexDefinition) (range : KeyRange) (ranges : List KeyRange) (records : List Record) (m : Map) →
+pub totals_built : (share : Share) (clears : Clearing) → CountsOnes share clears → (prefix : List ℕ) (index : IndexDefinition) (range : KeyRange) (ranges : List KeyRange) (records : List Record) (m : Map) →
     IsInGap range ranges → AllByRecursion IsStorable records →
-    HasTotals share prefix index (built_records ranges records) m →
-    HasTotals share prefix index (built_records (range ∷ ranges) records) (after_all (all_come share prefix index (records_within range index records)) m)
-totals_built share prefix index range ranges records m gap storable has =
+    HasTotals share clears prefix index (built_records ranges records) m →
+    HasTotals share clears prefix index (built_records (range ∷ ranges) records) (after_all (all_come share clears prefix index (records_within range index records)) m)
+totals_built share clears ones prefix index range ranges records m gap storable has =
     let some = records_within range index records in
-    let written = all_come share prefix index some in
+    let written = all_come share clears prefix index some in
     let can = all_filter IsStorable (λ r. contains range (position r)) (of_type index.type_number records) (all_filter IsStorable (λ r. r.definition.number == index.type_number) records storable) in
     record {
       totals = λ group cells.
@@ -153,11 +177,22 @@ totals_built share prefix index range ranges records m gap storable has =
           (subst (IsTotal (value_after_all written at (get m at)))
           (sym (total_is share index group (built_records (range ∷ ranges) records)
           ∙ ap (λ x. x % 2 ^ 64) (parts_sum w range ranges records gap ∙ ap (λ x. sum_by w (built_records ranges records) + x) (only_type share index group (λ r. contains range (position r)) records))))
-          (sums_come share prefix index group some (sum_by w (built_records ranges records)) (get m at) cells can (indexed_all index (λ r. contains range (position r)) records)
+          (sums_come share clears prefix index group some (sum_by w (built_records ranges records)) (get m at) cells can (indexed_all index (λ r. contains range (position r)) records)
           (subst (IsTotal (get m at)) (total_is share index group (built_records ranges records)) (has.totals group cells))));
       groups = λ bytes none.
           get-after_all-value written m (entries_prefix prefix index.number ++ bytes)
-          ∙ none_come share prefix index bytes some (get m (entries_prefix prefix index.number ++ bytes)) can none ∙ has.groups bytes none;
+          ∙ none_come share clears prefix index bytes some (get m (entries_prefix prefix index.number ++ bytes)) can none ∙ has.groups bytes none;
+      cleared = λ clear group cells empty.
+          let at = group_key prefix index.number group in
+          let w = weight share index group in
+          let parts : sum_by w (built_records ranges records) + sum_by w some ≡ 0 =
+          ap (λ x. sum_by w (built_records ranges records) + x) (sym (only_type share index group (λ r. contains range (position r)) records)) ∙ sym (parts_sum w range ranges records gap)
+          ∙ none_weighs share index group (built_records (range ∷ ranges) records) empty in
+          let before : sum_by w (built_records ranges records) ≡ 0 = omega (arith, parts) in
+          let inside : sum_by w some ≡ 0 = omega (arith, parts) in
+          get-after_all-value written m at
+          ∙ others_come share clears prefix index group (ones index clear) some (get m at) cells can (indexed_all index (λ r. contains range (position r)) records) inside
+          ∙ has.cleared clear group cells (weighs_none share index group (built_records ranges records) (ones index clear) before);
     }
 
 -- ---- entries: that of each record of the range is put
@@ -294,8 +329,8 @@ pub part_built : (kind : IndexKind) (prefix : List ℕ) (index : IndexDefinition
     HasPart kind prefix index ranges records m →
     HasPart kind prefix index (range ∷ ranges) records (after_all (flat_map (λ r. changes_by kind prefix index None (Some r)) (records_within range index records)) m)
 part_built Value prefix index range ranges records m gap storable has = entries_built prefix index range ranges records m has
-part_built Count prefix index range ranges records m gap storable has = totals_built count_share prefix index range ranges records m gap storable has
-part_built Sum prefix index range ranges records m gap storable has = totals_built sum_share prefix index range ranges records m gap storable has
+part_built Count prefix index range ranges records m gap storable has = totals_built count_share count_clears count_ones prefix index range ranges records m gap storable has
+part_built Sum prefix index range ranges records m gap storable has = totals_built sum_share sum_clears sum_ones prefix index range ranges records m gap storable has
 
 -- no position: a write-only index starts with none built, where nothing stands
 pub part_starts : (kind : IndexKind) (prefix : List ℕ) (index : IndexDefinition) (records : List Record) (m : Map) → ((bytes : List ℕ) → get m (entries_prefix prefix index.number ++ bytes) ≡ None) → HasPart kind prefix index [] records m
@@ -305,10 +340,11 @@ part_starts kind prefix index records m bare = by_kind kind (none records)
     none [] = refl
     none (r ∷ left) = none left
 
-    nothing : (share : Share) → HasTotals share prefix index [] m
-    nothing share = record {
+    nothing : (share : Share) (clears : Clearing) → HasTotals share clears prefix index [] m
+    nothing share clears = record {
       totals = λ group cells. subst (λ v. IsTotal v 0) (sym (bare (spelling (items_of group)))) refl;
       groups = λ bytes no. bare bytes;
+      cleared = λ clear group cells empty. bare (spelling (items_of group));
     }
 
     by_kind : (k : IndexKind) → built_records [] records ≡ [] → HasPart k prefix index [] records m
@@ -317,5 +353,5 @@ part_starts kind prefix index records m bare = by_kind kind (none records)
       at_built = λ rest value stands.
           absurd (nothing_stands value (sym (entries_at prefix index [] (entries_prefix prefix index.number ++ rest)) ∙ ap (λ rs. get (entries_map prefix index rs) (entries_prefix prefix index.number ++ rest)) (sym is) ∙ stands));
     }
-    by_kind Count is = subst (λ rs. HasTotals count_share prefix index rs m) (sym is) (nothing count_share)
-    by_kind Sum is = subst (λ rs. HasTotals sum_share prefix index rs m) (sym is) (nothing sum_share)
+    by_kind Count is = subst (λ rs. HasTotals count_share count_clears prefix index rs m) (sym is) (nothing count_share count_clears)
+    by_kind Sum is = subst (λ rs. HasTotals sum_share sum_clears prefix index rs m) (sym is) (nothing sum_share sum_clears)

@@ -1,5 +1,5 @@
 -- A worked example of an index's entries, computed.
-use Rattle.std.proofs.Common.{◌≡◌, ℕ, List, [], ◌∷◌, None, Some, pos, refl}
+use Rattle.std.proofs.Common.{◌≡◌, ℕ, List, [], ◌∷◌, None, Some, false, pos, refl}
 use Rattle.std.specs.declared.cmp.Ordering.TheVariants.{Less}
 use Rattle.tuple_codec.specs.Spelling.{byte_count, int_spelling}
 use Rattle.kv_core.specs.Bytes.{key_cmp}
@@ -22,7 +22,7 @@ abbrev field : ℕ → Field
 field name = record { name = name ∷ []; kind = kind.Int }
 
 abbrev type : ℕ → TypeDefinition
-type number = record { number = number; name = 116 ∷ []; fields = field 107 ∷ field 97 ∷ field 98 ∷ []; key = 0 ∷ [] }
+type number = record { number = number; name = 116 ∷ []; fields = field 107 ∷ field 97 ∷ field 98 ∷ []; key = 0 ∷ []; first_fields = 3 }
 
 abbrev pub row : ℕ → Cell → Cell → Cell → Record
 row number k a b = record { definition = type number; cells = k ∷ a ∷ b ∷ [] }
@@ -32,7 +32,7 @@ number n = Int (pos n)
 
 -- the VALUE index with number 1 over type 1, on the field a
 abbrev pub index : IndexDefinition
-index = record { number = 1; name = 105 ∷ []; kind = Value; type_number = 1; columns = 1 ∷ []; summed = None }
+index = record { number = 1; name = 105 ∷ []; kind = Value; type_number = 1; columns = 1 ∷ []; summed = None; clear_when_zero = false }
 
 abbrev pub prefix : List ℕ
 prefix = 0x15 ∷ 0x01 ∷ []

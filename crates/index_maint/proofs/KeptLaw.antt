@@ -31,12 +31,12 @@ use Rattle.index_maint.specs.KeptLaws.{KeptFollows, KeptIgnoresOthers, KeptOfPos
 use Rattle.index_maint.specs.KeptLaws.{BuildEnds, BuildStarts, BuildSteps, BuildWithin}
 use Rattle.index_maint.specs.Layout.{entries_prefix, entry_pair, entry_pairs}
 use Rattle.index_maint.specs.Laws.{IsIndexed, IsOther, IsReplacement, replaced}
-use Rattle.index_maint.specs.Totals.{HasTotals, IsTotal, Share, count_share, group_of, same_group, sum_share, total, total_changes}
+use Rattle.index_maint.specs.Totals.{Clearing, HasTotals, IsTotal, Share, count_clears, count_share, group_of, same_group, sum_clears, sum_share, total, total_changes}
 use Rattle.index_maint.proofs.BuildLaw.{part_built, part_starts}
 use Rattle.index_maint.proofs.RecordIndexes.{IsTyped, flat_map-filter, indexed_by, other_by}
 use Rattle.index_maint.proofs.Several.{AreApart, SameUnder, all_leave, each_follows}
 use Rattle.index_maint.proofs.SomeEntries.{some_follow}
-use Rattle.index_maint.proofs.TotalLaw.{totals_follow, totals_has_within, totals_ignore_others, totals_within}
+use Rattle.index_maint.proofs.TotalLaw.{count_ones, sum_ones, totals_follow, totals_has_within, totals_ignore_others, totals_within}
 use Rattle.index_maint.proofs.ValueLaw.{other_type, value_follows, value_has_within, value_ignores_others, value_within}
 use Rattle.index_maint.proofs.WholeLaw.{part_whole}
 use Rattle.index_maint.proofs.WriteOnly.{built_follows, built_ignores_others, built_replaced, built_replacement, out_replaced}
@@ -47,35 +47,36 @@ defined_follows : (kind : IndexKind) (prefix : List ℕ) (index : IndexDefinitio
     IsReplacement key old new records → IsIndexed index old → IsIndexed index new →
     HasDefined kind prefix index records m → HasDefined kind prefix index (replaced key new records) (after_all (changes_by kind prefix index old new) m)
 defined_follows Value prefix index key old new records m given a b has = value_follows prefix index key old new records m given a b has
-defined_follows Count prefix index key old new records m given a b has = totals_follow count_share prefix index key old new records m given a b has
-defined_follows Sum prefix index key old new records m given a b has = totals_follow sum_share prefix index key old new records m given a b has
+defined_follows Count prefix index key old new records m given a b has = totals_follow count_share count_clears count_ones prefix index key old new records m given a b has
+defined_follows Sum prefix index key old new records m given a b has = totals_follow sum_share sum_clears sum_ones prefix index key old new records m given a b has
 
 defined_ignores : (kind : IndexKind) (prefix : List ℕ) (index : IndexDefinition) (key : List Item) (old new : Option Record) (records : List Record) (m : Map) →
     IsReplacement key old new records → IsOther index old → IsOther index new → HasDefined kind prefix index records m → HasDefined kind prefix index (replaced key new records) m
 defined_ignores Value prefix index key old new records m given a b has = value_ignores_others prefix index key old new records m given a b has
-defined_ignores Count prefix index key old new records m given a b has = totals_ignore_others count_share prefix index key old new records m given a b has
-defined_ignores Sum prefix index key old new records m given a b has = totals_ignore_others sum_share prefix index key old new records m given a b has
+defined_ignores Count prefix index key old new records m given a b has = totals_ignore_others count_share count_clears prefix index key old new records m given a b has
+defined_ignores Sum prefix index key old new records m given a b has = totals_ignore_others sum_share sum_clears prefix index key old new records m given a b has
 
 changes_within : (kind : IndexKind) (prefix : List ℕ) (index : IndexDefinition) (old new : Option Record) (m : Map) (key : List ℕ) → (BeginsWith (entries_prefix prefix index.number) key → ⊥) →
     get (after_all (changes_by kind prefix index old new) m) key ≡ get m key
 changes_within Value prefix index old new m key apart = value_within prefix index old new m key apart
-changes_within Count prefix index old new m key apart = totals_within count_share prefix index old new m key apart
-changes_within Sum prefix index old new m key apart = totals_within sum_share prefix index old new m key apart
+changes_within Count prefix index old new m key apart = totals_within count_share count_clears prefix index old new m key apart
+changes_within Sum prefix index old new m key apart = totals_within sum_share sum_clears prefix index old new m key apart
 
 defined_within : (kind : IndexKind) (prefix : List ℕ) (index : IndexDefinition) (records : List Record) (m n : Map) → SameUnder prefix index m n →
     HasDefined kind prefix index records m → HasDefined kind prefix index records n
 defined_within Value prefix index records m n same has = value_has_within prefix index records m n same has
-defined_within Count prefix index records m n same has = totals_has_within count_share prefix index records m n same has
-defined_within Sum prefix index records m n same has = totals_has_within sum_share prefix index records m n same has
+defined_within Count prefix index records m n same has = totals_has_within count_share count_clears prefix index records m n same has
+defined_within Sum prefix index records m n same has = totals_has_within sum_share sum_clears prefix index records m n same has
 
 -- where no record is of the type and nothing stands there, a map has the index
-totals_none : (share : Share) (prefix : List ℕ) (index : IndexDefinition) (records : List Record) (m : Map) → of_type index.type_number records ≡ [] →
-    ((bytes : List ℕ) → get m (entries_prefix prefix index.number ++ bytes) ≡ None) → HasTotals share prefix index records m
-totals_none share prefix index records m empty none = record {
+totals_none : (share : Share) (clears : Clearing) (prefix : List ℕ) (index : IndexDefinition) (records : List Record) (m : Map) → of_type index.type_number records ≡ [] →
+    ((bytes : List ℕ) → get m (entries_prefix prefix index.number ++ bytes) ≡ None) → HasTotals share clears prefix index records m
+totals_none share clears prefix index records m empty none = record {
   totals = λ group cells.
       subst (λ v. IsTotal v (total share index group records)) (sym (none (spelling (items_of group))))
       (ap (λ rs. sum_by (share index) (filter (λ r. same_group group (group_of index r)) rs) % 2 ^ 64) empty);
   groups = λ bytes apart. none bytes;
+  cleared = λ clear group cells empty_is. none (spelling (items_of group));
 }
 
 pub defined_none : (kind : IndexKind) (prefix : List ℕ) (index : IndexDefinition) (records : List Record) (m : Map) → of_type index.type_number records ≡ [] →
@@ -84,8 +85,8 @@ defined_none Value prefix index records m empty none = λ bytes.
     none bytes
     ∙ sym (get-stored (entry_pairs prefix index records) (entries_prefix prefix index.number ++ bytes)
     ∙ ap (λ rs. lookup (is_at (key_cmp (entries_prefix prefix index.number ++ bytes))) (map (entry_pair prefix index.number) (map (entry_of index) rs))) empty)
-defined_none Count prefix index records m empty none = totals_none count_share prefix index records m empty none
-defined_none Sum prefix index records m empty none = totals_none sum_share prefix index records m empty none
+defined_none Count prefix index records m empty none = totals_none count_share count_clears prefix index records m empty none
+defined_none Sum prefix index records m empty none = totals_none sum_share sum_clears prefix index records m empty none
 
 -- ---- write-only
 
@@ -94,9 +95,9 @@ part_follows : (kind : IndexKind) (prefix : List ℕ) (index : IndexDefinition) 
     HasPart kind prefix index ranges records m → HasPart kind prefix index ranges (replaced key new records) (after_all (part_changes_by kind prefix index (has_position ranges (position_of key)) old new) m)
 part_follows Value prefix index ranges key old new records m given a b has = some_follow prefix index ranges key old new records m given a b has
 part_follows Count prefix index ranges key old new records m given a b has =
-    built_follows ranges (λ p i rs n. HasTotals count_share p i rs n) (λ p i o n. total_changes count_share p i o n) (totals_follow count_share) prefix index key old new records m given a b has
+    built_follows ranges (λ p i rs n. HasTotals count_share count_clears p i rs n) (λ p i o n. total_changes count_share count_clears p i o n) (totals_follow count_share count_clears count_ones) prefix index key old new records m given a b has
 part_follows Sum prefix index ranges key old new records m given a b has =
-    built_follows ranges (λ p i rs n. HasTotals sum_share p i rs n) (λ p i o n. total_changes sum_share p i o n) (totals_follow sum_share) prefix index key old new records m given a b has
+    built_follows ranges (λ p i rs n. HasTotals sum_share sum_clears p i rs n) (λ p i o n. total_changes sum_share sum_clears p i o n) (totals_follow sum_share sum_clears sum_ones) prefix index key old new records m given a b has
 
 -- entries of the records at built positions stay where a record of another type gives way to one
 built_pairs : (prefix : List ℕ) (index : IndexDefinition) (ranges : List KeyRange) (key : List Item) (old new : Option Record) (records : List Record) → IsReplacement key old new records →
@@ -115,9 +116,9 @@ part_ignores Value prefix index ranges key old new records m given a b has = rec
   at_built = λ rest value is. has.at_built rest value (ap (λ ps. get (stored ps) (entries_prefix prefix index.number ++ rest)) (sym (built_pairs prefix index ranges key old new records given a b)) ∙ is);
 }
 part_ignores Count prefix index ranges key old new records m given a b has =
-    built_ignores_others ranges (λ p i rs n. HasTotals count_share p i rs n) (totals_ignore_others count_share) prefix index key old new records m given a b has
+    built_ignores_others ranges (λ p i rs n. HasTotals count_share count_clears p i rs n) (totals_ignore_others count_share count_clears) prefix index key old new records m given a b has
 part_ignores Sum prefix index ranges key old new records m given a b has =
-    built_ignores_others ranges (λ p i rs n. HasTotals sum_share p i rs n) (totals_ignore_others sum_share) prefix index key old new records m given a b has
+    built_ignores_others ranges (λ p i rs n. HasTotals sum_share sum_clears p i rs n) (totals_ignore_others sum_share sum_clears) prefix index key old new records m given a b has
 
 part_within : (kind : IndexKind) (prefix : List ℕ) (index : IndexDefinition) (ranges : List KeyRange) (records : List Record) (m n : Map) → SameUnder prefix index m n →
     HasPart kind prefix index ranges records m → HasPart kind prefix index ranges records n
@@ -125,15 +126,15 @@ part_within Value prefix index ranges records m n same has = record {
   only = λ rest value is. has.only rest value (same rest ∙ is);
   at_built = λ rest value is. sym (same rest) ∙ has.at_built rest value is;
 }
-part_within Count prefix index ranges records m n same has = totals_has_within count_share prefix index (built_records ranges records) m n same has
-part_within Sum prefix index ranges records m n same has = totals_has_within sum_share prefix index (built_records ranges records) m n same has
+part_within Count prefix index ranges records m n same has = totals_has_within count_share count_clears prefix index (built_records ranges records) m n same has
+part_within Sum prefix index ranges records m n same has = totals_has_within sum_share sum_clears prefix index (built_records ranges records) m n same has
 
 part_changes_within : (kind : IndexKind) (prefix : List ℕ) (index : IndexDefinition) (at_built : Bool) (old new : Option Record) (m : Map) (key : List ℕ) → (BeginsWith (entries_prefix prefix index.number) key → ⊥) →
     get (after_all (part_changes_by kind prefix index at_built old new) m) key ≡ get m key
 part_changes_within Value prefix index at_built old new m key apart = value_within prefix index old new m key apart
-part_changes_within Count prefix index true old new m key apart = totals_within count_share prefix index old new m key apart
+part_changes_within Count prefix index true old new m key apart = totals_within count_share count_clears prefix index old new m key apart
 part_changes_within Count prefix index false old new m key apart = refl
-part_changes_within Sum prefix index true old new m key apart = totals_within sum_share prefix index old new m key apart
+part_changes_within Sum prefix index true old new m key apart = totals_within sum_share sum_clears prefix index old new m key apart
 part_changes_within Sum prefix index false old new m key apart = refl
 
 -- ---- by state
@@ -176,8 +177,8 @@ kept_of_positions WriteOnly prefix index ranges others records m same has = by_k
       only = h.only;
       at_built = λ rest value is. h.at_built rest value (ap (λ rs. get (entries_map prefix index rs) (entries_prefix prefix index.number ++ rest)) alike ∙ is);
     }
-    by_kind Count h = subst (λ rs. HasTotals count_share prefix index rs m) alike h
-    by_kind Sum h = subst (λ rs. HasTotals sum_share prefix index rs m) alike h
+    by_kind Count h = subst (λ rs. HasTotals count_share count_clears prefix index rs m) alike h
+    by_kind Sum h = subst (λ rs. HasTotals sum_share sum_clears prefix index rs m) alike h
 kept_of_positions Disabled prefix index ranges others records m same has = has
 
 -- ---- building

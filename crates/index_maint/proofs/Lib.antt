@@ -9,6 +9,7 @@ pub mod Places
 pub mod Lookups
 pub mod ValueLaw
 pub mod OnlyChanges
+pub mod TotalParts
 pub mod TotalLaw
 pub mod TotalChanges
 pub mod Several
@@ -20,3 +21,4 @@ pub mod WholeLaw
 pub mod FirstParts
 pub mod KeptLaw
 mod SomeChanges
+pub mod AlikeRecords

@@ -23,12 +23,13 @@ use Rattle.index_maint.specs.Kept.{HasDefined, HasPart, changes_by, part_changes
 use Rattle.index_maint.specs.KeptLaws.{KeptOnlyChanges}
 use Rattle.index_maint.specs.Layout.{entries_prefix, entry_key}
 use Rattle.index_maint.specs.Laws.{IsIndexed, IsReplacement, Keeping, OnlyChanges, Writing}
-use Rattle.index_maint.specs.Totals.{HasTotals, count_share, sum_share, total_changes}
+use Rattle.index_maint.specs.Totals.{HasTotals, count_clears, count_share, sum_clears, sum_share, total_changes}
 use Rattle.index_maint.proofs.EntryKeys.{same_key}
 use Rattle.index_maint.proofs.OnlyChanges.{at_entry, bytes_of, covered, covered_other, new_alone, or_false, value_only_changes}
 use Rattle.index_maint.proofs.Replaced.{found_storable}
 use Rattle.index_maint.proofs.SomeEntries.{entries_at, nothing_stands}
 use Rattle.index_maint.proofs.TotalChanges.{totals_only_change}
+use Rattle.index_maint.proofs.TotalLaw.{count_ones, sum_ones}
 use Rattle.index_maint.proofs.ValueLaw.{any_before, cleared, has_entry, holds_of, is_entry_key, there}
 use Rattle.index_maint.proofs.WriteOnly.{built_replacement}
 
@@ -94,8 +95,8 @@ module _ (prefix : List ℕ) (index : IndexDefinition) (ranges : List KeyRange) 
 
 defined_only : (kind : IndexKind) → OnlyChanges (λ p i rs m. HasDefined kind p i rs m) (λ p i o n. changes_by kind p i o n)
 defined_only Value = value_only_changes
-defined_only Count = totals_only_change count_share
-defined_only Sum = totals_only_change sum_share
+defined_only Count = totals_only_change count_share count_clears count_ones
+defined_only Sum = totals_only_change sum_share sum_clears sum_ones
 
 -- nothing is written where the position isn't built
 built_only : (Has : Keeping) (writes : Writing) → OnlyChanges Has writes → (prefix : List ℕ) (index : IndexDefinition) (ranges : List KeyRange) (key : List Item) (old new : Option Record) (records : List Record) (m : Map) (at : List ℕ) →
@@ -115,9 +116,9 @@ part_only : (kind : IndexKind) (prefix : List ℕ) (index : IndexDefinition) (ra
     get (after_all (part_changes_by kind prefix index (has_position ranges (position_of key)) old new) m) at ≡ get m at → get m at ≡ None
 part_only Value prefix index ranges key old new records m at given a b has = some_only prefix index ranges records m has key at old new given
 part_only Count prefix index ranges key old new records m at given a b has =
-    built_only (λ p i rs n. HasTotals count_share p i rs n) (λ p i o n. total_changes count_share p i o n) (totals_only_change count_share) prefix index ranges key old new records m at given a b has
+    built_only (λ p i rs n. HasTotals count_share count_clears p i rs n) (λ p i o n. total_changes count_share count_clears p i o n) (totals_only_change count_share count_clears count_ones) prefix index ranges key old new records m at given a b has
 part_only Sum prefix index ranges key old new records m at given a b has =
-    built_only (λ p i rs n. HasTotals sum_share p i rs n) (λ p i o n. total_changes sum_share p i o n) (totals_only_change sum_share) prefix index ranges key old new records m at given a b has
+    built_only (λ p i rs n. HasTotals sum_share sum_clears p i rs n) (λ p i o n. total_changes sum_share sum_clears p i o n) (totals_only_change sum_share sum_clears sum_ones) prefix index ranges key old new records m at given a b has
 
 -- LAW: only what changes is written
 pub kept_only_changes : KeptOnlyChanges

@@ -20,7 +20,7 @@ use Rattle.range_set.specs.Gaps.{IsFirstGap, first_gap, has_position, is_whole}
 use Rattle.index_maint.specs.Built.{built_records, position}
 use Rattle.index_maint.specs.Kept.{HasDefined, HasPart}
 use Rattle.index_maint.specs.Layout.{entries_prefix}
-use Rattle.index_maint.specs.Totals.{HasTotals, count_share, sum_share}
+use Rattle.index_maint.specs.Totals.{HasTotals, count_clears, count_share, sum_clears, sum_share}
 use Rattle.range_set.proofs.Gaps.{first_gap_is}
 use Rattle.index_maint.proofs.SomeEntries.{entries_at, IsBetween, told}
 use Rattle.index_maint.proofs.ValueLaw.{has_entry, there}
@@ -62,5 +62,5 @@ part_whole Value prefix index ranges records m whole storable has = λ rest.
     (told (get m at) (list_any p records) (list_any p records) (λ x is. sym (entries_at prefix index records at) ∙ has.only rest x is)
     (λ x is. has.at_built rest x (entries_at prefix index (built_records ranges records) at ∙ ap (λ rs. there (list_any p rs)) (all_built ranges records whole storable) ∙ is)))
     ∙ sym (entries_at prefix index records at)
-part_whole Count prefix index ranges records m whole storable has = subst (λ rs. HasTotals count_share prefix index rs m) (all_built ranges records whole storable) has
-part_whole Sum prefix index ranges records m whole storable has = subst (λ rs. HasTotals sum_share prefix index rs m) (all_built ranges records whole storable) has
+part_whole Count prefix index ranges records m whole storable has = subst (λ rs. HasTotals count_share count_clears prefix index rs m) (all_built ranges records whole storable) has
+part_whole Sum prefix index ranges records m whole storable has = subst (λ rs. HasTotals sum_share sum_clears prefix index rs m) (all_built ranges records whole storable) has

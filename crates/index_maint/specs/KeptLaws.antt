@@ -12,7 +12,8 @@ use Rattle.range_set.specs.Stored.{IsInGap}
 use Rattle.metadata.specs.declared.index.IndexDefinition.{IndexDefinition}
 use Rattle.metadata.specs.declared.index.State.{State}
 use Rattle.metadata.specs.declared.index.State.TheVariants.{Readable, WriteOnly}
-use Rattle.metadata.specs.Record.{Record}
+use Rattle.metadata.specs.Cell.{cell_at}
+use Rattle.metadata.specs.Record.{Record, primary_key}
 use Rattle.metadata.specs.Records.{IsStorable}
 use Rattle.index_maint.specs.Built.{position_of}
 use Rattle.index_maint.specs.Kept.{HasKept, build_writes, kept_writes, records_within}
@@ -70,6 +71,26 @@ KeptOfPositions =
     (state : State) (prefix : List ℕ) (index : IndexDefinition) (built other : List KeyRange) (records : List Record)
     (m : Map) →
     SamePositions built other → HasKept state prefix index built records m → HasKept state prefix index other records m
+
+-- two records that no index tells apart, as a record and the same one with nulls in fields that were appended: of types
+-- with one number, with the same cell at each place, null past the end, and with the same primary key
+pub record AreAlike (r s : Record) : Type 0 where
+  pub number : r.definition.number ≡ s.definition.number
+  pub cells : (place : ℕ) → cell_at r.cells place ≡ cell_at s.cells place
+  pub key : primary_key r ≡ primary_key s
+
+-- the records of two lists are so, one by one
+abbrev pub AreAllAlike : List Record → List Record → Type 0
+AreAllAlike [] [] = Unit {0}
+AreAllAlike (r ∷ records) (s ∷ others) = AreAlike r s × AreAllAlike records others
+AreAllAlike records others = ⊥
+
+-- what is had of records is had of others that no index tells apart from them
+abbrev pub KeptOfAlike : Type 0
+KeptOfAlike =
+    (state : State) (prefix : List ℕ) (index : IndexDefinition) (built : List KeyRange) (records others : List Record)
+    (m : Map) →
+    AreAllAlike records others → HasKept state prefix index built records m → HasKept state prefix index built others m
 
 -- where nothing stands under its prefix, an index is there as a write-only one of which nothing is built
 abbrev pub BuildStarts : Type 0

@@ -8,7 +8,7 @@ ghost use Rattle.metadata.specs.Record.{Record, primary_key};
 ghost use Rattle.metadata.specs.Records.{IsStorable};
 ghost use Rattle.index_maint.specs.Entries.{entry_of};
 ghost use Rattle.index_maint.specs.KeptLaws.{BuildEnds, BuildStarts, BuildSteps, BuildWithin};
-ghost use Rattle.index_maint.specs.KeptLaws.{KeptFollows, KeptIgnoresOthers, KeptOfPositions};
+ghost use Rattle.index_maint.specs.KeptLaws.{KeptFollows, KeptIgnoresOthers, KeptOfAlike, KeptOfPositions};
 ghost use Rattle.index_maint.specs.KeptLaws.{KeptOnlyChanges, KeptWithin, KeptWritesWithin};
 ghost use Rattle.index_maint.specs.Layout.{entries_prefix, entry_key};
 ghost use Rattle.index_maint.specs.Parts.{FirstParts};
@@ -33,7 +33,8 @@ pub fn places_are_apart()
 /// records, it has it over those with the new one in the old one's place once `push_kept_changes`
 /// is written, and only what changes is written. A record of another type needs no writes. The
 /// writes leave each key that doesn't begin with the index's prefix as it was, and what a map has
-/// at such keys doesn't matter, nor does it how the built positions are divided into ranges.
+/// at such keys doesn't matter, nor does it how the built positions are divided into ranges. Records
+/// with nulls in fields that were appended to their type are the same to it as those without.
 pub fn kept_indexes_follow()
     ensures follows { KeptFollows }
     ensures only_changes { KeptOnlyChanges }
@@ -41,6 +42,7 @@ pub fn kept_indexes_follow()
     ensures writes_within { KeptWritesWithin }
     ensures has_within { KeptWithin }
     ensures of_positions { KeptOfPositions }
+    ensures of_alike { KeptOfAlike }
 {}
 
 /// An index is built range by range: it starts as a write-only one of which nothing is built; where

@@ -149,7 +149,8 @@ impl Maintainer for ValueIndex {
     }
 }
 
-/// Keeps COUNT indexes: for each group the number of its records.
+/// Keeps COUNT indexes: for each group the number of its records, which is taken out where it comes
+/// back to 0, if the index is defined so.
 #[derive(Drop)]
 pub struct CountIndex {}
 
@@ -170,7 +171,15 @@ impl Maintainer for CountIndex {
     ) -> Result<(), AllocError> {
         let old = count_part(alloc, index, old)?;
         let new = count_part(alloc, index, new)?;
-        push_parts(alloc, prefix, index.number, old, new, mutations)
+        push_parts(
+            alloc,
+            prefix,
+            index.number,
+            index.clear_when_zero,
+            old,
+            new,
+            mutations,
+        )
     }
 }
 
@@ -195,6 +204,6 @@ impl Maintainer for SumIndex {
     ) -> Result<(), AllocError> {
         let old = sum_part(alloc, index, old)?;
         let new = sum_part(alloc, index, new)?;
-        push_parts(alloc, prefix, index.number, old, new, mutations)
+        push_parts(alloc, prefix, index.number, false, old, new, mutations)
     }
 }

@@ -5,8 +5,8 @@ ghost use Rattle.std.specs.Option.{option_copied, option_map};
 ghost use Rattle.kv_core.specs.Addition.{bytes_of};
 ghost use Rattle.kv_core.specs.Bytes.{end_of_keys, key_lt};
 ghost use Rattle.metadata.specs.Cell.{IsCell};
-ghost use Rattle.index_maint.specs.Totals.{add_amount, count_share, difference, group_key, part_changes, part_of};
-ghost use Rattle.index_maint.specs.Totals.{same_group, sum_share, summed_share};
+ghost use Rattle.index_maint.specs.Totals.{add_amount, clear_zero, count_share, difference, group_key};
+ghost use Rattle.index_maint.specs.Totals.{part_changes, part_of, same_group, sum_share, summed_share, take_amount};
 
 use crate::layout::entries_prefix;
 use kv_core::{Bytes, Mutation};
@@ -89,6 +89,23 @@ fn push_amount(
     Ok(())
 }
 
+// Puts what takes a group's total out where it is 0.
+fn push_clear(
+    alloc: Global,
+    prefix: &[u8],
+    number: u64,
+    group: &Cells,
+    mutations: &mut Vec<Mutation>,
+) -> Result<(), AllocError>
+    ensures { OnOk result (mutations.new.items
+        ≡ mutations.old.items ++ clear_zero prefix.now number group.now) }
+{
+    let key = group_key(alloc, prefix, number, group)?;
+    let operand = operand(alloc, 0)?;
+    mutations.push(Mutation::CompareAndClear { key, operand })?;
+    Ok(())
+}
+
 impl Part {
     // Whether both parts are of one group.
     fn is_of_group(&self, alloc: Global, other: &Part) -> Result<bool, AllocError>
@@ -99,19 +116,25 @@ impl Part {
         Ok(compare(&own, &others).is_eq())
     }
 
-    // Puts what takes the part out of its group's total.
+    // Puts what takes the part out of its group's total, and clears that where it is to be cleared
+    // at 0.
     fn push_gone(
         &self,
         alloc: Global,
         prefix: &[u8],
         number: u64,
+        clears: bool,
         mutations: &mut Vec<Mutation>,
     ) -> Result<(), AllocError>
         ensures { OnOk result (mutations.new.items
-            ≡ mutations.old.items ++ add_amount prefix.now number self.now.group (difference self.now.amount 0)) }
+            ≡ mutations.old.items ++ take_amount clears prefix.now number self.now.group self.now.amount) }
     {
         let amount = difference(self.amount, 0);
-        push_amount(alloc, prefix, number, &self.group, amount, mutations)
+        push_amount(alloc, prefix, number, &self.group, amount, mutations)?;
+        if clears {
+            push_clear(alloc, prefix, number, &self.group, mutations)?;
+        }
+        Ok(())
     }
 
     // Puts what adds the part to its group's total.
@@ -135,36 +158,41 @@ fn push_replacement(
     alloc: Global,
     prefix: &[u8],
     number: u64,
+    clears: bool,
     old: &Part,
     new: &Part,
     mutations: &mut Vec<Mutation>,
 ) -> Result<(), AllocError>
     ensures { OnOk result (mutations.new.items
-        ≡ mutations.old.items ++ part_changes prefix.now number (Some old.now) (Some new.now)) }
+        ≡ mutations.old.items ++ part_changes clears prefix.now number (Some old.now) (Some new.now)) }
 {
     if old.is_of_group(alloc, new)? {
         let amount = difference(old.amount, new.amount);
         return push_amount(alloc, prefix, number, &new.group, amount, mutations);
     }
-    old.push_gone(alloc, prefix, number, mutations)?;
+    old.push_gone(alloc, prefix, number, clears, mutations)?;
     new.push_come(alloc, prefix, number, mutations)
 }
 
 /// Puts what is to be written where one part of a total, if there is one, gives way to another, if
-/// there is one.
+/// there is one, and whether totals are cleared at 0.
 pub(crate) fn push_parts(
     alloc: Global,
     prefix: &[u8],
     number: u64,
+    clears: bool,
     old: Option<Part>,
     new: Option<Part>,
     mutations: &mut Vec<Mutation>,
 ) -> Result<(), AllocError>
-    ensures { OnOk result (mutations.new.items ≡ mutations.old.items ++ part_changes prefix.now number old new) }
+    ensures { OnOk result (mutations.new.items
+        ≡ mutations.old.items ++ part_changes clears prefix.now number old new) }
 {
     match (old, new) {
-        (Some(old), Some(new)) => push_replacement(alloc, prefix, number, &old, &new, mutations)?,
-        (Some(old), None) => old.push_gone(alloc, prefix, number, mutations)?,
+        (Some(old), Some(new)) => {
+            push_replacement(alloc, prefix, number, clears, &old, &new, mutations)?
+        }
+        (Some(old), None) => old.push_gone(alloc, prefix, number, clears, mutations)?,
         (None, Some(new)) => new.push_come(alloc, prefix, number, mutations)?,
         (None, None) => {}
     }

@@ -1,5 +1,6 @@
 -- The schema that JSON asks for.
-use Rattle.std.specs.Prelude.{ℕ, List, [], ◌∷◌, codes, Option, Some, None, if◌then◌else◌, option_map, option_and_then}
+use Rattle.std.specs.Prelude.{ℕ, Bool, false, List, [], ◌∷◌, codes, Option, Some, None, if◌then◌else◌, option_map}
+use Rattle.std.specs.Prelude.{option_and_then}
 use Rattle.std.specs.Option.{option_map_or}
 use Rattle.metadata.specs.declared.cells.Kind.{Kind}
 use Rattle.metadata.specs.declared.cells.Kind.TheVariants.{Int, Text, Bytes}
@@ -10,7 +11,7 @@ use Rattle.metadata.specs.declared.index.IndexKind.TheVariants.{Value, Count, Su
 use Rattle.metadata.specs.declared.index.IndexRequest.{IndexRequest}
 use Rattle.metadata.specs.Asked.{SchemaRequest}
 use Rattle.serde_json.specs.Data.{Data}
-use Rattle.serde_json.specs.Find.{as_str, get}
+use Rattle.serde_json.specs.Find.{as_bool, as_str, get}
 use Rattle.json_forms.specs.Json.{all_in, has_only, list_in, member_in, named}
 
 -- the kind of this name
@@ -57,10 +58,10 @@ index_kind_named name = named ((codes "value", Value) ∷ (codes "count", Count)
 abbrev pub index_kind_in : Data → Option IndexKind
 index_kind_in d = option_and_then index_kind_named (as_str d)
 
--- the keys that an index of a kind has: a SUM also has its summed field
+-- the keys that an index of a kind has: a SUM also has its summed field, a COUNT may have whether it is cleared at zero
 abbrev pub index_keys : IndexKind → List (List ℕ)
 index_keys Value = codes "name" ∷ codes "kind" ∷ codes "type" ∷ codes "columns" ∷ []
-index_keys Count = codes "name" ∷ codes "kind" ∷ codes "type" ∷ codes "columns" ∷ []
+index_keys Count = codes "name" ∷ codes "kind" ∷ codes "type" ∷ codes "columns" ∷ codes "clear_when_zero" ∷ []
 index_keys Sum = codes "name" ∷ codes "kind" ∷ codes "type" ∷ codes "columns" ∷ codes "summed" ∷ []
 
 -- the name of the summed field of an index of a kind, which a SUM alone has
@@ -69,15 +70,30 @@ summed_in Value d = Some None
 summed_in Count d = Some None
 summed_in Sum d = option_map (λ name. Some name) (member_in as_str (codes "summed") d)
 
--- the index of a kind that an object asks for: its name, the name of its type, those of its columns, and that of its
--- summed field
+-- whether the totals of an index of a kind are cleared at zero: a COUNT may say so
+abbrev pub clears_in : IndexKind → Data → Option Bool
+clears_in Value d = Some false
+clears_in Count d = option_map_or as_bool (get (codes "clear_when_zero") d) (Some false)
+clears_in Sum d = Some false
+
+-- the index of a kind that an object asks for: its name, the name of its type, those of its columns, that of its summed
+-- field, and whether it is cleared at zero
 abbrev pub json_index_of_kind : IndexKind → Data → Option IndexRequest
 json_index_of_kind kind d =
     if has_only (index_keys kind) d then
     option_and_then (λ name. option_and_then (λ type_name. option_and_then (λ columns.
-    option_map (λ summed.
-    record { name = name; kind = kind; type_name = type_name; columns = columns; summed = summed })
-    (summed_in kind d)) (member_in names_in (codes "columns") d)) (member_in as_str (codes "type") d))
+    option_and_then (λ summed.
+    option_map (λ clears.
+    record {
+      name = name;
+      kind = kind;
+      type_name = type_name;
+      columns = columns;
+      summed = summed;
+      clear_when_zero = clears;
+    })
+    (clears_in kind d)) (summed_in kind d)) (member_in names_in (codes "columns") d))
+    (member_in as_str (codes "type") d))
     (member_in as_str (codes "name") d)
     else None
 

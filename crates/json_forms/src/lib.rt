@@ -27,5 +27,5 @@ pub use in_turn::{next_cells, next_token, next_value, text_from, whole_of};
 pub use query_json::{filter_of, query_of};
 pub use reading::{MAX_TEXT_BYTES, value_of};
 pub use row_text::{cells_text, rows_text};
-pub use schema_json::{index_of, schema_of, type_of};
+pub use schema_json::{field_of, index_of, schema_of, type_of};
 pub use tuple_json::{tuple_of, tuple_text};

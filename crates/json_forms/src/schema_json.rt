@@ -1,9 +1,10 @@
 // Types, indexes and schemas from JSON. Called by `script` and `explain`; lists of names by
 // `query_json`.
 ghost use Rattle.std.specs.Prelude.{◌≡◌, Some, None, IfOk, IfErr};
+ghost use Rattle.serde_json.specs.Find.{as_bool};
 ghost use Rattle.serde_json.specs.View.{view};
 ghost use Rattle.json_forms.specs.SchemaJson.{json_field, fields_in, json_index, index_kind_in};
-ghost use Rattle.json_forms.specs.SchemaJson.{index_keys};
+ghost use Rattle.json_forms.specs.SchemaJson.{clears_in, index_keys};
 ghost use Rattle.json_forms.specs.Json.{has_only};
 ghost use Rattle.json_forms.specs.SchemaJson.{index_kind_named, json_index_of_kind, json_indexes};
 ghost use Rattle.json_forms.specs.SchemaJson.{json_indexes_listed};
@@ -30,8 +31,9 @@ fn kind_of(name: &str) -> Result<Kind, PartError>
     }
 }
 
-// A field: its name and the name of its kind.
-fn field_of(alloc: Global, value: &Value) -> Result<Field, PartError>
+/// The field that a list of its name and its kind stands for: `int`, `text` or `bytes`. `BadForm` of
+/// another value.
+pub fn field_of(alloc: Global, value: &Value) -> Result<Field, PartError>
     ensures ok { IfOk result (λ read. json_field (view value.now) ≡ Some read) }
     ensures err { IfErr result (λ error. error ≡ PartError.BadForm → json_field (view value.now) ≡ None) }
 {
@@ -119,8 +121,10 @@ fn index_kind_in(value: &Value) -> Result<IndexKind, PartError>
     index_kind_of(str_of(value)?)
 }
 
-// The keys that an index has, and those of a SUM.
+// The keys that an index has, those that a COUNT may have, and those of a SUM.
 const INDEX_KEYS: [&str; 4] = ["name", "kind", "type", "columns"];
+
+const COUNT_KEYS: [&str; 5] = ["name", "kind", "type", "columns", "clear_when_zero"];
 
 const SUM_KEYS: [&str; 5] = ["name", "kind", "type", "columns", "summed"];
 
@@ -129,7 +133,8 @@ fn has_index_keys(kind: IndexKind, value: &Value) -> bool
     ensures { result ≡ has_only (index_keys kind) (view value.now) }
 {
     match kind {
-        IndexKind::Value | IndexKind::Count => has_only(value, &INDEX_KEYS),
+        IndexKind::Value => has_only(value, &INDEX_KEYS),
+        IndexKind::Count => has_only(value, &COUNT_KEYS),
         IndexKind::Sum => has_only(value, &SUM_KEYS),
     }
 }
@@ -145,6 +150,28 @@ fn summed_of(alloc: Global, kind: IndexKind, value: &Value) -> Result<Option<Tex
     }
 }
 
+// A truth value.
+fn truth_of(value: &Value) -> Result<bool, PartError>
+    ensures ok { IfOk result (λ truth. as_bool (view value.now) ≡ Some truth) }
+    ensures err { IfErr result (λ error. (error ≡ PartError.BadForm) × (as_bool (view value.now) ≡ None)) }
+{
+    value.as_bool().ok_or(PartError::BadForm)
+}
+
+// Whether the totals of an index of a kind are cleared at zero, which a COUNT alone may say.
+fn clears_of(kind: IndexKind, value: &Value) -> Result<bool, PartError>
+    ensures ok { IfOk result (λ read. clears_in kind (view value.now) ≡ Some read) }
+    ensures err { IfErr result (λ error. error ≡ PartError.BadForm → clears_in kind (view value.now) ≡ None) }
+{
+    match kind {
+        IndexKind::Value | IndexKind::Sum => Ok(false),
+        IndexKind::Count => match value.get("clear_when_zero") {
+            Some(clears) => truth_of(clears),
+            None => Ok(false),
+        },
+    }
+}
+
 // The index of a kind that an object asks for.
 fn index_of_kind(alloc: Global, kind: IndexKind, value: &Value) -> Result<IndexRequest, PartError>
     ensures ok { IfOk result (λ read. json_index_of_kind kind (view value.now) ≡ Some read) }
@@ -157,18 +184,21 @@ fn index_of_kind(alloc: Global, kind: IndexKind, value: &Value) -> Result<IndexR
     let type_name = text_of(alloc, member(value, "type")?)?;
     let columns = names_of(alloc, member(value, "columns")?)?;
     let summed = summed_of(alloc, kind, value)?;
+    let clear_when_zero = clears_of(kind, value)?;
     Ok(IndexRequest {
         name,
         kind,
         type_name,
         columns,
         summed,
+        clear_when_zero,
     })
 }
 
 /// The index that an object with just the keys `name`, `kind`, `type` and `columns` asks for, and
 /// `summed` for a SUM: its name, its kind (`value`, `count` or `sum`), the name of its type, those
-/// of its columns, and that of its summed field. `BadForm` of another value.
+/// of its columns, and that of its summed field. A COUNT may have `clear_when_zero`, whether its
+/// totals are cleared where they come back to 0. `BadForm` of another value.
 pub fn index_of(alloc: Global, value: &Value) -> Result<IndexRequest, PartError>
     ensures ok { IfOk result (λ read. json_index (view value.now) ≡ Some read) }
     ensures err { IfErr result (λ error. error ≡ PartError.BadForm → json_index (view value.now) ≡ None) }

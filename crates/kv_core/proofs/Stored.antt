@@ -13,7 +13,7 @@ use Rattle.std.specs.Map.{keys_of, lookup}
 use Rattle.std.specs.Option.{is_some}
 use Rattle.std.specs.BTreeMap.{insert_entry, is_at}
 use Rattle.std.specs.Ordering.{is_lt, is_gt, is_le, is_eq, ordering_reverse, match_ordering}
-use Rattle.std.specs.FinMap.{FinMap, entries, get, insert, retain_keys, from_entries, from_sorted, empty, find, put, is_sorted, entries-from_sorted, get-from_sorted, get-from_entries, get-entries, get-insert}
+use Rattle.std.specs.FinMap.{FinMap, entries, get, insert, remove, retain_keys, from_entries, from_sorted, empty, find, put, is_sorted, entries-from_sorted, get-from_sorted, get-from_entries, get-entries, get-insert, get-remove}
 use Rattle.kv_core.specs.Bytes.{has_key, key_cmp, key_le}
 use Rattle.kv_core.specs.Range.{KeyRange, contains, entries_in, entries_outside}
 use Rattle.kv_core.specs.Map.{Map, after, pairs_in}
@@ -44,7 +44,7 @@ looked_up q (e ∷ es) = ap (λ r. cond (is_eq (key_cmp q e.0)) (Some e.1) r) (l
 pub get-stored : (es : List Pair) (q : List ℕ) → get (stored es) q ≡ lookup (is_at (key_cmp q)) es
 get-stored es q = get-from_entries nat_list_cmp_total es q ∙ sym (looked_up q es)
 
--- the test of a map's range is that of a key range
+-- an order read from its other side
 same_le : (r : Ordering) → is_le r ≡ not (is_lt (ordering_reverse r))
 same_le Less = refl
 same_le Equal = refl
@@ -55,7 +55,8 @@ same_gt Less = refl
 same_gt Equal = refl
 same_gt Greater = refl
 
-in_bounds : (range : KeyRange) (k : List ℕ) → (is_le (key_cmp range.begin k) && not (is_le (key_cmp range.end k))) ≡ contains range k
+-- the test of a map's range is that of a key range, key by key
+pub in_bounds : (range : KeyRange) (k : List ℕ) → (is_le (key_cmp range.begin k) && not (is_le (key_cmp range.end k))) ≡ contains range k
 in_bounds range k =
     ap (λ b. b && not (is_le (key_cmp range.end k))) (same_le (key_cmp range.begin k) ∙ ap (λ r. not (is_lt r)) (sym (nat_list_cmp_total.antisymm k range.begin)))
     ∙ ap (λ b. key_le range.begin k && b) (same_gt (key_cmp range.end k) ∙ ap is_lt (sym (nat_list_cmp_total.antisymm k range.end)))
@@ -104,6 +105,13 @@ pub stored-set : (es : List Pair) (k v : List ℕ) → stored (insert_entry key_
 stored-set es k v = same_maps _ _
     (λ q. get-from_entries nat_list_cmp_total _ q ∙ ap (find key_cmp q) (inserted_is es k v) ∙ find-put key_cmp nat_list_cmp_total q k v es
     ∙ ap (λ o. cond (is_eq (key_cmp q k)) (Some v) o) (sym (get-from_entries nat_list_cmp_total es q)) ∙ sym (get-set (stored es) k v q))
+
+-- a key taken out of the entries is taken out of the finite map
+pub stored-removed : (m : Map) (es new : List Pair) (k : List ℕ) → stored es ≡ m →
+    ((q : List ℕ) → lookup (is_at (key_cmp q)) new ≡ cond (is_eq (key_cmp k q)) None (lookup (is_at (key_cmp q)) es)) → stored new ≡ remove m k
+stored-removed m es new k view gone = same_maps (stored new) (remove m k)
+    (λ q. get-stored new q ∙ gone q ∙ ap (cond (is_eq (key_cmp k q)) None) (sym (get-stored es q) ∙ ap (λ x. get x q) view)
+    ∙ ap (λ b. cond b None (get m q)) (tied_swap k q) ∙ sym (get-remove nat_list_cmp_total m k q))
 
 -- the keys of a range's entries are gone, and the others stay, where those in the range are taken out
 cleared_at : (range : KeyRange) (es : List Pair) (q : List ℕ) →

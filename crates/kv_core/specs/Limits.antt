@@ -4,16 +4,17 @@ use Rattle.std.specs.Prelude.{Some, None, List, [], ◌∷◌, ◌++◌, length,
 use Rattle.std.specs.Option.{option_or}
 use Rattle.kv_core.specs.Bytes.{key_lt, end_of_keys}
 use Rattle.kv_core.specs.declared.change.Mutation.{Mutation}
-use Rattle.kv_core.specs.declared.change.Mutation.TheVariants.{Set, ClearRange, Add}
+use Rattle.kv_core.specs.declared.change.Mutation.TheVariants.{Set, ClearRange, Add, CompareAndClear}
 use Rattle.kv_core.specs.declared.change.WriteError.{WriteError}
 use Rattle.kv_core.specs.declared.change.WriteError.TheVariants.{KeyOutside, KeyTooLarge}
 use Rattle.kv_core.specs.declared.change.WriteError.TheVariants.{ValueTooLarge, TransactionTooLarge}
 
--- the bytes that a mutation counts: key and value, or begin and end
+-- the bytes that a mutation counts: key and value or operand, or begin and end
 abbrev pub size_of : Mutation → ℕ
 size_of (Set key value) = length key + length value
 size_of (Add key operand) = length key + length operand
 size_of (ClearRange range) = length range.begin + length range.end
+size_of (CompareAndClear key operand) = length key + length operand
 
 -- the bytes of a list of mutations
 abbrev pub size_of_all : List Mutation → ℕ
@@ -33,6 +34,7 @@ own_refusal (Add key operand) = pair_refusal key operand
 own_refusal (ClearRange range) =
     if not (nat_le (length range.begin) 10_000) then Some KeyTooLarge
     else (if not (nat_le (length range.end) 10_001) then Some KeyTooLarge else None)
+own_refusal (CompareAndClear key operand) = pair_refusal key operand
 
 -- why a mutation is refused after these: by itself, or since the transaction would have over 10,000,000 bytes
 abbrev pub write_refusal : List Mutation → Mutation → Option WriteError

@@ -6,6 +6,7 @@ ghost use Rattle.kv_core.specs.declared.change.WriteError.TheVariants.{Memory};
 
 use crate::addition::plus;
 use crate::bytes::Bytes;
+use crate::comparison::is_operand;
 use crate::range::KeyRange;
 use crate::range_list::RangeList;
 use std::alloc::AllocError;
@@ -21,6 +22,8 @@ pub enum Mutation {
     ClearRange(KeyRange),
     /// Adds the operand to the value at a key, as `add_le` does, and puts the sum there.
     Add { key: Bytes, operand: Bytes },
+    /// Takes out the key's pair where its value is just the operand, and else changes nothing.
+    CompareAndClear { key: Bytes, operand: Bytes },
 }
 
 impl Mutation {
@@ -55,6 +58,13 @@ impl Mutation {
                     Ok(before)
                 }
             }
+            Mutation::CompareAndClear { key: own, operand } => {
+                if key.compare(own).is_eq() && is_operand(before.as_ref(), operand) {
+                    Ok(None)
+                } else {
+                    Ok(before)
+                }
+            }
         }
     }
 
@@ -76,6 +86,11 @@ impl Mutation {
             Mutation::ClearRange(range) => {
                 let range = range.copy()?;
                 Ok(Mutation::ClearRange(range))
+            }
+            Mutation::CompareAndClear { key, operand } => {
+                let key = key.copy()?;
+                let operand = operand.copy()?;
+                Ok(Mutation::CompareAndClear { key, operand })
             }
         }
     }

@@ -13,6 +13,7 @@ ghost use Rattle.kv_core.specs.Read.{read_of};
 use crate::addition::plus;
 use crate::bytes::Bytes;
 use crate::change::Mutation;
+use crate::comparison::is_operand;
 use crate::pair::Pair;
 use crate::range::KeyRange;
 use crate::removal::remove_each;
@@ -181,9 +182,17 @@ impl KvMap {
         Ok(())
     }
 
+    /// Takes out the pair of a key, if there is one, which takes no memory.
+    pub fn remove(&mut self, key: &Bytes)
+        ensures { self.new ≡ finite.remove self.old key.now }
+    {
+        self.pairs.remove(key);
+    }
+
     /// Applies a mutation: a Set puts its pair, a ClearRange takes out each pair whose key lies
-    /// in its range, and an Add puts the sum of the key's value and its operand. Where memory
-    /// runs out the map stays as it was.
+    /// in its range, an Add puts the sum of the key's value and its operand, and a CompareAndClear
+    /// takes out the key's pair where its value is just the operand. Where memory runs out the map
+    /// stays as it was.
     pub fn apply(&mut self, mutation: &Mutation) -> Result<(), AllocError>
         ensures ok { OnOk result (self.new ≡ after mutation.now self.old) }
         ensures err { OnErr result (self.new ≡ self.old) }
@@ -202,6 +211,12 @@ impl KvMap {
             Mutation::ClearRange(range) => {
                 let keys = keys_between(self.alloc, &self.pairs, range)?;
                 remove_each(&mut self.pairs, keys.as_slice());
+                Ok(())
+            }
+            Mutation::CompareAndClear { key, operand } => {
+                if is_operand(self.get(key), operand) {
+                    self.remove(key);
+                }
                 Ok(())
             }
         }

@@ -5,6 +5,7 @@
 mod addition;
 mod bytes;
 mod change;
+mod comparison;
 mod coverage;
 mod hashing;
 mod kv_map;
@@ -22,6 +23,7 @@ mod words;
 pub use addition::add_le;
 pub use bytes::Bytes;
 pub use change::{CommitRequest, Mutation, Mutations, WriteError};
+pub use comparison::is_operand;
 pub use coverage::Coverage;
 pub use kv_map::KvMap;
 pub use laws::{

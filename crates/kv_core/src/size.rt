@@ -31,9 +31,9 @@ impl Mutation {
     /// The bytes that the mutation counts, which are those of its key and its value or operand,
     /// or of the begin and the end of its range.
     ///
-    /// A Set or an Add is refused with `KeyOutside` where the key doesn't come before the byte
-    /// FF, else with `KeyTooLarge` past `MAX_KEY_BYTES`, else with `ValueTooLarge` past
-    /// `MAX_VALUE_BYTES`. A ClearRange is refused with `KeyTooLarge` where its begin is past
+    /// A Set, an Add or a CompareAndClear is refused with `KeyOutside` where the key doesn't come
+    /// before the byte FF, else with `KeyTooLarge` past `MAX_KEY_BYTES`, else with `ValueTooLarge`
+    /// past `MAX_VALUE_BYTES`. A ClearRange is refused with `KeyTooLarge` where its begin is past
     /// `MAX_KEY_BYTES` or its end past `MAX_RANGE_END_BYTES`. There is no other refusal.
     pub fn size(&self) -> Result<u64, WriteError>
         ensures size { IfOk result (λ size. size ≡ size_of self.now) }
@@ -44,6 +44,7 @@ impl Mutation {
         match self {
             Mutation::Set { key, value } => pair_size(key, value),
             Mutation::Add { key, operand } => pair_size(key, operand),
+            Mutation::CompareAndClear { key, operand } => pair_size(key, operand),
             Mutation::ClearRange(range) => {
                 let begin = range.begin().as_slice().len();
                 if begin > MAX_KEY_BYTES {

@@ -1,6 +1,6 @@
 -- What a loop over cells knows one cell further.
 use Rattle.std.proofs.Common.{◌≡◌, ℕ, ◌+◌, ◌<◌, List, [], ◌∷◌, ◌++◌, All, get_or, length, take, sym, ap, subst, ◌∙◌, append-nil}
-use Rattle.std.proofs.lemmas.List.{append_assoc, map-append, map_more, map_push}
+use Rattle.std.proofs.lemmas.List.{append_assoc, map-append, map_more}
 use Rattle.std.proofs.lemmas.List.Elements.{All-more}
 use Rattle.tuple_codec.specs.Item.{Item}
 use Rattle.tuple_codec.specs.Elements.{item_in, items_in}

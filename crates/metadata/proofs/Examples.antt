@@ -12,11 +12,12 @@ use Rattle.metadata.specs.declared.refusal.Refusal.TheVariants.{BadName, NameTak
 use Rattle.metadata.specs.Cell.{all_fit, cells_at, cells_of, fits, items_of}
 use Rattle.metadata.specs.Schema.{Schema, find_type, key_kinds}
 use Rattle.metadata.specs.Record.{key_of, primary_key, record_of}
-use Rattle.metadata.specs.Change.{add_type, empty_schema, is_name, schema_of, types_alone}
+use Rattle.metadata.specs.Stored.{filled}
+use Rattle.metadata.specs.Change.{add_field, add_type, empty_schema, is_name, schema_of, types_alone}
 use Rattle.metadata.specs.Written.{nested_item, schema_bytes, type_item}
 use Rattle.tuple_codec.specs.Spelling.{byte_count, int_spelling}
 
--- "t", "k", "a", "b", "z"
+-- "t", "k", "a", "b", "c", "z"
 abbrev t : List ℕ
 t = 116 ∷ []
 
@@ -28,6 +29,9 @@ a = 97 ∷ []
 
 abbrev b : List ℕ
 b = 98 ∷ []
+
+abbrev c : List ℕ
+c = 99 ∷ []
 
 abbrev z : List ℕ
 z = 122 ∷ []
@@ -59,7 +63,7 @@ abbrev t_asked : TypeRequest
 t_asked = asked t (int k ∷ int a ∷ int b ∷ []) (k ∷ [])
 
 abbrev t_type : TypeDefinition
-t_type = record { number = 1; name = t; fields = int k ∷ int a ∷ int b ∷ []; key = 0 ∷ [] }
+t_type = record { number = 1; name = t; fields = int k ∷ int a ∷ int b ∷ []; key = 0 ∷ []; first_fields = 3 }
 
 abbrev s : Schema
 s = types_alone (t_type ∷ [])
@@ -68,7 +72,7 @@ s_is : schema_of (t_asked ∷ []) ≡ Ok s
 s_is = refl
 
 -- the second type has number 2, and its key fields stand in the key's order
-second : add_type s (asked z (int k ∷ int a ∷ []) (a ∷ k ∷ [])) ≡ Ok (types_alone (t_type ∷ (record { number = 2; name = z; fields = int k ∷ int a ∷ []; key = 1 ∷ 0 ∷ [] }) ∷ []))
+second : add_type s (asked z (int k ∷ int a ∷ []) (a ∷ k ∷ [])) ≡ Ok (types_alone (t_type ∷ (record { number = 2; name = z; fields = int k ∷ int a ∷ []; key = 1 ∷ 0 ∷ []; first_fields = 2 }) ∷ []))
 second = refl
 
 -- what is refused as a type, in the order of the tests
@@ -118,7 +122,7 @@ key_of_9 = refl
 -- 32 types are as many as there may be
 abbrev types_from : ℕ → List (List ℕ) → List TypeDefinition
 types_from n [] = []
-types_from n (name ∷ more) = record { number = n; name = name; fields = int k ∷ []; key = 0 ∷ [] } ∷ types_from (n + 1) more
+types_from n (name ∷ more) = record { number = n; name = name; fields = int k ∷ []; key = 0 ∷ []; first_fields = 1 } ∷ types_from (n + 1) more
 
 abbrev of_32 : Schema
 of_32 = types_alone (types_from 1 (map (λ letter. letter ∷ []) (range_with_len 65 26 ++ range_with_len 97 6)))
@@ -208,7 +212,40 @@ empty_written = refl
 
 -- kinds, and places in the key's order
 abbrev z_type : TypeDefinition
-z_type = record { number = 2; name = z; fields = record { name = a; kind = kind.Text } ∷ record { name = b; kind = kind.Bytes } ∷ []; key = 1 ∷ 0 ∷ [] }
+z_type = record { number = 2; name = z; fields = record { name = a; kind = kind.Text } ∷ record { name = b; kind = kind.Bytes } ∷ []; key = 1 ∷ 0 ∷ []; first_fields = 2 }
 
-z_item : type_item z_type ≡ nested_item (item.int (pos 2) ∷ item.text z ∷ nested_item (nested_item (item.text a ∷ item.int (pos 2) ∷ []) ∷ nested_item (item.text b ∷ item.int (pos 3) ∷ []) ∷ []) ∷ nested_item (item.int (pos 1) ∷ item.int (pos 0) ∷ []) ∷ [])
+z_item : type_item false z_type ≡ nested_item (item.int (pos 2) ∷ item.text z ∷ nested_item (nested_item (item.text a ∷ item.int (pos 2) ∷ []) ∷ nested_item (item.text b ∷ item.int (pos 3) ∷ []) ∷ []) ∷ nested_item (item.int (pos 1) ∷ item.int (pos 0) ∷ []) ∷ [])
 z_item = refl
+
+-- a field c appended to t: records have null there, and the schema is written in the second form
+abbrev c_type : TypeDefinition
+c_type = record { number = 1; name = t; fields = int k ∷ int a ∷ int b ∷ int c ∷ []; key = 0 ∷ []; first_fields = 3 }
+
+field_c : add_field s t (int c) ≡ Ok (types_alone (c_type ∷ []))
+field_c = refl
+
+abbrev c_bytes : List ℕ
+c_bytes =
+    21 ∷ 2 ∷ 21 ∷ 1 ∷ 20 ∷ 5 ∷ 5 ∷ 21 ∷ 1 ∷ 2 ∷ 116 ∷ 0 ∷ 5 ∷ 5 ∷ 2 ∷ 107 ∷ 0 ∷ 21 ∷ 1 ∷ 0 ∷ 5 ∷ 2 ∷ 97 ∷ 0 ∷ 21 ∷ 1 ∷ 0 ∷ 5 ∷ 2 ∷ 98 ∷ 0 ∷ 21 ∷ 1 ∷ 0 ∷ 5 ∷ 2 ∷ 99 ∷ 0 ∷ 21 ∷ 1 ∷ 0 ∷ 0
+    ∷ 5 ∷ 20 ∷ 0 ∷ 21 ∷ 3 ∷ 0 ∷ 0 ∷ 5 ∷ 0 ∷ []
+
+c_written : schema_bytes (types_alone (c_type ∷ [])) ≡ c_bytes
+unfolding int_spelling byte_count
+c_written = refl
+
+-- what is refused as a field, in the order of the tests
+field_no_name : add_field s z (int []) ≡ Err BadName
+field_no_name = refl
+
+field_taken : add_field s t (int b) ≡ Err NameTaken
+field_taken = refl
+
+field_no_type : add_field s z (int c) ≡ Err UnknownType
+field_no_type = refl
+
+-- a stored record without the field has null there, one with fewer cells than the type was added with is none
+fills_c : filled c_type made ≡ Some (Int (pos 1) ∷ Int (pos 5) ∷ Null ∷ Null ∷ [])
+fills_c = refl
+
+too_few : filled c_type (Int (pos 1) ∷ Int (pos 5) ∷ []) ≡ None
+too_few = refl

@@ -1,10 +1,10 @@
 -- An index that is added is one over its type, and a lawful schema with it is lawful.
 use Rattle.std.proofs.Common.{◌≡◌, ◌≤◌, ◌<◌, ◌+◌, ℕ, Bool, true, false, not, cond, ◌&&◌, ◌||◌, ◌==◌, List, [], ◌∷◌, ◌++◌, Option, Some, None, Result, Ok, Err, length, refl, sym, ap, subst, ◌∙◌, arith, get_or}
-use Rattle.std.specs.Prelude.{nat_eq, nat_le, nat_lt, is_none, is_some, find}
+use Rattle.std.specs.Prelude.{nat_eq, nat_le, nat_lt, is_some, find}
 use Rattle.std.specs.List.{cons_option, list_all, list_any}
 use Rattle.std.specs.Option.{option_map_or}
 use Rattle.std.specs.Str.{bytes_eq}
-use Rattle.std.proofs.lemmas.Bool.{le-leb, lt-ltb, ltb-false, eqb-true, eqb-false, true≢false}
+use Rattle.std.proofs.lemmas.Bool.{le-leb, ltb-false, eqb-true, eqb-false, true≢false}
 use Rattle.std.proofs.lemmas.List.{length-append, map-append}
 use Rattle.std.proofs.lemmas.List.Folds.{list_all-append}
 use Rattle.std.proofs.lemmas.List.Quantifiers.{position-Some}
@@ -20,7 +20,9 @@ use Rattle.metadata.specs.Change.{first_test_refusal, has_twice, has_unknown, is
 use Rattle.metadata.specs.IndexChange.{add_index, has_unknown_field, index_asked, index_over, is_int, is_shaped, name_refusal, over_refusal, place_summed, sums_other, with_index}
 use Rattle.metadata.specs.Lawful.{IsLawfulSchema, is_index, is_index_over, is_rising_upto}
 use Rattle.metadata.specs.Schema.{Schema, find_index, find_type, kind_at, place_of, type_at}
-use Rattle.metadata.proofs.MadeSchemas.{AreNumbered, err_other, made_numbered, ok_same, turned}
+use Rattle.metadata.proofs.MadeSchemas.{AreNumbered, err_other, ok_same, turned}
+use Rattle.metadata.proofs.KnownPlaces.{columns_known}
+use Rattle.metadata.proofs.Grown.{lawful_numbered}
 use Rattle.metadata.proofs.StayLawful.{rising_push, twice_push}
 use Rattle.metadata.proofs.TestedIndexes.{Tested, good, numbers, tested}
 use Rattle.metadata.proofs.ReadBack.{neither}
@@ -63,19 +65,6 @@ found_by_number n p (first ∷ types) type are is = by_test (p first) is (λ res
         test_of false (other_number (first.number == type.number) refl (λ same. omega (arith, at, same, up))) ∙ later found
 
 -- ---- columns
-
--- the places of known names: as many as names, each of a field
-columns_known : (fields : List Field) (names : List (List ℕ)) → has_unknown fields names ≡ false →
-    (length (places_of fields names) ≡ length names) × (list_all (λ place. nat_lt place (length fields)) (places_of fields names) ≡ true)
-columns_known fields [] known = (refl, refl)
-columns_known fields (name ∷ names) known = by_place (place_of fields name) refl (neither (is_none (place_of fields name)) (has_unknown fields names) known).0 (columns_known fields names (neither (is_none (place_of fields name)) (has_unknown fields names) known).1)
-  where
-    by_place : (place : Option ℕ) → place_of fields name ≡ place → is_none place ≡ false → (length (places_of fields names) ≡ length names) × (list_all (λ at. nat_lt at (length fields)) (places_of fields names) ≡ true) →
-        (length (cons_option place (places_of fields names)) ≡ length (name ∷ names)) × (list_all (λ at. nat_lt at (length fields)) (cons_option place (places_of fields names)) ≡ true)
-    by_place None is none rest = absurd (true≢false none)
-    by_place (Some at) is none rest =
-        let found = position-Some (λ (field : Field). bytes_eq field.name name) fields at (record { name = []; kind = kind.Int }) is in
-        (ap (λ n. Prim.Native.Nat.suc n) rest.0, (λ i. lt-ltb at (length fields) found.0 i && rest.1 i))
 
 -- a name whose place is that of one of the names is one of them
 place_among : (fields : List Field) (name : List ℕ) (at : ℕ) (names : List (List ℕ)) → place_of fields name ≡ Some at → list_any (nat_eq at) (places_of fields names) ≡ true → list_any (bytes_eq name) names ≡ true
@@ -156,6 +145,7 @@ over_lawful schema request type lawful names found over =
     record {
       requests = lawful.requests;
       types = lawful.types;
+      grown = lawful.grown;
       indexes = good schema.types (schema.last_index + 1) (schema.indexes ++ index ∷ []) (record {
         last_is = le-leb (schema.last_index + 1) 65535 (omega (arith, below));
         rising = ap (is_rising_upto 0 (schema.last_index + 1)) (map-append (λ (i : IndexDefinition). i.number) schema.indexes (index ∷ []))
@@ -176,7 +166,7 @@ over_lawful schema request type lawful names found over =
     name = two_passed _ _ names
 
     passed : (has_unknown_field type.fields request ≡ false) × (sums_other type.fields (place_summed type.fields request.summed) ≡ false)
-        × ((not (is_shaped request.kind (length request.columns) (is_some request.summed)) || has_twice bytes_eq request.columns) ≡ false)
+        × ((not (is_shaped request.kind (length request.columns) (is_some request.summed) request.clear_when_zero) || has_twice bytes_eq request.columns) ≡ false)
         × ((nat_lt 63 (length schema.indexes) || nat_lt 8 (length request.columns) || nat_le 65535 schema.last_index) ≡ false)
     passed = four_passed _ _ _ _ over
 
@@ -195,17 +185,17 @@ over_lawful schema request type lawful names found over =
     columns : (length (places_of type.fields request.columns) ≡ length request.columns) × (list_all (λ place. nat_lt place (length type.fields)) (places_of type.fields request.columns) ≡ true)
     columns = columns_known type.fields request.columns known.0
 
-    shape : (not (is_shaped request.kind (length request.columns) (is_some request.summed)) ≡ false) × (has_twice bytes_eq request.columns ≡ false)
-    shape = neither (not (is_shaped request.kind (length request.columns) (is_some request.summed))) (has_twice bytes_eq request.columns) passed.2
+    shape : (not (is_shaped request.kind (length request.columns) (is_some request.summed) request.clear_when_zero) ≡ false) × (has_twice bytes_eq request.columns ≡ false)
+    shape = neither (not (is_shaped request.kind (length request.columns) (is_some request.summed) request.clear_when_zero)) (has_twice bytes_eq request.columns) passed.2
 
     eight : nat_le (length index.columns) 8 ≡ true
     eight = le-leb (length index.columns) 8 (let few = ltb-false 8 (length request.columns) (neither (nat_lt 63 (length schema.indexes)) (nat_lt 8 (length request.columns)) counts.0).1 in let same : length index.columns ≡ length request.columns = columns.0 in omega (arith, few, same))
 
-    shaped : is_shaped index.kind (length index.columns) (is_some index.summed) ≡ true
-    shaped = (λ i. is_shaped request.kind (columns.0 i) (summed_known type.fields request.summed known.1 i)) ∙ turned _ shape.0
+    shaped : is_shaped index.kind (length index.columns) (is_some index.summed) index.clear_when_zero ≡ true
+    shaped = (λ i. is_shaped request.kind (columns.0 i) (summed_known type.fields request.summed known.1 i) request.clear_when_zero) ∙ turned _ shape.0
 
     typed : type_at schema.types type.number ≡ Some type
-    typed = found_by_number 0 (λ (one : TypeDefinition). bytes_eq one.name request.type_name) schema.types type (made_numbered _ lawful.requests lawful.types) found
+    typed = found_by_number 0 (λ (one : TypeDefinition). bytes_eq one.name request.type_name) schema.types type (lawful_numbered schema lawful) found
 
     one_over : is_index_over index type ≡ true
     one_over = λ i. columns.1 i && not (columns_once type.fields request.columns shape.1 i) && summed_int type.fields (place_summed type.fields request.summed) passed.1 i

@@ -43,17 +43,18 @@ t_type = record {
   name = t;
   fields = record { name = k; kind = kind.Int } ∷ record { name = a; kind = kind.Int } ∷ record { name = s; kind = kind.Text } ∷ [];
   key = 0 ∷ [];
+  first_fields = 3;
 }
 
 abbrev asked : List ℕ → IndexKind → List ℕ → List (List ℕ) → Option (List ℕ) → IndexRequest
-asked name of type columns summed = record { name = name; kind = of; type_name = type; columns = columns; summed = summed }
+asked name of type columns summed = record { name = name; kind = of; type_name = type; columns = columns; summed = summed; clear_when_zero = false }
 
 -- a VALUE index v on a, a dropped one between, and a SUM w of a without columns
 abbrev v_index : IndexDefinition
-v_index = record { number = 1; name = v; kind = Value; type_number = 1; columns = 1 ∷ []; summed = None }
+v_index = record { number = 1; name = v; kind = Value; type_number = 1; columns = 1 ∷ []; summed = None; clear_when_zero = false }
 
 abbrev w_index : IndexDefinition
-w_index = record { number = 3; name = w; kind = Sum; type_number = 1; columns = []; summed = Some 1 }
+w_index = record { number = 3; name = w; kind = Sum; type_number = 1; columns = []; summed = Some 1; clear_when_zero = false }
 
 abbrev one : Schema
 one = record { types = t_type ∷ []; last_index = 1; indexes = v_index ∷ [] }
@@ -68,7 +69,7 @@ first : add_index (record { types = t_type ∷ []; last_index = 0; indexes = [] 
 first = refl
 
 -- a dropped index leaves the last number, so that it isn't given again
-dropped : drop_index (record { types = t_type ∷ []; last_index = 2; indexes = v_index ∷ (record { number = 2; name = z; kind = Count; type_number = 1; columns = []; summed = None }) ∷ [] }) z ≡ Ok after_drop
+dropped : drop_index (record { types = t_type ∷ []; last_index = 2; indexes = v_index ∷ (record { number = 2; name = z; kind = Count; type_number = 1; columns = []; summed = None; clear_when_zero = false }) ∷ [] }) z ≡ Ok after_drop
 dropped = refl
 
 third : add_index after_drop (asked w Sum t [] (Some a)) ≡ Ok both
@@ -113,8 +114,30 @@ above_last : has_good_indexes (record { types = t_type ∷ []; last_index = 2; i
 above_last = refl
 
 -- a SUM is written with the place of its field, and read again
-w_written : index_item w_index ≡ nested_item (number_item 3 ∷ item.text w ∷ number_item 3 ∷ number_item 1 ∷ nested_item [] ∷ number_item 1 ∷ [])
+w_written : index_item false w_index ≡ nested_item (number_item 3 ∷ item.text w ∷ number_item 3 ∷ number_item 1 ∷ nested_item [] ∷ number_item 1 ∷ [])
 w_written = refl
 
 read_again : tuple_schema (written both) ≡ Some both
 read_again = refl
+
+-- a COUNT alone may be cleared at zero, and is written in the second form then
+abbrev clearing : List ℕ → IndexKind → List (List ℕ) → Option (List ℕ) → IndexRequest
+clearing name of columns summed = record { name = name; kind = of; type_name = t; columns = columns; summed = summed; clear_when_zero = true }
+
+abbrev z_index : IndexDefinition
+z_index = record { number = 4; name = z; kind = Count; type_number = 1; columns = []; summed = None; clear_when_zero = true }
+
+count_cleared : add_index both (clearing z Count [] None) ≡ Ok (record { types = t_type ∷ []; last_index = 4; indexes = v_index ∷ w_index ∷ z_index ∷ [] })
+count_cleared = refl
+
+value_cleared : add_index both (clearing z Value (a ∷ []) None) ≡ Err BadSchema
+value_cleared = refl
+
+sum_cleared : add_index both (clearing z Sum [] (Some a)) ≡ Err BadSchema
+sum_cleared = refl
+
+z_written : index_item true z_index ≡ nested_item (number_item 4 ∷ item.text z ∷ number_item 2 ∷ number_item 1 ∷ nested_item [] ∷ item.null ∷ item.bool true ∷ [])
+z_written = refl
+
+cleared_again : tuple_schema (written (record { types = t_type ∷ []; last_index = 4; indexes = z_index ∷ [] })) ≡ Some (record { types = t_type ∷ []; last_index = 4; indexes = z_index ∷ [] })
+cleared_again = refl

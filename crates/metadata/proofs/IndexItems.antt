@@ -1,7 +1,7 @@
 -- The items of which the written form of an index consists: they may stand in a tuple, and the index is read again from them.
 use Rattle.std.proofs.Common.{◌≡◌, ◌≤◌, ◌<◌, ◌^◌, ℕ, Bool, true, false, cond, ◌&&◌, ◌==◌, List, [], ◌∷◌, Option, Some, None, length, map, refl, sym, ap, subst, ◌∙◌, arith}
-use Rattle.std.specs.Prelude.{nat_le, nat_lt, slice_get, is_some}
-use Rattle.std.specs.List.{AllByRecursion, list_all}
+use Rattle.std.specs.Prelude.{nat_le, nat_lt, slice_get, is_some, unwrap_or}
+use Rattle.std.specs.List.{AllByRecursion, list_all, list_any}
 use Rattle.std.specs.Option.{option_map, option_and_then, option_map_or}
 use Rattle.std.proofs.lemmas.Bool.{leb-true, ltb-true, lt-ltb, eqb-true, true≢false}
 use Rattle.std.proofs.lemmas.Option.{slice_get_within}
@@ -15,9 +15,9 @@ use Rattle.metadata.specs.Change.{is_name}
 use Rattle.metadata.specs.IndexChange.{is_int, is_shaped}
 use Rattle.metadata.specs.Lawful.{is_index, is_index_over, is_rising_upto}
 use Rattle.metadata.specs.Schema.{kind_at, type_at}
-use Rattle.metadata.specs.Written.{index_item, index_kind_number, number_item, summed_item}
-use Rattle.metadata.specs.Reading.{all_read, index_kind_of, index_of, item_number, small_of, summed_of}
-use Rattle.metadata.proofs.ReadBack.{listed-items_of}
+use Rattle.metadata.specs.Written.{index_item, index_kind_number, index_parts, number_item, summed_item}
+use Rattle.metadata.specs.Reading.{all_read, index_kind_of, index_of, item_number, read_at, small_of, summed_of, truth_of}
+use Rattle.metadata.proofs.ReadBack.{listed-items_of, neither}
 use Rattle.metadata.proofs.WrittenItems.{both, utf8}
 
 -- a type whose number and number of fields are small
@@ -54,7 +54,7 @@ found_small (first ∷ types) number type small is = by_test (first.number == nu
 
 -- ---- places
 
-small_back : (n : ℕ) → n < 256 → small_of (number_item n) ≡ Some n
+pub small_back : (n : ℕ) → n < 256 → small_of (number_item n) ≡ Some n
 small_back n low = ap (λ b. cond b (Some n) None) (lt-ltb n 256 low)
 
 pub places_are : (count : ℕ) (places : List ℕ) → count ≤ 32 → list_all (λ place. nat_lt place count) places ≡ true → AreItems (items_from (map number_item places))
@@ -73,7 +73,7 @@ places_back count (place ∷ places) few is =
     ∙ ap (option_map (λ xs. place ∷ xs)) (places_back count places few parts.1)
 
 -- a place of whole numbers is one of the fields
-place_low : (fields : List Field) (place : ℕ) → is_int (kind_at fields place) ≡ true → place < length fields
+pub place_low : (fields : List Field) (place : ℕ) → is_int (kind_at fields place) ≡ true → place < length fields
 place_low fields place is = by_found (slice_get fields place) refl is
   where
     by_found : (found : Option Field) → slice_get fields place ≡ found → is_int (option_map (λ (field : Field). field.kind) found) ≡ true → place < length fields
@@ -115,7 +115,7 @@ record IsGood (index : IndexDefinition) : Type 0 where
 good : (types : List TypeDefinition) (index : IndexDefinition) → AllByRecursion IsSmall types → is_index types index ≡ true → IsGood index
 good types index small is = by_found (type_at types index.type_number) refl outer.1
   where
-    outer : ((is_name index.name && nat_le (length index.columns) 8 && is_shaped index.kind (length index.columns) (is_some index.summed)) ≡ true)
+    outer : ((is_name index.name && nat_le (length index.columns) 8 && is_shaped index.kind (length index.columns) (is_some index.summed) index.clear_when_zero) ≡ true)
         × (option_map_or (is_index_over index) (type_at types index.type_number) false ≡ true)
     outer = both _ _ is
 
@@ -129,16 +129,26 @@ good types index small is = by_found (type_at types index.type_number) refl oute
         let at = found_small types index.type_number type small e in
         record { name = named; type = type; small = at.0; numbered = at.1; columns = (both _ _ parts.0).0; summed = parts.1 }
 
-index_is : (index : IndexDefinition) → IsGood index → index.number < 2 ^ 64 → IsItem (index_item index)
-index_is index g low =
+index_is : (second : Bool) (index : IndexDefinition) → IsGood index → index.number < 2 ^ 64 → IsItem (index_item second index)
+index_is true index g low =
+    let n : index.type_number < 2 ^ 64 = subst (λ m. m < 2 ^ 64) (sym g.numbered) g.small.number in
+    (low, (utf8 index.name g.name, (kind_small index.kind, (n, (places_are (length g.type.fields) index.columns g.small.fields g.columns, (summed_is g.type.fields index.summed g.small.fields g.summed, (tt, tt)))))))
+index_is false index g low =
     let n : index.type_number < 2 ^ 64 = subst (λ m. m < 2 ^ 64) (sym g.numbered) g.small.number in
     (low, (utf8 index.name g.name, (kind_small index.kind, (n, (places_are (length g.type.fields) index.columns g.small.fields g.columns, (summed_is g.type.fields index.summed g.small.fields g.summed, tt))))))
 
-index_back : (index : IndexDefinition) → IsGood index → index.number < 2 ^ 64 → index_of (index_item index) ≡ Some index
-index_back index g low =
-    λ i. option_and_then (λ number. option_and_then (λ name. option_and_then (λ kind. option_and_then (λ type_number. option_and_then (λ columns.
-    option_map (λ summed. record { number = number; name = name; kind = kind; type_number = type_number; columns = columns; summed = summed })
-    (summed_back g.type.fields index.summed g.small.fields g.summed i)) (columns_back i)) (number_back index.type_number n i)) (kind_back index.kind i)) (Some index.name)) (number_back index.number low i)
+-- whether it is cleared at zero is read again, where the first form tells it
+clears_back : (second : Bool) (index : IndexDefinition) → (second ≡ false → index.clear_when_zero ≡ false) →
+    unwrap_or (read_at truth_of (items_list (items_from (index_parts second index))) 6) false ≡ index.clear_when_zero
+clears_back true index told = refl
+clears_back false index told = sym (told refl)
+
+index_back : (second : Bool) (index : IndexDefinition) → (second ≡ false → index.clear_when_zero ≡ false) → IsGood index → index.number < 2 ^ 64 → index_of (index_item second index) ≡ Some index
+index_back second index told g low =
+    by_form second
+    ∙ (λ i. option_and_then (λ number. option_and_then (λ name. option_and_then (λ kind. option_and_then (λ type_number. option_and_then (λ columns.
+    option_map (λ summed. record { number = number; name = name; kind = kind; type_number = type_number; columns = columns; summed = summed; clear_when_zero = clears_back second index told i })
+    (summed_back g.type.fields index.summed g.small.fields g.summed i)) (columns_back i)) (number_back index.type_number n i)) (kind_back index.kind i)) (Some index.name)) (number_back index.number low i))
   where
     n : index.type_number < 2 ^ 64
     n = subst (λ m. m < 2 ^ 64) (sym g.numbered) g.small.number
@@ -146,21 +156,40 @@ index_back index g low =
     columns_back : all_read small_of (items_list (items_from (map number_item index.columns))) ≡ Some index.columns
     columns_back = ap (all_read small_of) (listed-items_of (map number_item index.columns)) ∙ places_back (length g.type.fields) index.columns g.small.fields g.columns
 
+    -- the parts that both forms have are read in both alike
+    by_form : (second : Bool) → index_of (index_item second index) ≡ option_and_then (λ number. option_and_then (λ name. option_and_then (λ kind. option_and_then (λ type_number. option_and_then (λ columns.
+        option_map (λ summed. record {
+          number = number;
+          name = name;
+          kind = kind;
+          type_number = type_number;
+          columns = columns;
+          summed = summed;
+          clear_when_zero = unwrap_or (read_at truth_of (items_list (items_from (index_parts second index))) 6) false;
+        })
+        (summed_of (summed_item index.summed))) (all_read small_of (items_list (items_from (map number_item index.columns))))) (item_number (number_item index.type_number)))
+        (option_and_then index_kind_of (small_of (number_item (index_kind_number index.kind))))) (Some index.name)) (item_number (number_item index.number))
+    by_form true = refl
+    by_form false = refl
+
 -- ---- all indexes
 
-pub indexes_are : (types : List TypeDefinition) (last : ℕ) (indexes : List IndexDefinition) → AllByRecursion IsSmall types → last ≤ 65535 → AllByRecursion (λ n. n ≤ last) (map (λ (index : IndexDefinition). index.number) indexes) →
-    list_all (is_index types) indexes ≡ true → AreItems (items_from (map index_item indexes))
-indexes_are types last [] small few upto is = tt
-indexes_are types last (index ∷ indexes) small few upto is =
+pub indexes_are : (second : Bool) (types : List TypeDefinition) (last : ℕ) (indexes : List IndexDefinition) → AllByRecursion IsSmall types → last ≤ 65535 →
+    AllByRecursion (λ n. n ≤ last) (map (λ (index : IndexDefinition). index.number) indexes) → list_all (is_index types) indexes ≡ true → AreItems (items_from (map (index_item second) indexes))
+indexes_are second types last [] small few upto is = tt
+indexes_are second types last (index ∷ indexes) small few upto is =
     let parts = both (is_index types index) (list_all (is_index types) indexes) is in
     let low : index.number ≤ last = upto.0 in
-    (index_is index (good types index small parts.0) (omega (arith, low, few)), indexes_are types last indexes small few upto.1 parts.1)
+    (index_is second index (good types index small parts.0) (omega (arith, low, few)), indexes_are second types last indexes small few upto.1 parts.1)
 
-pub indexes_back : (types : List TypeDefinition) (last : ℕ) (indexes : List IndexDefinition) → AllByRecursion IsSmall types → last ≤ 65535 → AllByRecursion (λ n. n ≤ last) (map (λ (index : IndexDefinition). index.number) indexes) →
-    list_all (is_index types) indexes ≡ true → all_read index_of (map index_item indexes) ≡ Some indexes
-indexes_back types last [] small few upto is = refl
-indexes_back types last (index ∷ indexes) small few upto is =
+pub indexes_back : (second : Bool) (types : List TypeDefinition) (last : ℕ) (indexes : List IndexDefinition) → (second ≡ false → list_any (λ (index : IndexDefinition). index.clear_when_zero) indexes ≡ false) →
+    AllByRecursion IsSmall types → last ≤ 65535 → AllByRecursion (λ n. n ≤ last) (map (λ (index : IndexDefinition). index.number) indexes) →
+    list_all (is_index types) indexes ≡ true → all_read index_of (map (index_item second) indexes) ≡ Some indexes
+indexes_back second types last [] told small few upto is = refl
+indexes_back second types last (index ∷ indexes) told small few upto is =
     let parts = both (is_index types index) (list_all (is_index types) indexes) is in
     let low : index.number ≤ last = upto.0 in
-    ap (option_and_then (λ x. option_map (λ xs. x ∷ xs) (all_read index_of (map index_item indexes)))) (index_back index (good types index small parts.0) (omega (arith, low, few)))
-    ∙ ap (option_map (λ xs. index ∷ xs)) (indexes_back types last indexes small few upto.1 parts.1)
+    let clears = λ (first : second ≡ false). neither index.clear_when_zero (list_any (λ (other : IndexDefinition). other.clear_when_zero) indexes) (told first) in
+    ap (option_and_then (λ x. option_map (λ xs. x ∷ xs) (all_read index_of (map (index_item second) indexes))))
+    (index_back second index (λ first. (clears first).0) (good types index small parts.0) (omega (arith, low, few)))
+    ∙ ap (option_map (λ xs. index ∷ xs)) (indexes_back second types last indexes (λ first. (clears first).1) small few upto.1 parts.1)

@@ -14,6 +14,13 @@ mod Examples
 mod Lists
 mod Strips
 mod MadeSchemas
+mod KnownPlaces
+mod Alike
+mod FieldAsked
+mod Appending
+pub mod Grown
+pub mod WrittenBack
+pub mod FieldAdded
 pub mod OneSchema
 mod ReadBack
 mod WrittenDepth
@@ -27,3 +34,4 @@ pub mod TestedIndexes
 pub mod AskedKinds
 pub mod SameTypes
 pub mod StillLawful
+mod Nulls

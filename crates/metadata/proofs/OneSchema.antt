@@ -12,7 +12,7 @@ use Rattle.metadata.specs.Schema.{Schema}
 use Rattle.metadata.specs.Written.{IsNoSchema, IsNoTuple, schema_bytes, written}
 use Rattle.metadata.specs.Lawful.{IsLawfulSchema}
 use Rattle.metadata.specs.Reading.{IsTupleUnread, tuple_schema}
-use Rattle.metadata.proofs.MadeSchemas.{is_tuple-written, schema_in-written}
+use Rattle.metadata.proofs.WrittenBack.{is_tuple-written, schema_in-written}
 
 -- the bytes of a schema spell its written form
 pub bytes_spell : (schema : Schema) → IsLawfulSchema schema → Spells (written schema) (schema_bytes schema)

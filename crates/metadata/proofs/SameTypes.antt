@@ -41,9 +41,14 @@ lists same each (x ∷ xs) (y ∷ ys) =
 pub same_type-Decides : (a b : TypeDefinition) → Decides (same_type a b) (a ≡ b)
 same_type-Decides a b =
     Decides-like (same_type a b)
-    (λ all i. record { number = all.0.0.0 i; name = all.0.0.1 i; fields = all.0.1 i; key = all.1 i })
-    (λ e. (((ap (λ (t : TypeDefinition). t.number) e, ap (λ (t : TypeDefinition). t.name) e), ap (λ (t : TypeDefinition). t.fields) e), ap (λ (t : TypeDefinition). t.key) e))
+    (λ all i. record { number = all.0.0.0.0 i; name = all.0.0.0.1 i; fields = all.0.0.1 i; key = all.0.1 i; first_fields = all.1 i })
+    (λ e. (
+      (((ap (λ (t : TypeDefinition). t.number) e, ap (λ (t : TypeDefinition). t.name) e), ap (λ (t : TypeDefinition). t.fields) e), ap (λ (t : TypeDefinition). t.key) e),
+      ap (λ (t : TypeDefinition). t.first_fields) e,
+    ))
+    (Decides-and _ _
     (Decides-and _ _ (Decides-and _ _ (Decides-and _ _ (Decides-eqb a.number b.number) (bytes_eq-Decides a.name b.name)) (lists equal_field fields_one a.fields b.fields)) (bytes_eq-Decides a.key b.key))
+    (Decides-eqb a.first_fields b.first_fields))
 
 -- as many of both, and each the same as that beside it
 pub all_same-zip : {X : Type 0} (same : X → X → Bool) (xs ys : List X) → length xs ≡ length ys → list_all (λ (p : X × X). same p.0 p.1) (zip xs ys) ≡ all_same same xs ys

@@ -1,20 +1,22 @@
 -- What calls make of a lawful schema is lawful: types and indexes that are added, and indexes that are dropped.
-use Rattle.std.proofs.Common.{◌≡◌, ◌≤◌, ◌<◌, ℕ, Bool, true, false, not, cond, ◌&&◌, ◌||◌, ◌==◌, List, [], ◌∷◌, ◌++◌, Option, Some, None, Result, Ok, Err, length, refl, sym, ap, subst, ◌∙◌, arith}
+use Rattle.std.proofs.Common.{◌≡◌, ◌≤◌, ◌<◌, ℕ, Bool, true, false, not, cond, ◌&&◌, ◌||◌, ◌==◌, List, [], ◌∷◌, ◌++◌, Option, Some, None, Result, Ok, Err, length, map, refl, sym, ap, subst, ◌∙◌, arith}
 use Rattle.std.specs.Prelude.{nat_le, nat_lt, is_some, find, filter}
 use Rattle.std.specs.List.{list_all, list_any}
 use Rattle.std.specs.Option.{option_map_or, option_or}
 use Rattle.std.specs.Str.{bytes_eq}
 use Rattle.std.proofs.lemmas.Bool.{leb-true, le-leb, lt-ltb, ltb-true, true≢false}
-use Rattle.std.proofs.lemmas.List.Folds.{find-append, list_any-append}
+use Rattle.std.proofs.lemmas.List.{map-append}
+use Rattle.std.proofs.lemmas.List.Folds.{find-append, list_all-append, list_any-append}
 use Rattle.metadata.specs.declared.definition.TypeDefinition.{TypeDefinition}
 use Rattle.metadata.specs.declared.definition.TypeRequest.{TypeRequest}
 use Rattle.metadata.specs.declared.index.IndexDefinition.{IndexDefinition}
 use Rattle.metadata.specs.declared.refusal.Refusal.{Refusal}
 use Rattle.metadata.specs.Change.{add_type, add_types, has_twice, is_name, schema_of, type_asked, type_refusal, types_alone, with_type}
 use Rattle.metadata.specs.IndexChange.{drop_index, is_shaped, without_index}
-use Rattle.metadata.specs.Lawful.{IsLawfulSchema, has_good_indexes, is_index, is_index_over, is_rising_upto, same_index}
+use Rattle.metadata.specs.Lawful.{IsLawfulSchema, at_once, has_good_indexes, is_grown, is_index, is_index_over, is_rising_upto, same_index}
 use Rattle.metadata.specs.Schema.{Schema, find_index, type_at}
-use Rattle.metadata.proofs.MadeSchemas.{err_other, made_alone, ok_same}
+use Rattle.metadata.proofs.Alike.{asked-alike, names-at_once, refusal-alike, type_names}
+use Rattle.metadata.proofs.MadeSchemas.{asked_grown, err_other, made_alone, made_grown, made_whole, ok_same, passed}
 use Rattle.metadata.proofs.ReadBack.{neither}
 use Rattle.metadata.proofs.TestedIndexes.{good, numbers, tested}
 use Rattle.metadata.proofs.WrittenItems.{both}
@@ -24,7 +26,12 @@ use Rattle.metadata.proofs.WrittenItems.{both}
 pub made_lawful : (requests : List TypeRequest) (schema : Schema) → schema_of requests ≡ Ok schema → IsLawfulSchema schema
 made_lawful requests schema made =
     let alone = made_alone schema requests made in
-    record { requests = requests; types = made ∙ ap Ok alone; indexes = ap has_good_indexes alone }
+    record {
+      requests = requests;
+      types = made ∙ ap Ok (alone ∙ ap types_alone (sym (made_whole schema requests made)));
+      grown = made_grown schema requests made;
+      indexes = ap has_good_indexes alone;
+    }
 
 -- one more request
 added_behind : (schema mid next : Schema) (before : List TypeRequest) (request : TypeRequest) → add_types schema before ≡ Ok mid → add_type mid request ≡ Ok next → add_types schema (before ++ request ∷ []) ≡ Ok next
@@ -43,7 +50,7 @@ index_more : (types more : List TypeDefinition) (index : IndexDefinition) → is
 index_more types more index is = by_found (type_at types index.type_number) refl is
   where
     before : Bool
-    before = is_name index.name && nat_le (length index.columns) 8 && is_shaped index.kind (length index.columns) (is_some index.summed)
+    before = is_name index.name && nat_le (length index.columns) 8 && is_shaped index.kind (length index.columns) (is_some index.summed) index.clear_when_zero
 
     by_found : (found : Option TypeDefinition) → type_at types index.type_number ≡ found → is_index types index ≡ true → is_index (types ++ more) index ≡ true
     by_found None none there =
@@ -66,6 +73,15 @@ type_lawful schema next request lawful added = by_refusal (type_refusal schema r
     later : List TypeDefinition
     later = schema.types ++ type_asked schema request ∷ []
 
+    whole : Schema
+    whole = types_alone (map at_once schema.types)
+
+    same : type_names whole.types ≡ type_names schema.types
+    same = names-at_once schema.types
+
+    more : (map at_once schema.types ++ type_asked whole request ∷ []) ≡ map at_once later
+    more = (λ i. map at_once schema.types ++ asked-alike whole schema request same i ∷ []) ∙ sym (map-append at_once schema.types (type_asked schema request ∷ []))
+
     by_refusal : (why : Option Refusal) → type_refusal schema request ≡ why → ◌≡◌ {A = Result Schema Refusal} (elim why [ None ↦ Ok (with_type schema request) | Some refusal ↦ Err refusal ]) (Ok next) → IsLawfulSchema next
     by_refusal (Some refusal) is made = absurd (err_other refusal next made)
     by_refusal None is made =
@@ -73,8 +89,9 @@ type_lawful schema next request lawful added = by_refusal (type_refusal schema r
         let now : with_type schema request ≡ next = ok_same (with_type schema request) next made in
         subst IsLawfulSchema now (record {
           requests = lawful.requests ++ request ∷ [];
-          types = added_behind (types_alone []) (types_alone schema.types) (types_alone later) lawful.requests request lawful.types
-              (ap (λ o. elim o [ None ↦ Ok (with_type (types_alone schema.types) request) | Some refusal ↦ Err refusal ]) is);
+          types = added_behind (types_alone []) whole (types_alone (map at_once later)) lawful.requests request lawful.types
+              (ap (λ o. elim o [ None ↦ Ok (with_type whole request) | Some refusal ↦ Err refusal ]) (refusal-alike whole schema request same ∙ is) ∙ ap (λ ts. Ok (types_alone ts)) more);
+          grown = list_all-append is_grown schema.types (type_asked schema request ∷ []) ∙ (λ i. lawful.grown i && (asked_grown schema request (passed schema request is) i && true));
           indexes = good later schema.last_index schema.indexes (record {
             last_is = t.last_is;
             rising = t.rising;
@@ -152,6 +169,7 @@ dropped_lawful schema next name lawful dropped = by_found (find_index schema nam
         subst IsLawfulSchema (ok_same (without_index schema index.number) next is) (record {
           requests = lawful.requests;
           types = lawful.types;
+          grown = lawful.grown;
           indexes = good schema.types schema.last_index (filter test schema.indexes) (record {
             last_is = t.last_is;
             rising = rising_filter test 0 schema.last_index schema.indexes t.rising;

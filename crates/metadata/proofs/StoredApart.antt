@@ -13,12 +13,12 @@ use Rattle.metadata.specs.Stored.{IsStoredAs, IsTypeOf}
 use Rattle.metadata.proofs.CellItems.{all-cells_at, is_tuple-items_of, nesting-items_of}
 use Rattle.metadata.proofs.IndexAdded.{found_by_number}
 use Rattle.metadata.proofs.IndexItems.{found_small}
-use Rattle.metadata.proofs.MadeSchemas.{made_numbered, made_small}
+use Rattle.metadata.proofs.Grown.{lawful_numbered, lawful_small}
 use Rattle.metadata.proofs.StoredOnce.{made_is}
 
 -- the number of a schema's type is small
 pub number_small : (schema : Schema) (type : TypeDefinition) → IsLawfulSchema schema → IsTypeOf schema type → type.number < 2 ^ 64
-number_small schema type lawful typed = (found_small schema.types type.number type (made_small _ lawful.requests lawful.types) typed).0.number
+number_small schema type lawful typed = (found_small schema.types type.number type (lawful_small schema lawful) typed).0.number
 
 -- a stored record is of its type
 type_is : (type : TypeDefinition) (key value : List ℕ) (r : Record) → IsStoredAs type key value r → type ≡ r.definition
@@ -54,4 +54,4 @@ apart schema type other key value another a b lawful typed others first second =
 
 -- a type that is found by its name is one of the schema's
 pub named_typed : (schema : Schema) (name : List ℕ) (type : TypeDefinition) → IsLawfulSchema schema → find_type schema name ≡ Some type → IsTypeOf schema type
-named_typed schema name type lawful found = found_by_number 0 (λ (one : TypeDefinition). bytes_eq one.name name) schema.types type (made_numbered _ lawful.requests lawful.types) found
+named_typed schema name type lawful found = found_by_number 0 (λ (one : TypeDefinition). bytes_eq one.name name) schema.types type (lawful_numbered schema lawful) found

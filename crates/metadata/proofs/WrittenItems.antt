@@ -73,7 +73,7 @@ places_are fields [] few = tt
 places_are fields (name ∷ names) few = place_is fields name (places_of fields names) (place_of fields name) few refl (places_are fields names few)
 
 -- the type that a request asks for
-pub is_item-type : (schema : Schema) (request : TypeRequest) → list_all is_name (request.name ∷ field_names request.fields) ≡ true → length schema.types < 32 → length request.fields ≤ 32 → IsItem (type_item (type_asked schema request))
+pub is_item-type : (schema : Schema) (request : TypeRequest) → list_all is_name (request.name ∷ field_names request.fields) ≡ true → length schema.types < 32 → length request.fields ≤ 32 → IsItem (type_item false (type_asked schema request))
 is_item-type schema request names few few_fields =
     let named = both (is_name request.name) (list_all is_name (field_names request.fields)) names in
     (omega arith, (utf8 request.name named.0, (fields_are request.fields named.1, (places_are request.fields request.key few_fields, tt))))

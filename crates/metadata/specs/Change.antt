@@ -7,7 +7,8 @@ use Rattle.metadata.specs.declared.definition.Field.{Field}
 use Rattle.metadata.specs.declared.definition.TypeDefinition.{TypeDefinition}
 use Rattle.metadata.specs.declared.definition.TypeRequest.{TypeRequest}
 use Rattle.metadata.specs.declared.refusal.Refusal.{Refusal}
-use Rattle.metadata.specs.declared.refusal.Refusal.TheVariants.{BadName, NameTaken, UnknownField, BadSchema, TooMany}
+use Rattle.metadata.specs.declared.refusal.Refusal.TheVariants.{BadName, NameTaken, UnknownType, UnknownField}
+use Rattle.metadata.specs.declared.refusal.Refusal.TheVariants.{BadSchema, TooMany}
 use Rattle.metadata.specs.Schema.{Schema, find_type, place_of}
 
 -- the refusal of the first test that holds
@@ -53,6 +54,7 @@ type_asked schema request = record {
   name = request.name;
   fields = request.fields;
   key = places_of request.fields request.key;
+  first_fields = length request.fields;
 }
 
 -- why a type isn't added: the first of these
@@ -79,6 +81,37 @@ abbrev pub add_types : Schema → List TypeRequest → Result Schema Refusal
 add_types schema [] = Ok schema
 add_types schema (request ∷ requests) =
     elim (add_type schema request) [ Err refusal ↦ Err refusal | Ok next ↦ add_types next requests ]
+
+-- the type with a field appended
+abbrev pub appended : TypeDefinition → Field → TypeDefinition
+appended type field = record type { fields = type.fields ++ field ∷ [] }
+
+-- why a field isn't appended to a type: the first of these
+abbrev pub append_refusal : TypeDefinition → Field → Option Refusal
+append_refusal type field =
+    first_test_refusal
+    ((is_some (place_of type.fields field.name), NameTaken) ∷ (nat_lt 31 (length type.fields), TooMany) ∷ [])
+
+-- why a field isn't appended to the type of this name: for its own name, for want of the type, for the type's fields
+abbrev pub field_refusal : Schema → List ℕ → Field → Option Refusal
+field_refusal schema name field =
+    if not (is_name field.name) then Some BadName
+    else elim (find_type schema name) [ None ↦ Some UnknownType | Some type ↦ append_refusal type field ]
+
+-- the types, with a field appended to the first of this name
+abbrev pub appended_at : List ℕ → Field → List TypeDefinition → List TypeDefinition
+appended_at name field [] = []
+appended_at name field (type ∷ types) =
+    if bytes_eq type.name name then appended type field ∷ types else type ∷ appended_at name field types
+
+-- the schema with a field appended to the type of this name
+abbrev pub with_field : Schema → List ℕ → Field → Schema
+with_field schema name field = record schema { types = appended_at name field schema.types }
+
+-- the schema with a field asked for, or the refusal
+abbrev pub add_field : Schema → List ℕ → Field → Result Schema Refusal
+add_field schema name field =
+    elim (field_refusal schema name field) [ None ↦ Ok (with_field schema name field) | Some refusal ↦ Err refusal ]
 
 -- a schema of types alone
 abbrev pub types_alone : List TypeDefinition → Schema

@@ -22,11 +22,11 @@ abbrev pub is_int : Option Kind → Bool
 is_int (Some kind.Int) = true
 is_int other = false
 
--- the shape is of the kind: VALUE has columns, and SUM alone has a summed field
-abbrev pub is_shaped : IndexKind → ℕ → Bool → Bool
-is_shaped Value columns summed = nat_lt 0 columns && not summed
-is_shaped Count columns summed = not summed
-is_shaped Sum columns summed = summed
+-- the shape is of the kind: VALUE has columns, SUM alone has a summed field, and COUNT alone may be cleared at zero
+abbrev pub is_shaped : IndexKind → ℕ → Bool → Bool → Bool
+is_shaped Value columns summed clears = nat_lt 0 columns && not summed && not clears
+is_shaped Count columns summed clears = not summed
+is_shaped Sum columns summed clears = summed && not clears
 
 -- the place of the summed field, if one is asked for and there
 abbrev pub place_summed : List Field → Option (List ℕ) → Option ℕ
@@ -51,6 +51,7 @@ index_asked schema type request = record {
   type_number = type.number;
   columns = places_of type.fields request.columns;
   summed = place_summed type.fields request.summed;
+  clear_when_zero = request.clear_when_zero;
 }
 
 -- why an index isn't added for its name: the first of these
@@ -65,7 +66,7 @@ over_refusal schema type request = first_test_refusal (
     (has_unknown_field type.fields request, UnknownField)
     ∷ (sums_other type.fields (place_summed type.fields request.summed), WrongKind)
     ∷ (
-      not (is_shaped request.kind (length request.columns) (is_some request.summed))
+      not (is_shaped request.kind (length request.columns) (is_some request.summed) request.clear_when_zero)
           || has_twice bytes_eq request.columns,
       BadSchema,
     )

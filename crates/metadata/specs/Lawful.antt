@@ -1,5 +1,5 @@
--- Which schemas there are: those whose types are added one after another, with indexes that could have been asked for
--- over them.
+-- Which schemas there are: those whose types are added one after another, perhaps with fields appended later, with
+-- indexes that could have been asked for over them.
 use Rattle.std.specs.Prelude.{◌≡◌, ℕ, Bool, true, false, not, ◌&&◌, List, [], ◌∷◌}
 use Rattle.std.specs.Prelude.{nat_eq, Ok, length, map, is_some, nat_lt, nat_le}
 use Rattle.std.specs.List.{list_all}
@@ -31,7 +31,7 @@ is_index_over index type =
 abbrev pub is_index : List TypeDefinition → IndexDefinition → Bool
 is_index types index =
     is_name index.name && nat_le (length index.columns) 8
-    && is_shaped index.kind (length index.columns) (is_some index.summed)
+    && is_shaped index.kind (length index.columns) (is_some index.summed) index.clear_when_zero
     && option_map_or (is_index_over index) (type_at types index.type_number) false
 
 -- the indexes of a schema: their numbers rise up to the last one given, their names differ, and each is an index over
@@ -42,8 +42,19 @@ has_good_indexes schema =
     && nat_le (length schema.indexes) 64 && not (has_twice same_index schema.indexes)
     && list_all (is_index schema.types) schema.indexes
 
--- a lawful schema: requests make its types, and its indexes are good
+-- the type as if it had been added with all of its fields
+abbrev pub at_once : TypeDefinition → TypeDefinition
+at_once type = record type { first_fields = length type.fields }
+
+-- the fields that the type was added with are its first ones, and those of its key are among them
+abbrev pub is_grown : TypeDefinition → Bool
+is_grown type =
+    nat_le type.first_fields (length type.fields) && list_all (λ place. nat_lt place type.first_fields) type.key
+
+-- a lawful schema: requests make its types with all of their fields, the fields that came later stand last and are none
+-- of a key, and its indexes are good
 pub record IsLawfulSchema (schema : Schema) : Type 0 where
   pub requests : List TypeRequest
-  pub types : schema_of requests ≡ Ok (types_alone schema.types)
+  pub types : schema_of requests ≡ Ok (types_alone (map at_once schema.types))
+  pub grown : list_all is_grown schema.types ≡ true
   pub indexes : has_good_indexes schema ≡ true

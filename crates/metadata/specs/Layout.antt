@@ -6,7 +6,7 @@ use Rattle.tuple_codec.specs.Subspace.{subspace_key}
 use Rattle.metadata.specs.declared.cells.Cell.{Cell}
 use Rattle.metadata.specs.declared.index.IndexDefinition.{IndexDefinition}
 use Rattle.metadata.specs.Cell.{items_of}
-use Rattle.metadata.specs.Record.{Record, primary_key}
+use Rattle.metadata.specs.Record.{Record}
 use Rattle.metadata.specs.Entries.{IndexEntry, entry_items, index_entries}
 
 -- a key of the database and its value
@@ -48,10 +48,6 @@ records_prefix prefix number = record_key prefix (int (pos number) ∷ [])
 -- the value of a record with these cells
 abbrev pub record_value : List Cell → List ℕ
 record_value cells = spelling (items_of cells)
-
--- the pair that stands for a record
-abbrev pub record_pair : List ℕ → Record → Pair
-record_pair prefix r = (record_key prefix (primary_key r), record_value r.cells)
 
 -- ---- entries
 

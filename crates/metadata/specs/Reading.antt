@@ -1,9 +1,10 @@
 -- Private: what the readers of a schema's tuple give. They pass over what the schema's own written form tells.
 use Rattle.std.specs.Prelude.{ℕ, ◌^◌, pos, List, [], ◌∷◌, Option, Some, None}
-use Rattle.std.specs.Prelude.{◌==◌, ◌≡◌, nat_lt, slice_get, if◌then◌else◌}
+use Rattle.std.specs.Prelude.{◌==◌, ◌≡◌, ◌&&◌, Bool, false, nat_lt, slice_get, if◌then◌else◌, unwrap_or}
 use Rattle.std.specs.Result.{result_ok}
-use Rattle.std.specs.Option.{option_map, option_and_then}
-use Rattle.tuple_codec.specs.Item.{Item, int, text, nested, null, items_list}
+use Rattle.std.specs.Option.{option_map, option_and_then, option_map_or}
+use Rattle.std.specs.List.{list_all}
+use Rattle.tuple_codec.specs.Item.{Item, bool, int, text, nested, null, items_list}
 use Rattle.metadata.specs.declared.cells.Kind.{Kind}
 use Rattle.metadata.specs.declared.cells.Kind.TheVariants as kind
 use Rattle.metadata.specs.declared.definition.Field.{Field}
@@ -16,7 +17,7 @@ use Rattle.metadata.specs.declared.refusal.Refusal.TheVariants.{BadSchema}
 use Rattle.metadata.specs.declared.refusal.MetadataError.{MetadataError}
 use Rattle.metadata.specs.declared.refusal.MetadataError.TheVariants.{Memory, Refused}
 use Rattle.metadata.specs.Change.{schema_of}
-use Rattle.metadata.specs.Lawful.{has_good_indexes}
+use Rattle.metadata.specs.Lawful.{has_good_indexes, is_grown}
 use Rattle.metadata.specs.Schema.{Schema}
 
 -- what each of the items is read as, if each is
@@ -82,6 +83,28 @@ request_of one = option_and_then request_in (tuple_of one)
 abbrev pub requests_in : List Item → Option (List TypeRequest)
 requests_in items = option_and_then (all_read request_of) (read_at tuple_of items 3)
 
+-- the first number of a schema's tuple is that of the second form
+abbrev pub is_second : List Item → Bool
+is_second items = option_map_or (λ form. form == 2) (read_at small_of items 0) false
+
+-- how many fields the type was added with that an item is, by the second form
+abbrev pub first_of : Item → Option ℕ
+first_of one = option_and_then (λ parts. read_at small_of parts 4) (tuple_of one)
+
+-- the same of the types of a schema's tuple
+abbrev pub firsts_in : List Item → Option (List ℕ)
+firsts_in items = option_and_then (all_read first_of) (read_at tuple_of items 3)
+
+-- types, added with so many fields each
+abbrev pub with_firsts : List ℕ → List TypeDefinition → List TypeDefinition
+with_firsts (first ∷ firsts) (type ∷ types) = record type { first_fields = first } ∷ with_firsts firsts types
+with_firsts firsts types = types
+
+-- the types, as they have grown by the form that the tuple has
+abbrev pub grown_in : List Item → List TypeDefinition → Option (List TypeDefinition)
+grown_in items types =
+    if is_second items then option_map (λ firsts. with_firsts firsts types) (firsts_in items) else Some types
+
 -- the kind of an index of a number
 abbrev pub index_kind_of : ℕ → Option IndexKind
 index_kind_of n = if n == 1 then Some Value else if n == 2 then Some Count else if n == 3 then Some Sum else None
@@ -96,6 +119,11 @@ abbrev pub summed_of : Item → Option (Option ℕ)
 summed_of null = Some None
 summed_of other = option_map (λ place. Some place) (small_of other)
 
+-- the truth value that an item is
+abbrev pub truth_of : Item → Option Bool
+truth_of (bool value) = Some value
+truth_of other = None
+
 -- the places that the items of a tuple are
 abbrev pub places_in : List Item → ℕ → Option (List ℕ)
 places_in parts at = option_and_then (all_read small_of) (read_at tuple_of parts at)
@@ -106,7 +134,15 @@ index_in parts =
     option_and_then (λ number.
     option_and_then (λ name. option_and_then (λ kind. option_and_then (λ type_number. option_and_then (λ columns.
     option_map (λ summed.
-    record { number = number; name = name; kind = kind; type_number = type_number; columns = columns; summed = summed })
+    record {
+      number = number;
+      name = name;
+      kind = kind;
+      type_number = type_number;
+      columns = columns;
+      summed = summed;
+      clear_when_zero = unwrap_or (read_at truth_of parts 6) false;
+    })
     (read_at summed_of parts 5)) (places_in parts 4)) (read_at item_number parts 3))
     (option_and_then index_kind_of (read_at small_of parts 2))) (read_at text_of parts 1))
     (read_at item_number parts 0)
@@ -118,15 +154,19 @@ index_of one = option_and_then index_in (tuple_of one)
 abbrev pub indexes_in : List Item → Option (List IndexDefinition)
 indexes_in items = option_and_then (all_read index_of) (read_at tuple_of items 4)
 
--- the types of a schema's tuple
-abbrev pub types_in : List Item → Option (List TypeDefinition)
-types_in items =
+-- the types that a schema's tuple asks for, each as if it had been added with all of its fields
+abbrev pub asked_in : List Item → Option (List TypeDefinition)
+asked_in items =
     option_and_then (λ requests. option_map (λ schema. schema.types) (result_ok (schema_of requests)))
     (requests_in items)
 
--- the schema, where its indexes are good
+-- the types of a schema's tuple
+abbrev pub types_in : List Item → Option (List TypeDefinition)
+types_in items = option_and_then (grown_in items) (asked_in items)
+
+-- the schema, where its types have grown so that there are such, and its indexes are good
 abbrev pub if_good : Schema → Option Schema
-if_good schema = if has_good_indexes schema then Some schema else None
+if_good schema = if list_all is_grown schema.types && has_good_indexes schema then Some schema else None
 
 -- the schema that a tuple tells
 abbrev pub tuple_schema : List Item → Option Schema

@@ -23,7 +23,8 @@ all_same same xs ys = false
 abbrev pub equal_field : Field → Field → Bool
 equal_field a b = bytes_eq a.name b.name && same_kind a.kind b.kind
 
--- the same number, name, fields and key
+-- the same number, name, fields and key, and as many fields at first
 abbrev pub same_type : TypeDefinition → TypeDefinition → Bool
 same_type a b =
     a.number == b.number && bytes_eq a.name b.name && all_same equal_field a.fields b.fields && bytes_eq a.key b.key
+    && a.first_fields == b.first_fields

@@ -1,6 +1,8 @@
 -- The written form of a schema: a tuple, and the pack of it.
-use Rattle.std.specs.Prelude.{◌≡◌, ℕ, pos, Option, Some, None, List, [], ◌∷◌, map, length}
-use Rattle.tuple_codec.specs.Item.{Item, int, text, nested, null, items_from}
+use Rattle.std.specs.Prelude.{◌≡◌, ℕ, pos, Bool, not, ◌||◌, ◌==◌, if◌then◌else◌, Option, Some, None}
+use Rattle.std.specs.Prelude.{List, [], ◌∷◌, map, length}
+use Rattle.std.specs.List.{list_any}
+use Rattle.tuple_codec.specs.Item.{Item, bool, int, text, nested, null, items_from}
 use Rattle.tuple_codec.specs.Spelling.{Spells, spelling}
 use Rattle.metadata.specs.declared.cells.Kind.{Kind}
 use Rattle.metadata.specs.declared.cells.Kind.TheVariants as kind
@@ -36,14 +38,22 @@ field_parts field = text field.name ∷ number_item (kind_number field.kind) ∷
 abbrev pub field_item : Field → Item
 field_item field = nested_item (field_parts field)
 
--- (number, name, fields, places of the key fields)
-abbrev pub type_parts : TypeDefinition → List Item
-type_parts type =
-    number_item type.number ∷ text type.name ∷ nested_item (map field_item type.fields)
-    ∷ nested_item (map number_item type.key) ∷ []
+-- the second form is wanted by what the first one can't tell: a type with appended fields, an index that is cleared at
+-- zero
+abbrev pub wants_second : Schema → Bool
+wants_second schema =
+    list_any (λ type. not (type.first_fields == length type.fields)) schema.types
+    || list_any (λ index. index.clear_when_zero) schema.indexes
 
-abbrev pub type_item : TypeDefinition → Item
-type_item type = nested_item (type_parts type)
+-- (number, name, fields, places of the key fields), and in the second form the number of the fields that it was added
+-- with
+abbrev pub type_parts : Bool → TypeDefinition → List Item
+type_parts second type =
+    number_item type.number ∷ text type.name ∷ nested_item (map field_item type.fields)
+    ∷ nested_item (map number_item type.key) ∷ (if second then number_item type.first_fields ∷ [] else [])
+
+abbrev pub type_item : Bool → TypeDefinition → Item
+type_item second type = nested_item (type_parts second type)
 
 -- index kinds are 1 VALUE, 2 COUNT, 3 SUM
 abbrev pub index_kind_number : IndexKind → ℕ
@@ -56,21 +66,31 @@ abbrev pub summed_item : Option ℕ → Item
 summed_item (Some place) = number_item place
 summed_item None = null
 
--- (number, name, kind, type number, places of the columns, place of the summed field or null)
-abbrev pub index_parts : IndexDefinition → List Item
-index_parts index =
+-- (number, name, kind, type number, places of the columns, place of the summed field or null), and in the second form
+-- whether it is cleared at zero
+abbrev pub index_parts : Bool → IndexDefinition → List Item
+index_parts second index =
     number_item index.number ∷ text index.name ∷ number_item (index_kind_number index.kind)
     ∷ number_item index.type_number
-    ∷ nested_item (map number_item index.columns) ∷ summed_item index.summed ∷ []
+    ∷ nested_item (map number_item index.columns) ∷ summed_item index.summed
+    ∷ (if second then bool index.clear_when_zero ∷ [] else [])
 
-abbrev pub index_item : IndexDefinition → Item
-index_item index = nested_item (index_parts index)
+abbrev pub index_item : Bool → IndexDefinition → Item
+index_item second index = nested_item (index_parts second index)
 
--- (1, last type number, last index number, types, indexes)
+-- forms are 1 and 2
+abbrev pub form_number : Bool → ℕ
+form_number second = if second then 2 else 1
+
+-- (form, last type number, last index number, types, indexes) in the form with this number
+abbrev pub written_in : Bool → Schema → List Item
+written_in second schema =
+    number_item (form_number second) ∷ number_item (length schema.types) ∷ number_item schema.last_index
+    ∷ nested_item (map (type_item second) schema.types) ∷ nested_item (map (index_item second) schema.indexes) ∷ []
+
+-- the written form: the second one exactly where it is wanted
 abbrev pub written : Schema → List Item
-written schema =
-    number_item 1 ∷ number_item (length schema.types) ∷ number_item schema.last_index
-    ∷ nested_item (map type_item schema.types) ∷ nested_item (map index_item schema.indexes) ∷ []
+written schema = written_in (wants_second schema) schema
 
 -- the bytes of a schema
 abbrev pub schema_bytes : Schema → List ℕ

@@ -175,7 +175,7 @@ fn cell_in(element: Element) -> Option<Cell>
 /// The cells of a record, or of a key, in order.
 #[derive(Drop)]
 pub struct Cells {
-    cells: Vec<Cell>,
+    pub(crate) cells: Vec<Cell>,
 }
 
 impl Model for Cells {

@@ -1,6 +1,6 @@
 // Definitions of record types, and the requests that ask for types and schemas. Used by most
 // modules here; `json_forms` and `record_layer` make requests, crates above read definitions.
-ghost use Rattle.std.specs.Prelude.{◌≡◌, IfOk};
+ghost use Rattle.std.specs.Prelude.{◌≡◌, ◌++◌, ◌∷◌, [], IfOk, OnOk, OnErr};
 ghost use Rattle.std.specs.Str.{bytes_eq};
 ghost use Rattle.metadata.specs.Change.{has_twice};
 ghost use Rattle.metadata.specs.Schema.{field_kinds, key_kinds, kind_at, place_of};
@@ -60,6 +60,15 @@ impl Fields {
         ensures { result.now ≡ self.now }
     {
         self.fields.as_slice()
+    }
+
+    // Adds a field at the end. Where memory is wanting the fields stay as they were.
+    pub(crate) fn push(&mut self, field: Field) -> Result<(), AllocError>
+        ensures ok { OnOk result (self.new ≡ self.old ++ field ∷ []) }
+        ensures err { OnErr result (self.new ≡ self.old) }
+    {
+        self.fields.push(field)?;
+        Ok(())
     }
 
     /// The place of the field of this name.
@@ -126,13 +135,15 @@ impl Places {
     }
 }
 
-/// A record type: its number, counted from 1, its name, its fields and the places of its key fields.
+/// A record type: its number, counted from 1, its name, its fields, the places of its key fields, and
+/// how many fields it was added with: those after them were appended later.
 #[derive(Drop)]
 pub struct TypeDefinition {
     pub number: u64,
     pub name: Text,
     pub fields: Fields,
     pub key: Places,
+    pub first_fields: usize,
 }
 
 impl TypeDefinition {
@@ -148,6 +159,7 @@ impl TypeDefinition {
             name,
             fields,
             key,
+            first_fields: self.first_fields,
         })
     }
 

@@ -69,7 +69,8 @@ impl States {
 }
 
 /// An index over a type: its number, which no other index of the store ever has, its name, the
-/// number of its type, the places of its columns and, of a SUM, that of the summed field.
+/// number of its type, the places of its columns and, of a SUM, that of the summed field. A COUNT may
+/// be cleared at zero: it keeps nothing then for a group without records.
 #[derive(Drop)]
 pub struct IndexDefinition {
     pub number: u64,
@@ -78,6 +79,7 @@ pub struct IndexDefinition {
     pub type_number: u64,
     pub columns: Places,
     pub summed: Option<usize>,
+    pub clear_when_zero: bool,
 }
 
 impl IndexDefinition {
@@ -94,11 +96,13 @@ impl IndexDefinition {
             type_number: self.type_number,
             columns,
             summed: self.summed,
+            clear_when_zero: self.clear_when_zero,
         })
     }
 }
 
-/// An index as it is asked for: its type, its columns and the summed field by their names.
+/// An index as it is asked for: its type, its columns and the summed field by their names. A COUNT
+/// alone may be cleared at zero.
 #[derive(Drop)]
 pub struct IndexRequest {
     pub name: Text,
@@ -106,6 +110,7 @@ pub struct IndexRequest {
     pub type_name: Text,
     pub columns: Names,
     pub summed: Option<Text>,
+    pub clear_when_zero: bool,
 }
 
 impl IndexRequest {
@@ -126,6 +131,7 @@ impl IndexRequest {
             type_name,
             columns,
             summed,
+            clear_when_zero: self.clear_when_zero,
         })
     }
 }

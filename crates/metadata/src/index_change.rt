@@ -39,14 +39,15 @@ pub(crate) fn is_int(fields: &[Field], place: usize) -> bool
     }
 }
 
-// Whether so many columns, and a summed field or none, are what the kind wants.
-pub(crate) fn is_shaped(kind: IndexKind, columns: usize, is_summed: bool) -> bool
-    ensures { result ≡ is_shaped kind columns is_summed }
+// Whether so many columns, a summed field or none, and to be cleared at zero or not, are what the
+// kind wants.
+pub(crate) fn is_shaped(kind: IndexKind, columns: usize, is_summed: bool, clears: bool) -> bool
+    ensures { result ≡ is_shaped kind columns is_summed clears }
 {
     match kind {
-        IndexKind::Value => columns > 0 && !is_summed,
+        IndexKind::Value => columns > 0 && !is_summed && !clears,
         IndexKind::Count => !is_summed,
-        IndexKind::Sum => is_summed,
+        IndexKind::Sum => is_summed && !clears,
     }
 }
 
@@ -89,11 +90,14 @@ fn sums_other(fields: &[Field], request: &IndexRequest) -> bool
 
 // Whether the columns and the summed field aren't those of an index of this kind.
 fn is_bad_index(request: &IndexRequest) -> bool
-    ensures { result ≡ (not (is_shaped request.now.kind (length request.now.columns) (is_some request.now.summed))
+    ensures { result ≡ (not (is_shaped request.now.kind (length request.now.columns) (is_some request.now.summed)
+        request.now.clear_when_zero)
         || has_twice bytes_eq request.now.columns) }
 {
     let columns = request.columns.as_slice();
-    !is_shaped(request.kind, columns.len(), request.summed.is_some()) || has_twice(columns)
+    let is_summed = request.summed.is_some();
+    let clears = request.clear_when_zero;
+    !is_shaped(request.kind, columns.len(), is_summed, clears) || has_twice(columns)
 }
 
 impl Schema {
@@ -174,6 +178,7 @@ impl Schema {
             type_number: definition.number,
             columns,
             summed: place_summed(fields, request),
+            clear_when_zero: request.clear_when_zero,
         })
     }
 
@@ -200,9 +205,9 @@ impl Schema {
     /// `BadName` (the name isn't 1 to 32 of `a-z A-Z 0-9 _`), `NameTaken` (another index has it),
     /// `UnknownType`, `UnknownField` (a column, or the summed field, isn't a field of the type),
     /// `WrongKind` (the summed field isn't of whole numbers), `BadSchema` (a VALUE without columns,
-    /// a column twice, a SUM without a summed field, or another kind with one), `TooMany` (65
-    /// indexes, 9 columns, or the last index number was given). After a refusal the schema is as
-    /// before.
+    /// a column twice, a SUM without a summed field, or another kind with one, another kind than
+    /// COUNT that is to be cleared at zero), `TooMany` (65 indexes, 9 columns, or the last index
+    /// number was given). After a refusal the schema is as before.
     pub fn add_index(&mut self, request: &IndexRequest) -> Result<(), MetadataError>
         ensures ok { OnOk result (add_index self.old request.now ≡ Ok self.new) }
         ensures refused { IfErr result (λ error. IsRefusedAs error (add_index self.old request.now)) }

@@ -1,9 +1,9 @@
 // The indexes that a schema's tuple tells. Called by `written`.
-ghost use Rattle.std.specs.Prelude.{◌≡◌, IfOk};
+ghost use Rattle.std.specs.Prelude.{◌≡◌, false, unwrap_or, IfOk};
 ghost use Rattle.std.specs.Option.{option_map};
 ghost use Rattle.tuple_codec.specs.Elements.{item_in, items_in};
 ghost use Rattle.metadata.specs.Reading.{all_read, index_in, index_kind_of, index_of, indexes_in};
-ghost use Rattle.metadata.specs.Reading.{item_number, places_in, read_at, small_of, summed_of};
+ghost use Rattle.metadata.specs.Reading.{item_number, places_in, read_at, small_of, summed_of, truth_of};
 
 use crate::definition::Places;
 use crate::index::{IndexDefinition, IndexKind};
@@ -60,6 +60,26 @@ fn summed_at(tuple: &Tuple, place: usize) -> Option<Option<usize>>
     summed_of(tuple.elements().get(place)?)
 }
 
+// The truth value that an element is.
+fn truth_of(element: &Element) -> Option<bool>
+    ensures { result ≡ truth_of (item_in element.now) }
+{
+    match element {
+        Element::Bool(value) => Some(*value),
+        _ => None,
+    }
+}
+
+// The truth value at a place of a tuple, false where none is there.
+fn truth_at(tuple: &Tuple, place: usize) -> bool
+    ensures { result ≡ unwrap_or (read_at truth_of tuple.now place) false }
+{
+    match tuple.elements().get(place) {
+        Some(element) => truth_of(element).unwrap_or(false),
+        None => false,
+    }
+}
+
 // The places that elements are.
 fn places_of(alloc: Global, elements: &[Element]) -> Result<Option<Places>, AllocError>
     ensures { IfOk result (λ places. places ≡ all_read small_of (items_in elements.now)) }
@@ -114,6 +134,7 @@ fn index_in(alloc: Global, parts: &Tuple) -> Result<Option<IndexDefinition>, All
         type_number,
         columns,
         summed,
+        clear_when_zero: truth_at(parts, 6),
     }))
 }
 

@@ -1,10 +1,10 @@
-// Whether the indexes that are read from bytes are those of a schema. Called by `written`; `group`
-// finds a type by its number here.
+// Whether the types and indexes that are read from bytes are those of a schema. Called by `written`;
+// `group` finds a type by its number here.
 ghost use Rattle.std.specs.Prelude.{◌≡◌, ◌&&◌, length, map, nat_eq, nat_lt, true};
 ghost use Rattle.std.specs.List.{list_all};
 ghost use Rattle.std.specs.Option.{option_copied, option_map_or};
 ghost use Rattle.metadata.specs.IndexChange.{is_int};
-ghost use Rattle.metadata.specs.Lawful.{has_good_indexes, is_index, is_index_over, is_rising_upto};
+ghost use Rattle.metadata.specs.Lawful.{has_good_indexes, is_grown, is_index, is_index_over, is_rising_upto};
 ghost use Rattle.metadata.specs.Schema.{kind_at, type_at};
 
 use crate::definition::{Field, TypeDefinition};
@@ -33,6 +33,21 @@ fn are_places(places: &[usize], count: usize) -> bool
     ensures { result ≡ list_all (λ place. nat_lt place count) places.now }
 {
     places.iter().all(|place| *place < count)
+}
+
+// Whether the type may have grown: its first fields are among its fields, and its key's among those.
+fn is_grown(definition: &TypeDefinition) -> bool
+    ensures { result ≡ is_grown definition.now }
+{
+    definition.first_fields <= definition.fields.as_slice().len()
+        && are_places(definition.key.as_slice(), definition.first_fields)
+}
+
+// Whether each of the types may have grown so.
+pub(crate) fn are_grown(types: &[TypeDefinition]) -> bool
+    ensures { result ≡ list_all is_grown types.now }
+{
+    types.iter().all(is_grown)
 }
 
 // Whether there is no summed field, or one of whole numbers.
@@ -69,7 +84,8 @@ fn is_index(types: &[TypeDefinition], index: &IndexDefinition) -> bool
     if !is_name(&index.name) || columns > MAX_COLUMNS {
         return false;
     }
-    if !is_shaped(index.kind, columns, index.summed.is_some()) {
+    let is_summed = index.summed.is_some();
+    if !is_shaped(index.kind, columns, is_summed, index.clear_when_zero) {
         return false;
     }
     match type_at(types, index.type_number) {

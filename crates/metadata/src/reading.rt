@@ -5,7 +5,8 @@ ghost use Rattle.std.specs.Prelude.{◌≡◌, IfOk, IfErr};
 ghost use Rattle.std.specs.Option.{option_copied, option_map};
 ghost use Rattle.tuple_codec.specs.Elements.{item_in, items_in};
 ghost use Rattle.metadata.specs.Reading.{all_read, asked_of, field_in, field_of, kind_of, name_of, read_at};
-ghost use Rattle.metadata.specs.Reading.{request_in, request_of, requests_in, small_of, text_of, tuple_of};
+ghost use Rattle.metadata.specs.Reading.{first_of, firsts_in, is_second, request_in, request_of, requests_in};
+ghost use Rattle.metadata.specs.Reading.{small_of, text_of, tuple_of};
 
 use crate::cells::Kind;
 use crate::definition::{Field, Fields, Names, TypeRequest};
@@ -211,4 +212,46 @@ pub(crate) fn requests_in(
         Some(types) => requests_of(alloc, types.elements()),
         None => Ok(None),
     }
+}
+
+// Whether the first number of a schema's tuple is that of the second form.
+pub(crate) fn is_second(tuple: &Tuple) -> bool
+    ensures { result ≡ is_second tuple.now }
+{
+    match small_at(tuple, 0) {
+        Some(form) => form == 2,
+        None => false,
+    }
+}
+
+// How many fields the type was added with that an element is, by the second form.
+fn first_of(element: &Element) -> Option<u8>
+    ensures { result ≡ first_of (item_in element.now) }
+{
+    small_at(tuple_of(element)?, 4)
+}
+
+// The same of the types that elements are.
+fn firsts_of(alloc: Global, elements: &[Element]) -> Result<Option<Vec<usize>>, AllocError>
+    ensures { IfOk result (λ firsts.
+        option_map (λ found. found.items) firsts ≡ all_read first_of (items_in elements.now)) }
+{
+    let mut firsts = Vec::with_capacity(alloc, elements.len())?;
+    for element in elements {
+        let Some(first) = first_of(element) else {
+            return Ok(None);
+        };
+        firsts.push(usize::from(first))?;
+    }
+    Ok(Some(firsts))
+}
+
+// The same of the types of a schema's tuple.
+pub(crate) fn firsts_in(alloc: Global, tuple: &Tuple) -> Result<Option<Vec<usize>>, AllocError>
+    ensures { IfOk result (λ firsts. option_map (λ found. found.items) firsts ≡ firsts_in tuple.now) }
+{
+    let Some(types) = tuple_at(tuple, 3) else {
+        return Ok(None);
+    };
+    firsts_of(alloc, types.elements())
 }

@@ -38,7 +38,8 @@ fn are_same_fields(a: &[Field], b: &[Field]) -> bool
 }
 
 impl TypeDefinition {
-    /// Whether this is the same definition as another one: the same number, name, fields and key. It takes no memory.
+    /// Whether this is the same definition as another one: the same number, name, fields and key, and as many fields at
+    /// first. It takes no memory.
     pub fn is_same(&self, other: &TypeDefinition) -> bool
         ensures { result ≡ same_type self.now other.now }
     {
@@ -46,5 +47,6 @@ impl TypeDefinition {
             && is_same(&self.name, &other.name)
             && are_same_fields(self.fields.as_slice(), other.fields.as_slice())
             && self.key.as_slice() == other.key.as_slice()
+            && self.first_fields == other.first_fields
     }
 }

@@ -1,17 +1,18 @@
 // Whether a tuple is the written form of a schema, told without writing it. Called by `written`.
-ghost use Rattle.std.specs.Prelude.{◌≡◌, ℕ, length, map};
+ghost use Rattle.std.specs.Prelude.{◌≡◌, ℕ, Bool, false, length, map};
 ghost use Rattle.std.specs.Bool.{Decides};
 ghost use Rattle.tuple_codec.specs.Item.{Item};
 ghost use Rattle.tuple_codec.specs.Elements.{item_in, items_in};
 ghost use Rattle.metadata.specs.Written.{field_item, field_parts, index_item, index_parts, nested_item};
 ghost use Rattle.metadata.specs.Written.{number_item, summed_item, type_item, type_parts, written};
-ghost use Rattle.tuple_codec.specs.Item.{text};
+ghost use Rattle.metadata.specs.Written.{written_in};
+ghost use Rattle.tuple_codec.specs.Item.{bool as truth, text};
 
 use crate::definition::{Field, TypeDefinition};
 use crate::index::IndexDefinition;
 use crate::reading::tuple_of;
 use crate::schema::Schema;
-use crate::writing::{index_kind_number, kind_number};
+use crate::writing::{form_number, index_kind_number, kind_number, wants_second};
 use tuple_codec::{Element, Text, Tuple};
 
 // Whether the element is this number.
@@ -34,24 +35,34 @@ fn is_text(element: &Element, name: &Text) -> bool
     }
 }
 
-// What is written as an element of a tuple.
-pub(crate) trait Written {
-    ghost item: { Self → Item };
+// Whether the element is this truth value.
+fn is_truth(element: &Element, value: bool) -> bool
+    ensures { Decides result (item_in element.now ≡ truth value) }
+{
+    match element {
+        Element::Bool(own) => *own == value,
+        _ => false,
+    }
+}
 
-    fn is_in(&self, element: &Element) -> bool
-        ensures { Decides result (item_in element.now ≡ item self.now) };
+// What is written as an element of a tuple, in the first form or in the second.
+pub(crate) trait Written {
+    ghost item: { Bool → Self → Item };
+
+    fn is_in(&self, second: bool, element: &Element) -> bool
+        ensures { Decides result (item_in element.now ≡ item second self.now) };
 }
 
 // Whether the elements are these, in order.
-fn are_in<T: Written>(items: &[T], elements: &[Element]) -> bool
-    ensures { Decides result (items_in elements.now ≡ map T.item items.now) }
+fn are_in<T: Written>(second: bool, items: &[T], elements: &[Element]) -> bool
+    ensures { Decides result (items_in elements.now ≡ map (T.item second) items.now) }
 {
     let mut rest = elements;
     for item in items {
         let Some((first, others)) = rest.split_first() else {
             return false;
         };
-        if !item.is_in(first) {
+        if !item.is_in(second, first) {
             return false;
         }
         rest = others;
@@ -60,19 +71,19 @@ fn are_in<T: Written>(items: &[T], elements: &[Element]) -> bool
 }
 
 // Whether the element is the tuple of these, in order.
-fn are_within<T: Written>(items: &[T], element: &Element) -> bool
-    ensures { Decides result (item_in element.now ≡ nested_item (map T.item items.now)) }
+fn are_within<T: Written>(second: bool, items: &[T], element: &Element) -> bool
+    ensures { Decides result (item_in element.now ≡ nested_item (map (T.item second) items.now)) }
 {
     match element {
-        Element::Nested(tuple) => are_in(items, tuple.elements()),
+        Element::Nested(tuple) => are_in(second, items, tuple.elements()),
         _ => false,
     }
 }
 
 impl Written for usize {
-    ghost item = { number_item };
+    ghost item = { λ second. number_item };
 
-    fn is_in(&self, element: &Element) -> bool {
+    fn is_in(&self, _second: bool, element: &Element) -> bool {
         is_number(element, *self as u64)
     }
 }
@@ -88,9 +99,9 @@ fn is_field(field: &Field, parts: &[Element]) -> bool
 }
 
 impl Written for Field {
-    ghost item = { field_item };
+    ghost item = { λ second. field_item };
 
-    fn is_in(&self, element: &Element) -> bool {
+    fn is_in(&self, _second: bool, element: &Element) -> bool {
         match tuple_of(element) {
             Some(parts) => is_field(self, parts.elements()),
             None => false,
@@ -100,25 +111,40 @@ impl Written for Field {
 
 // Whether the elements are a type's number, name, fields and places of key fields.
 fn is_type(definition: &TypeDefinition, parts: &[Element]) -> bool
-    ensures { Decides result (items_in parts.now ≡ type_parts definition.now) }
+    ensures { Decides result (items_in parts.now ≡ type_parts false definition.now) }
 {
     match parts {
         [number, name, fields, key] => {
             is_number(number, definition.number)
                 && is_text(name, &definition.name)
-                && are_within(definition.fields.as_slice(), fields)
-                && are_within(definition.key.as_slice(), key)
+                && are_within(false, definition.fields.as_slice(), fields)
+                && are_within(false, definition.key.as_slice(), key)
         }
         _ => false,
+    }
+}
+
+// Whether the elements are these, and in the second form with the number of the type's first fields.
+fn is_type_in(second: bool, definition: &TypeDefinition, parts: &[Element]) -> bool
+    ensures { Decides result (items_in parts.now ≡ type_parts second definition.now) }
+{
+    if !second {
+        return is_type(definition, parts);
+    }
+    match parts.split_last() {
+        Some((first, front)) => {
+            is_type(definition, front) && is_number(first, definition.first_fields as u64)
+        }
+        None => false,
     }
 }
 
 impl Written for TypeDefinition {
     ghost item = { type_item };
 
-    fn is_in(&self, element: &Element) -> bool {
+    fn is_in(&self, second: bool, element: &Element) -> bool {
         match tuple_of(element) {
-            Some(parts) => is_type(self, parts.elements()),
+            Some(parts) => is_type_in(second, self, parts.elements()),
             None => false,
         }
     }
@@ -136,7 +162,7 @@ fn is_summed(summed: Option<usize>, element: &Element) -> bool
 
 // Whether the elements are an index's number, name, kind, type number, places of columns and place of the summed field.
 fn is_index(index: &IndexDefinition, parts: &[Element]) -> bool
-    ensures { Decides result (items_in parts.now ≡ index_parts index.now) }
+    ensures { Decides result (items_in parts.now ≡ index_parts false index.now) }
 {
     match parts {
         [number, name, kind, type_number, columns, summed] => {
@@ -144,21 +170,50 @@ fn is_index(index: &IndexDefinition, parts: &[Element]) -> bool
                 && is_text(name, &index.name)
                 && is_number(kind, index_kind_number(index.kind))
                 && is_number(type_number, index.type_number)
-                && are_within(index.columns.as_slice(), columns)
+                && are_within(false, index.columns.as_slice(), columns)
                 && is_summed(index.summed, summed)
         }
         _ => false,
     }
 }
 
+// Whether the elements are these, and in the second form with whether the index is cleared at zero.
+fn is_index_in(second: bool, index: &IndexDefinition, parts: &[Element]) -> bool
+    ensures { Decides result (items_in parts.now ≡ index_parts second index.now) }
+{
+    if !second {
+        return is_index(index, parts);
+    }
+    match parts.split_last() {
+        Some((clears, front)) => is_index(index, front) && is_truth(clears, index.clear_when_zero),
+        None => false,
+    }
+}
+
 impl Written for IndexDefinition {
     ghost item = { index_item };
 
-    fn is_in(&self, element: &Element) -> bool {
+    fn is_in(&self, second: bool, element: &Element) -> bool {
         match tuple_of(element) {
-            Some(parts) => is_index(self, parts.elements()),
+            Some(parts) => is_index_in(second, self, parts.elements()),
             None => false,
         }
+    }
+}
+
+// Whether a tuple is the form with this number of a schema.
+fn is_written_in(second: bool, schema: &Schema, tuple: &Tuple) -> bool
+    ensures { Decides result (tuple.now ≡ written_in second schema.now) }
+{
+    match tuple.elements() {
+        [form, last_type, last_index, types, indexes] => {
+            is_number(form, form_number(second))
+                && is_number(last_type, schema.types().len() as u64)
+                && is_number(last_index, schema.last_index)
+                && are_within(second, schema.types(), types)
+                && are_within(second, schema.indexes(), indexes)
+        }
+        _ => false,
     }
 }
 
@@ -166,14 +221,5 @@ impl Written for IndexDefinition {
 pub(crate) fn is_written(schema: &Schema, tuple: &Tuple) -> bool
     ensures { Decides result (tuple.now ≡ written schema.now) }
 {
-    match tuple.elements() {
-        [form, last_type, last_index, types, indexes] => {
-            is_number(form, 1)
-                && is_number(last_type, schema.types().len() as u64)
-                && is_number(last_index, schema.last_index)
-                && are_within(schema.types(), types)
-                && are_within(schema.indexes(), indexes)
-        }
-        _ => false,
-    }
+    is_written_in(wants_second(schema), schema, tuple)
 }

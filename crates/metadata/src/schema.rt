@@ -8,12 +8,13 @@ ghost use Rattle.metadata.specs.declared.index.IndexKind.TheVariants.{Value};
 ghost use Rattle.std.specs.Str.{bytes_eq};
 ghost use Rattle.metadata.specs.Schema.{find_type};
 ghost use Rattle.metadata.specs.Asked.{add_indexes, schema_asked};
-ghost use Rattle.metadata.specs.Change.{add_type, add_types, empty_schema, field_names, has_twice};
-ghost use Rattle.metadata.specs.Change.{is_name, same_field, schema_of, type_refusal, with_type};
+ghost use Rattle.metadata.specs.Change.{add_field, add_type, add_types, append_refusal, appended_at};
+ghost use Rattle.metadata.specs.Change.{empty_schema, field_names, field_refusal, has_twice, is_name};
+ghost use Rattle.metadata.specs.Change.{same_field, schema_of, type_refusal, with_field, with_type};
 ghost use Rattle.metadata.specs.Answers.{IsRefusedAs};
-ghost use Rattle.metadata.specs.Lawful.{IsLawfulSchema, has_good_indexes};
+ghost use Rattle.metadata.specs.Lawful.{IsLawfulSchema};
 
-use crate::definition::{Fields, SchemaRequest, TypeDefinition, TypeRequest};
+use crate::definition::{Field, Fields, SchemaRequest, TypeDefinition, TypeRequest};
 use crate::index::{IndexDefinition, IndexRequest};
 use crate::names::{are_named, has_twice, has_unknown, is_name, is_same, places_of};
 use crate::refusal::{MetadataError, Refusal};
@@ -42,6 +43,37 @@ fn is_bad_key(key: &[Text]) -> bool
     ensures { result ≡ ((length key.now == 0) || has_twice bytes_eq key.now) }
 {
     key.is_empty() || has_twice(key)
+}
+
+// Why a field isn't appended to a type.
+fn append_refusal(definition: &TypeDefinition, field: &Field) -> Option<Refusal>
+    ensures { result ≡ append_refusal definition.now field.now }
+{
+    if definition.fields.place_of(&field.name).is_some() {
+        Some(Refusal::NameTaken)
+    } else if definition.fields.as_slice().len() >= MAX_FIELDS {
+        Some(Refusal::TooMany)
+    } else {
+        None
+    }
+}
+
+// Appends a field to the first of the types that has this name. Where memory is wanting the types
+// stay as they were.
+fn append_field(
+    types: &mut Vec<TypeDefinition>,
+    name: &Text,
+    field: Field,
+) -> Result<(), AllocError>
+    ensures ok { OnOk result (types.new.items ≡ appended_at name.now field types.old.items) }
+    ensures err { OnErr result (types.new.items ≡ types.old.items) }
+{
+    for place in 0..types.len() {
+        if is_same(&types[place].name, name) {
+            return types[place].fields.push(field);
+        }
+    }
+    Ok(())
 }
 
 // Equal types.
@@ -150,14 +182,25 @@ impl Schema {
         Ok(schema)
     }
 
-    // The schema of these types with other indexes.
-    pub(crate) fn with_indexes(self, last_index: u64, indexes: Vec<IndexDefinition>) -> Schema
-        requires { has_good_indexes (record { types = self.types; last_index = last_index; indexes = indexes.items })
-            ≡ true }
-        ensures { result ≡ record { types = self.types; last_index = last_index; indexes = indexes.items } }
+    // The types, handed back.
+    pub(crate) fn into_types(self) -> Vec<TypeDefinition>
+        ensures { result.items ≡ self.types }
+    {
+        self.types
+    }
+
+    // The schema of these types and indexes.
+    pub(crate) fn of_parts(
+        types: Vec<TypeDefinition>,
+        last_index: u64,
+        indexes: Vec<IndexDefinition>,
+    ) -> Schema
+        requires { IsLawfulSchema
+            (record { types = types.items; last_index = last_index; indexes = indexes.items }) }
+        ensures { result ≡ record { types = types.items; last_index = last_index; indexes = indexes.items } }
     {
         Schema {
-            types: self.types,
+            types,
             last_index,
             indexes,
         }
@@ -228,11 +271,13 @@ impl Schema {
     {
         let alloc = *self.types.allocator();
         let key = places_of(alloc, fields.as_slice(), key)?;
+        let first_fields = fields.as_slice().len();
         self.types.push(TypeDefinition {
             number: self.types.len() as u64 + 1,
             name,
             fields,
             key,
+            first_fields,
         })?;
         Ok(())
     }
@@ -266,6 +311,44 @@ impl Schema {
         let name = request.name.copy()?;
         let fields = request.fields.copy()?;
         self.push_type(name, fields, request.key.as_slice())?;
+        Ok(())
+    }
+
+    // Why a field isn't appended to the type of this name.
+    fn field_refusal(&self, type_name: &Text, field: &Field) -> Option<Refusal>
+        ensures { result ≡ field_refusal self.now type_name.now field.now }
+    {
+        if !is_name(&field.name) {
+            return Some(Refusal::BadName);
+        }
+        match self.type_named(type_name) {
+            Some(definition) => append_refusal(definition, field),
+            None => Some(Refusal::UnknownType),
+        }
+    }
+
+    // Appends a field that isn't refused.
+    fn push_field(&mut self, type_name: &Text, field: Field) -> Result<(), AllocError>
+        requires { field_refusal self.now type_name.now field ≡ None }
+        ensures ok { OnOk result (self.new ≡ with_field self.old type_name.now field) }
+        ensures err { OnErr result (self.new ≡ self.old) }
+    {
+        append_field(&mut self.types, type_name, field)
+    }
+
+    /// Appends a field to the type of this name: records that were stored before have null there.
+    /// Refused, in this order: `BadName` (its name isn't 1 to 32 of `a-z A-Z 0-9 _`), `NameTaken`
+    /// (another field of the type has it), `UnknownType`, `TooMany` (33 fields). After a refusal the
+    /// schema is as before.
+    pub fn add_field(&mut self, type_name: &Text, field: Field) -> Result<(), MetadataError>
+        ensures ok { OnOk result (add_field self.old type_name.now field ≡ Ok self.new) }
+        ensures refused { IfErr result (λ error. IsRefusedAs error (add_field self.old type_name.now field)) }
+        ensures err { OnErr result (self.new ≡ self.old) }
+    {
+        if let Some(refusal) = self.field_refusal(type_name, &field) {
+            return Err(MetadataError::Refused(refusal));
+        }
+        self.push_field(type_name, field)?;
         Ok(())
     }
 

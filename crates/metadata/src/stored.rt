@@ -1,16 +1,18 @@
 //! Records in the bytes that they are stored in. Called by `record_store` and `plan_exec`.
-ghost use Rattle.std.specs.Prelude.{◌≡◌, ℕ, List, IfOk, IfSome, MatchBool, Some};
+ghost use Rattle.std.specs.Prelude.{◌≡◌, ℕ, ◌-◌, ◌++◌, List, length, replicate, IfOk, IfSome, MatchBool};
+ghost use Rattle.std.specs.Prelude.{Some};
 ghost use Rattle.std.specs.Option.{IfNone};
 ghost use Rattle.tuple_codec.specs.Spelling.{spelling};
 ghost use Rattle.metadata.specs.Cell.{cells_at};
 ghost use Rattle.metadata.specs.Record.{Record as RecordValue, key_items, primary_key};
-ghost use Rattle.metadata.specs.Stored.{IsOfNoRecord, IsStoredAs, IsTypeOf};
+ghost use Rattle.metadata.specs.Stored.{IsOfNoRecord, IsStoredAs, IsTypeOf, filled};
 ghost use Rattle.metadata.specs.Lawful.{IsLawfulSchema};
 ghost use Rattle.metadata.specs.Records.{IsStorable};
 ghost use Rattle.metadata.specs.Schema.{Schema as SchemaValue, find_type};
+ghost use Rattle.metadata.specs.declared.cells.Cell.TheVariants.{Null};
 ghost use Rattle.metadata.specs.declared.definition.TypeDefinition.{TypeDefinition as TypeValue};
 
-use crate::cells::Cells;
+use crate::cells::{Cell, Cells};
 use crate::definition::TypeDefinition;
 use crate::record::{Record, check_in};
 use std::alloc::{AllocError, Global};
@@ -33,9 +35,35 @@ fn is_key(definition: &TypeDefinition, cells: &Cells, key: &[u8]) -> bool
     }
 }
 
+impl Cells {
+    // The cells, with nulls after them up to this count.
+    fn with_nulls(self, count: usize) -> Result<Cells, AllocError>
+        ensures { IfOk result (λ cells. cells ≡ self ++ replicate (count - length self) Null) }
+    {
+        let mut cells = self.cells;
+        for _ in cells.len()..count {
+            cells.push(Cell::Null)?;
+        }
+        Ok(Cells { cells })
+    }
+}
+
 impl TypeDefinition {
+    // The cells of a record by those that are stored, with nulls in the fields that they leave out.
+    // None where fewer are stored than the type was added with.
+    fn filled(&self, stored: Cells) -> Result<Option<Cells>, AllocError>
+        ensures { IfOk result (λ cells. cells ≡ filled self.now stored) }
+    {
+        if stored.as_slice().len() < self.first_fields {
+            return Ok(None);
+        }
+        let cells = stored.with_nulls(self.fields.as_slice().len())?;
+        Ok(Some(cells))
+    }
+
     /// The cells of the record of this type of which these are the pack of its primary key and the
-    /// pack of its cells. None where they are those of no record of the type.
+    /// pack of its first cells: of all those that the type was added with, or of more. The others are
+    /// null. None where they are those of no record of the type.
     pub fn cells_in(
         &self,
         alloc: Global,
@@ -47,7 +75,10 @@ impl TypeDefinition {
         ensures none { IfOk result (λ found. IfNone found (IsOfNoRecord self.now primary_key.now value.now)) }
     {
         let fields = self.fields.as_slice().len();
-        let Some(cells) = Cells::unpack_about(alloc, fields, value)? else {
+        let Some(stored) = Cells::unpack_about(alloc, fields, value)? else {
+            return Ok(None);
+        };
+        let Some(cells) = self.filled(stored)? else {
             return Ok(None);
         };
         match check_in(self, &cells) {
@@ -63,7 +94,8 @@ impl TypeDefinition {
 
 impl Record {
     /// The record of this type of which these are the pack of its primary key and the pack of its
-    /// cells. None where they are those of no record of the type.
+    /// first cells, as `TypeDefinition::cells_in` says. None where they are those of no record of the
+    /// type.
     pub fn decode(
         alloc: Global,
         definition: &TypeDefinition,

@@ -1,10 +1,13 @@
 // The written form of a schema, as elements of a tuple. Called by `written`; the numbers of kinds
-// by `same_form`.
-ghost use Rattle.std.specs.Prelude.{◌≡◌, ◌<◌, map, IfOk};
+// and forms by `same_form`.
+ghost use Rattle.std.specs.Prelude.{◌≡◌, ◌<◌, ◌==◌, not, length, map, IfOk};
+ghost use Rattle.std.specs.List.{list_any};
 ghost use Rattle.tuple_codec.specs.Item.{nesting};
 ghost use Rattle.tuple_codec.specs.Elements.{item_in, items_in};
-ghost use Rattle.metadata.specs.Written.{field_item, index_item, index_kind_number, kind_number};
-ghost use Rattle.metadata.specs.Written.{nested_item, number_item, summed_item, type_item, written};
+ghost use Rattle.metadata.specs.Written.{field_item, form_number, index_item, index_kind_number};
+ghost use Rattle.metadata.specs.Written.{kind_number};
+ghost use Rattle.metadata.specs.Written.{nested_item, number_item, summed_item, type_item};
+ghost use Rattle.metadata.specs.Written.{wants_second, written};
 
 use crate::cells::Kind;
 use crate::definition::{Field, TypeDefinition};
@@ -74,25 +77,37 @@ fn places_element(alloc: Global, places: &[usize]) -> Result<Element, AllocError
     Ok(nested(parts))
 }
 
-// A type's number, name, fields and places of key fields.
-fn type_element(alloc: Global, definition: &TypeDefinition) -> Result<Element, AllocError>
-    ensures { IfOk result (λ element. item_in element ≡ type_item definition.now) }
+// A type's number, name, fields and places of key fields, and by the second form the number of the
+// fields that it was added with.
+fn type_element(
+    alloc: Global,
+    second: bool,
+    definition: &TypeDefinition,
+) -> Result<Element, AllocError>
+    ensures { IfOk result (λ element. item_in element ≡ type_item second definition.now) }
 {
-    let mut parts = Vec::with_capacity(alloc, 4)?;
+    let mut parts = Vec::with_capacity(alloc, 5)?;
     parts.push(number(definition.number))?;
     parts.push(Element::Text(definition.name.copy()?))?;
     parts.push(fields_element(alloc, definition.fields.as_slice())?)?;
     parts.push(places_element(alloc, definition.key.as_slice())?)?;
+    if second {
+        parts.push(number(definition.first_fields as u64))?;
+    }
     Ok(nested(parts))
 }
 
 // Types, in order.
-fn types_element(alloc: Global, types: &[TypeDefinition]) -> Result<Element, AllocError>
-    ensures { IfOk result (λ element. item_in element ≡ nested_item (map type_item types.now)) }
+fn types_element(
+    alloc: Global,
+    second: bool,
+    types: &[TypeDefinition],
+) -> Result<Element, AllocError>
+    ensures { IfOk result (λ element. item_in element ≡ nested_item (map (type_item second) types.now)) }
 {
     let mut parts = Vec::with_capacity(alloc, types.len())?;
     for definition in types {
-        parts.push(type_element(alloc, definition)?)?;
+        parts.push(type_element(alloc, second, definition)?)?;
     }
     Ok(nested(parts))
 }
@@ -118,41 +133,82 @@ fn summed_element(summed: Option<usize>) -> Element
     }
 }
 
-// An index's number, name, kind, type number, places of columns and place of the summed field.
-fn index_element(alloc: Global, index: &IndexDefinition) -> Result<Element, AllocError>
-    ensures { IfOk result (λ element. item_in element ≡ index_item index.now) }
+// An index's number, name, kind, type number, places of columns and place of the summed field, and by
+// the second form whether it is cleared at zero.
+fn index_element(
+    alloc: Global,
+    second: bool,
+    index: &IndexDefinition,
+) -> Result<Element, AllocError>
+    ensures { IfOk result (λ element. item_in element ≡ index_item second index.now) }
 {
-    let mut parts = Vec::with_capacity(alloc, 6)?;
+    let mut parts = Vec::with_capacity(alloc, 7)?;
     parts.push(number(index.number))?;
     parts.push(Element::Text(index.name.copy()?))?;
     parts.push(number(index_kind_number(index.kind)))?;
     parts.push(number(index.type_number))?;
     parts.push(places_element(alloc, index.columns.as_slice())?)?;
     parts.push(summed_element(index.summed))?;
+    if second {
+        parts.push(Element::Bool(index.clear_when_zero))?;
+    }
     Ok(nested(parts))
 }
 
 // Indexes, in order.
-fn indexes_element(alloc: Global, indexes: &[IndexDefinition]) -> Result<Element, AllocError>
-    ensures { IfOk result (λ element. item_in element ≡ nested_item (map index_item indexes.now)) }
+fn indexes_element(
+    alloc: Global,
+    second: bool,
+    indexes: &[IndexDefinition],
+) -> Result<Element, AllocError>
+    ensures { IfOk result (λ element. item_in element ≡ nested_item (map (index_item second) indexes.now)) }
 {
     let mut parts = Vec::with_capacity(alloc, indexes.len())?;
     for index in indexes {
-        parts.push(index_element(alloc, index)?)?;
+        parts.push(index_element(alloc, second, index)?)?;
     }
     Ok(nested(parts))
+}
+
+// The number of a form.
+pub(crate) fn form_number(second: bool) -> u64
+    ensures { result ≡ form_number second }
+{
+    if second { 2 } else { 1 }
+}
+
+// Whether a type has appended fields.
+fn has_grown(types: &[TypeDefinition]) -> bool
+    ensures { result ≡ list_any (λ type. not (type.first_fields == length type.fields)) types.now }
+{
+    types.iter().any(|definition| definition.first_fields != definition.fields.as_slice().len())
+}
+
+// Whether an index is cleared at zero.
+fn has_cleared(indexes: &[IndexDefinition]) -> bool
+    ensures { result ≡ list_any (λ index. index.clear_when_zero) indexes.now }
+{
+    indexes.iter().any(|index| index.clear_when_zero)
+}
+
+// Whether the second form is wanted.
+pub(crate) fn wants_second(schema: &Schema) -> bool
+    ensures { result ≡ wants_second schema.now }
+{
+    has_grown(schema.types()) || has_cleared(schema.indexes())
 }
 
 // The written form of a schema.
 pub(crate) fn schema_tuple(alloc: Global, schema: &Schema) -> Result<Tuple, AllocError>
     ensures { IfOk result (λ tuple. tuple ≡ written schema.now) }
 {
+    let second = wants_second(schema);
     let mut parts = Vec::with_capacity(alloc, 5)?;
-    parts.push(number(1))?;
+    parts.push(number(form_number(second)))?;
     parts.push(number(schema.types().len() as u64))?;
     parts.push(number(schema.last_index))?;
-    parts.push(types_element(alloc, schema.types())?)?;
-    parts.push(indexes_element(alloc, schema.indexes())?)?;
+    parts.push(types_element(alloc, second, schema.types())?)?;
+    parts.push(indexes_element(alloc, second, schema.indexes())?)?;
     match Tuple::new(parts) {
         Ok(tuple) => Ok(tuple),
         Err(_) => unreachable!(),

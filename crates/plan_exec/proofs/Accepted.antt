@@ -30,7 +30,7 @@ use Rattle.planner.specs.declared.plan.Node as step
 use Rattle.planner.proofs.Lists.{contains_member, member_contained}
 use Rattle.planner.proofs.Residual.{Member, here, there}
 use Rattle.planner.proofs.Scans.{front_or_later}
-use Rattle.plan_exec.specs.Accepting.{HasType, IsReadableAt, equal_index, equal_kind, equal_place, extends, may_read}
+use Rattle.plan_exec.specs.Accepting.{HasType, IsReadableAt, equal_index, equal_kind, equal_place, equal_truth, extends, may_read}
 
 -- ---- tests of equality
 
@@ -67,12 +67,18 @@ places None (Some q) = (λ e. cc, λ e. cc)
 places (Some p) None = (λ e. cc, λ e. cc)
 places (Some p) (Some q) = (λ e. ap (λ x. Some x) (eqb-true p q e), λ e. let same : p ≡ q = cc in eq-eqb p q same)
 
+truths : (a b : Bool) → Decides (equal_truth a b) (a ≡ b)
+truths true true = (λ e. refl, λ e. refl)
+truths true false = (λ e. absurd (true≢false (sym e)), λ e. absurd (true≢false e))
+truths false true = (λ e. absurd (true≢false (sym e)), λ e. absurd (true≢false (sym e)))
+truths false false = (λ e. refl, λ e. refl)
+
 indexes : (a b : IndexDefinition) → Decides (equal_index a b) (a ≡ b)
 indexes a b =
     Decides-like (equal_index a b)
-    (λ all i. record { number = all.0.0.0.0.0 i; name = all.0.0.0.0.1 i; kind = all.0.0.0.1 i; type_number = all.0.0.1 i; columns = all.0.1 i; summed = all.1 i })
-    (λ e. (((((ap (λ (t : IndexDefinition). t.number) e, ap (λ (t : IndexDefinition). t.name) e), ap (λ (t : IndexDefinition). t.kind) e), ap (λ (t : IndexDefinition). t.type_number) e), ap (λ (t : IndexDefinition). t.columns) e), ap (λ (t : IndexDefinition). t.summed) e))
-    (Decides-and _ _ (Decides-and _ _ (Decides-and _ _ (Decides-and _ _ (Decides-and _ _ (Decides-eqb a.number b.number) (bytes_eq-Decides a.name b.name)) (index_kinds a.kind b.kind)) (Decides-eqb a.type_number b.type_number)) (bytes_eq-Decides a.columns b.columns)) (places a.summed b.summed))
+    (λ all i. record { number = all.0.0.0.0.0.0 i; name = all.0.0.0.0.0.1 i; kind = all.0.0.0.0.1 i; type_number = all.0.0.0.1 i; columns = all.0.0.1 i; summed = all.0.1 i; clear_when_zero = all.1 i })
+    (λ e. ((((((ap (λ (t : IndexDefinition). t.number) e, ap (λ (t : IndexDefinition). t.name) e), ap (λ (t : IndexDefinition). t.kind) e), ap (λ (t : IndexDefinition). t.type_number) e), ap (λ (t : IndexDefinition). t.columns) e), ap (λ (t : IndexDefinition). t.summed) e), ap (λ (t : IndexDefinition). t.clear_when_zero) e))
+    (Decides-and _ _ (Decides-and _ _ (Decides-and _ _ (Decides-and _ _ (Decides-and _ _ (Decides-and _ _ (Decides-eqb a.number b.number) (bytes_eq-Decides a.name b.name)) (index_kinds a.kind b.kind)) (Decides-eqb a.type_number b.type_number)) (bytes_eq-Decides a.columns b.columns)) (places a.summed b.summed)) (truths a.clear_when_zero b.clear_when_zero))
 
 -- ---- the type
 

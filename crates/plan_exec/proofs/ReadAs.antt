@@ -32,21 +32,24 @@ as_unpacked bytes None stored none = by (unpack bytes) refl
 pub read_as : (prefix : List ℕ) (t : TypeDefinition) (pair : Pair) (rest : List ℕ) (r : Record) → pair.0 ≡ place prefix 1 ++ rest → IsStoredAs t rest pair.1 r → stored_record prefix t pair ≡ Some r
 read_as prefix t pair rest r begins is =
     let key : pair.0 ≡ record_key prefix (primary_key r) = begins ∙ ap (λ k. place prefix 1 ++ k) is.has_key ∙ record_key_is prefix (primary_key r) in
-    (records_back prefix t pair r).1 (record { made = is.made; are_stored = is.cells }, λ i. (key i, is.has_value i))
+    (records_back prefix t pair r).1 (record { key = key; stored = record { made = is.made; cells = is.cells; has_key = refl; stored = is.stored; fills = is.fills; has_value = is.has_value } })
 
 -- what is read as a record has its key
 its_key : (prefix : List ℕ) (t : TypeDefinition) (pair : Pair) (r : Record) → stored_record prefix t pair ≡ Some r → pair.0 ≡ place prefix 1 ++ spelling (primary_key r)
-its_key prefix t pair r is = ap (λ (p : Pair). p.0) ((records_back prefix t pair r).0 is).1 ∙ sym (record_key_is prefix (primary_key r))
+its_key prefix t pair r is = ((records_back prefix t pair r).0 is).key ∙ sym (record_key_is prefix (primary_key r))
 
 -- what is read as a record is stored as it
 stored_so : (prefix : List ℕ) (t : TypeDefinition) (pair : Pair) (rest : List ℕ) (r : Record) → pair.0 ≡ place prefix 1 ++ rest → stored_record prefix t pair ≡ Some r → IsStoredAs t rest pair.1 r
 stored_so prefix t pair rest r begins is =
     let back = (records_back prefix t pair r).0 is in
+    let put = back.stored in
     record {
-      made = back.0.made;
-      cells = back.0.are_stored;
+      made = put.made;
+      cells = put.cells;
       has_key = append_cancel_left (place prefix 1) rest (spelling (primary_key r)) (sym begins ∙ its_key prefix t pair r is);
-      has_value = ap (λ (p : Pair). p.1) back.1;
+      stored = put.stored;
+      fills = put.fills;
+      has_value = put.has_value;
     }
 
 -- NONE: a key and a value that are those of no record are read as none

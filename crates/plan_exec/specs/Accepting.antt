@@ -1,5 +1,5 @@
 -- Which plans a store accepts: it has their type, and may read their indexes.
-use Rattle.std.specs.Prelude.{◌≡◌, ◌==◌, ◌&&◌, ℕ, Bool, true, false, Option, Some, None, Contains}
+use Rattle.std.specs.Prelude.{◌≡◌, ◌==◌, ◌&&◌, not, if◌then◌else◌, ℕ, Bool, true, false, Option, Some, None, Contains}
 use Rattle.std.specs.List.{AllByRecursion, list_any, starts_with}
 use Rattle.std.specs.Str.{bytes_eq}
 use Rattle.metadata.specs.declared.definition.TypeDefinition.{TypeDefinition}
@@ -58,11 +58,15 @@ equal_place None None = true
 equal_place (Some place) (Some other) = place == other
 equal_place a b = false
 
--- the same number, name, kind, type and places
+-- both are so, or neither is
+abbrev pub equal_truth : Bool → Bool → Bool
+equal_truth a b = if a then b else not b
+
+-- the same number, name, kind, type and places, and both are cleared at zero or neither is
 abbrev pub equal_index : IndexDefinition → IndexDefinition → Bool
 equal_index a b =
     a.number == b.number && bytes_eq a.name b.name && equal_kind a.kind b.kind && a.type_number == b.type_number
-    && bytes_eq a.columns b.columns && equal_place a.summed b.summed
+    && bytes_eq a.columns b.columns && equal_place a.summed b.summed && equal_truth a.clear_when_zero b.clear_when_zero
 
 -- whether the store has the index with this definition, and it is readable
 abbrev pub may_read : Opened → IndexDefinition → Bool

@@ -8,7 +8,7 @@ ghost use Rattle.planner.specs.Right.{indexes_of, indexes_of_all, source_indexes
 ghost use Rattle.planner.specs.View.{node_of, plan_of, source_of};
 ghost use Rattle.metadata.specs.declared.definition.TypeDefinition.{TypeDefinition as TypeValue};
 ghost use Rattle.plan_exec.specs.Accepting.{Accepts, HasType, IsNotAccepted};
-ghost use Rattle.plan_exec.specs.Accepting.{equal_index, equal_kind, equal_place, extends, may_read};
+ghost use Rattle.plan_exec.specs.Accepting.{equal_index, equal_kind, equal_place, equal_truth, extends, may_read};
 
 use crate::error::ExecError;
 use metadata::{Field, IndexDefinition, IndexKind, Kind, State, TypeDefinition};
@@ -79,6 +79,13 @@ fn is_equal_place(a: Option<usize>, b: Option<usize>) -> bool
     }
 }
 
+// Whether both are so, or neither is.
+fn is_equal_truth(a: bool, b: bool) -> bool
+    ensures { result ≡ equal_truth a b }
+{
+    if a { b } else { !b }
+}
+
 // Whether two definitions of indexes are the same.
 fn is_equal_index(a: &IndexDefinition, b: &IndexDefinition) -> bool
     ensures { result ≡ equal_index a.now b.now }
@@ -89,6 +96,7 @@ fn is_equal_index(a: &IndexDefinition, b: &IndexDefinition) -> bool
         && a.type_number == b.type_number
         && a.columns.as_slice() == b.columns.as_slice()
         && is_equal_place(a.summed, b.summed)
+        && is_equal_truth(a.clear_when_zero, b.clear_when_zero)
 }
 
 // Whether the index is one of these.

@@ -1,5 +1,5 @@
 -- What a lawful schema tells of its types and indexes: names that differ, keys and columns that are places of fields, small numbers.
-use Rattle.std.specs.Prelude.{◌≡◌, ◌≢◌, refl, ℕ, ◌+◌, ◌<◌, ◌≤◌, ◌^◌, Bool, true, false, not, ◌||◌, ◌==◌, List, [], ◌∷◌, length, Some, None, Ok, Err, Option, Result, pos, nat_lt, is_some, AllPairs}
+use Rattle.std.specs.Prelude.{◌≡◌, ◌≢◌, refl, ℕ, ◌+◌, ◌<◌, ◌≤◌, ◌^◌, Bool, true, false, not, ◌||◌, ◌==◌, List, [], ◌∷◌, length, map, Some, None, Ok, Err, Option, Result, pos, nat_lt, is_some, AllPairs}
 use Rattle.std.specs.List.{filter_map, list_any, list_all}
 use Rattle.std.specs.Option.{option_map_or}
 use Rattle.std.specs.Str.{bytes_eq}
@@ -19,7 +19,7 @@ use Rattle.metadata.specs.Cell.{is_word}
 use Rattle.metadata.specs.Change.{add_types, empty_schema, field_names, first_test_refusal, has_twice, has_unknown}
 use Rattle.metadata.specs.Change.{is_name, places_of, same_field, type_asked, type_refusal, types_alone, with_type}
 use Rattle.metadata.specs.IndexChange.{is_int}
-use Rattle.metadata.specs.Lawful.{IsLawfulSchema, is_index, is_index_over}
+use Rattle.metadata.specs.Lawful.{IsLawfulSchema, at_once, is_index, is_index_over}
 use Rattle.metadata.specs.Schema.{Schema, find_type, kind_at, place_of, type_at}
 use Rattle.metadata.proofs.TestedIndexes.{tested}
 use Rattle.planner.proofs.Ranges.{Each}
@@ -111,9 +111,14 @@ made_sound (request ∷ requests) schema made e each = by (type_refusal schema r
     by (Some refusal) is ok go = absurd (err_other refusal made (ap (λ o. rest (added o)) (sym is) ∙ ok))
     by None is ok go = go (with_type schema request) (ap (λ o. rest (added o)) (sym is) ∙ ok) (each_append IsSoundType schema.types (type_asked schema request ∷ []) each (asked_sound schema request is, tt))
 
+-- how many fields a type was added with doesn't matter
+sound_as : (types : List TypeDefinition) → Each IsSoundType (map at_once types) → Each IsSoundType types
+sound_as [] each = tt
+sound_as (t ∷ types) each = (record { names_differ = each.0.names_differ; has_key = each.0.has_key; number_fits = each.0.number_fits }, sound_as types each.1)
+
 module _ (schema : Schema) (lawful : IsLawfulSchema schema) where
   pub types_sound : Each IsSoundType schema.types
-  types_sound = made_sound lawful.requests empty_schema (types_alone schema.types) lawful.types tt
+  types_sound = sound_as schema.types (made_sound lawful.requests empty_schema (types_alone (map at_once schema.types)) lawful.types tt)
 
   each_index : Each (λ i. is_index schema.types i ≡ true) schema.indexes
   each_index = all_so schema.indexes (tested schema lawful.indexes).each

@@ -12,8 +12,9 @@ use Rattle.planner.specs.Pack.{pack}
 use Rattle.query.specs.Fields.{cell_named, field_cell}
 use Rattle.metadata.specs.Cell.{cells_at, items_of}
 use Rattle.metadata.specs.Entries.{entry_of}
-use Rattle.metadata.specs.Layout.{Pair, entries_prefix, entry_pair, record_key, record_pair, records_prefix}
+use Rattle.metadata.specs.Layout.{Pair, entries_prefix, entry_pair, record_key, records_prefix}
 use Rattle.planner.specs.Layout.{primary_cells, stored_record, entry_primary_key}
+use Rattle.planner.specs.Exact.{own_pair}
 use Rattle.query.specs.declared.filter.Operator.TheVariants.{Equal, NotEqual, Less, AtMost, Greater, AtLeast}
 use Rattle.query.specs.Filter.{Filter, compare, null_field, starts, all_of, some_of, negation, filters_of}
 use Rattle.query.specs.Truth.{selects}
@@ -162,7 +163,7 @@ pub record IsGoodIndex (IsStored : Cell → Type 0) (prefix : List ℕ) (pairs :
 
 -- the same of the records themselves
 pub record IsGoodType (IsStored : Cell → Type 0) (prefix : List ℕ) (pairs : List Pair) (t : TypeDefinition) (records : List Record) : Type 0 where
-  pub holds : Holds (records_prefix prefix t.number) pairs records (record_pair prefix) (λ r. pack (map (field_cell r) t.key)) (stored_record prefix t) (λ r. r)
+  pub holds : Holds (records_prefix prefix t.number) pairs records (own_pair prefix pairs) (λ r. pack (map (field_cell r) t.key)) (stored_record prefix t) (λ r. r)
   pub loads : (r : Record) → Member r records → fetched prefix pairs t (primary_cells r) ≡ Some r
   pub keyed : IsKeyed records
   pub keys_are : (r : Record) → Member r records → primary_cells r ≡ Int (pos t.number) ∷ map (field_cell r) t.key
@@ -227,5 +228,5 @@ module _ (prefix : List ℕ) (pairs : List Pair) (t : TypeDefinition) (records :
       gives_same prefix pairs t records (residual (others (used m) cs) (path_scan primary m reversed))
       (λ r. p r && list_all (λ c. selects c.1 r) (others (used m) cs)) (λ r. list_all (λ c. selects c.1 r) cs) (λ r n. primary_exact r n)
       (residual_gives prefix pairs t records (others (used m) cs) (path_scan primary m reversed) p
-      (scan_gives prefix pairs t records (record { range = matched_range m; reverse = reversed }) (λ r. pack (map (field_cell r) t.key)) (record_pair prefix) good.holds
+      (scan_gives prefix pairs t records (record { range = matched_range m; reverse = reversed }) (λ r. pack (map (field_cell r) t.key)) (own_pair prefix pairs) good.holds
       (λ a b e. ap (λ k. record_key prefix (items_of k)) e)))

@@ -18,16 +18,15 @@ use Rattle.metadata.specs.declared.definition.TypeDefinition.{TypeDefinition}
 use Rattle.metadata.specs.declared.index.IndexDefinition.{IndexDefinition}
 use Rattle.metadata.specs.declared.refusal.Refusal.{Refusal}
 use Rattle.metadata.specs.Cell.{IsCell, all_fit, item_of, items_of}
-use Rattle.metadata.specs.Layout.{Pair, entries_prefix, entry_pair, record_key, record_pair, record_value}
+use Rattle.metadata.specs.Layout.{Pair, entries_prefix, entry_pair, record_key}
 use Rattle.metadata.specs.Record.{Record, primary_key, record_in}
-use Rattle.metadata.specs.Stored.{AreStoredAs}
+use Rattle.metadata.specs.Stored.{AreStoredAs, filled}
 use Rattle.metadata.proofs.CellItems.{cells_of-items_of}
 use Rattle.metadata.proofs.StoredCells.{value_spells}
-use Rattle.metadata.proofs.StoredOnce.{made_is}
-use Rattle.planner.specs.Exact.{IsOf}
+use Rattle.metadata.proofs.StoredOnce.{filled_cells, made_is, stored_cells}
 use Rattle.planner.specs.Layout.{column_kinds, entry_primary_key, is_entry, is_primary_key, keyed, stored_record}
 use Rattle.planner.specs.Pack.{unpack}
-use Rattle.planner.specs.ReadBack.{AreOfEntry, CellsAreReadBack, EntriesAreReadBack, RecordsAreReadBack, TuplesAreReadBack}
+use Rattle.planner.specs.ReadBack.{AreOfEntry, CellsAreReadBack, EntriesAreReadBack, IsStoredPair, RecordsAreReadBack, TuplesAreReadBack}
 use Rattle.planner.proofs.CodecLaws.{reads_back}
 use Rattle.planner.proofs.Lists.{all_each}
 use Rattle.planner.proofs.RisingKeys.{IsEntryWith, entry_key, entry_read}
@@ -50,41 +49,57 @@ cells_back bytes cells = (packed_so bytes cells, λ stored. unpack_spelled (item
 
 -- ---- records
 
-read_record : (prefix : List ℕ) (t : TypeDefinition) (pair : Pair) (r : Record) → stored_record prefix t pair ≡ Some r → IsOf t r × (pair ≡ record_pair prefix r)
+-- the record of cells, where the key is its key
+at_key : (prefix : List ℕ) (t : TypeDefinition) (pair : Pair) (r : Record) (stored cells : List Cell) → AreStoredAs pair.1 stored → filled t stored ≡ Some cells →
+    option_and_then (keyed prefix pair.0) (result_ok (record_in t cells)) ≡ Some r → IsStoredPair prefix t pair r
+at_key prefix t pair r stored cells are fills e = by_made (record_in t cells) refl e
+  where
+    by_key : (found : Record) (b : Bool) → record_in t cells ≡ Ok found → bytes_eq pair.0 (record_key prefix (primary_key found)) ≡ b → cond b (Some found) None ≡ Some r → IsStoredPair prefix t pair r
+    by_key found false made same is = absurd (none-some r is)
+    by_key found true made same is =
+        let its_cells : cells ≡ found.cells = ap (λ (x : Record). x.cells) (made_is t cells found made) in
+        subst (IsStoredPair prefix t pair) (same_Some found r is) (record {
+          key = (bytes_eq-Decides pair.0 (record_key prefix (primary_key found))).0 same;
+          stored = record {
+            made = ap (record_in t) (sym its_cells) ∙ made;
+            cells = subst (All IsCell) its_cells (filled_cells t stored cells are.cells fills);
+            has_key = refl;
+            stored = stored;
+            fills = fills ∙ ap Some its_cells;
+            has_value = are.has_value;
+          };
+        })
+
+    by_made : (res : Result Record Refusal) → record_in t cells ≡ res → option_and_then (keyed prefix pair.0) (result_ok res) ≡ Some r → IsStoredPair prefix t pair r
+    by_made (Ok found) made is = by_key found (bytes_eq pair.0 (record_key prefix (primary_key found))) made refl is
+    by_made (Err refusal) made is = absurd (none-some r is)
+
+read_record : (prefix : List ℕ) (t : TypeDefinition) (pair : Pair) (r : Record) → stored_record prefix t pair ≡ Some r → IsStoredPair prefix t pair r
 read_record prefix t pair r e = by_cells (unpack pair.1) refl e
   where
-    by_key : (cells : List Cell) (found : Record) (b : Bool) → AreStoredAs pair.1 cells → record_in t cells ≡ Ok found → bytes_eq pair.0 (record_key prefix (primary_key found)) ≡ b → cond b (Some found) None ≡ Some r →
-        IsOf t r × (pair ≡ record_pair prefix r)
-    by_key cells found false stored made same is = absurd (none-some r is)
-    by_key cells found true stored made same is =
-        let its_cells : cells ≡ found.cells = ap (λ (x : Record). x.cells) (made_is t cells found made) in
-        let key : pair.0 ≡ record_key prefix (primary_key found) = (bytes_eq-Decides pair.0 (record_key prefix (primary_key found))).0 same in
-        let value : pair.1 ≡ record_value found.cells = stored.has_value ∙ ap record_value its_cells in
-        subst (λ (x : Record). IsOf t x × (pair ≡ record_pair prefix x)) (same_Some found r is) (
-          record { made = ap (record_in t) (sym its_cells) ∙ made; are_stored = subst (All IsCell) its_cells stored.cells },
-          λ i. (key i, value i),
-        )
+    by_filled : (stored : List Cell) (o : Option (List Cell)) → AreStoredAs pair.1 stored → filled t stored ≡ o → option_and_then (keyed prefix pair.0) (option_and_then (λ cells. result_ok (record_in t cells)) o) ≡ Some r →
+        IsStoredPair prefix t pair r
+    by_filled stored None are fills is = absurd (none-some r is)
+    by_filled stored (Some cells) are fills is = at_key prefix t pair r stored cells are fills is
 
-    by_made : (cells : List Cell) (res : Result Record Refusal) → AreStoredAs pair.1 cells → record_in t cells ≡ res → option_and_then (keyed prefix pair.0) (result_ok res) ≡ Some r → IsOf t r × (pair ≡ record_pair prefix r)
-    by_made cells (Ok found) stored made is = by_key cells found (bytes_eq pair.0 (record_key prefix (primary_key found))) stored made refl is
-    by_made cells (Err refusal) stored made is = absurd (none-some r is)
-
-    by_cells : (o : Option (List Cell)) → unpack pair.1 ≡ o → option_and_then (keyed prefix pair.0) (option_and_then (λ cells. result_ok (record_in t cells)) o) ≡ Some r → IsOf t r × (pair ≡ record_pair prefix r)
+    by_cells : (o : Option (List Cell)) → unpack pair.1 ≡ o → option_and_then (keyed prefix pair.0) (option_and_then (λ cells. result_ok (record_in t cells)) (option_and_then (filled t) o)) ≡ Some r → IsStoredPair prefix t pair r
     by_cells None un is = absurd (none-some r is)
-    by_cells (Some cells) un is = by_made cells (record_in t cells) (packed_so pair.1 cells un) refl is
+    by_cells (Some stored) un is = by_filled stored (filled t stored) (packed_so pair.1 stored un) refl is
 
--- the pair of a record is read as it
-pub record_reads : (prefix : List ℕ) (t : TypeDefinition) (r : Record) → IsOf t r → stored_record prefix t (record_pair prefix r) ≡ Some r
-record_reads prefix t r of =
-    ap (λ o. option_and_then back (option_and_then (λ cells. result_ok (record_in t cells)) o)) (reads_back r.cells (all_each IsCell r.cells of.are_stored))
-    ∙ ap (λ o. option_and_then back (result_ok o)) of.made
-    ∙ ap (λ b. if b then Some r else None) ((bytes_eq-Decides (record_key prefix (primary_key r)) (record_key prefix (primary_key r))).1 refl)
+-- a pair of a record is read as it
+pub record_reads : (prefix : List ℕ) (t : TypeDefinition) (pair : Pair) (r : Record) → IsStoredPair prefix t pair r → stored_record prefix t pair ≡ Some r
+record_reads prefix t pair r is =
+    let s = is.stored in
+    ap (λ o. option_and_then back (option_and_then (λ cells. result_ok (record_in t cells)) (option_and_then (filled t) o))) ((cells_back pair.1 s.stored).1 (stored_cells t (spelling (primary_key r)) pair.1 r s))
+    ∙ ap (λ o. option_and_then back (option_and_then (λ cells. result_ok (record_in t cells)) o)) s.fills
+    ∙ ap (λ o. option_and_then back (result_ok o)) s.made
+    ∙ ap (λ b. if b then Some r else None) ((bytes_eq-Decides pair.0 (record_key prefix (primary_key r))).1 is.key)
   where
     back : Record → Option Record
-    back = keyed prefix (record_key prefix (primary_key r))
+    back = keyed prefix pair.0
 
 pub records_back : RecordsAreReadBack
-records_back prefix t pair r = (read_record prefix t pair r, λ is. ap (stored_record prefix t) is.1 ∙ record_reads prefix t r is.0)
+records_back prefix t pair r = (read_record prefix t pair r, record_reads prefix t pair r)
 
 -- ---- entries
 

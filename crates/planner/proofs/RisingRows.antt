@@ -52,12 +52,12 @@ pub record IsRecordOf (prefix : List ℕ) (t : TypeDefinition) (key : List ℕ) 
 pub record_read : (prefix : List ℕ) (t : TypeDefinition) (pair : Pair) (r : Record) → stored_record prefix t pair ≡ Some r → IsRecordOf prefix t pair.0 r
 record_read prefix t pair r e =
     let back = (records_back prefix t pair r).0 e in
-    let made = made_is t r.cells r back.0.made in
+    let made = made_is t r.cells r back.stored.made in
     subst (IsRecordOf prefix t pair.0) made
     (record {
-      is = ap (λ (p : Pair). p.0) back.1 ∙ ap (λ x. record_key prefix (primary_key x)) (sym made);
+      is = back.key ∙ ap (λ x. record_key prefix (primary_key x)) (sym made);
       primary = refl;
-      stored = all_each IsCell (cells_at r.cells t.key) (all-cells_at r.cells t.key back.0.are_stored);
+      stored = all_each IsCell (cells_at r.cells t.key) (all-cells_at r.cells t.key back.stored.cells);
     })
 
 -- behind the type's number the keys of records are ordered as their key cells

@@ -30,16 +30,14 @@ use Rattle.planner.specs.Pack.{pack, pack_cell, unpack}
 use Rattle.query.specs.Fields.{cell_named, field_cell}
 use Rattle.metadata.specs.Schema.{place_of}
 use Rattle.metadata.specs.Entries.{entry_of}
-use Rattle.metadata.specs.Layout.{Pair, entries_prefix, entry_pair, record_key, record_pair, records_prefix}
-use Rattle.planner.specs.Layout.{primary_cells, stored_record, keyed, entry_primary_key, column_kinds, is_entry}
+use Rattle.metadata.specs.Layout.{Pair, entries_prefix, entry_pair, record_key, records_prefix}
+use Rattle.planner.specs.Layout.{primary_cells, stored_record, entry_primary_key, column_kinds, is_entry}
 use Rattle.planner.specs.Layout.{is_primary_key}
-use Rattle.std.specs.Result.{result_ok}
 use Rattle.metadata.specs.Cell.{all_fit, cell_at, cells_at, is_word, item_of}
-use Rattle.metadata.specs.Record.{record_in}
 use Rattle.planner.proofs.Made.{made_type, made_fits, fit_at}
 use Rattle.planner.specs.Match.{name_at}
 use Rattle.planner.specs.Meaning.{fetched}
-use Rattle.planner.specs.Exact.{IsOf, AreThose, IsExact}
+use Rattle.planner.specs.Exact.{IsOf, AreThose, IsExact, own_pair}
 use Rattle.planner.proofs.Ranges.{Each}
 use Rattle.planner.proofs.Residual.{Member, each_member, each_map, each_append}
 use Rattle.planner.proofs.Scans.{Holds, Differ, front_or_later}
@@ -184,27 +182,21 @@ module _ (reads_back : ReadsBack IsCell) (prefix : List ℕ) (pairs : List Pair)
   rises = rising pairs exact.in_order
 
   -- a record's pair is read back as the record
-  record_reads : (r : Record) → Member r records → stored_record prefix t (record_pair prefix r) ≡ Some r
-  record_reads r m =
-      ap (λ o. option_and_then back (option_and_then (λ cells. result_ok (record_in t cells)) o)) (reads_back r.cells (its_cells_stored r m))
-      ∙ ap (λ o. option_and_then back (result_ok o)) (of_type r m).made
-      ∙ ap (λ b. if b then Some r else None) (text_itself (record_key prefix (primary_key r)))
-    where
-      back : Record → Option Record
-      back = keyed prefix (record_key prefix (primary_key r))
+  record_reads : (r : Record) → Member r records → stored_record prefix t (own_pair prefix pairs r) ≡ Some r
+  record_reads r m = exact.stored r (contains_member r records m)
 
-  record_keys : (r : Record) → Member r records → (record_pair prefix r).0 ≡ records_prefix prefix t.number ++ pack (map (field_cell r) t.key)
+  record_keys : (r : Record) → Member r records → (own_pair prefix pairs r).0 ≡ records_prefix prefix t.number ++ pack (map (field_cell r) t.key)
   record_keys r m =
       ap (λ d. prefix ++ pack (Int (pos 1) ∷ Int (pos d.number) ∷ map (field_cell r) d.key)) (its_type r m)
       ∙ ap (λ w. prefix ++ w) (pack_append (Int (pos 1) ∷ Int (pos t.number) ∷ []) (map (field_cell r) t.key))
       ∙ sym (append_assoc prefix (pack (Int (pos 1) ∷ Int (pos t.number) ∷ [])) (pack (map (field_cell r) t.key)))
 
-  holds_records : Holds (records_prefix prefix t.number) pairs records (record_pair prefix) (λ r. pack (map (field_cell r) t.key)) (stored_record prefix t) (λ r. r)
-  holds_records = holds_those (records_prefix prefix t.number) pairs records (record_pair prefix) (λ r. pack (map (field_cell r) t.key)) (stored_record prefix t) (λ r. r) rises exact.records_are record_keys record_reads
+  holds_records : Holds (records_prefix prefix t.number) pairs records (own_pair prefix pairs) (λ r. pack (map (field_cell r) t.key)) (stored_record prefix t) (λ r. r)
+  holds_records = holds_those (records_prefix prefix t.number) pairs records (own_pair prefix pairs) (λ r. pack (map (field_cell r) t.key)) (stored_record prefix t) (λ r. r) rises exact.records_are record_keys record_reads
 
   record_loads : (r : Record) → Member r records → fetched prefix pairs t (primary_cells r) ≡ Some r
   record_loads r m =
-      ap (option_and_then (λ value. stored_record prefix t (record_key prefix (primary_key r), value))) (find_member pairs rises (record_pair prefix r) (holds_records.has r m))
+      ap (option_and_then (λ value. stored_record prefix t (record_key prefix (primary_key r), value))) (find_member pairs rises (own_pair prefix pairs r) (holds_records.has r m))
       ∙ record_reads r m
 
   -- the records of an exact map, as the planner's proofs take them

@@ -12,6 +12,7 @@ use Rattle.metadata.specs.Cell.{all_fit, is_null}
 use Rattle.metadata.specs.Layout.{Pair, entries_prefix, record_key}
 use Rattle.metadata.specs.Record.{Record, key_cells, primary_key, record_in}
 use Rattle.metadata.specs.Schema.{key_kinds, kind_at}
+use Rattle.metadata.specs.Stored.{filled}
 use Rattle.planner.specs.Pack.{pack, unpack}
 
 -- the cells of a record's primary key: the number of its type, then its key fields
@@ -22,11 +23,11 @@ primary_cells r = Int (pos r.definition.number) ∷ key_cells r
 abbrev pub keyed : List ℕ → List ℕ → Record → Option Record
 keyed prefix key r = if bytes_eq key (record_key prefix (primary_key r)) then Some r else None
 
--- the record that a pair stands for, if its bytes are of the written form
+-- the record that a pair stands for, if its bytes are of the written form; fields that are left out are null
 abbrev pub stored_record : List ℕ → TypeDefinition → Pair → Option Record
 stored_record prefix t pair =
     option_and_then (keyed prefix pair.0) (option_and_then (λ cells. result_ok (record_in t cells))
-    (unpack pair.1))
+    (option_and_then (filled t) (unpack pair.1)))
 
 -- the kinds of an entry's columns
 abbrev pub column_kinds : TypeDefinition → IndexDefinition → List Kind

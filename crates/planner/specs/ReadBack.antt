@@ -1,16 +1,15 @@
 -- What bytes and pairs are read as, by the relation of spelling: as what they are written for, and as nothing else.
 use Rattle.std.specs.Prelude.{◌≡◌, ◌↔◌, ℕ, List, ◌++◌, length, All, Some, IsTrue}
 use Rattle.tuple_codec.specs.Item.{Item, AreBytes}
-use Rattle.tuple_codec.specs.Spelling.{Spells}
+use Rattle.tuple_codec.specs.Spelling.{Spells, spelling}
 use Rattle.tuple_codec.specs.Subspace.{BeginsWith}
 use Rattle.metadata.specs.declared.cells.Cell.{Cell}
 use Rattle.metadata.specs.declared.definition.TypeDefinition.{TypeDefinition}
 use Rattle.metadata.specs.declared.index.IndexDefinition.{IndexDefinition}
 use Rattle.metadata.specs.Cell.{IsCell, all_fit, items_of}
-use Rattle.metadata.specs.Layout.{Pair, entries_prefix, entry_pair, record_pair}
-use Rattle.metadata.specs.Record.{Record}
-use Rattle.metadata.specs.Stored.{AreStoredAs}
-use Rattle.planner.specs.Exact.{IsOf}
+use Rattle.metadata.specs.Layout.{Pair, entries_prefix, entry_pair, record_key}
+use Rattle.metadata.specs.Record.{Record, primary_key}
+use Rattle.metadata.specs.Stored.{AreStoredAs, IsStoredAs}
 use Rattle.planner.specs.Layout.{column_kinds, entry_primary_key, is_primary_key, stored_record}
 use Rattle.planner.specs.Pack.{tuple_in, unpack}
 
@@ -23,11 +22,16 @@ TuplesAreReadBack =
 abbrev pub CellsAreReadBack : Type 0
 CellsAreReadBack = (bytes : List ℕ) (cells : List Cell) → (unpack bytes ≡ Some cells) ↔ AreStoredAs bytes cells
 
--- RECORDS: a pair stands for a record exactly where it is the pair of this record of the type
+-- a pair of a record of the type: its key, and a value that the record is stored as
+pub record IsStoredPair (prefix : List ℕ) (t : TypeDefinition) (pair : Pair) (r : Record) : Type 0 where
+  pub key : pair.0 ≡ record_key prefix (primary_key r)
+  pub stored : IsStoredAs t (spelling (primary_key r)) pair.1 r
+
+-- RECORDS: a pair stands for a record exactly where it is a pair of this record of the type
 abbrev pub RecordsAreReadBack : Type 0
 RecordsAreReadBack =
     (prefix : List ℕ) (t : TypeDefinition) (pair : Pair) (r : Record) →
-    (stored_record prefix t pair ≡ Some r) ↔ (IsOf t r × (pair ≡ record_pair prefix r))
+    (stored_record prefix t pair ≡ Some r) ↔ IsStoredPair prefix t pair r
 
 -- the cells of an entry, which the codec packs: one for each column, null or of its kind, and a primary key of the type
 pub record AreOfEntry (t : TypeDefinition) (i : IndexDefinition) (columns key : List Cell) : Type 0 where

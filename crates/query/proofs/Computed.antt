@@ -42,11 +42,11 @@ z = 122 ∷ []
 
 -- type t: whole numbers k, a, b, key k
 abbrev pub type_t : TypeDefinition
-type_t = record { number = 1; name = t; fields = record { name = k; kind = kind.Int } ∷ record { name = a; kind = kind.Int } ∷ record { name = b; kind = kind.Int } ∷ []; key = 0 ∷ [] }
+type_t = record { number = 1; name = t; fields = record { name = k; kind = kind.Int } ∷ record { name = a; kind = kind.Int } ∷ record { name = b; kind = kind.Int } ∷ []; key = 0 ∷ []; first_fields = 3 }
 
 -- type u: whole number k, text s, bytes y, key k
 abbrev pub type_u : TypeDefinition
-type_u = record { number = 1; name = u; fields = record { name = k; kind = kind.Int } ∷ record { name = s; kind = kind.Text } ∷ record { name = y; kind = kind.Bytes } ∷ []; key = 0 ∷ [] }
+type_u = record { number = 1; name = u; fields = record { name = k; kind = kind.Int } ∷ record { name = s; kind = kind.Text } ∷ record { name = y; kind = kind.Bytes } ∷ []; key = 0 ∷ []; first_fields = 3 }
 
 abbrev pub row : Cell → Cell → Cell → Record
 row c d e = record { definition = type_t; cells = c ∷ d ∷ e ∷ [] }

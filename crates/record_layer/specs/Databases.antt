@@ -41,6 +41,11 @@ pub record IsCommit (request : CommitRequest) (version : ℕ) (old new : Databas
   pub finished : IsFinished (submit request old.cluster.pipeline) new
   pub decided : verdict request new.cluster.pipeline ≡ Committed version
 
+-- whether a newer version wrote what the request read
+abbrev pub is_conflict : NotCommitted → Bool
+is_conflict (Conflict seen range) = true
+is_conflict why = false
+
 -- what stood submitted still does, and isn't reported yet
 pub record IsWaiting (standing : PipelineState) (new : DatabaseView) : Type 0 where
   pub stands : HasGoneOn standing new.cluster.pipeline

@@ -1,5 +1,5 @@
 -- An open store and its transaction over a database of one thread: what its calls establish.
-use Rattle.std.specs.Prelude.{◌≡◌, ℕ, List, [], Option, Some, Ok, IsFalse}
+use Rattle.std.specs.Prelude.{◌≡◌, ℕ, List, [], Option, Some, None, Ok, All, IsTrue, IsFalse}
 use Rattle.kv_core.specs.Range.{KeyRange}
 use Rattle.kv_core.specs.declared.change.CommitRequest.{CommitRequest}
 use Rattle.cluster_core.specs.declared.answers.ReadError.{ReadError}
@@ -7,18 +7,28 @@ use Rattle.cluster_core.specs.Cluster.{ClusterState, database_at, tier_of}
 use Rattle.txn.specs.Refusing.{MayRefuse}
 use Rattle.metadata.specs.declared.cells.Cell.{Cell}
 use Rattle.metadata.specs.Answers.{IsRefusedAs}
+use Rattle.metadata.specs.declared.definition.TypeDefinition.{TypeDefinition}
 use Rattle.metadata.specs.Record.{Record, record_of}
-use Rattle.metadata.specs.Schema.{Schema}
-use Rattle.record_store.specs.Call.{Call, IsAnswered, IsRefused, Opened}
+use Rattle.metadata.specs.Records.{of_type}
+use Rattle.metadata.specs.Schema.{Schema, find_type}
+use Rattle.record_store.specs.Call.{AtStore, Call, IsAnswered, IsRefused, Opened}
 use Rattle.record_store.specs.Calls.{index_states, save_call}
 use Rattle.record_store.specs.Opening.{IsNewStore, IsOpened, IsUncreated, IsUnopened}
+use Rattle.record_store.specs.Steps.{DidRead}
 use Rattle.query.specs.Checked.{query_refusal}
+use Rattle.query.specs.Query.{Allows}
 use Rattle.query.specs.View.{query_of}
 use Rattle.query.specs.declared.filter.Query.{Query}
 use Rattle.planner.specs.Asked.{AskedPlan}
-use Rattle.planner.specs.Right.{is_served}
+use Rattle.planner.specs.Choice.{IsChosen}
+use Rattle.planner.specs.Planned.{planned}
+use Rattle.planner.specs.Right.{IsRightFor, indexes_of, is_served}
+use Rattle.planner.specs.Rules.{MayBeUsed, usable}
+use Rattle.planner.specs.View.{plan_of}
 use Rattle.planner.specs.declared.plan.PlanError.TheVariants.{SortNotServed}
 use Rattle.plan_exec.specs.Executing.{IsExecuted, IsExecutionRefused}
+use Rattle.plan_exec.specs.Planning.{AnswersQuery, ScansReadable}
+use Rattle.plan_exec.specs.declared.error.ExecError.TheVariants as execution
 use Rattle.schedule.specs.Layout.{store_prefix}
 use Rattle.record_layer.specs.declared.error.Error.{Error}
 use Rattle.record_layer.specs.declared.error.Error.TheVariants as errors
@@ -123,20 +133,55 @@ IsUnexecutedIn plan (errors.Execution error) old new =
     × IsExecutionRefused (database_at old.cluster) (refused_over old.cluster) old.store plan error old.tx new.tx
 IsUnexecutedIn plan error old new = ⊥
 
--- why a query has no plan over the store: it may not be asked, or no path serves its sort, or memory ran out
+-- the query may be asked under the store's schema, and the plan is the planner's for it, by that schema and the states
+-- of its indexes
+pub record IsPlanIn (query : Query) (plan : AskedPlan) (store : Opened) : Type 0 where
+  pub may : query_refusal store.schema (query_of query) ≡ None
+  pub asked : query_of plan.query ≡ query_of query
+  pub typed : find_type store.schema query.record_type ≡ Some plan.definition
+  -- a path serves the sort, and this is the plan, of the paths that it is to scan
+  pub served : IsTrue (is_served store.schema (index_states store) (query_of query))
+  pub is :
+      planned plan.definition (usable store.schema (index_states store) plan.definition) (query_of query)
+      ≡ Some (plan_of plan).root
+  pub chosen :
+      IsChosen plan.definition (usable store.schema (index_states store) plan.definition) (query_of query)
+      (plan_of plan).root
+  -- it scans what may be scanned
+  pub uses : All (MayBeUsed store.schema (index_states store) plan.definition) (indexes_of (plan_of plan).root)
+  pub scannable : ScansReadable store (plan_of plan)
+  -- its rows answer the query: over all pairs that are exact, and so over the store
+  pub right : IsRightFor (query_of query) (plan_of plan)
+  pub answers : AnswersQuery store (query_of query) (plan_of plan)
+
+-- why a query has no plan over the store: it may not be asked; or it may, and no path serves its sort, or memory runs
+-- out
 abbrev pub HasNoPlan : Query → Error → Opened → Type 0
 HasNoPlan query (errors.Query error) store = query_refusal store.schema (query_of query) ≡ Some error
 HasNoPlan query (errors.Plan error) store =
-    error ≡ SortNotServed → IsFalse (is_served store.schema (index_states store) (query_of query))
+    (query_refusal store.schema (query_of query) ≡ None)
+    × (error ≡ SortNotServed → IsFalse (is_served store.schema (index_states store) (query_of query)))
 HasNoPlan query error store = ⊥
 
--- the query has a plan, and these are its rows
+-- the rows answer the query over the records of its type that the session sees: in each store that was opened so, in
+-- whatever map agrees with what it has read
+pub record AreAnswersIn (query : Query) (rows : List Record) (old new : SessionView) : Type 0 where
+  pub type : TypeDefinition
+  pub named : find_type old.store.schema query.record_type ≡ Some type
+  pub added : List KeyRange
+  pub ran :
+      DidRead (database_at old.cluster) added old.tx new.tx
+      (λ m. AtStore old.store m (λ store. Allows (query_of query) (of_type type.number store.records) rows))
+
+-- they are those of a plan of the query
 abbrev pub IsFoundIn : Query → List Record → SessionView → SessionView → Type 0
 IsFoundIn query rows old new =
-    (plan : AskedPlan) × (query_of plan.query ≡ query_of query) × IsExecutedIn plan rows old new
+    (plan : AskedPlan) × IsPlanIn query plan old.store × IsExecutedIn plan rows old new
 
--- it has no plan, and nothing was read; or it has one that isn't executed
+-- the query has no plan, and nothing was read; or it has one, which the store accepts, and it isn't executed
 abbrev pub IsUnfoundIn : Query → Error → SessionView → SessionView → Type 0
+IsUnfoundIn query (errors.Execution execution.OtherSchema) old new = ⊥
+IsUnfoundIn query (errors.Execution execution.IndexNotReadable) old new = ⊥
 IsUnfoundIn query (errors.Execution error) old new =
-    (plan : AskedPlan) × (query_of plan.query ≡ query_of query) × IsUnexecutedIn plan (errors.Execution error) old new
+    (plan : AskedPlan) × IsPlanIn query plan old.store × IsUnexecutedIn plan (errors.Execution error) old new
 IsUnfoundIn query error old new = (new ≡ old) × HasNoPlan query error old.store

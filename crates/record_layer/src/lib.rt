@@ -21,7 +21,7 @@ pub use database::{Database, NotCommitted};
 pub use error::Error;
 pub use explain::explain;
 pub use kv_core::{Bytes, KeyRange};
-pub use making::{SchemaMaker, fields, name, names, record_with};
+pub use making::{IndexOf, SchemaMaker, fields, name, names, record_with};
 pub use metadata::{Cell, Cells, Fields, IndexKind, Kind, MetadataError, Names, Record, Schema};
 pub use not_done::NotDone;
 pub use places::{Place, place_of};

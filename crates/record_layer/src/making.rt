@@ -1,11 +1,11 @@
 // Names, fields, types, indexes and records from texts. Called by applications.
-ghost use Rattle.std.specs.Prelude.{◌≡◌, ◌++◌, ◌∷◌, [], IfErr, IfOk, None, Ok, Some, map};
-ghost use Rattle.metadata.specs.declared.index.IndexKind.TheVariants.{Value, Count, Sum};
+ghost use Rattle.std.specs.Prelude.{◌≡◌, ◌++◌, ◌∷◌, [], IfErr, IfOk, Ok, map};
 ghost use Rattle.metadata.specs.Record.{record_of};
 ghost use Rattle.metadata.specs.Asked.{schema_asked};
 ghost use Rattle.metadata.specs.Answers.{IsRefusedAs};
 ghost use Rattle.record_layer.specs.Lent.{lent_cells};
-ghost use Rattle.record_layer.specs.Making.{asked_index, asked_type, field_with, names_of};
+ghost use Rattle.record_layer.specs.Making.{asked_index, asked_type, field_with, is_cleared, kind_asked};
+ghost use Rattle.record_layer.specs.Making.{names_of, summed_asked};
 
 use crate::cells::{CellRef, cells_of};
 use metadata::{
@@ -72,6 +72,50 @@ pub fn record_with(
     Ok(made)
 }
 
+/// What an index keeps, and of which field where it adds up one.
+#[derive(Clone, Copy, Debug)]
+pub enum IndexOf<'a> {
+    /// An entry of each record, in the order of its columns.
+    Value,
+    /// How many records have the same columns, which stays where it comes back to 0.
+    Count,
+    /// The same, taken out where it comes back to 0.
+    ClearedCount,
+    /// The sum of this field over the records that have the same columns.
+    Sum(&'a str),
+}
+
+/// The kind of such an index.
+fn kind_asked(kind: IndexOf<'_>) -> IndexKind
+    ensures { result ≡ kind_asked kind.entry }
+{
+    match kind {
+        IndexOf::Value => IndexKind::Value,
+        IndexOf::Count | IndexOf::ClearedCount => IndexKind::Count,
+        IndexOf::Sum(_) => IndexKind::Sum,
+    }
+}
+
+/// The field that such an index adds up.
+fn summed_asked(alloc: Global, kind: IndexOf<'_>) -> Result<Option<Text>, AllocError>
+    ensures { IfOk result (λ summed. summed ≡ summed_asked kind.entry) }
+{
+    match kind {
+        IndexOf::Value | IndexOf::Count | IndexOf::ClearedCount => Ok(None),
+        IndexOf::Sum(field) => Ok(Some(Text::from_str(alloc, field)?)),
+    }
+}
+
+/// Whether the totals of such an index are taken out where they come back to 0.
+fn is_cleared(kind: IndexOf<'_>) -> bool
+    ensures { result ≡ is_cleared kind.entry }
+{
+    match kind {
+        IndexOf::ClearedCount => true,
+        IndexOf::Value | IndexOf::Count | IndexOf::Sum(_) => false,
+    }
+}
+
 /// A schema that is asked for, type by type and index by index. Nothing is refused before
 /// `into_schema`, which looks at all of it.
 pub struct SchemaMaker {
@@ -134,77 +178,30 @@ impl SchemaMaker {
         Ok(made)
     }
 
-    /// With one index more.
-    fn with_index(
+    /// With one index more: what it keeps, its name, that of its type, and those of its columns.
+    pub fn with_index(
         self,
+        kind: IndexOf<'_>,
         name: &str,
-        kind: IndexKind,
         type_name: &str,
         columns: &[&str],
-        summed: Option<Text>,
     ) -> Result<SchemaMaker, AllocError>
         ensures { IfOk result (λ made. made ≡ record self {
           indexes = self.indexes
-              ++ asked_index kind name.now type_name.now columns.now summed ∷ [];
+              ++ asked_index kind.entry name.now type_name.now columns.now ∷ [];
         }) }
     {
         let mut made = self;
         let request = IndexRequest {
             name: Text::from_str(made.alloc, name)?,
-            kind,
+            kind: kind_asked(kind),
             type_name: Text::from_str(made.alloc, type_name)?,
             columns: names(made.alloc, columns)?,
-            summed,
+            summed: summed_asked(made.alloc, kind)?,
+            clear_when_zero: is_cleared(kind),
         };
         made.indexes.push(request)?;
         Ok(made)
-    }
-
-    /// With an index whose entries are ordered by these columns.
-    pub fn with_value_index(
-        self,
-        name: &str,
-        type_name: &str,
-        columns: &[&str],
-    ) -> Result<SchemaMaker, AllocError>
-        ensures { IfOk result (λ made. made ≡ record self {
-          indexes = self.indexes
-              ++ asked_index Value name.now type_name.now columns.now None ∷ [];
-        }) }
-    {
-        self.with_index(name, IndexKind::Value, type_name, columns, None)
-    }
-
-    /// With an index that counts the records that have the same columns.
-    pub fn with_count_index(
-        self,
-        name: &str,
-        type_name: &str,
-        columns: &[&str],
-    ) -> Result<SchemaMaker, AllocError>
-        ensures { IfOk result (λ made. made ≡ record self {
-          indexes = self.indexes
-              ++ asked_index Count name.now type_name.now columns.now None ∷ [];
-        }) }
-    {
-        self.with_index(name, IndexKind::Count, type_name, columns, None)
-    }
-
-    /// With an index that adds up a field over the records that have the same columns.
-    pub fn with_sum_index(
-        self,
-        name: &str,
-        type_name: &str,
-        columns: &[&str],
-        summed: &str,
-    ) -> Result<SchemaMaker, AllocError>
-        ensures { IfOk result (λ made. made ≡ record self {
-          indexes = self.indexes
-              ++ asked_index Sum name.now type_name.now columns.now (Some summed.now) ∷ [];
-        }) }
-    {
-        let summed = Text::from_str(self.alloc, summed)?;
-        self.with_index(name, IndexKind::Sum, type_name, columns, Some(summed))
     }
 
     /// What is asked for.

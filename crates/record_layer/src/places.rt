@@ -1,5 +1,8 @@
 // Where in a store the keys of a range stand, as of the range that a conflict tells, in the words
 // of the store's schema. Called by applications.
+ghost use Rattle.std.specs.Prelude.{◌≡◌, IfOk, is_some};
+ghost use Rattle.record_layer.specs.Databases.{is_conflict};
+
 use crate::database::NotCommitted;
 use crate::session::PREFIX;
 use crate::shown::{CellsShown, Span};
@@ -237,7 +240,9 @@ pub fn place_of(alloc: Global, schema: &Schema, range: &KeyRange) -> Result<Plac
 impl NotCommitted {
     /// What the transaction had read that a newer version wrote, where that is why. None for
     /// another reason.
-    pub fn place(&self, alloc: Global, schema: &Schema) -> Result<Option<Place>, AllocError> {
+    pub fn place(&self, alloc: Global, schema: &Schema) -> Result<Option<Place>, AllocError>
+        ensures { IfOk result (λ place. is_some place ≡ is_conflict self.now) }
+    {
         match self {
             NotCommitted::Conflict { seen: _, range } => Ok(Some(place_of(alloc, schema, range)?)),
             _ => Ok(None),

@@ -1,14 +1,13 @@
 // An open store and its transaction, over a database of one thread. Called by `working` and by
 // applications.
-ghost use Rattle.std.specs.Prelude.{◌≡◌, IfErr, IfOk, None};
-ghost use Rattle.query.specs.Checked.{query_refusal};
-ghost use Rattle.query.specs.View.{query_of};
+ghost use Rattle.std.specs.Prelude.{◌≡◌, IfErr, IfOk};
 ghost use Rattle.record_store.specs.Calls.{aggregate_call, load_call, remove_call};
 ghost use Rattle.record_layer.specs.Lent.{lent_cells};
-ghost use Rattle.record_layer.specs.Sessions.{IsAnsweredIn, IsExecutedIn, IsFoundIn, IsStoreMade};
-ghost use Rattle.record_layer.specs.Sessions.{IsNoSession, IsRefusedIn, IsSavedIn, IsSession};
-ghost use Rattle.record_layer.specs.Sessions.{IsUnexecutedIn, IsUnfoundIn, IsUnmade, IsUnmakeable};
-ghost use Rattle.record_layer.specs.Sessions.{HasNoPlan, IsUnsavedIn, MakesStore};
+ghost use Rattle.record_layer.specs.Sessions.{AreAnswersIn, IsAnsweredIn, IsExecutedIn, IsFoundIn};
+ghost use Rattle.record_layer.specs.Sessions.{HasNoPlan, IsNoSession, IsPlanIn, IsRefusedIn};
+ghost use Rattle.record_layer.specs.Sessions.{IsSavedIn, IsSession, IsStoreMade, IsUnexecutedIn};
+ghost use Rattle.record_layer.specs.Sessions.{IsUnfoundIn, IsUnmade, IsUnmakeable, IsUnsavedIn};
+ghost use Rattle.record_layer.specs.Sessions.{MakesStore};
 
 use crate::asking::QueryMaker;
 use crate::cells::{CellRef, cells_of};
@@ -161,12 +160,10 @@ impl Session<'_> {
         Ok(total)
     }
 
-    /// The plan of a query over the store. Refused as `QueryMaker::checked` and as
-    /// `plan_for_store` are.
+    /// The plan of a query over the store, as `plan_for_store` makes it. Refused as
+    /// `QueryMaker::checked` is, and then as `plan_for_store` is.
     pub fn plan(&self, asked: QueryMaker) -> Result<Plan, Error>
-        ensures asked { IfOk result (λ plan. query_of plan.query ≡ query_of asked.query) }
-        ensures may { IfOk result (λ _.
-            query_refusal self.now.store.schema (query_of asked.query) ≡ None) }
+        ensures planned { IfOk result (λ plan. IsPlanIn asked.query plan self.now.store) }
         ensures refused { IfErr result (λ error. HasNoPlan asked.query error self.now.store) }
     {
         let query = asked.checked(self.store.schema())?;
@@ -186,8 +183,11 @@ impl Session<'_> {
         Ok(rows)
     }
 
-    /// The records that a query asks for. Refused as `plan` and `execute` are.
+    /// The records that a query asks for. Refused as `plan` is, and then as `execute` is, but
+    /// never as another schema's, nor for an index that isn't readable.
     pub fn query(&mut self, asked: QueryMaker) -> Result<Records, Error>
+        ensures answers { IfOk result (λ rows.
+            AreAnswersIn asked.query rows self.old self.new) }
         ensures found { IfOk result (λ rows. IsFoundIn asked.query rows self.old self.new) }
         ensures refused { IfErr result (λ error.
             IsUnfoundIn asked.query error self.old self.new) }

@@ -30,7 +30,7 @@ use Rattle.metadata.specs.Records.{of_type}
 use Rattle.metadata.specs.Schema.{Schema, find_index, kind_at, type_at}
 use Rattle.index_maint.specs.Kept.{HasDefined, HasKept}
 use Rattle.index_maint.specs.Totals.{IsGroup, IsTotal, as_signed, count_share, group_key, group_of, same_group, sum_share}
-use Rattle.index_maint.proofs.TotalLaw.{number_of-total}
+use Rattle.index_maint.proofs.TotalParts.{number_of-total}
 use Rattle.record_store.specs.declared.error.StoreError.{StoreError}
 use Rattle.record_store.specs.declared.error.StoreError.TheVariants.{Memory, Read, Write, Corrupt, Refused, NoStore, AlreadyThere, OtherSchema, NotAggregate, NotReadable, WrongState, NotBuilt}
 use Rattle.record_store.specs.Store.{Store, built_of, state_in, state_of}
@@ -176,7 +176,7 @@ module _ (opened : Opened) (index : IndexDefinition) (group : List Cell) (known 
 
       malformed : IsWritten opened.prefix opened.schema (key, value) → ⊥
       malformed (inl pair) =
-          let same : key ≡ record_key opened.prefix (primary_key pair.stored) = ap (λ (p : List ℕ × List ℕ). p.0) pair.is in
+          let same : key ≡ record_key opened.prefix (primary_key pair.stored) = pair.key in
           not_entry opened.prefix index.number 1 (primary_key pair.stored) key refl
           (subst (λ k. BeginsWith (record_key opened.prefix (primary_key pair.stored)) k) (sym same) (itself (record_key opened.prefix (primary_key pair.stored))))
           (spelling (items_of group), refl)

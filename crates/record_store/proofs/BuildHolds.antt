@@ -27,7 +27,7 @@ use Rattle.record_store.specs.Building.{built_writes}
 use Rattle.record_store.specs.Holds.{HasPairs, HasPositions, Holds}
 use Rattle.record_store.specs.Layout.{built_place, place, schema_key, state_pair}
 use Rattle.record_store.specs.Store.{WriteOnly, Store, built, built_of, listed_by, state_by, state_of}
-use Rattle.record_store.proofs.Kept.{HasIndex, clear_leaves, itself, kept_index, kept_range, lawful_so, not_entry, not_range, set_held, set_leaves, write_only_is}
+use Rattle.record_store.proofs.Kept.{HasIndex, clear_leaves, itself, kept_index, kept_range, kept_records, lawful_so, not_entry, not_range, set_held, set_leaves, write_only_is}
 use Rattle.record_store.proofs.Listed.{contained_low, of_contained, put_itself, put_other, schema_apart}
 
 -- ---- lists of indexes
@@ -94,9 +94,11 @@ module _ (prefix : List ℕ) (m : Map) (store : Store) (index : IndexDefinition)
         schema =
             leaves (schema_key prefix) (not_entry prefix index.number 0 [] (schema_key prefix) refl (itself (schema_key prefix))) (not_range prefix index.number 0 [] (schema_key prefix) refl (itself (schema_key prefix)))
             ∙ holds.schema;
-        records = λ bytes.
+        records =
+            kept_records prefix store.records m last
+            (λ bytes.
             let at = place prefix 1 ++ bytes in
-            leaves at (not_entry prefix index.number 1 [] at refl (bytes, refl)) (not_range prefix index.number 1 [] at refl (bytes, refl)) ∙ holds.records bytes;
+            leaves at (not_entry prefix index.number 1 [] at refl (bytes, refl)) (not_range prefix index.number 1 [] at refl (bytes, refl))) holds.records;
         entries =
             all_with_one (λ (i : IndexDefinition). HasIndex prefix store.records m i (store.status i.number)) (λ (i : IndexDefinition). HasIndex prefix store.records last i ((built store index.number range).status i.number)) store.schema.indexes index
             there.0 there.1 there.2 apart holds.entries other_entries own_entries;

@@ -34,7 +34,7 @@ use Rattle.index_maint.specs.Changes.{entries_map}
 use Rattle.index_maint.specs.Entries.{entry_items, entry_of}
 use Rattle.index_maint.specs.Kept.{HasDefined, HasKept, HasPart}
 use Rattle.index_maint.specs.Layout.{entries_prefix, entry_pair, entry_pairs}
-use Rattle.index_maint.specs.Totals.{HasTotals, Share, count_share, sum_share}
+use Rattle.index_maint.specs.Totals.{Clearing, HasTotals, Share, count_clears, count_share, sum_clears, sum_share}
 use Rattle.index_maint.proofs.Lookups.{lookup-none}
 use Rattle.index_maint.proofs.RecordLists.{all_filter}
 use Rattle.record_store.specs.Store.{Status, built_by, state_by}
@@ -111,9 +111,9 @@ module _ (prefix : List ℕ) (records : List Record) (storable : AllByRecursion 
       ∙ lookup-none (entries_prefix prefix index.number ++ bytes) (entry_pairs prefix index records)
       (others_keys index (entries_prefix prefix index.number ++ bytes) (of_type index.type_number records) out (all_filter IsStorable (λ r. r.definition.number == index.type_number) records storable))
 
-  totals_out : (index : IndexDefinition) (counted : List Record) (bytes : List ℕ) (share : Share) → contains (entries_range prefix index.number) (entries_prefix prefix index.number ++ bytes) ≡ false →
-      HasTotals share prefix index counted m → get m (entries_prefix prefix index.number ++ bytes) ≡ None
-  totals_out index counted bytes share out has =
+  totals_out : (index : IndexDefinition) (counted : List Record) (bytes : List ℕ) (share : Share) (clears : Clearing) → contains (entries_range prefix index.number) (entries_prefix prefix index.number ++ bytes) ≡ false →
+      HasTotals share clears prefix index counted m → get m (entries_prefix prefix index.number ++ bytes) ≡ None
+  totals_out index counted bytes share clears out has =
       has.groups bytes
       (λ group is same.
       true≢false
@@ -126,8 +126,8 @@ module _ (prefix : List ℕ) (records : List Record) (storable : AllByRecursion 
     where
       by_kind : (kind : IndexKind) → HasDefined kind prefix index records m → get m (entries_prefix prefix index.number ++ bytes) ≡ None
       by_kind Value has = has bytes ∙ entries_out index bytes out
-      by_kind Count has = totals_out index records bytes count_share out has
-      by_kind Sum has = totals_out index records bytes sum_share out has
+      by_kind Count has = totals_out index records bytes count_share count_clears out has
+      by_kind Sum has = totals_out index records bytes sum_share sum_clears out has
   nothing_out index ranges WriteOnly bytes has out = by_kind index.kind has
     where
       by_kind : (kind : IndexKind) → HasPart kind prefix index ranges records m → get m (entries_prefix prefix index.number ++ bytes) ≡ None
@@ -136,8 +136,8 @@ module _ (prefix : List ℕ) (records : List Record) (storable : AllByRecursion 
           by_value : (value : Option (List ℕ)) → get m (entries_prefix prefix index.number ++ bytes) ≡ value → value ≡ None
           by_value None is = refl
           by_value (Some value) is = sym (has.only bytes value is) ∙ entries_out index bytes out
-      by_kind Count has = totals_out index (built_records ranges records) bytes count_share out has
-      by_kind Sum has = totals_out index (built_records ranges records) bytes sum_share out has
+      by_kind Count has = totals_out index (built_records ranges records) bytes count_share count_clears out has
+      by_kind Sum has = totals_out index (built_records ranges records) bytes sum_share sum_clears out has
   nothing_out index ranges Disabled bytes has out = has bytes
 
   -- so has the index with a number

@@ -125,7 +125,7 @@ module _ (opened : Opened) (lawful : IsLawfulSchema opened.schema) (number : ℕ
   unwritten : (pair : Pair) → BeginsWith place pair.0 → (AreWritten place (pair ∷ []) → ⊥) → IsWritten opened.prefix opened.schema pair → ⊥
   unwritten pair begins none (inl one) =
       not_range opened.prefix index.number 1 (primary_key one.stored) pair.0 refl
-      (subst (BeginsWith (record_key opened.prefix (primary_key one.stored))) (sym (ap (λ (p : Pair). p.0) one.is)) (itself (record_key opened.prefix (primary_key one.stored)))) begins
+      (subst (BeginsWith (record_key opened.prefix (primary_key one.stored))) (sym one.key) (itself (record_key opened.prefix (primary_key one.stored)))) begins
   unwritten pair begins none (inr (inl total)) =
       entries_elsewhere opened.prefix pair.0 total.index.number 6 (int (pos index.number) ∷ []) (omega arith) (λ is. absurd (omega (arith, is))) (spelling (items_of total.group), total.key) begins
   unwritten pair begins none (inr (inr one)) =

@@ -22,22 +22,24 @@ use Rattle.index_maint.proofs.KeptLaw.{kept_starts}
 use Rattle.index_maint.proofs.Places.{indexes_apart, parts_apart}
 use Rattle.range_set.proofs.OneSet.{empty_set}
 use Rattle.record_store.specs.Store.{Status, Store, altered_at, dropped, listed_by, marked, marked_so, state_of}
-use Rattle.record_store.specs.Layout.{built_place, built_range, entries_range, place, record_pair, schema_key, state_key, state_pair, state_value}
-use Rattle.record_store.specs.Holds.{HasPairs, HasPositions, Holds, IsElsewhere, has_number}
+use Rattle.record_store.specs.Layout.{built_place, built_range, entries_range, place, schema_key, state_key, state_pair, state_value}
+use Rattle.record_store.specs.Holds.{HasPairs, HasPositions, HasRecords, Holds, IsElsewhere, has_number}
 use Rattle.record_store.specs.IndexWrites.{drop_writes, marked_writes}
 use Rattle.record_store.proofs.BuiltRanges.{no_range_out, ranges_clear, ranges_leave}
 use Rattle.record_store.proofs.EntryRanges.{begins_or_other, nothing_out_of, range_clears, range_leaves}
-use Rattle.record_store.proofs.Kept.{HasIndex, clear_leaves, itself, kept_index, kept_range, lawful_so, not_entry, not_range, other_place, set_leaves, set_there, state_in_place}
+use Rattle.record_store.proofs.Kept.{HasIndex, clear_leaves, itself, kept_index, kept_range, kept_records, lawful_so, not_entry, not_range, other_place, set_leaves, set_there, state_in_place}
 use Rattle.record_store.proofs.Listed.{all_left, all_put, listed_without, marked_is, number_low, schema_apart}
 use Rattle.record_store.proofs.States.{states_cleared, states_put}
 
 -- a change of an index leaves what is neither the schema's pair, nor its state, nor its entries
 module _ (prefix : List ℕ) (m n : Map) (store : Store) (number : ℕ) (low : number < 2 ^ 64) (holds : Holds prefix m (Some store))
     (leaves : (at : List ℕ) → (at ≡ schema_key prefix → ⊥) → (at ≡ state_key prefix number → ⊥) → (BeginsWith (entries_prefix prefix number) at → ⊥) → (BeginsWith (built_place prefix number) at → ⊥) → get n at ≡ get m at) where
-  pub records_stay : HasPairs (place prefix 1) (map (record_pair prefix) store.records) n
-  records_stay bytes =
+  pub records_stay : HasRecords prefix store.records n
+  records_stay =
+      kept_records prefix store.records m n
+      (λ bytes.
       let at = place prefix 1 ++ bytes in
-      leaves at (other_place prefix 0 [] 1 [] at refl (bytes, refl)) (other_place prefix 5 (int (pos number) ∷ []) 1 [] at refl (bytes, refl)) (not_entry prefix number 1 [] at refl (bytes, refl)) (not_range prefix number 1 [] at refl (bytes, refl)) ∙ holds.records bytes
+      leaves at (other_place prefix 0 [] 1 [] at refl (bytes, refl)) (other_place prefix 5 (int (pos number) ∷ []) 1 [] at refl (bytes, refl)) (not_entry prefix number 1 [] at refl (bytes, refl)) (not_range prefix number 1 [] at refl (bytes, refl))) holds.records
 
   pub other_stays : (index : IndexDefinition) (status : Status) → index.number < 2 ^ 64 → (index.number ≡ number → ⊥) → HasIndex prefix store.records m index status → HasIndex prefix store.records n index status
   other_stays index status small differ has =

@@ -13,13 +13,13 @@ use Rattle.kv_core.specs.Bytes.{key_cmp}
 use Rattle.kv_core.specs.Map.{Map, after}
 use Rattle.kv_core.specs.Range.{point}
 use Rattle.kv_core.specs.declared.change.Mutation.TheVariants.{Set, ClearRange}
-use Rattle.kv_core.proofs.Changes.{get-after, get-set}
-use Rattle.kv_core.proofs.Order.{tied_keys}
+use Rattle.kv_core.proofs.Changes.{get-after, get-after-value, get-set}
+use Rattle.kv_core.proofs.Order.{contains-point, tied_keys}
 use Rattle.kv_core.proofs.Pairs.{contains-point-is}
 use Rattle.metadata.specs.declared.index.IndexDefinition.{IndexDefinition}
 use Rattle.metadata.specs.declared.index.State.TheVariants as declared
 use Rattle.metadata.specs.Lawful.{IsLawfulSchema}
-use Rattle.metadata.specs.Record.{Record}
+use Rattle.metadata.specs.Record.{Record, primary_key}
 use Rattle.metadata.specs.Schema.{Schema}
 use Rattle.range_set.specs.Stored.{HasSet}
 use Rattle.index_maint.specs.Kept.{HasKept}
@@ -28,7 +28,7 @@ use Rattle.index_maint.proofs.KeptLaw.{kept_within}
 use Rattle.index_maint.proofs.Places.{begins_before, entries_elsewhere, places_apart, places_differ}
 use Rattle.record_store.specs.Store.{Store, Status, Readable, WriteOnly, Disabled, built_by, state_by}
 use Rattle.record_store.specs.Layout.{built_place, place, record_key, schema_key, state_key}
-use Rattle.record_store.specs.Holds.{HasPositions, Holds, IsLawful, IsNoEntry, IsNoRange, IsOfSchema}
+use Rattle.record_store.specs.Holds.{HasPositions, HasRecord, HasRecords, Holds, IsLawful, IsNoEntry, IsNoRange, IsOfSchema}
 use Rattle.record_store.proofs.Keys.{record_key_is}
 
 -- a store is lawful with another schema of its records, and with another status of its indexes
@@ -52,6 +52,10 @@ set_there m key value = get-set m key value key ∙ ap (λ o. cond (is_eq o) (So
 pub clear_leaves : (m : Map) (key at : List ℕ) → (at ≡ key → ⊥) → get (after (ClearRange (point key)) m) at ≡ get m at
 clear_leaves m key at other =
     get-after (ClearRange (point key)) m at (contains-point-is key at ∙ false_from_ne_true (is_eq (key_cmp key at)) (λ same. other (sym (tied_keys key at same))))
+
+pub clear_there : (m : Map) (key : List ℕ) → get (after (ClearRange (point key)) m) key ≡ None
+clear_there m key =
+    get-after-value (ClearRange (point key)) m key ∙ ap (λ b. cond b None (get m key)) (contains-point key)
 
 pub itself : (key : List ℕ) → BeginsWith key key
 itself key = ([], sym (append-nil key))
@@ -112,6 +116,27 @@ module _ (prefix : List ℕ) where
 
   pub nothing_at : (m : Map) (begin bytes : List ℕ) → Holds prefix m None → get m ((prefix ++ begin) ++ bytes) ≡ None
   nothing_at m begin bytes holds = let at = begins_before prefix begin ((prefix ++ begin) ++ bytes) (bytes, refl) in ap (get m) at.1 ∙ holds at.0
+
+  -- ---- records
+
+  -- records that a map has another one has where it is the same in their place
+  pub each_kept : (records : List Record) (m n : Map) → ((bytes : List ℕ) → get n (place prefix 1 ++ bytes) ≡ get m (place prefix 1 ++ bytes)) → AllByRecursion (HasRecord prefix m) records → AllByRecursion (HasRecord prefix n) records
+  each_kept [] m n same each = tt
+  each_kept (r ∷ records) m n same each =
+      let first = each.0 in (
+        record {
+          stored = first.stored;
+          has = subst (λ k. get n k ≡ get m k) (record_key_is prefix (primary_key r)) (same (spelling (primary_key r))) ∙ first.has;
+          fills = first.fills;
+        },
+        each_kept records m n same each.1,
+      )
+
+  pub kept_records : (records : List Record) (m n : Map) → ((bytes : List ℕ) → get n (place prefix 1 ++ bytes) ≡ get m (place prefix 1 ++ bytes)) → HasRecords prefix records m → HasRecords prefix records n
+  kept_records records m n same has = record {
+    each = each_kept records m n same has.each;
+    no_others = λ bytes none. same bytes ∙ has.no_others bytes none;
+  }
 
   -- ---- indexes
 

@@ -7,6 +7,7 @@ pub mod Followed
 pub mod Writing
 pub mod Changed
 pub mod RecordPairs
+pub mod Filling
 pub mod Stopping
 pub mod OneRecord
 pub mod Openings
@@ -32,6 +33,7 @@ pub mod Marked
 pub mod MarkCalls
 pub mod BuildHolds
 pub mod NamedTypes
+pub mod Widened
 pub mod PartReads
 pub mod Aggregates
 pub mod EightBytes

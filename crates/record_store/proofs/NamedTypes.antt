@@ -1,8 +1,8 @@
 -- A lawful schema's types are found by their own names, and the type of each of its indexes is one of them.
 use Rattle.std.proofs.Common.{◌≡◌, ◌<◌, ℕ, zero, suc, arith, Bool, true, false, cond, not, ◌||◌, ◌==◌, List, [], ◌∷◌, ◌++◌, length, refl, sym, ap, subst, ◌∙◌, Option, Some, None, Result, Ok, Err, is_some}
-use Rattle.std.specs.Prelude.{get_or, nat_lt}
+use Rattle.std.specs.Prelude.{get_or, map, nat_lt}
 use Rattle.std.specs.List.{AllByRecursion, Contains, find, list_all}
-use Rattle.std.specs.Option.{option_map_or}
+use Rattle.std.specs.Option.{option_map, option_map_or}
 use Rattle.std.specs.Str.{bytes_eq}
 use Rattle.std.proofs.lemmas.Bool.{and_parts, eqb-true}
 use Rattle.std.proofs.lemmas.Slice.Eq.{bytes_eq-Decides}
@@ -13,9 +13,10 @@ use Rattle.metadata.specs.declared.refusal.Refusal.{Refusal}
 use Rattle.metadata.specs.declared.refusal.Refusal.TheVariants.{BadName, NameTaken, UnknownField, BadSchema, TooMany}
 use Rattle.metadata.specs.Change.{add_types, empty_schema, field_names, first_test_refusal, has_twice, has_unknown}
 use Rattle.metadata.specs.Change.{is_name, same_field, type_asked, type_refusal, types_alone, with_type}
-use Rattle.metadata.specs.Lawful.{IsLawfulSchema, is_index, is_index_over}
+use Rattle.metadata.specs.Lawful.{IsLawfulSchema, at_once, is_index, is_index_over}
 use Rattle.metadata.specs.Schema.{Schema, find_type, type_at}
 use Rattle.metadata.specs.Stored.{IsTypeOf}
+use Rattle.metadata.proofs.StoredApart.{named_typed}
 use Rattle.metadata.proofs.TestedIndexes.{tested}
 use Rattle.record_store.proofs.NewIndexes.{all_append}
 
@@ -94,11 +95,34 @@ named_all schema end (request ∷ requests) named made = by_refusal (type_refusa
     by_refusal None is rest go = go (with_type schema request) (named_more schema.types (type_asked schema request) (name_free schema request is) named) rest
     by_refusal (Some refusal) is rest go = absurd (cc)
 
+-- a test of what doesn't depend on the first fields finds the same of types as if all of their fields had been there
+found_at_once : (test : TypeDefinition → Bool) → ((t : TypeDefinition) → test (at_once t) ≡ test t) → (types : List TypeDefinition) → find test (map at_once types) ≡ option_map at_once (find test types)
+found_at_once test alike [] = refl
+found_at_once test alike (t ∷ types) = ap (λ b. cond b (Some (at_once t)) (find test (map at_once types))) (alike t) ∙ by_test (test t) (found_at_once test alike types)
+  where
+    by_test : (b : Bool) → find test (map at_once types) ≡ option_map at_once (find test types) → cond b (Some (at_once t)) (find test (map at_once types)) ≡ option_map at_once (cond b (Some t) (find test types))
+    by_test true rest = refl
+    by_test false rest = rest
+
 -- NAMED: a type of a lawful schema is found by its name
 pub typed_named : (schema : Schema) (type : TypeDefinition) → IsLawfulSchema schema → IsTypeOf schema type → find_type schema type.name ≡ Some type
 typed_named schema type lawful typed =
-    found_has (λ (t : TypeDefinition). find_type schema t.name ≡ Some t) (λ (t : TypeDefinition). t.number == type.number) schema.types type typed
-    (named_all empty_schema (types_alone schema.types) lawful.requests tt lawful.types)
+    by_found (find_type schema type.name) refl
+    (sym (found_at_once (λ (t : TypeDefinition). bytes_eq t.name type.name) (λ t. refl) schema.types)
+    ∙ found_has (λ (t : TypeDefinition). find (λ (one : TypeDefinition). bytes_eq one.name t.name) whole ≡ Some t) (λ (t : TypeDefinition). t.number == type.number) whole (at_once type)
+    (found_at_once (λ (t : TypeDefinition). t.number == type.number) (λ t. refl) schema.types ∙ ap (option_map at_once) typed)
+    (named_all empty_schema (types_alone whole) lawful.requests tt lawful.types))
+  where
+    whole : List TypeDefinition
+    whole = map at_once schema.types
+
+    -- types of one number are the same
+    by_found : (found : Option TypeDefinition) → find_type schema type.name ≡ found → option_map at_once found ≡ Some (at_once type) → find_type schema type.name ≡ Some type
+    by_found None is none = absurd (cc)
+    by_found (Some other) is same =
+        let one : at_once other ≡ at_once type = cc in
+        let number : other.number ≡ type.number = ap (λ (t : TypeDefinition). t.number) one in
+        is ∙ sym (named_typed schema type.name other lawful is) ∙ ap (type_at schema.types) number ∙ typed
 
 -- OVER: the type of an index of a lawful schema is there
 pub index_typed : (schema : Schema) (index : IndexDefinition) → IsLawfulSchema schema → Contains schema.indexes index → type_at schema.types index.type_number ≡ None → ⊥

@@ -14,8 +14,9 @@ use Rattle.metadata.specs.Lawful.{IsLawfulSchema}
 use Rattle.metadata.specs.Record.{Record}
 use Rattle.metadata.specs.Records.{record_at}
 use Rattle.metadata.specs.Schema.{find_type}
-use Rattle.metadata.specs.Stored.{IsOfNoRecord, IsStoredAs, IsTypeOf}
+use Rattle.metadata.specs.Stored.{IsOfNoRecord, IsStoredAs, IsTypeOf, filled}
 use Rattle.metadata.proofs.StoredApart.{named_typed}
+use Rattle.metadata.proofs.StoredOnce.{made_is}
 use Rattle.record_store.specs.declared.error.StoreError.{StoreError}
 use Rattle.record_store.specs.declared.error.StoreError.TheVariants.{Memory, Read, Write, Corrupt, Refused, NoStore, AlreadyThere, OtherSchema, NotAggregate, NotReadable, WrongState, NotBuilt}
 use Rattle.record_store.specs.Layout.{record_key}
@@ -42,7 +43,10 @@ module _ (opened : Opened) (type : TypeDefinition) (key : List Item) (lawful : I
         stored = r;
         typed = good.0;
         storable = good.1;
-        is = λ i. (opened.prefix ++ (int_spelling (pos 1) ++ put.has_key i), put.has_value i);
+        key = ap (λ k. opened.prefix ++ (int_spelling (pos 1) ++ k)) put.has_key;
+        first = put.stored;
+        fills = subst (λ t. filled t put.stored ≡ Some r.cells) (ap (λ (one : Record). one.definition) (made_is type r.cells r put.made)) put.fills;
+        value = put.has_value;
       }
 
   -- READ: the record, or none, that was found

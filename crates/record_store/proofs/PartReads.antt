@@ -36,14 +36,14 @@ use Rattle.record_store.specs.Building.{HasReadPart, limited_to, positions_range
 use Rattle.record_store.specs.Call.{AtStore, IsOpenAs, IsUnread, Opened}
 use Rattle.record_store.specs.Form.{IsFirstBad, IsRecordPair, IsWritten}
 use Rattle.record_store.specs.Holds.{Holds, IsOfSchema}
-use Rattle.record_store.specs.Layout.{place, record_key, record_pair, type_range}
+use Rattle.record_store.specs.Layout.{place, record_key, type_range}
 use Rattle.record_store.specs.Reading.{ArePairsOfRecords, HasNotFound, HaveNoRecords, IsPairOfNone}
 use Rattle.record_store.specs.Steps.{IsBeginning}
 use Rattle.record_store.specs.Store.{Store}
-use Rattle.record_store.proofs.Held.{held_in, rising, type_begin}
+use Rattle.record_store.proofs.Held.{held_in, pair_with, pairs_held, rising, type_begin, value_in}
 use Rattle.record_store.proofs.Keys.{above_itself, behind_type, in_type_range, record_key_is}
 use Rattle.record_store.proofs.Openings.{pairs_lie}
-use Rattle.record_store.proofs.RecordPairs.{all_written, none_bad, record_form}
+use Rattle.record_store.proofs.RecordPairs.{HasValue, all_written, have_values, none_bad, some_form}
 use Rattle.record_store.proofs.Scanning.{bad_written, good_form, of_type_good, same_records, small}
 use Rattle.record_store.proofs.Stopping.{all_begin}
 
@@ -82,43 +82,48 @@ module _ (prefix : List ℕ) (n : ℕ) (range : KeyRange) (low : n < 2 ^ 64) (up
           false_from_ne_true (contains keys (record_key prefix (primary_key r)))
           (λ there. true≢false (sym (inside_type (record_key prefix (primary_key r)) there) ∙ in_type_range prefix r.definition.number n (items_of (key_cells r)) can.key low ∙ is))
 
-  pairs_within : (records : List Record) → AllByRecursion IsStorable records → entries_in keys (map (record_pair prefix) records) ≡ map (record_pair prefix) (filter (λ r. contains range (position r)) (of_type n records))
-  pairs_within [] storable = refl
-  pairs_within (r ∷ records) storable =
-      ap (λ b. cond b (record_pair prefix r ∷ entries_in keys (map (record_pair prefix) records)) (entries_in keys (map (record_pair prefix) records))) (in_keys r storable.0)
-      ∙ by_tests (r.definition.number == n) (contains range (position r)) refl (pairs_within records storable.1)
+  pairs_within : (value : Record → List ℕ) (records : List Record) → AllByRecursion IsStorable records → entries_in keys (map (pair_with prefix value) records) ≡ map (pair_with prefix value) (filter (λ r. contains range (position r)) (of_type n records))
+  pairs_within value [] storable = refl
+  pairs_within value (r ∷ records) storable =
+      ap (λ b. cond b (pair_with prefix value r ∷ entries_in keys (map (pair_with prefix value) records)) (entries_in keys (map (pair_with prefix value) records))) (in_keys r storable.0)
+      ∙ by_tests (r.definition.number == n) (contains range (position r)) refl (pairs_within value records storable.1)
     where
       left : List Record
       left = filter (λ s. contains range (position s)) (of_type n records)
 
-      by_tests : (a b : Bool) → contains range (position r) ≡ b → entries_in keys (map (record_pair prefix) records) ≡ map (record_pair prefix) left →
-          cond (a && b) (record_pair prefix r ∷ entries_in keys (map (record_pair prefix) records)) (entries_in keys (map (record_pair prefix) records))
-          ≡ map (record_pair prefix) (filter (λ s. contains range (position s)) (cond a (r ∷ of_type n records) (of_type n records)))
-      by_tests true true is rest = ap (λ ps. record_pair prefix r ∷ ps) rest ∙ sym (ap (λ b. map (record_pair prefix) (cond b (r ∷ left) left)) is)
-      by_tests true false is rest = rest ∙ sym (ap (λ b. map (record_pair prefix) (cond b (r ∷ left) left)) is)
+      by_tests : (a b : Bool) → contains range (position r) ≡ b → entries_in keys (map (pair_with prefix value) records) ≡ map (pair_with prefix value) left →
+          cond (a && b) (pair_with prefix value r ∷ entries_in keys (map (pair_with prefix value) records)) (entries_in keys (map (pair_with prefix value) records))
+          ≡ map (pair_with prefix value) (filter (λ s. contains range (position s)) (cond a (r ∷ of_type n records) (of_type n records)))
+      by_tests true true is rest = ap (λ ps. pair_with prefix value r ∷ ps) rest ∙ sym (ap (λ b. map (pair_with prefix value) (cond b (r ∷ left) left)) is)
+      by_tests true false is rest = rest ∙ sym (ap (λ b. map (pair_with prefix value) (cond b (r ∷ left) left)) is)
       by_tests false b is rest = rest
 
   end_is : (rest : List ℕ) → begin ++ rest ≡ place prefix 1 ++ (type_begin n ++ rest)
   end_is rest = ap (λ k. k ++ rest) (sym (record_key_is prefix (int (pos n) ∷ []))) ∙ append_assoc (place prefix 1) (type_begin n) rest
 
   -- PART: the pairs there are those of the records, in order
-  pub part_held : (m : Map) (store : Store) → Holds prefix m (Some store) → pairs_in m keys ≡ map (record_pair prefix) (filter (λ r. contains range (position r)) (of_type n store.records))
+  pub part_held : (m : Map) (store : Store) → Holds prefix m (Some store) → pairs_in m keys ≡ map (pair_with prefix (value_in prefix m)) (filter (λ r. contains range (position r)) (of_type n store.records))
   part_held m store holds =
-      held_in prefix (place prefix 1) (map (record_pair prefix) store.records) m keys (type_begin n ++ range.begin) (type_begin n ++ range.end) (λ i. record { begin = end_is range.begin i; end = end_is range.end i }) holds.records
-      ∙ pairs_in-stored (map (record_pair prefix) store.records) keys (rising prefix store.records holds.lawful.storable holds.lawful.ordered)
-      ∙ pairs_within store.records holds.lawful.storable
+      held_in prefix (place prefix 1) (map (pair_with prefix (value_in prefix m)) store.records) m keys (type_begin n ++ range.begin) (type_begin n ++ range.end) (λ i. record { begin = end_is range.begin i; end = end_is range.end i })
+      (pairs_held prefix m store holds)
+      ∙ pairs_in-stored (map (pair_with prefix (value_in prefix m)) store.records) keys (rising prefix (value_in prefix m) store.records holds.lawful.storable holds.lawful.ordered)
+      ∙ pairs_within (value_in prefix m) store.records holds.lawful.storable
 
   -- and of the written form
   pub part_form : (m : Map) (store : Store) → Holds prefix m (Some store) → AllByRecursion (IsRecordPair prefix store.schema) (pairs_in m keys)
   part_form m store holds =
       subst (AllByRecursion (IsRecordPair prefix store.schema)) (sym (part_held m store holds))
-      (each (filter (λ r. contains range (position r)) (of_type n store.records))
-      (all_filter (IsOfSchema store.schema) (λ r. contains range (position r)) (of_type n store.records) (all_filter (IsOfSchema store.schema) (λ r. r.definition.number == n) store.records holds.lawful.typed))
-      (all_filter IsStorable (λ r. contains range (position r)) (of_type n store.records) (all_filter IsStorable (λ r. r.definition.number == n) store.records holds.lawful.storable)))
+      (subst (λ rs. AllByRecursion (IsRecordPair prefix store.schema) (map (pair_with prefix (value_in prefix m)) rs)) (both store.records) (some_form prefix m store holds (λ r. (r.definition.number == n) && contains range (position r))))
     where
-      each : (records : List Record) → AllByRecursion (IsOfSchema store.schema) records → AllByRecursion IsStorable records → AllByRecursion (IsRecordPair prefix store.schema) (map (record_pair prefix) records)
-      each [] typed can = tt
-      each (r ∷ records) typed can = (record_form prefix store.schema r typed.0 can.0, each records typed.1 can.1)
+      both : (records : List Record) → filter (λ r. (r.definition.number == n) && contains range (position r)) records ≡ filter (λ r. contains range (position r)) (of_type n records)
+      both [] = refl
+      both (r ∷ records) = by_test (r.definition.number == n) (both records)
+        where
+          by_test : (b : Bool) → filter (λ s. (s.definition.number == n) && contains range (position s)) records ≡ filter (λ s. contains range (position s)) (of_type n records) →
+              cond (b && contains range (position r)) (r ∷ filter (λ s. (s.definition.number == n) && contains range (position s)) records) (filter (λ s. (s.definition.number == n) && contains range (position s)) records)
+              ≡ filter (λ s. contains range (position s)) (cond b (r ∷ of_type n records) (of_type n records))
+          by_test true rest = ap (λ rs. cond (contains range (position r)) (r ∷ rs) rs) rest
+          by_test false rest = rest
 
 -- ---- reading
 
@@ -141,10 +146,13 @@ module _ (opened : Opened) (type : TypeDefinition) (lawful : IsLawfulSchema open
     λ store holds same.
         let all = of_type_good opened type lawful found_type store.records (subst (λ s. AllByRecursion (IsOfSchema s) store.records) same.schema holds.lawful.typed) holds.lawful.storable in
         let Good : Record → Type 0 = λ r. IsOfSchema opened.schema r × IsStorable r × (r.definition.number ≡ type.number) in
-        same_records opened type lawful found_type rows (take limit (records_within range index store.records)) pairs good
-        (is ∙ ap (take limit) (part_held opened.prefix index.type_number range less_index upto m store holds) ∙ take-map (record_pair opened.prefix) limit (records_within range index store.records))
+        same_records opened type lawful found_type (value_in opened.prefix m) rows (take limit (records_within range index store.records)) pairs good
+        (is ∙ ap (take limit) (part_held opened.prefix index.type_number range less_index upto m store holds) ∙ take-map (pair_with opened.prefix (value_in opened.prefix m)) limit (records_within range index store.records))
         (All-take Good limit (records_within range index store.records)
-        (all_filter Good (λ r. contains range (position r)) (of_type index.type_number store.records) (subst (λ n. AllByRecursion Good (of_type n store.records)) same_type all))),
+        (all_filter Good (λ r. contains range (position r)) (of_type index.type_number store.records) (subst (λ n. AllByRecursion Good (of_type n store.records)) same_type all)))
+        (All-take (λ r. HasValue (value_in opened.prefix m r) r) limit (records_within range index store.records)
+        (all_filter (λ r. HasValue (value_in opened.prefix m r) r) (λ r. contains range (position r)) (of_type index.type_number store.records)
+        (all_filter (λ r. HasValue (value_in opened.prefix m r) r) (λ r. r.definition.number == index.type_number) store.records (have_values opened.prefix m store.records holds.records.each)))),
   )
 
   -- NOT FOUND: one of the pairs is that of no record

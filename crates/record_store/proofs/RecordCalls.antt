@@ -11,19 +11,21 @@ use Rattle.txn.proofs.Running.{ran_still}
 use Rattle.metadata.specs.declared.definition.TypeDefinition.{TypeDefinition}
 use Rattle.metadata.specs.declared.definition.TypeRequest.{TypeRequest}
 use Rattle.metadata.specs.declared.refusal.Refusal.{Refusal}
-use Rattle.metadata.specs.Change.{add_type, with_type, type_refusal, type_asked}
+use Rattle.metadata.specs.declared.definition.Field.{Field}
+use Rattle.metadata.specs.Change.{add_field, add_type, with_field, with_type, type_refusal, type_asked}
 use Rattle.metadata.specs.Lawful.{IsLawfulSchema}
 use Rattle.metadata.specs.Record.{Record, primary_key, record_in}
 use Rattle.metadata.specs.Records.{IsStorable, of_type, record_at}
 use Rattle.metadata.specs.Schema.{Schema, find_type}
-use Rattle.record_store.specs.Store.{Store, extended, removed, saved}
+use Rattle.record_store.specs.Store.{Store, extended, removed, saved, widened}
 use Rattle.record_store.specs.Holds.{Holds, IsOfSchema}
 use Rattle.record_store.specs.Call.{AtStore, IsOpenAs, Opened, call_on, service_of, whole}
 use Rattle.record_store.specs.declared.error.StoreError.TheVariants.{OtherSchema}
 use Rattle.record_store.specs.Calls.{load_footprint, records_footprint, remove_footprint, save_call, save_footprint, schema_writes, type_footprint}
-use Rattle.record_store.specs.Meaning.{is_own, load_meaning, records_meaning, remove_meaning, save_meaning, type_meaning}
+use Rattle.record_store.specs.Meaning.{field_meaning, is_own, load_meaning, records_meaning, remove_meaning, save_meaning, type_meaning}
 use Rattle.record_store.proofs.Answered.{IsServed}
 use Rattle.record_store.proofs.Changed.{extended_holds}
+use Rattle.record_store.proofs.Widened.{field_is, widened_holds}
 use Rattle.record_store.proofs.IndexedRecords.{removed_holds_all, saved_holds_all}
 use Rattle.record_store.specs.IndexWrites.{index_writes, one_index_writes, remove_writes, save_writes}
 use Rattle.index_maint.specs.Built.{position_of}
@@ -142,6 +144,18 @@ type_served opened next request list wrote lawful added m store holds same = rec
       subst (λ ms. Holds opened.prefix (after_all ms m) (Some (extended store next))) (sym wrote)
       (extended_holds opened.prefix m store next (same_indexes store.schema next request (ap (λ s. add_type s request) same.schema ∙ added)) lawful (all_typed store.schema next request store.records holds.lawful.schema (ap (λ s. add_type s request) same.schema ∙ added) holds.lawful.typed) holds);
 }
+
+pub field_served : (opened : Opened) (next : Schema) (name : List ℕ) (field : Field) (list : List Mutation) → list ≡ schema_writes opened.prefix next → IsLawfulSchema next → add_field opened.schema name field ≡ Ok next →
+    (m : Map) (store : Store) → Holds opened.prefix m (Some store) → IsOpenAs opened store → IsServed opened (service_of field_meaning (type_footprint opened) next) next list m store
+field_served opened next name field list wrote lawful added m store holds same =
+    let is : with_field store.schema name field ≡ next = field_is store.schema next name field (ap (λ s. add_field s name field) same.schema ∙ added) in record {
+      answers = refl;
+      wrote = wrote;
+      holds =
+          subst (λ ms. Holds opened.prefix (after_all ms m) (Some (widened store next))) (sym wrote)
+          (subst (λ s. Holds opened.prefix (after_all (schema_writes opened.prefix s) m) (Some (widened store s))) is
+          (widened_holds opened.prefix m store name field (subst IsLawfulSchema (sym is) lawful) holds));
+    }
 
 -- a call that reads nothing
 pub nothing_read : (maps : ℕ → Map) (opened : Opened) {old : CommitRequest} → DidRead maps [] old old (λ m.

@@ -1,5 +1,6 @@
 -- Pairs that stand for records: what a map that holds a store has at a record's key and in a type's range, and which pairs are of the written form.
 use Rattle.std.proofs.Common.{◌≡◌, ◌⊎◌, inl, inr, ℕ, Bool, true, false, cond, ◌==◌, ◌<◌, ◌^◌, List, [], ◌∷◌, ◌++◌, refl, sym, ap, subst, ◌∙◌, Option, Some, None, Ok, Err, map, pos}
+use Rattle.std.specs.Prelude.{filter, unwrap_or}
 use Rattle.std.specs.List.{AllByRecursion}
 use Rattle.std.specs.List.Sorted.{IsStrictlySortedBy}
 use Rattle.std.specs.Option.{option_map}
@@ -26,16 +27,16 @@ use Rattle.metadata.specs.declared.index.IndexDefinition.{IndexDefinition}
 use Rattle.metadata.specs.Cell.{items_of}
 use Rattle.metadata.specs.Lawful.{IsLawfulSchema}
 use Rattle.metadata.specs.Record.{Record, key_items, primary_key, record_in, record_of}
-use Rattle.metadata.specs.Records.{IsStorable, has_primary_key, of_type, record_at}
+use Rattle.metadata.specs.Records.{IsStorable, has_primary_key, record_at}
 use Rattle.metadata.specs.Schema.{Schema, find_type, type_at}
-use Rattle.metadata.specs.Stored.{IsOfNoRecord, IsStoredAs, IsTypeOf}
+use Rattle.metadata.specs.Stored.{IsOfNoRecord, IsStoredAs, IsTypeOf, filled}
 use Rattle.metadata.proofs.StoredApart.{named_typed, storable}
 use Rattle.metadata.proofs.StoredOnce.{made_is, stored_once}
 use Rattle.record_store.specs.Store.{Store}
-use Rattle.record_store.specs.Layout.{built_place, record_key, record_pair, record_value, type_range}
-use Rattle.record_store.specs.Holds.{Holds, IsOfSchema}
+use Rattle.record_store.specs.Layout.{built_place, record_key, record_value, type_range}
+use Rattle.record_store.specs.Holds.{HasRecord, Holds, IsOfSchema}
 use Rattle.record_store.specs.Form.{IsFirstBad, IsRangePair, IsRecordPair, IsTotalPair, IsWritten}
-use Rattle.record_store.proofs.Held.{type_held, value_held}
+use Rattle.record_store.proofs.Held.{pair_with, type_held, value_held, value_in}
 use Rattle.record_store.proofs.Kept.{not_entry, not_range}
 use Rattle.metadata.specs.declared.refusal.Refusal.TheVariants.{UnknownType}
 use Rattle.index_maint.proofs.RecordLists.{all_filter}
@@ -115,16 +116,24 @@ number_of_key r number cells same = by (r.definition.number) number _ _ same
     by : (m n : ℕ) (xs ys : List Item) → ◌≡◌ {A = List Item} (item.int (pos m) ∷ xs) (item.int (pos n) ∷ ys) → m ≡ n
     by m n xs ys is = cc
 
+-- the value is the pack of first cells of the record, which the others fill
+pub record HasValue (value : List ℕ) (r : Record) : Type 0 where
+  pub first : List Cell
+  pub fills : filled r.definition first ≡ Some r.cells
+  pub is : value ≡ record_value first
+
 -- STORED: a record of the schema whose type has this number is stored as one of that type
-pub stored_as : (schema : Schema) (type : TypeDefinition) (r : Record) → IsLawfulSchema schema → IsTypeOf schema type → IsOfSchema schema r → IsStorable r → r.definition.number ≡ type.number →
-    IsStoredAs type (spelling (primary_key r)) (record_value r.cells) r
-stored_as schema type r lawful typed made can number =
+pub stored_as : (schema : Schema) (type : TypeDefinition) (value : List ℕ) (r : Record) → IsLawfulSchema schema → IsTypeOf schema type → IsOfSchema schema r → IsStorable r → r.definition.number ≡ type.number → HasValue value r →
+    IsStoredAs type (spelling (primary_key r)) value r
+stored_as schema type value r lawful typed made can number has =
     let own = own_type schema r lawful made in
     let same : r.definition ≡ type = one_type schema r.definition type own.0 typed number in record {
       made = subst (λ t. record_in t r.cells ≡ Ok r) same own.1;
       cells = can.cells;
       has_key = refl;
-      has_value = refl;
+      stored = has.first;
+      fills = subst (λ t. filled t has.first ≡ Some r.cells) same has.fills;
+      has_value = has.is;
     }
 
 -- the other way round: what is stored as a record of the schema's type is a record of the schema, and can be stored
@@ -152,8 +161,16 @@ found_at P key (one ∷ records) r all is = by_test (has_primary_key key one) re
 
 module _ (prefix : List ℕ) where
   -- the pair of a record that can be stored is of the written form
-  pub record_form : (schema : Schema) (r : Record) → IsOfSchema schema r → IsStorable r → IsRecordPair prefix schema (record_pair prefix r)
-  record_form schema r typed can = record { stored = r; typed = typed; storable = can; is = refl }
+  pub record_form : (schema : Schema) (value : List ℕ) (r : Record) → IsOfSchema schema r → IsStorable r → HasValue value r → IsRecordPair prefix schema (record_key prefix (primary_key r), value)
+  record_form schema value r typed can has = record { stored = r; typed = typed; storable = can; key = refl; first = has.first; fills = has.fills; value = has.is }
+
+  -- what a map has at the key of a record that it has is a value of the record
+  pub has_value : (m : Map) (r : Record) → HasRecord prefix m r → HasValue (value_in prefix m r) r
+  has_value m r has = record { first = has.stored; fills = has.fills; is = ap (λ o. unwrap_or o []) has.has }
+
+  pub have_values : (m : Map) (records : List Record) → AllByRecursion (HasRecord prefix m) records → AllByRecursion (λ r. HasValue (value_in prefix m r) r) records
+  have_values m [] each = tt
+  have_values m (r ∷ records) each = (has_value m r each.0, have_values m records each.1)
 
   -- the pack of the primary key is found in a record's key
   pub key_bytes : (t u : List Item) → record_key prefix t ≡ record_key prefix u → spelling t ≡ spelling u
@@ -163,33 +180,33 @@ module _ (prefix : List ℕ) where
   pub no_record_pair : (schema : Schema) (type : TypeDefinition) (cells : List Cell) (value : List ℕ) → IsLawfulSchema schema → IsTypeOf schema type → IsTuple (key_items type.number cells) →
       IsOfNoRecord type (spelling (key_items type.number cells)) value → IsRecordPair prefix schema (record_key prefix (key_items type.number cells), value) → ⊥
   no_record_pair schema type cells value lawful typed t none pair =
-      let bytes = key_bytes (key_items type.number cells) (primary_key pair.stored) (ap (λ (p : Pair). p.0) pair.is) in
+      let bytes = key_bytes (key_items type.number cells) (primary_key pair.stored) pair.key in
       let key = one_tuple (primary_key pair.stored) (key_items type.number cells) (spelling (primary_key pair.stored))
       (spelling_spells (primary_key pair.stored) pair.storable.key.items pair.storable.key.depth)
       (subst (Spells (key_items type.number cells)) bytes (spelling_spells (key_items type.number cells) t.items t.depth)) in
-      let put = stored_as schema type pair.stored lawful typed pair.typed pair.storable (number_of_key pair.stored type.number cells key) in
-      none pair.stored (record { made = put.made; cells = put.cells; has_key = bytes; has_value = ap (λ (p : Pair). p.1) pair.is })
+      let put = stored_as schema type value pair.stored lawful typed pair.typed pair.storable (number_of_key pair.stored type.number cells key) (record { first = pair.first; fills = pair.fills; is = pair.value }) in
+      none pair.stored (record { made = put.made; cells = put.cells; has_key = bytes; stored = put.stored; fills = put.fills; has_value = put.has_value })
 
   -- ---- at the key of a record
 
   module _ (m : Map) (store : Store) (holds : Holds prefix m (Some store)) where
     -- what is found there is of the schema, can be stored, and has the primary key
-    there : (key : List Item) (r : Record) → IsTuple key → record_at key store.records ≡ Some r → IsOfSchema store.schema r × IsStorable r × (primary_key r ≡ key)
+    there : (key : List Item) (r : Record) → IsTuple key → record_at key store.records ≡ Some r → IsOfSchema store.schema r × IsStorable r × (primary_key r ≡ key) × HasValue (value_in prefix m r) r
     there key r t is =
         let typed = found_at (IsOfSchema store.schema) key store.records r holds.lawful.typed is in
         let can = found_at IsStorable key store.records r holds.lawful.storable is in
-        (typed.0, can.0, tied_tuples (primary_key r) key can.0.key t typed.1)
+        (typed.0, can.0, tied_tuples (primary_key r) key can.0.key t typed.1, (found_at (λ (one : Record). HasValue (value_in prefix m one) one) key store.records r (have_values m store.records holds.records.each) is).0)
 
     -- FORM: the pair at a record's key is of the written form
     pub key_form : (key : List Item) → IsTuple key → AllByRecursion (IsRecordPair prefix store.schema) (pairs_in m (point (record_key prefix key)))
     key_form key t = by_record (record_at key store.records) refl
       where
         by_record : (found : Option Record) → record_at key store.records ≡ found → AllByRecursion (IsRecordPair prefix store.schema) (pairs_in m (point (record_key prefix key)))
-        by_record None is = subst (AllByRecursion (IsRecordPair prefix store.schema)) (sym (pairs_at m (record_key prefix key) None (value_held prefix m store key t holds ∙ ap (option_map (λ (r : Record). record_value r.cells)) is))) tt
+        by_record None is = subst (AllByRecursion (IsRecordPair prefix store.schema)) (sym (pairs_at m (record_key prefix key) None (value_held prefix m store key t holds ∙ ap (option_map (value_in prefix m)) is))) tt
         by_record (Some r) is =
             let at = there key r t is in
-            subst (AllByRecursion (IsRecordPair prefix store.schema)) (sym (pairs_at m (record_key prefix key) (Some (record_value r.cells)) (value_held prefix m store key t holds ∙ ap (option_map (λ (r : Record). record_value r.cells)) is)))
-            (subst (λ k. IsRecordPair prefix store.schema (record_key prefix k, record_value r.cells)) at.2 (record_form store.schema r at.0 at.1), tt)
+            subst (AllByRecursion (IsRecordPair prefix store.schema)) (sym (pairs_at m (record_key prefix key) (Some (value_in prefix m r)) (value_held prefix m store key t holds ∙ ap (option_map (value_in prefix m)) is)))
+            (subst (λ k. IsRecordPair prefix store.schema (record_key prefix k, value_in prefix m r)) at.2 (record_form store.schema (value_in prefix m r) r at.0 at.1 at.3), tt)
 
     -- RECORD: what is stored at a record's key is the record that is there
     pub record_there : (type : TypeDefinition) (cells : List Cell) (value : List ℕ) (r : Record) → IsTypeOf store.schema type → IsTuple (key_items type.number cells) →
@@ -198,13 +215,13 @@ module _ (prefix : List ℕ) where
       where
         by_record : (there_is : Option Record) → record_at (key_items type.number cells) store.records ≡ there_is → Some r ≡ there_is
         by_record None is =
-            let no : ◌≡◌ {A = Option (List ℕ)} (Some value) None = sym found ∙ value_held prefix m store (key_items type.number cells) t holds ∙ ap (option_map (λ (r : Record). record_value r.cells)) is in absurd (cc)
+            let no : ◌≡◌ {A = Option (List ℕ)} (Some value) None = sym found ∙ value_held prefix m store (key_items type.number cells) t holds ∙ ap (option_map (value_in prefix m)) is in absurd (cc)
         by_record (Some s) is =
-            let both : ◌≡◌ {A = Option (List ℕ)} (Some value) (Some (record_value s.cells)) = sym found ∙ value_held prefix m store (key_items type.number cells) t holds ∙ ap (option_map (λ (r : Record). record_value r.cells)) is in
+            let both : ◌≡◌ {A = Option (List ℕ)} (Some value) (Some (value_in prefix m s)) = sym found ∙ value_held prefix m store (key_items type.number cells) t holds ∙ ap (option_map (value_in prefix m)) is in
             let at = there (key_items type.number cells) s t is in
-            let other = stored_as store.schema type s holds.lawful.schema typed at.0 at.1 (number_of_key s type.number cells at.2) in
-            let same : value ≡ record_value s.cells = cc in
-            ap Some (stored_once type (spelling (key_items type.number cells)) value r s put (record { made = other.made; cells = other.cells; has_key = ap spelling (sym at.2); has_value = same }))
+            let other = stored_as store.schema type (value_in prefix m s) s holds.lawful.schema typed at.0 at.1 (number_of_key s type.number cells at.2) at.3 in
+            let same : value ≡ value_in prefix m s = cc in
+            ap Some (stored_once type (spelling (key_items type.number cells)) value r s put (record { made = other.made; cells = other.cells; has_key = ap spelling (sym at.2); stored = other.stored; fills = other.fills; has_value = same ∙ other.has_value }))
 
     pub none_there : (key : List Item) → IsTuple key → get m (record_key prefix key) ≡ None → None ≡ record_at key store.records
     none_there key t found = by_record (record_at key store.records) refl
@@ -212,19 +229,23 @@ module _ (prefix : List ℕ) where
         by_record : (there_is : Option Record) → record_at key store.records ≡ there_is → None ≡ there_is
         by_record None is = refl
         by_record (Some s) is =
-            let both : ◌≡◌ {A = Option (List ℕ)} None (Some (record_value s.cells)) = sym found ∙ value_held prefix m store key t holds ∙ ap (option_map (λ (r : Record). record_value r.cells)) is in absurd (cc)
+            let both : ◌≡◌ {A = Option (List ℕ)} None (Some (value_in prefix m s)) = sym found ∙ value_held prefix m store key t holds ∙ ap (option_map (value_in prefix m)) is in absurd (cc)
 
     -- ---- in the range of a type
 
-    all_form : (records : List Record) → AllByRecursion (IsOfSchema store.schema) records → AllByRecursion IsStorable records → AllByRecursion (IsRecordPair prefix store.schema) (map (record_pair prefix) records)
-    all_form [] typed can = tt
-    all_form (r ∷ records) typed can = (record_form store.schema r typed.0 can.0, all_form records typed.1 can.1)
+    all_form : (records : List Record) → AllByRecursion (IsOfSchema store.schema) records → AllByRecursion IsStorable records → AllByRecursion (λ r. HasValue (value_in prefix m r) r) records →
+        AllByRecursion (IsRecordPair prefix store.schema) (map (pair_with prefix (value_in prefix m)) records)
+    all_form [] typed can have = tt
+    all_form (r ∷ records) typed can have = (record_form store.schema (value_in prefix m r) r typed.0 can.0 have.0, all_form records typed.1 can.1 have.1)
+
+    -- what holds of all records holds of those that a test picks, whose pairs are of the written form
+    pub some_form : (test : Record → Bool) → AllByRecursion (IsRecordPair prefix store.schema) (map (pair_with prefix (value_in prefix m)) (filter test store.records))
+    some_form test =
+        all_form (filter test store.records) (all_filter (IsOfSchema store.schema) test store.records holds.lawful.typed) (all_filter IsStorable test store.records holds.lawful.storable)
+        (all_filter (λ r. HasValue (value_in prefix m r) r) test store.records (have_values m store.records holds.records.each))
 
     pub type_form : (n : ℕ) → n < 2 ^ 64 → AllByRecursion (IsRecordPair prefix store.schema) (pairs_in m (type_range prefix n))
-    type_form n hn =
-        subst (AllByRecursion (IsRecordPair prefix store.schema)) (sym (type_held prefix m store n hn holds))
-        (all_form (of_type n store.records) (all_filter (IsOfSchema store.schema) (λ r. r.definition.number == n) store.records holds.lawful.typed)
-        (all_filter IsStorable (λ r. r.definition.number == n) store.records holds.lawful.storable))
+    type_form n hn = subst (AllByRecursion (IsRecordPair prefix store.schema)) (sym (type_held prefix m store n hn holds)) (some_form (λ r. r.definition.number == n))
 
 -- DAMAGE: where all pairs are of the form, none is the first that isn't
 pub none_bad : {Form : Pair → Type 0} (pairs : List Pair) (key : List ℕ) → AllByRecursion Form pairs → IsFirstBad Form pairs key → ⊥

@@ -19,12 +19,12 @@ use Rattle.metadata.specs.Lawful.{IsLawfulSchema}
 use Rattle.metadata.specs.Record.{Record, key_cells, primary_key}
 use Rattle.metadata.specs.Records.{IsStorable, of_type}
 use Rattle.metadata.specs.Schema.{find_type}
-use Rattle.metadata.specs.Stored.{IsStoredAs, IsTypeOf, IsOfNoRecord}
+use Rattle.metadata.specs.Stored.{IsStoredAs, IsTypeOf, IsOfNoRecord, filled}
 use Rattle.metadata.proofs.StoredApart.{named_typed, number_small}
 use Rattle.metadata.proofs.StoredOnce.{made_is, stored_once}
 use Rattle.record_store.specs.declared.error.StoreError.{StoreError}
 use Rattle.record_store.specs.declared.error.StoreError.TheVariants.{Memory, Read, Write, Corrupt, Refused, NoStore, AlreadyThere, OtherSchema, NotAggregate, NotReadable, WrongState, NotBuilt}
-use Rattle.record_store.specs.Layout.{place, record_key, record_pair, record_value, type_range}
+use Rattle.record_store.specs.Layout.{place, record_key, type_range}
 use Rattle.record_store.specs.Store.{Store}
 use Rattle.record_store.specs.Holds.{Holds, IsOfSchema}
 use Rattle.record_store.specs.Form.{IsFirstBad, IsRecordPair, IsWritten, read_in}
@@ -33,10 +33,11 @@ use Rattle.record_store.specs.Store.{new_state}
 use Rattle.record_store.specs.Reading.{ArePairsOfRecords, HasNotFound, HasRead, HaveNoRecords, IsPairOf, IsPairOfNone}
 use Rattle.record_store.specs.Steps.{DidRead, IsBeginning}
 use Rattle.record_store.proofs.Stopping.{all_begin}
-use Rattle.record_store.proofs.Held.{type_held, under}
+use Rattle.record_store.proofs.Held.{pair_with, type_held, under, value_in}
 use Rattle.record_store.proofs.Keys.{in_type_range, record_key_is}
 use Rattle.record_store.proofs.Openings.{pairs_lie}
-use Rattle.record_store.proofs.RecordPairs.{all_written, key_bytes, no_other_pair, none_bad, of_stored, stored_as, type_form}
+use Rattle.record_store.proofs.RecordPairs.{HasValue, all_written, have_values, key_bytes, no_other_pair, none_bad, of_stored, stored_as, type_form}
+use Rattle.index_maint.proofs.RecordLists.{all_filter}
 use Rattle.std.proofs.lemmas.Bool.{eqb-true}
 use Rattle.std.specs.Option.{IfNone}
 use Rattle.std.proofs.lemmas.List.{append_cancel_left, length-map, take-map}
@@ -74,9 +75,9 @@ module _ (opened : Opened) (type : TypeDefinition) (lawful : IsLawfulSchema open
   type_is : (key value : List ℕ) (r : Record) → IsStoredAs type key value r → r.definition ≡ type
   type_is key value r is = sym (ap (λ (one : Record). one.definition) (made_is type r.cells r is.made))
 
-  -- a pair of a record is the one that stands for it
-  pair_is : (pair : Pair) (r : Record) → IsPairOf (place opened.prefix 1) type pair r → pair ≡ record_pair opened.prefix r
-  pair_is pair r is i = ((is.behind ∙ ap (λ rest. place opened.prefix 1 ++ rest) is.is.has_key ∙ record_key_is opened.prefix (primary_key r)) i, is.is.has_value i)
+  -- a pair of a record has its key
+  pair_key : (pair : Pair) (r : Record) → IsPairOf (place opened.prefix 1) type pair r → pair.0 ≡ record_key opened.prefix (primary_key r)
+  pair_key pair r is = is.behind ∙ ap (λ rest. place opened.prefix 1 ++ rest) is.is.has_key ∙ record_key_is opened.prefix (primary_key r)
 
   pub good_form : (pairs : List Pair) (records : List Record) → ArePairsOfRecords (place opened.prefix 1) type pairs records → AllByRecursion (IsWritten opened.prefix opened.schema) pairs
   good_form [] [] good = tt
@@ -84,19 +85,30 @@ module _ (opened : Opened) (type : TypeDefinition) (lawful : IsLawfulSchema open
   good_form (pair ∷ pairs) [] good = absurd good
   good_form (pair ∷ pairs) (r ∷ records) good =
       let stored = of_stored opened.schema type good.0.rest pair.1 r lawful found_type good.0.is in
-      (inl (record { stored = r; typed = stored.0; storable = stored.1; is = pair_is pair r good.0 }), good_form pairs records good.1)
+      let is = good.0.is in (
+        inl (record {
+          stored = r;
+          typed = stored.0;
+          storable = stored.1;
+          key = pair_key pair r good.0;
+          first = is.stored;
+          fills = subst (λ t. filled t is.stored ≡ Some r.cells) (sym (type_is good.0.rest pair.1 r is)) is.fills;
+          value = is.has_value;
+        }),
+        good_form pairs records good.1,
+      )
 
   -- a pair in the type's range that is that of no record of the type is of no form
   bad_form : (pair : Pair) → contains (type_range opened.prefix type.number) pair.0 ≡ true → type.number < 2 ^ 64 → ((r : Record) → IsPairOf (place opened.prefix 1) type pair r → ⊥) → IsRecordPair opened.prefix opened.schema pair → ⊥
   bad_form pair inside small none is =
-      let key_is : pair.0 ≡ record_key opened.prefix (primary_key is.stored) = ap (λ (p : Pair). p.0) is.is in
+      let key_is : pair.0 ≡ record_key opened.prefix (primary_key is.stored) = is.key in
       let here : contains (type_range opened.prefix type.number) (record_key opened.prefix (primary_key is.stored)) ≡ true = ap (contains (type_range opened.prefix type.number)) (sym key_is) ∙ inside in
       let number : (is.stored.definition.number == type.number) ≡ true = sym (in_type_range opened.prefix is.stored.definition.number type.number (items_of (key_cells is.stored)) is.storable.key small) ∙ here in
-      let put = stored_as opened.schema type is.stored lawful own is.typed is.storable (eqb-true is.stored.definition.number type.number number) in
+      let put = stored_as opened.schema type pair.1 is.stored lawful own is.typed is.storable (eqb-true is.stored.definition.number type.number number) (record { first = is.first; fills = is.fills; is = is.value }) in
       none is.stored (record {
         rest = spelling (primary_key is.stored);
         behind = key_is ∙ sym (record_key_is opened.prefix (primary_key is.stored));
-        is = record { made = put.made; cells = put.cells; has_key = refl; has_value = ap (λ (p : Pair). p.1) is.is };
+        is = put;
       })
 
   -- nor is it that of a total
@@ -108,24 +120,24 @@ module _ (opened : Opened) (type : TypeDefinition) (lawful : IsLawfulSchema open
       (under q [] (255 ∷ []) pair.0 (ap (λ b. contains (record { begin = b; end = q ++ 255 ∷ [] }) pair.0) (append-nil q) ∙ inside)) is
 
   -- records that stand for the same pairs are the same
-  pub same_records : (records others : List Record) (pairs : List Pair) → ArePairsOfRecords (place opened.prefix 1) type pairs records → pairs ≡ map (record_pair opened.prefix) others →
-      AllByRecursion (λ (r : Record). IsOfSchema opened.schema r × IsStorable r × (r.definition.number ≡ type.number)) others → records ≡ others
-  same_records [] [] pairs good is all = refl
-  same_records [] (s ∷ others) [] good is all = absurd (cc)
-  same_records [] (s ∷ others) (pair ∷ pairs) good is all = absurd good
-  same_records (r ∷ records) others [] good is all = absurd good
-  same_records (r ∷ records) [] (pair ∷ pairs) good is all = absurd (cc)
-  same_records (r ∷ records) (s ∷ others) (pair ∷ pairs) good is all =
-      let first : pair ≡ record_pair opened.prefix s = cc in
-      let rest : pairs ≡ map (record_pair opened.prefix) others = cc in
-      let put = stored_as opened.schema type s lawful own all.0.0 all.0.1 all.0.2 in
-      let both : record_pair opened.prefix r ≡ record_pair opened.prefix s = sym (pair_is pair r good.0) ∙ first in
-      let keys : spelling (primary_key r) ≡ spelling (primary_key s) = key_bytes opened.prefix (primary_key r) (primary_key s) (ap (λ (p : Pair). p.0) both) in
+  pub same_records : (value : Record → List ℕ) (records others : List Record) (pairs : List Pair) → ArePairsOfRecords (place opened.prefix 1) type pairs records → pairs ≡ map (pair_with opened.prefix value) others →
+      AllByRecursion (λ (r : Record). IsOfSchema opened.schema r × IsStorable r × (r.definition.number ≡ type.number)) others → AllByRecursion (λ (r : Record). HasValue (value r) r) others → records ≡ others
+  same_records value [] [] pairs good is all have = refl
+  same_records value [] (s ∷ others) [] good is all have = absurd (cc)
+  same_records value [] (s ∷ others) (pair ∷ pairs) good is all have = absurd good
+  same_records value (r ∷ records) others [] good is all have = absurd good
+  same_records value (r ∷ records) [] (pair ∷ pairs) good is all have = absurd (cc)
+  same_records value (r ∷ records) (s ∷ others) (pair ∷ pairs) good is all have =
+      let first : pair ≡ pair_with opened.prefix value s = cc in
+      let rest : pairs ≡ map (pair_with opened.prefix value) others = cc in
+      let put = stored_as opened.schema type (value s) s lawful own all.0.0 all.0.1 all.0.2 have.0 in
+      let keys : spelling (primary_key r) ≡ spelling (primary_key s) =
+      key_bytes opened.prefix (primary_key r) (primary_key s) (sym (pair_key pair r good.0) ∙ ap (λ (p : Pair). p.0) first) in
       let mine = good.0.is in
-      let one = stored_once type (spelling (primary_key r)) (record_value r.cells) r s
-      (record { made = mine.made; cells = mine.cells; has_key = refl; has_value = refl })
-      (record { made = put.made; cells = put.cells; has_key = keys; has_value = ap (λ (p : Pair). p.1) both }) in
-      λ i. one i ∷ same_records records others pairs good.1 rest all.1 i
+      let one = stored_once type (spelling (primary_key r)) (value s) r s
+      (record { made = mine.made; cells = mine.cells; has_key = refl; stored = mine.stored; fills = mine.fills; has_value = sym (ap (λ (p : Pair). p.1) first) ∙ mine.has_value })
+      (record { made = put.made; cells = put.cells; has_key = keys; stored = put.stored; fills = put.fills; has_value = put.has_value }) in
+      λ i. one i ∷ same_records value records others pairs good.1 rest all.1 have.1 i
 
   -- the records of the type are of the schema
   pub of_type_good : (records : List Record) → AllByRecursion (IsOfSchema opened.schema) records → AllByRecursion IsStorable records →
@@ -153,9 +165,11 @@ module _ (opened : Opened) (type : TypeDefinition) (lawful : IsLawfulSchema open
     good_form pairs rows good,
     λ store holds same.
         let all = of_type_good store.records (subst (λ s. AllByRecursion (IsOfSchema s) store.records) same.schema holds.lawful.typed) holds.lawful.storable in
-        same_records rows (take limit (of_type type.number store.records)) pairs good
-        (is ∙ ap (take limit) (type_held opened.prefix m store type.number small holds) ∙ take-map (record_pair opened.prefix) limit (of_type type.number store.records))
-        (All-take (λ (r : Record). IsOfSchema opened.schema r × IsStorable r × (r.definition.number ≡ type.number)) limit (of_type type.number store.records) all),
+        same_records (value_in opened.prefix m) rows (take limit (of_type type.number store.records)) pairs good
+        (is ∙ ap (take limit) (type_held opened.prefix m store type.number small holds) ∙ take-map (pair_with opened.prefix (value_in opened.prefix m)) limit (of_type type.number store.records))
+        (All-take (λ (r : Record). IsOfSchema opened.schema r × IsStorable r × (r.definition.number ≡ type.number)) limit (of_type type.number store.records) all)
+        (All-take (λ (r : Record). HasValue (value_in opened.prefix m r) r) limit (of_type type.number store.records)
+        (all_filter (λ (r : Record). HasValue (value_in opened.prefix m r) r) (λ r. r.definition.number == type.number) store.records (have_values opened.prefix m store.records holds.records.each))),
   )
 
   -- NOT FOUND: one of the pairs is that of no record
@@ -214,7 +228,7 @@ module _ (opened : Opened) (type : TypeDefinition) (lawful : IsLawfulSchema open
   whole_rows : (m : Map) (pairs : List Pair) (rows : List Record) → pairs ≡ pairs_in m here → ArePairsOfRecords (place opened.prefix 1) type pairs rows → AtStore opened m (λ store. rows ≡ of_type type.number store.records)
   whole_rows m pairs rows is good store holds same =
       let all = of_type type.number store.records in
-      let many : length all ≡ length pairs = sym (length-map all (record_pair opened.prefix)) ∙ ap length (sym (is ∙ type_held opened.prefix m store type.number small holds)) in
+      let many : length all ≡ length pairs = sym (length-map all (pair_with opened.prefix (value_in opened.prefix m))) ∙ ap length (sym (is ∙ type_held opened.prefix m store type.number small holds)) in
       (rows_there m (length pairs) pairs rows (whole_pairs m pairs is) good).1 store holds same ∙ ap (λ n. take n all) (sym many) ∙ take-length all
 
   pub rows_read : {maps : ℕ → Map} {old new : CommitRequest} (range : KeyRange) (pairs : List Pair) (records_place : List ℕ) (rows : List Record) → range ≡ here → records_place ≡ place opened.prefix 1 →
@@ -283,7 +297,7 @@ pub no_pair : (records_place : List ℕ) (type : TypeDefinition) (pair : Pair) (
     IfNone found (IsOfNoRecord type rest value) → found ≡ None → (stored : Record) → IsPairOf records_place type pair stored → ⊥
 no_pair records_place type pair slice rest value None at behind same none is stored pair_of =
     let rests : rest ≡ pair_of.rest = append_cancel_left records_place rest pair_of.rest (sym behind ∙ at ∙ pair_of.behind) in
-    none stored (record { made = pair_of.is.made; cells = pair_of.is.cells; has_key = rests ∙ pair_of.is.has_key; has_value = same ∙ pair_of.is.has_value })
+    none stored (record { made = pair_of.is.made; cells = pair_of.is.cells; has_key = rests ∙ pair_of.is.has_key; stored = pair_of.is.stored; fills = pair_of.is.fills; has_value = same ∙ pair_of.is.has_value })
 no_pair records_place type pair slice rest value (Some r) at behind same none is stored pair_of = absurd (cc)
 
 -- among pairs one that is that of none

@@ -5,6 +5,7 @@ use Rattle.kv_core.specs.Range.{point}
 use Rattle.kv_core.specs.declared.change.Mutation.{Mutation}
 use Rattle.kv_core.specs.declared.change.Mutation.TheVariants.{Set}
 use Rattle.metadata.specs.declared.cells.Cell.{Cell}
+use Rattle.metadata.specs.declared.definition.Field.{Field}
 use Rattle.metadata.specs.declared.definition.TypeRequest.{TypeRequest}
 use Rattle.metadata.specs.declared.index.IndexDefinition.{IndexDefinition}
 use Rattle.metadata.specs.declared.index.IndexRequest.{IndexRequest}
@@ -12,7 +13,7 @@ use Rattle.metadata.specs.declared.index.State.{State}
 use Rattle.metadata.specs.declared.index.State.TheVariants.{Readable, WriteOnly, Disabled}
 use Rattle.metadata.specs.declared.refusal.Refusal.{Refusal}
 use Rattle.metadata.specs.declared.refusal.Refusal.TheVariants.{UnknownIndex}
-use Rattle.metadata.specs.Change.{add_type}
+use Rattle.metadata.specs.Change.{add_field, add_type}
 use Rattle.metadata.specs.IndexChange.{new_index, with_index, without_index}
 use Rattle.metadata.specs.Record.{Record, key_of, primary_key}
 use Rattle.metadata.specs.Records.{record_at}
@@ -25,7 +26,8 @@ use Rattle.record_store.specs.IndexWrites.{drop_writes, index_added_writes, mark
 use Rattle.record_store.specs.IndexWrites.{remove_writes, save_writes}
 use Rattle.index_maint.specs.Built.{position_of}
 use Rattle.record_store.specs.BuiltReading.{built_reading, type_number_in}
-use Rattle.record_store.specs.Meaning.{by_schema, drop_meaning, index_meaning, index_number, load_meaning, mark_meaning}
+use Rattle.record_store.specs.Meaning.{by_schema, drop_meaning, field_meaning, index_meaning, index_number}
+use Rattle.record_store.specs.Meaning.{load_meaning, mark_meaning}
 use Rattle.record_store.specs.Meaning.{own_record, readable_meaning, records_meaning, remove_meaning, save_meaning}
 use Rattle.record_store.specs.Meaning.{total_meaning, totalled_index, type_meaning, type_number_of, write_only_named}
 use Rattle.record_store.specs.Call.{Call, Footprint, Opened, all_built, call_on, first_of, reads_only, then_reads}
@@ -91,6 +93,11 @@ type_footprint opened schema = record { reading = whole []; writes = λ m store.
 abbrev pub type_call : Opened → TypeRequest → Call Schema
 type_call opened request =
     call_on type_meaning (type_footprint opened) (by_schema (add_type opened.schema request))
+
+-- FIELD: the schema is written, and no record
+abbrev pub field_call : Opened → List ℕ → Field → Call Schema
+field_call opened name field =
+    call_on field_meaning (type_footprint opened) (by_schema (add_field opened.schema name field))
 
 -- INDEX: of the type's records the first alone is read
 abbrev pub index_footprint : Opened → IndexDefinition → Footprint

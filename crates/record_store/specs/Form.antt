@@ -8,21 +8,26 @@ use Rattle.metadata.specs.declared.cells.Cell.{Cell}
 use Rattle.metadata.specs.declared.index.IndexDefinition.{IndexDefinition}
 use Rattle.metadata.specs.declared.index.State.{State}
 use Rattle.metadata.specs.Lawful.{IsLawfulSchema}
-use Rattle.metadata.specs.Record.{Record}
+use Rattle.metadata.specs.Record.{Record, primary_key}
 use Rattle.metadata.specs.Records.{IsStorable}
 use Rattle.metadata.specs.Schema.{Schema}
+use Rattle.metadata.specs.Stored.{filled}
 use Rattle.metadata.specs.Written.{schema_bytes}
 use Rattle.index_maint.specs.Totals.{IsGroup, group_key}
 use Rattle.range_set.specs.Stored.{IsStoredRange, range_pair}
-use Rattle.record_store.specs.Layout.{built_place, record_pair, schema_key, schema_pair, state_pair}
+use Rattle.record_store.specs.Layout.{built_place, record_key, record_value, schema_key, schema_pair, state_pair}
 use Rattle.record_store.specs.Holds.{IsListed, IsOfSchema}
 
--- a pair stands for a record of the schema
+-- a pair stands for a record of the schema: it has the record's key, and the pack of its first cells, all of those that
+-- its type was added with; the others are null
 pub record IsRecordPair (prefix : List ℕ) (schema : Schema) (pair : List ℕ × List ℕ) : Type 0 where
   pub stored : Record
   pub typed : IsOfSchema schema stored
   pub storable : IsStorable stored
-  pub is : pair ≡ record_pair prefix stored
+  pub key : pair.0 ≡ record_key prefix (primary_key stored)
+  pub first : List Cell
+  pub fills : filled stored.definition first ≡ Some stored.cells
+  pub value : pair.1 ≡ record_value first
 
 -- a pair stands for the total of a group of one of these indexes: it has 8 bytes
 pub record IsTotalPair (prefix : List ℕ) (indexes : List IndexDefinition) (pair : List ℕ × List ℕ) : Type 0 where

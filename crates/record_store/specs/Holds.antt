@@ -9,15 +9,17 @@ use Rattle.metadata.specs.declared.index.IndexDefinition.{IndexDefinition}
 use Rattle.metadata.specs.declared.index.State.{State}
 use Rattle.metadata.specs.declared.index.State.TheVariants.{Readable}
 use Rattle.metadata.specs.Lawful.{IsLawfulSchema}
-use Rattle.metadata.specs.Record.{Record, record_of}
+use Rattle.metadata.specs.declared.cells.Cell.{Cell}
+use Rattle.metadata.specs.Record.{Record, primary_key, record_of}
 use Rattle.metadata.specs.Records.{AreOrdered, IsStorable}
 use Rattle.metadata.specs.Schema.{Schema}
+use Rattle.metadata.specs.Stored.{filled}
 use Rattle.metadata.specs.Written.{schema_bytes}
 use Rattle.index_maint.specs.Kept.{HasKept}
 use Rattle.index_maint.specs.Layout.{entries_prefix}
 use Rattle.record_store.specs.Store.{Store, Serial, Status, WriteOnly, built_of, listed_states, state_of}
 use Rattle.metadata.specs.Layout.{place_of_records, place_of_states}
-use Rattle.record_store.specs.Layout.{built_place, place, record_pair, schema_key, state_pair}
+use Rattle.record_store.specs.Layout.{built_place, place, record_key, record_value, schema_key, state_pair}
 
 -- a record of the schema: the schema's type of its name makes it of its cells
 abbrev pub IsOfSchema : Schema → Record → Type 0
@@ -47,6 +49,24 @@ pairs_map pairs = from_entries pairs
 abbrev pub HasPairs : List ℕ → List (List ℕ × List ℕ) → Map → Type 0
 HasPairs begin pairs m = (bytes : List ℕ) → get m (begin ++ bytes) ≡ get (pairs_map pairs) (begin ++ bytes)
 
+-- a map has a record: at its key the pack of its first cells, all of those that its type was added with; the others are
+-- null
+pub record HasRecord (prefix : List ℕ) (m : Map) (r : Record) : Type 0 where
+  pub stored : List Cell
+  pub has : get m (record_key prefix (primary_key r)) ≡ Some (record_value stored)
+  pub fills : filled r.definition stored ≡ Some r.cells
+
+-- the key is that of none of these records
+abbrev pub IsNoRecord : List ℕ → List Record → List ℕ → Type 0
+IsNoRecord prefix records key = AllByRecursion (λ r. key ≡ record_key prefix (primary_key r) → ⊥) records
+
+-- in the place of records a map has these, and nothing else
+pub record HasRecords (prefix : List ℕ) (records : List Record) (m : Map) : Type 0 where
+  pub each : AllByRecursion (HasRecord prefix m) records
+  pub no_others :
+      (bytes : List ℕ) → IsNoRecord prefix records (place prefix place_of_records ++ bytes) →
+      get m (place prefix place_of_records ++ bytes) ≡ None
+
 -- no entry and no total of these indexes can have the key
 abbrev pub IsNoEntry : List ℕ → List IndexDefinition → List ℕ → Type 0
 IsNoEntry prefix indexes key = AllByRecursion (λ index. BeginsWith (entries_prefix prefix index.number) key → ⊥) indexes
@@ -73,7 +93,7 @@ pub record IsElsewhere (prefix : List ℕ) (indexes : List IndexDefinition) (key
 pub record HoldsStore (prefix : List ℕ) (m : Map) (store : Store) : Type 0 where
   pub lawful : IsLawful store
   pub schema : get m (schema_key prefix) ≡ Some (schema_bytes store.schema)
-  pub records : HasPairs (place prefix place_of_records) (map (record_pair prefix) store.records) m
+  pub records : HasRecords prefix store.records m
   pub entries :
       AllByRecursion
       (λ index. HasKept (state_of store index.number) prefix index (built_of store index.number) store.records m)

@@ -11,7 +11,7 @@ use Rattle.metadata.specs.Layout.{Pair, entries_prefix, place_of_schema, place_o
 use Rattle.metadata.specs.Schema.{Schema}
 use Rattle.metadata.specs.Written.{schema_bytes}
 use Rattle.range_set.specs.Stored.{whole_range}
-pub use Rattle.metadata.specs.Layout.{place, record_key, record_pair, record_value}
+pub use Rattle.metadata.specs.Layout.{place, record_key, record_value}
 pub use Rattle.index_maint.specs.Layout.{built_place}
 
 -- the key (0) of the schema

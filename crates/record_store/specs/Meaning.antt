@@ -24,7 +24,7 @@ use Rattle.record_store.specs.declared.error.StoreError.{StoreError}
 use Rattle.record_store.specs.declared.error.StoreError.TheVariants.{Refused, OtherSchema, NotAggregate, NotReadable}
 use Rattle.record_store.specs.declared.error.StoreError.TheVariants.{WrongState, NotBuilt}
 use Rattle.record_store.specs.Store.{Store, built_of, dropped, extended, indexed, listed_states, marked, new_state}
-use Rattle.record_store.specs.Store.{removed, saved, state_in, state_of}
+use Rattle.record_store.specs.Store.{removed, saved, state_in, state_of, widened}
 
 -- what a call means: by the store that is there its answer, or why it is refused; the store after an answer; and
 -- whether an answer tells that something was changed
@@ -107,6 +107,10 @@ totalled_index schema states group (Some index) =
 -- TYPE: the schema with one more type is answered
 abbrev pub type_meaning : Schema → Meaning Schema
 type_meaning schema = alters (λ store. schema) (λ store. extended store schema)
+
+-- FIELD: the schema with a field more is answered, in which the records of its type have null
+abbrev pub field_meaning : Schema → Meaning Schema
+field_meaning schema = alters (λ store. schema) (λ store. widened store schema)
 
 -- INDEX: an index is added, and its state answered
 abbrev pub index_meaning : IndexDefinition → Meaning State

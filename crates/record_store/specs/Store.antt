@@ -1,14 +1,17 @@
 -- The serial store: a schema, records by primary key, and the status of each index, as values.
-use Rattle.std.specs.Prelude.{ℕ, ◌==◌, not, List, [], ◌∷◌, Option, unwrap_or, filter, map, if◌then◌else◌}
+use Rattle.std.specs.Prelude.{ℕ, ◌-◌, ◌==◌, not, List, [], ◌∷◌, ◌++◌, Option, Some, None, length, replicate}
+use Rattle.std.specs.Prelude.{unwrap_or, filter, map, if◌then◌else◌}
 use Rattle.std.specs.Option.{option_map}
 use Rattle.tuple_codec.specs.Item.{Item}
 use Rattle.kv_core.specs.Range.{KeyRange}
+use Rattle.metadata.specs.declared.cells.Cell.TheVariants.{Null}
+use Rattle.metadata.specs.declared.definition.TypeDefinition.{TypeDefinition}
 use Rattle.metadata.specs.declared.index.IndexDefinition.{IndexDefinition}
 use Rattle.metadata.specs.declared.index.State.{State}
 use Rattle.metadata.specs.declared.index.State.TheVariants as declared
 use Rattle.metadata.specs.Index.{is_readable, listed_state}
 use Rattle.metadata.specs.IndexChange.{with_index, without_index}
-use Rattle.metadata.specs.Schema.{Schema}
+use Rattle.metadata.specs.Schema.{Schema, type_at}
 use Rattle.metadata.specs.Record.{Record}
 use Rattle.metadata.specs.Records.{of_type, with_record, without_record}
 
@@ -74,6 +77,21 @@ removed store key = record store { records = without_record key store.records }
 
 abbrev pub extended : Store → Schema → Store
 extended store schema = record store { schema = schema }
+
+-- a record as one of this type: null in the fields that it lacks
+abbrev pub grown_as : TypeDefinition → Record → Record
+grown_as type r = record {
+  definition = type;
+  cells = r.cells ++ replicate (length type.fields - length r.cells) Null;
+}
+
+-- a record as its type is in a schema
+abbrev pub grown : Schema → Record → Record
+grown schema r = elim (type_at schema.types r.definition.number) [ Some type ↦ grown_as type r | None ↦ r ]
+
+-- the store with another schema, in which fields are appended to types
+abbrev pub widened : Store → Schema → Store
+widened store schema = record store { schema = schema; records = map (grown schema) store.records }
 
 -- values by number, with this one for a number
 abbrev pub altered_at : {X : Type 0} → ℕ → X → (ℕ → X) → ℕ → X

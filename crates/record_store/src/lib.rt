@@ -9,6 +9,7 @@ mod aggregate;
 mod built;
 mod create;
 mod error;
+mod fields;
 mod following;
 mod found_states;
 mod indexes;

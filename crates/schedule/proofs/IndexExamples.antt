@@ -18,7 +18,7 @@ use Rattle.record_store.specs.Layout.{record_value, type_range}
 use Rattle.schedule.specs.declared.step.Command.{Command}
 use Rattle.schedule.specs.declared.step.Command.TheVariants.{Create, Save, Remove, Index, Drop, Disable, Readable, State, WriteOnly}
 use Rattle.schedule.specs.declared.reply.Reply.TheVariants as answers
-use Rattle.schedule.specs.declared.reply.Reply.TheVariants.{Done, SavedNew, SavedOver, Refused}
+use Rattle.schedule.specs.declared.reply.Reply.TheVariants.{Done, SavedNew, Refused}
 use Rattle.schedule.specs.Layout.{store_prefix}
 use Rattle.schedule.specs.Reach.{opened_in, own_reading, writes}
 use Rattle.schedule.specs.Serve.{effects}
@@ -45,7 +45,7 @@ field name = record { name = name; kind = kind.Int }
 
 -- a VALUE index of this name over columns of a type
 abbrev asked : List ℕ → List ℕ → List (List ℕ) → IndexRequest
-asked name type_name columns = record { name = name; kind = Value; type_name = type_name; columns = columns; summed = None }
+asked name type_name columns = record { name = name; kind = Value; type_name = type_name; columns = columns; summed = None; clear_when_zero = false }
 
 -- the type t of whole numbers k, a, b with key k, and an index a on its field a
 abbrev create : Command

@@ -10,7 +10,7 @@ use Rattle.index_maint.specs.Kept.{HasDefined, HasKept}
 use Rattle.metadata.specs.declared.cells.Cell.{Cell}
 use Rattle.metadata.specs.declared.refusal.Refusal.{Refusal as SchemaRefusal}
 use Rattle.metadata.specs.Asked.{schema_asked}
-use Rattle.metadata.specs.Change.{add_type}
+use Rattle.metadata.specs.Change.{add_field, add_type}
 use Rattle.metadata.specs.IndexChange.{new_index}
 use Rattle.metadata.specs.Record.{Record, key_of, record_of}
 use Rattle.metadata.specs.Schema.{Schema, find_index}
@@ -19,7 +19,7 @@ use Rattle.cluster_core.specs.declared.answers.ReadError.TheVariants as read
 use Rattle.record_store.specs.declared.error.StoreError.{StoreError}
 use Rattle.record_store.specs.declared.error.StoreError.TheVariants as fault
 use Rattle.record_store.specs.Meaning.{Meaning, by_schema, drop_meaning, index_meaning, index_number, load_meaning, mark_meaning, readable_meaning, remove_meaning, save_meaning, state_meaning}
-use Rattle.record_store.specs.Meaning.{total_meaning, totalled_index, type_meaning, write_only_named}
+use Rattle.record_store.specs.Meaning.{field_meaning, total_meaning, totalled_index, type_meaning, write_only_named}
 use Rattle.record_store.specs.Store.{Serial, Store, built_of, state_of}
 use Rattle.online_builder.specs.Stepping.{step_meaning}
 use Rattle.online_builder.specs.declared.progress.Progress.{Progress}
@@ -29,6 +29,7 @@ use Rattle.query.specs.Checked.{query_refusal}
 use Rattle.planner.specs.Right.{is_served}
 use Rattle.query.specs.Query as asked
 use Rattle.schedule.specs.declared.step.Command.{Command}
+use Rattle.schedule.specs.declared.step.Command.TheVariants as commands
 use Rattle.schedule.specs.declared.step.Command.TheVariants.{Create, «Type», Save, Load, Remove, Query, Plan, Execute, Index, Drop, Disable, WriteOnly, Readable, Build, State, Aggregate}
 use Rattle.schedule.specs.declared.reply.Reply.{Reply}
 use Rattle.schedule.specs.declared.reply.Reply.TheVariants.{Rows}
@@ -139,6 +140,7 @@ rows_there serial (Build name zero) cells is = absurd (cc)
 rows_there None (Query query) cells is = absurd (cc)
 rows_there None (Execute plan) cells is = absurd (cc)
 rows_there None («Type» request) cells is = absurd (cc)
+rows_there None (commands.Field name field) cells is = absurd (cc)
 rows_there None (Save type row) cells is = absurd (cc)
 rows_there None (Load type row) cells is = absurd (cc)
 rows_there None (Remove type row) cells is = absurd (cc)
@@ -155,6 +157,7 @@ rows_there (Some store) (Query query) cells is = rows_of_query store query cells
 rows_there (Some store) (Execute plan) cells is = is.1
 rows_there (Some store) (Plan query) cells is = absurd (no_plan store query cells is)
 rows_there (Some store) («Type» request) cells is = absurd (no_call store done type_meaning (by_schema (add_type store.schema request)) cells (no_done cells) is)
+rows_there (Some store) (commands.Field name field) cells is = absurd (no_call store done field_meaning (by_schema (add_field store.schema name field)) cells (no_done cells) is)
 rows_there (Some store) (Save type row) cells is = absurd (no_call store reply_to_save save_meaning (by_schema (record_of store.schema type row)) cells (no_save cells) is)
 rows_there (Some store) (Load type row) cells is = absurd (no_call store reply_to_load load_meaning (by_schema (key_of store.schema type row)) cells (no_load cells) is)
 rows_there (Some store) (Remove type row) cells is = absurd (no_call store reply_to_remove remove_meaning (by_schema (key_of store.schema type row)) cells (no_remove cells) is)

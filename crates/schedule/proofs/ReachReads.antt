@@ -21,7 +21,7 @@ use Rattle.metadata.specs.Layout.{record_key, records_prefix}
 use Rattle.metadata.specs.Record.{Record, key_of, primary_key, record_of}
 use Rattle.metadata.specs.IndexChange.{new_index}
 use Rattle.metadata.specs.Schema.{find_index}
-use Rattle.metadata.specs.Change.{add_type}
+use Rattle.metadata.specs.Change.{add_field, add_type}
 use Rattle.index_maint.specs.Built.{position_of}
 use Rattle.index_maint.specs.Layout.{built_place}
 use Rattle.index_maint.specs.Totals.{group_key}
@@ -39,6 +39,7 @@ use Rattle.record_store.proofs.Held.{under}
 use Rattle.record_store.proofs.Listed.{state_told_there}
 use Rattle.online_builder.specs.Stepping.{reading_behind, step_footprint, step_reading}
 use Rattle.schedule.specs.declared.step.Command.{Command}
+use Rattle.schedule.specs.declared.step.Command.TheVariants as commands
 use Rattle.schedule.specs.declared.step.Command.TheVariants.{Create, «Type», Save, Load, Remove, Query, Plan, Execute, Index, Drop, Disable, WriteOnly, Readable, Build, State, Aggregate}
 use Rattle.schedule.specs.Layout.{store_prefix}
 use Rattle.schedule.specs.Query.{opened_as}
@@ -229,6 +230,8 @@ total_there store group (Some own) index is = by_refusal (total_refusal own.kind
 store_read : (store : Store) (command : Command) → ReadsOnly (MayReadIn store command) (footprint_in (opened_as store) command).reading
 store_read store (Create request) = nothing_read (MayReadIn store (Create request))
 store_read store («Type» request) = asked_read (MayReadIn store («Type» request)) (type_footprint (opened_as store)) (by_schema (add_type store.schema request)) (λ schema is. nothing_read (MayReadIn store («Type» request)))
+store_read store (commands.Field name field) =
+    asked_read (MayReadIn store (commands.Field name field)) (type_footprint (opened_as store)) (by_schema (add_field store.schema name field)) (λ schema is. nothing_read (MayReadIn store (commands.Field name field)))
 store_read store (Save type cells) =
     asked_read (MayReadIn store (Save type cells)) (save_footprint (opened_as store)) (by_schema (record_of store.schema type cells))
     (λ r is. reads_wider (MayReadWriting store (primary_key r)) (MayReadIn store (Save type cells)) (λ key may. (r, by_schema_ok (record_of store.schema type cells) r is, may)) (save_footprint (opened_as store) r).reading (saved_read store r))

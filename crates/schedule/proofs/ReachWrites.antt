@@ -18,7 +18,7 @@ use Rattle.metadata.specs.declared.index.State as index_state
 use Rattle.metadata.specs.declared.index.State.TheVariants as state
 use Rattle.metadata.specs.declared.refusal.Refusal.{Refusal}
 use Rattle.metadata.specs.Asked.{schema_asked}
-use Rattle.metadata.specs.Change.{add_type}
+use Rattle.metadata.specs.Change.{add_field, add_type}
 use Rattle.metadata.specs.Entries.{IndexEntry}
 use Rattle.metadata.specs.IndexChange.{new_index}
 use Rattle.metadata.specs.Layout.{entries_prefix, entry_key, record_key}
@@ -29,7 +29,7 @@ use Rattle.index_maint.specs.Changes.{clear_entry, entry_changes, set_entry}
 use Rattle.index_maint.specs.Entries.{entry_of, same_entry}
 use Rattle.index_maint.specs.Kept.{build_writes, changes_by, kept_writes, part_changes_by, records_within}
 use Rattle.index_maint.specs.Layout.{built_place}
-use Rattle.index_maint.specs.Totals.{Part, add_amount, count_share, difference, group_key, part_changes, part_of, same_group, sum_share}
+use Rattle.index_maint.specs.Totals.{Part, add_amount, clear_zero, count_clears, count_share, difference, group_key, part_changes, part_of, same_group, sum_clears, sum_share, take_amount}
 use Rattle.index_maint.proofs.Replaced.{tied_tuples}
 use Rattle.range_set.specs.Stored.{begins_at, insertion, range_key}
 use Rattle.range_set.specs.Told.{insertion_in}
@@ -47,6 +47,7 @@ use Rattle.record_store.proofs.Held.{under}
 use Rattle.index_maint.specs.Parts.{first_part}
 use Rattle.online_builder.specs.Stepping.{step_footprint, step_writes}
 use Rattle.schedule.specs.declared.step.Command.{Command}
+use Rattle.schedule.specs.declared.step.Command.TheVariants as commands
 use Rattle.schedule.specs.declared.step.Command.TheVariants.{Create, «Type», Save, Load, Remove, Query, Plan, Execute, Index, Drop, Disable, WriteOnly, Readable, Build, State, Aggregate}
 use Rattle.schedule.specs.Layout.{store_prefix}
 use Rattle.schedule.specs.Query.{opened_as}
@@ -75,23 +76,31 @@ amount_such number group amount = by_test (amount == 0)
     by_test true = tt
     by_test false = ((_, refl), tt)
 
-part_such : (number : ℕ) (old new : Option Part) → WriteOnlySuch (IsOfEntries number) (part_changes store_prefix number old new)
-part_such number None None = tt
-part_such number None (Some new) = amount_such number new.group (difference 0 new.amount)
-part_such number (Some old) None = amount_such number old.group (difference old.amount 0)
-part_such number (Some old) (Some new) = by_test (same_group old.group new.group)
+taken_such : (clears : Bool) (number : ℕ) (group : List Rattle.metadata.specs.declared.cells.Cell.Cell) (amount : ℕ) → WriteOnlySuch (IsOfEntries number) (take_amount clears store_prefix number group amount)
+taken_such clears number group amount =
+    each_append (WritesOnly (IsOfEntries number)) (add_amount store_prefix number group (difference amount 0)) (cond clears (clear_zero store_prefix number group) []) (amount_such number group (difference amount 0)) (by_clears clears)
+  where
+    by_clears : (b : Bool) → WriteOnlySuch (IsOfEntries number) (cond b (clear_zero store_prefix number group) [])
+    by_clears true = ((_, refl), tt)
+    by_clears false = tt
+
+part_such : (clears : Bool) (number : ℕ) (old new : Option Part) → WriteOnlySuch (IsOfEntries number) (part_changes clears store_prefix number old new)
+part_such clears number None None = tt
+part_such clears number None (Some new) = amount_such number new.group (difference 0 new.amount)
+part_such clears number (Some old) None = taken_such clears number old.group old.amount
+part_such clears number (Some old) (Some new) = by_test (same_group old.group new.group)
   where
     by_test : (b : Bool) → WriteOnlySuch (IsOfEntries number) (cond b (add_amount store_prefix number new.group (difference old.amount new.amount))
-        (add_amount store_prefix number old.group (difference old.amount 0) ++ add_amount store_prefix number new.group (difference 0 new.amount)))
+        (take_amount clears store_prefix number old.group old.amount ++ add_amount store_prefix number new.group (difference 0 new.amount)))
     by_test true = amount_such number new.group (difference old.amount new.amount)
     by_test false =
-        each_append (WritesOnly (IsOfEntries number)) (add_amount store_prefix number old.group (difference old.amount 0)) (add_amount store_prefix number new.group (difference 0 new.amount))
-        (amount_such number old.group (difference old.amount 0)) (amount_such number new.group (difference 0 new.amount))
+        each_append (WritesOnly (IsOfEntries number)) (take_amount clears store_prefix number old.group old.amount) (add_amount store_prefix number new.group (difference 0 new.amount))
+        (taken_such clears number old.group old.amount) (amount_such number new.group (difference 0 new.amount))
 
 changes_such : (kind : IndexKind) (index : IndexDefinition) (old new : Option Record) → WriteOnlySuch (IsOfEntries index.number) (changes_by kind store_prefix index old new)
 changes_such Value index old new = entry_such index.number (Rattle.std.specs.Option.option_map (entry_of index) old) (Rattle.std.specs.Option.option_map (entry_of index) new)
-changes_such Count index old new = part_such index.number (Rattle.std.specs.Option.option_map (part_of count_share index) old) (Rattle.std.specs.Option.option_map (part_of count_share index) new)
-changes_such Sum index old new = part_such index.number (Rattle.std.specs.Option.option_map (part_of sum_share index) old) (Rattle.std.specs.Option.option_map (part_of sum_share index) new)
+changes_such Count index old new = part_such (count_clears index) index.number (Rattle.std.specs.Option.option_map (part_of count_share index) old) (Rattle.std.specs.Option.option_map (part_of count_share index) new)
+changes_such Sum index old new = part_such (sum_clears index) index.number (Rattle.std.specs.Option.option_map (part_of sum_share index) old) (Rattle.std.specs.Option.option_map (part_of sum_share index) new)
 
 part_by_such : (kind : IndexKind) (index : IndexDefinition) (at_built : Bool) (old new : Option Record) → WriteOnlySuch (IsOfEntries index.number) (part_changes_by kind store_prefix index at_built old new)
 part_by_such Value index at_built old new = changes_such Value index old new
@@ -271,6 +280,8 @@ write_only_there states (Some own) index is = by_state (Rattle.record_store.spec
 store_such : (m : Map) (store : Store) (command : Command) → WriteOnlySuch (MayWriteIn store command) (footprint_writes m (Some store) command)
 store_such m store (Create request) = tt
 store_such m store («Type» request) = asked_such (MayWriteIn store («Type» request)) (type_footprint (opened_as store)) (by_schema (add_type store.schema request)) m store (λ schema is. (refl, tt))
+store_such m store (commands.Field name field) =
+    asked_such (MayWriteIn store (commands.Field name field)) (type_footprint (opened_as store)) (by_schema (add_field store.schema name field)) m store (λ schema is. (refl, tt))
 store_such m store (Save type cells) =
     asked_such (MayWriteIn store (Save type cells)) (save_footprint (opened_as store)) (by_schema (record_of store.schema type cells)) m store
     (λ r is. wider (MayWriteWriting store (primary_key r)) (MayWriteIn store (Save type cells)) (λ key may. (r, by_schema_ok (record_of store.schema type cells) r is, may)) (save_writes store_prefix store r) (saved_such store r))
@@ -318,6 +329,7 @@ footprint_such : (m : Map) (serial : Serial) (command : Command) → WriteOnlySu
 footprint_such m (Some store) command = store_such m store command
 footprint_such m None (Create request) = schema_such (schema_asked request) request
 footprint_such m None («Type» request) = tt
+footprint_such m None (commands.Field name field) = tt
 footprint_such m None (Save type cells) = tt
 footprint_such m None (Load type cells) = tt
 footprint_such m None (Remove type cells) = tt

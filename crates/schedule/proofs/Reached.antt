@@ -1,5 +1,5 @@
 -- What commands read: by a schema and a map, and by what is there.
-use Rattle.std.proofs.Common.{◌≡◌, ℕ, Bool, true, false, List, [], ◌∷◌, ◌++◌, refl, sym, ap, subst, ◌∙◌, append-nil, Option, Some, None, Ok, Err, Result, length}
+use Rattle.std.proofs.Common.{◌≡◌, ℕ, Bool, true, false, List, [], ◌∷◌, ◌++◌, sym, ap, subst, ◌∙◌, append-nil, Option, Some, None, Ok, Err, Result, length}
 use Rattle.std.specs.Prelude.{drop}
 use Rattle.std.specs.FinMap.{get}
 use Rattle.std.proofs.lemmas.Bool.{or_left, or_right}
@@ -19,6 +19,7 @@ use Rattle.record_store.specs.Opening.{opening_reach}
 use Rattle.record_store.specs.Steps.{IsBeginning, IsNextRefused}
 use Rattle.record_store.proofs.Stopping.{all_begin, begin_more}
 use Rattle.schedule.specs.declared.step.Command.{Command}
+use Rattle.schedule.specs.declared.step.Command.TheVariants as commands
 use Rattle.schedule.specs.declared.step.Command.TheVariants.{Create, «Type», Save, Load, Remove, Query, Plan, Execute, Index, Drop, Disable, WriteOnly, Readable, Build, State, Aggregate}
 use Rattle.schedule.specs.declared.reply.Reply.{Reply}
 use Rattle.schedule.specs.declared.reply.Reply.TheVariants as reply
@@ -118,6 +119,7 @@ sound_none (Create request) m none = by_schema (schema_asked request)
     by_schema (Ok opened) = none
     by_schema (Err refusal) = tt
 sound_none («Type» request) m none = none
+sound_none (commands.Field name field) m none = none
 sound_none (Save name cells) m none = none
 sound_none (Load name cells) m none = none
 sound_none (Remove name cells) m none = none

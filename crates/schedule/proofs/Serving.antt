@@ -1,5 +1,5 @@
 -- What each command is by the call that it makes on the open store: the general law, and the commands on types and records.
-use Rattle.std.proofs.Common.{◌≡◌, ℕ, Bool, true, false, not, cond, List, [], ◌∷◌, refl, sym, ap, subst, ◌∙◌, Option, Some, None, Result, Ok, Err}
+use Rattle.std.proofs.Common.{◌≡◌, ℕ, Bool, true, false, cond, List, [], ◌∷◌, refl, sym, ap, subst, ◌∙◌, Option, Some, None, Result, Ok, Err}
 use Rattle.std.specs.Prelude.{find}
 use Rattle.std.specs.List.{list_any}
 use Rattle.std.specs.Str.{bytes_eq}
@@ -12,7 +12,8 @@ use Rattle.metadata.specs.declared.index.State.{State}
 use Rattle.metadata.specs.declared.refusal.Refusal.{Refusal as SchemaRefusal}
 use Rattle.metadata.specs.declared.refusal.Refusal.TheVariants.{NullKey, UnknownType, WrongKind}
 use Rattle.metadata.specs.Cell.{all_fit, cells_at, is_null}
-use Rattle.metadata.specs.Change.{add_type}
+use Rattle.metadata.specs.declared.definition.Field.{Field}
+use Rattle.metadata.specs.Change.{add_field, add_type}
 use Rattle.metadata.specs.Record.{Record, key_of, record_of}
 use Rattle.metadata.specs.Schema.{Schema, field_kinds, find_type}
 use Rattle.metadata.proofs.SameTypes.{same_type-Decides}
@@ -20,11 +21,12 @@ use Rattle.record_store.specs.Store.{Store, listed_states}
 use Rattle.record_store.specs.Call.{Footprint, IsOpenAs, Opened, call_on}
 use Rattle.record_store.specs.declared.error.StoreError.{StoreError}
 use Rattle.record_store.specs.declared.error.StoreError.TheVariants.{OtherSchema, Refused}
-use Rattle.record_store.specs.Calls.{load_call, load_footprint, remove_call, remove_footprint, save_call, save_footprint, type_call, type_footprint}
-use Rattle.record_store.specs.Meaning.{Meaning, by_schema, is_own, load_meaning, remove_meaning, save_meaning, type_meaning}
+use Rattle.record_store.specs.Calls.{field_call, load_call, load_footprint, remove_call, remove_footprint, save_call, save_footprint, type_call, type_footprint}
+use Rattle.record_store.specs.Meaning.{Meaning, by_schema, field_meaning, is_own, load_meaning, remove_meaning, save_meaning, type_meaning}
 use Rattle.record_store.specs.Opening.{opening_reach}
 use Rattle.schedule.specs.declared.refusal.Refusal.{Refusal}
 use Rattle.schedule.specs.declared.step.Command.{Command}
+use Rattle.schedule.specs.declared.step.Command.TheVariants as commands
 use Rattle.schedule.specs.declared.step.Command.TheVariants.{«Type», Save, Load, Remove}
 use Rattle.schedule.specs.declared.reply.Reply.{Reply}
 use Rattle.schedule.specs.declared.reply.Reply.TheVariants as reply
@@ -176,6 +178,13 @@ pub save_meets : (opened : Opened) (name : List ℕ) (cells : List Cell) (r : Re
 save_meets opened name cells r is =
     subst (λ b. Meets (at opened) (Save name cells) (call_on save_meaning (save_footprint (at opened)) (cond b (Ok r) (Err OtherSchema))) reply_to_save) (sym (own opened.schema name cells r is))
     (subst (λ o. Meets (at opened) (Save name cells) (call_on save_meaning (save_footprint (at opened)) (by_schema o)) reply_to_save) is (save_asked opened name cells))
+
+-- ---- field
+
+pub field_meets : (opened : Opened) (name : List ℕ) (field : Field) → Meets (at opened) (commands.Field name field) (field_call (at opened) name field) done
+field_meets opened name field =
+    meets (λ schema states. by_schema (add_field schema name field)) field_meaning type_footprint done opened (commands.Field name field) refl (λ m. refl) (λ store. refl) (λ o. refl)
+    (schema_refuses (add_field opened.schema name field)) (λ schema. refl) (λ schema answer. refl)
 
 -- ---- type
 

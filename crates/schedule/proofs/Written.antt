@@ -10,7 +10,7 @@ use Rattle.kv_core.specs.Change.{write_ranges}
 use Rattle.kv_core.specs.Limits.{own_refusal, pair_refusal, size_of, size_of_all, write_all_refusal, write_refusal}
 use Rattle.kv_core.specs.Range.{contains, covers, point}
 use Rattle.kv_core.specs.declared.change.Mutation.{Mutation}
-use Rattle.kv_core.specs.declared.change.Mutation.TheVariants.{Add, ClearRange, Set}
+use Rattle.kv_core.specs.declared.change.Mutation.TheVariants.{Add, ClearRange, CompareAndClear, Set}
 use Rattle.kv_core.specs.declared.change.WriteError.{WriteError}
 use Rattle.kv_core.specs.declared.change.WriteError.TheVariants as limits
 use Rattle.cluster_core.proofs.Ownership.{point_key}
@@ -22,6 +22,7 @@ use Rattle.schedule.specs.Right.{MeetsLimit}
 abbrev pub WritesOnly : (List ℕ → Type 0) → Mutation → Type 0
 WritesOnly May (Set key value) = May key
 WritesOnly May (Add key operand) = May key
+WritesOnly May (CompareAndClear key operand) = May key
 WritesOnly May (ClearRange range) = May range.begin × (length range.end ≤ suc (length range.begin)) × ((key : List ℕ) → contains range key ≡ true → May key)
 
 abbrev pub WriteOnlySuch : (List ℕ → Type 0) → List Mutation → Type 0
@@ -39,6 +40,7 @@ pub wider : (May Wide : List ℕ → Type 0) → ((key : List ℕ) → May key �
 wider May Wide so [] all = tt
 wider May Wide so (Set key value ∷ more) all = (so key all.0, wider May Wide so more all.1)
 wider May Wide so (Add key operand ∷ more) all = (so key all.0, wider May Wide so more all.1)
+wider May Wide so (CompareAndClear key operand ∷ more) all = (so key all.0, wider May Wide so more all.1)
 wider May Wide so (ClearRange range ∷ more) (one, all) = ((so range.begin one.0, one.1, λ key inside. so key (one.2 key inside)), wider May Wide so more all)
 
 -- the key itself
@@ -61,6 +63,10 @@ written_such May (Set own value ∷ more) all key is = elim (or_cases (contains 
   | inr later ↦ written_such May more all.1 key later
 ]
 written_such May (Add own operand ∷ more) all key is = elim (or_cases (contains (point own) key) (covers (write_ranges more) key) is) [
+  | inl here ↦ subst May (point_key own key here) all.0
+  | inr later ↦ written_such May more all.1 key later
+]
+written_such May (CompareAndClear own operand ∷ more) all key is = elim (or_cases (contains (point own) key) (covers (write_ranges more) key) is) [
   | inl here ↦ subst May (point_key own key here) all.0
   | inr later ↦ written_such May more all.1 key later
 ]
@@ -95,6 +101,7 @@ pair_meets May key value error may is = by_order (key_lt key end_of_keys) refl i
 own_meets : (May : List ℕ → Type 0) (mutation : Mutation) (error : WriteError) → WritesOnly May mutation → own_refusal mutation ≡ Some error → Meets May error
 own_meets May (Set key value) error may is = pair_meets May key value error may is
 own_meets May (Add key operand) error may is = pair_meets May key operand error may is
+own_meets May (CompareAndClear key operand) error may is = pair_meets May key operand error may is
 own_meets May (ClearRange range) error may is = by_begin (nat_le (length range.begin) 10_000) refl is
   where
     by_end : (b : Bool) → nat_le (length range.end) 10_001 ≡ b → cond (not b) (Some limits.KeyTooLarge) None ≡ Some error → Meets May error
@@ -112,6 +119,7 @@ own_meets May (ClearRange range) error may is = by_begin (nat_le (length range.b
 some_key : (May : List ℕ → Type 0) (mutation : Mutation) → WritesOnly May mutation → (key : List ℕ) × May key
 some_key May (Set key value) may = (key, may)
 some_key May (Add key operand) may = (key, may)
+some_key May (CompareAndClear key operand) may = (key, may)
 some_key May (ClearRange range) may = (range.begin, may.0)
 
 one_meets : (May : List ℕ → Type 0) (before : List Mutation) (mutation : Mutation) (error : WriteError) → WritesOnly May mutation → write_refusal before mutation ≡ Some error → Meets May error

@@ -22,7 +22,7 @@ use Rattle.schedule.specs.Layout.{store_prefix}
 use Rattle.schedule.specs.Reach.{open_reach}
 use Rattle.schedule.specs.declared.step.Command.{Command}
 use Rattle.schedule.specs.declared.step.Command.TheVariants.{Aggregate, Build, Disable, Drop, Index, Load, Query}
-use Rattle.schedule.specs.declared.step.Command.TheVariants.{Create, Execute, Remove, Save, «Type»}
+use Rattle.schedule.specs.declared.step.Command.TheVariants.{Create, Execute, Field, Remove, Save, «Type»}
 use Rattle.schedule.specs.declared.step.Command.TheVariants as commands
 
 -- a key of a record of the type with this number
@@ -115,6 +115,7 @@ MayWriteEmptying number key = MayWriteMarking number key ⊎ IsOfEntries number 
 -- what a command may write of a store
 abbrev pub MayWriteIn : Store → Command → List ℕ → Type 0
 MayWriteIn store («Type» request) key = key ≡ schema_key store_prefix
+MayWriteIn store (Field name field) key = key ≡ schema_key store_prefix
 MayWriteIn store (Save name cells) key =
     (r : Record) × (record_of store.schema name cells ≡ Ok r) × MayWriteWriting store (primary_key r) key
 MayWriteIn store (Remove name cells) key =

@@ -7,7 +7,7 @@ use Rattle.kv_core.specs.declared.change.Mutation.{Mutation}
 use Rattle.metadata.specs.declared.refusal.Refusal.{Refusal}
 use Rattle.metadata.specs.declared.index.State.TheVariants.{WriteOnly, Disabled}
 use Rattle.metadata.specs.Asked.{schema_asked}
-use Rattle.metadata.specs.Change.{add_type}
+use Rattle.metadata.specs.Change.{add_field, add_type}
 use Rattle.metadata.specs.IndexChange.{new_index}
 use Rattle.metadata.specs.Schema.{Schema, find_index}
 use Rattle.metadata.specs.Record.{record_of, key_of}
@@ -42,6 +42,8 @@ footprint_on footprint (Err error) = reads_only (whole [])
 abbrev pub footprint_in : Opened → Command → Footprint
 footprint_in opened («Type» request) =
     footprint_on (type_footprint opened) (by_schema (add_type opened.schema request))
+footprint_in opened (commands.Field name field) =
+    footprint_on (type_footprint opened) (by_schema (add_field opened.schema name field))
 footprint_in opened (Save name cells) =
     footprint_on (save_footprint opened) (by_schema (record_of opened.schema name cells))
 footprint_in opened (Load name cells) =

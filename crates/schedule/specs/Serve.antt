@@ -7,7 +7,7 @@ use Rattle.schedule.specs.declared.refusal.Refusal.TheVariants.{AlreadyThere, Ba
 use Rattle.schedule.specs.Refusals.{of_schema, reply_of}
 use Rattle.metadata.specs.Schema.{Schema, find_index}
 use Rattle.metadata.specs.Asked.{schema_asked}
-use Rattle.metadata.specs.Change.{add_type}
+use Rattle.metadata.specs.Change.{add_field, add_type}
 use Rattle.metadata.specs.IndexChange.{new_index}
 use Rattle.metadata.specs.Record.{Record, record_of, key_of}
 use Rattle.schedule.specs.declared.step.Command.{Command}
@@ -21,7 +21,7 @@ use Rattle.record_store.specs.declared.error.StoreError.{StoreError}
 use Rattle.record_store.specs.Store.{Store, Serial, created, listed_states}
 use Rattle.record_store.specs.Meaning.{Meaning, by_schema, drop_meaning, index_meaning, index_number, load_meaning}
 use Rattle.record_store.specs.Meaning.{mark_meaning, readable_meaning, remove_meaning, save_meaning, state_meaning}
-use Rattle.record_store.specs.Meaning.{total_meaning, totalled_index, type_meaning, write_only_named}
+use Rattle.record_store.specs.Meaning.{field_meaning, total_meaning, totalled_index, type_meaning, write_only_named}
 use Rattle.online_builder.specs.declared.progress.Progress.{Progress}
 use Rattle.online_builder.specs.declared.progress.Progress.TheVariants as progress
 use Rattle.online_builder.specs.Stepping.{step_meaning}
@@ -76,6 +76,8 @@ reply_to_build progress.Finished = reply.Finished
 abbrev pub line_in : Store → Command → Line
 line_in store (Create request) = refuses AlreadyThere
 line_in store («Type» request) = calling store done type_meaning (by_schema (add_type store.schema request))
+line_in store (commands.Field name field) =
+    calling store done field_meaning (by_schema (add_field store.schema name field))
 line_in store (Save type cells) =
     calling store reply_to_save save_meaning (by_schema (record_of store.schema type cells))
 line_in store (Load type cells) = calling store reply_to_load load_meaning (by_schema (key_of store.schema type cells))

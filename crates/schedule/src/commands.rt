@@ -11,7 +11,7 @@ ghost use Rattle.schedule.specs.Performed.{IsPerformed};
 ghost use Rattle.schedule.specs.Calls.{IsCommandRefused};
 
 use crate::reply::Reply;
-use metadata::{Cells, MetadataError, Record, Schema, SchemaRequest, TypeRequest};
+use metadata::{Cells, Field, MetadataError, Record, Schema, SchemaRequest, TypeRequest};
 use record_store::{KnownSchema, Store, StoreError};
 use std::alloc::Global;
 use tuple_codec::Text;
@@ -69,6 +69,27 @@ pub(crate) fn add_type<S: Snapshot>(
 {
     let mut store = open(alloc, tx, db, known)?;
     store.add_type(tx, request)?;
+    Ok(Reply::Done)
+}
+
+/// Appends a field to the type of this name.
+pub(crate) fn add_field<S: Snapshot>(
+    alloc: Global,
+    tx: &mut Transaction,
+    db: &S,
+    known: &mut KnownSchema,
+    type_name: &Text,
+    field: &Field,
+) -> Result<Reply, StoreError>
+    ensures performed { IfOk result (λ answer.
+        IsPerformed (S.map_at db.now) (λ range. S.may_refuse db.now range tx.old.read_version)
+        (Command.Field type_name.now field.now) answer tx.old tx.new) }
+    ensures refused { IfErr result (λ error.
+        IsCommandRefused (S.map_at db.now) (S.may_refuse db.now) (Command.Field type_name.now field.now) error
+        tx.old tx.new) }
+{
+    let mut store = open(alloc, tx, db, known)?;
+    store.add_field(tx, type_name, field)?;
     Ok(Reply::Done)
 }
 

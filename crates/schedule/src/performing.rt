@@ -5,7 +5,7 @@ ghost use Rattle.schedule.specs.Calls.{IsCommandRefused};
 ghost use Rattle.schedule.specs.Refusals.{read_reply, reply_of, write_reply};
 
 use crate::building::build;
-use crate::commands::{add_type, create, load, remove, save};
+use crate::commands::{add_field, add_type, create, load, remove, save};
 use crate::executing::{execute, query};
 use crate::index_commands::{
     add_index, aggregate, disable_index, drop_index, index_state, mark_readable, mark_write_only,
@@ -84,6 +84,7 @@ fn answer<S: Snapshot>(
     match command {
         Command::Create(request) => create(alloc, tx, db, request),
         Command::Type(request) => add_type(alloc, tx, db, known, request),
+        Command::Field(name, field) => add_field(alloc, tx, db, known, name, field),
         Command::Save(type_name, cells) => save(alloc, tx, db, known, type_name, cells),
         Command::Load(type_name, cells) => load(alloc, tx, db, known, type_name, cells),
         Command::Remove(type_name, cells) => remove(alloc, tx, db, known, type_name, cells),

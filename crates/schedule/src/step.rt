@@ -4,7 +4,7 @@ ghost use Rattle.std.specs.Prelude.{◌≡◌, IfOk};
 
 use crate::asked_query::AskedQuery;
 use crate::shared_plan::SharedPlan;
-use metadata::{Cells, IndexRequest, SchemaRequest, TypeRequest};
+use metadata::{Cells, Field, IndexRequest, SchemaRequest, TypeRequest};
 use std::alloc::AllocError;
 use tuple_codec::Text;
 
@@ -18,6 +18,8 @@ pub enum Command {
     Create(SchemaRequest),
     /// Adds this type to the store.
     Type(TypeRequest),
+    /// Append a field to the type of this name.
+    Field(Text, Field),
     /// Puts the record of this type with these cells in the place of the one with its primary key.
     Save(Text, Cells),
     /// Asks for the record of this type with these key cells.
@@ -57,6 +59,10 @@ impl Command {
         match self {
             Command::Create(request) => Ok(Command::Create(request.copy()?)),
             Command::Type(request) => Ok(Command::Type(request.copy()?)),
+            Command::Field(type_name, field) => Ok(Command::Field(
+                type_name.copy()?,
+                field.copy()?,
+            )),
             Command::Save(name, cells) => Ok(Command::Save(name.copy()?, cells.copy()?)),
             Command::Load(name, cells) => Ok(Command::Load(name.copy()?, cells.copy()?)),
             Command::Remove(name, cells) => Ok(Command::Remove(name.copy()?, cells.copy()?)),

@@ -1,12 +1,13 @@
 -- Names in tables.
-use Rattle.std.proofs.Common.{◌≡◌, ◌≤◌, ℕ, List, [], ◌∷◌, codes, length, map, Bool, true, false, None, refl, sym, arith}
+use Rattle.std.proofs.Common.{◌≡◌, ◌≤◌, ℕ, List, [], ◌∷◌, codes, length, map, Bool, true, false, Option, Some, None, refl, sym, arith}
 use Rattle.std.proofs.lemmas.Slice.Eq.{bytes_eq-Decides}
 use Rattle.std.specs.Str.{bytes_eq}
 use Rattle.std.proofs.lemmas.List.{length-map}
 use Rattle.serde_json.specs.Data.{Data}
+use Rattle.serde_json.specs.Find.{as_str}
 use Rattle.serde_json.specs.View.{view}
 use Rattle.serde_json.specs.declared.value.Value.{Value}
-use Rattle.script.specs.Steps.{command_with, numbered_step, step_of_number}
+use Rattle.script.specs.Steps.{command_on, command_with, numbered_step, step_of_number}
 
 differs : (word name : List ℕ) → (name ≡ word → ⊥) → bytes_eq word name ≡ false
 differs word name other = by (bytes_eq word name) refl
@@ -26,6 +27,15 @@ pub no_command_with : (name : List ℕ) (part : Data) → (name ≡ codes "creat
     → (name ≡ codes "drop" → ⊥) → (name ≡ codes "disable" → ⊥) → (name ≡ codes "write_only" → ⊥) → (name ≡ codes "readable" → ⊥) → (name ≡ codes "state" → ⊥) → command_with name part ≡ None
 no_command_with name part n1 n2 n3 n4 n5 n6 n7 n8 n9 n10 =
     rw (differs _ name n1, differs _ name n2, differs _ name n3, differs _ name n4, differs _ name n5, differs _ name n6, differs _ name n7, differs _ name n8, differs _ name n9, differs _ name n10)
+
+-- a name that no command with an owner has
+pub no_command_on : (name : List ℕ) (owner part : Data) → (name ≡ codes "save" → ⊥) → (name ≡ codes "load" → ⊥) → (name ≡ codes "remove" → ⊥) → (name ≡ codes "aggregate" → ⊥) → (name ≡ codes "build" → ⊥)
+    → (name ≡ codes "field" → ⊥) → command_on name owner part ≡ None
+no_command_on name owner part n1 n2 n3 n4 n5 n6 = by (as_str owner) refl
+  where
+    by : (o : Option (List ℕ)) → as_str owner ≡ o → command_on name owner part ≡ None
+    by None is = rw (is)
+    by (Some t) is = rw (is, differs _ name n1, differs _ name n2, differs _ name n3, differs _ name n4, differs _ name n5, differs _ name n6)
 
 -- no step has three parts behind its number
 three_parts : (name : List ℕ) (number : ℕ) (parts : List Data) → 3 ≤ length parts → numbered_step name number parts ≡ None

@@ -11,7 +11,7 @@ use Rattle.serde_json.specs.Find.{as_str}
 use Rattle.json_forms.specs.CellJson.{cells_in}
 use Rattle.json_forms.specs.Json.{list_in, named, number_in}
 use Rattle.json_forms.specs.QueryJson.{query_in}
-use Rattle.json_forms.specs.SchemaJson.{json_index, json_schema, type_in}
+use Rattle.json_forms.specs.SchemaJson.{json_field, json_index, json_schema, type_in}
 
 -- the command of this name with one part
 abbrev pub command_with : List ℕ → Data → Option Command
@@ -32,7 +32,7 @@ command_with name part =
 abbrev pub limit_in : Data → Option ℕ
 limit_in d = option_and_then (λ number. if nat_lt number (2 ^ 32) then Some number else None) (number_in d)
 
--- the command of this name with the name of a type, or of an index, and cells or a limit
+-- the command of this name with the name of a type, or of an index, and cells, a limit or a field
 abbrev pub command_on : List ℕ → Data → Data → Option Command
 command_on name owner part =
     option_and_then (λ t.
@@ -41,7 +41,8 @@ command_on name owner part =
     ∷ (codes "load", λ d. option_map (commands.Load t) (cells_in d))
     ∷ (codes "remove", λ d. option_map (commands.Remove t) (cells_in d))
     ∷ (codes "aggregate", λ d. option_map (commands.Aggregate t) (cells_in d))
-    ∷ (codes "build", λ d. option_map (commands.Build t) (limit_in d)) ∷ []) name)) (as_str owner)
+    ∷ (codes "build", λ d. option_map (commands.Build t) (limit_in d))
+    ∷ (codes "field", λ d. option_map (commands.Field t) (json_field d)) ∷ []) name)) (as_str owner)
 
 -- the step of this name with just the number of a client or of a role
 abbrev pub step_of_number : List ℕ → ℕ → Option Step

@@ -6,7 +6,8 @@ ghost use Rattle.script.specs.Steps.{command_on, command_with, common_step, limi
 ghost use Rattle.script.specs.Steps.{numbered_step, step_in, step_of_number};
 
 use json_forms::{
-    PartError, cells_of, index_of, list_of, number_of, schema_of, str_of, text_of, type_of,
+    PartError, cells_of, field_of, index_of, list_of, number_of, schema_of, str_of, text_of,
+    type_of,
 };
 use schedule::{AskedQuery, Command, Step};
 use serde_json::Value;
@@ -54,7 +55,7 @@ pub(crate) fn limit_of(value: &Value) -> Result<u32, PartError>
     }
 }
 
-// A command with the name of a type, or of an index, and cells or a limit behind the client.
+// A command with the name of a type, or of an index, and cells, a limit or a field behind the client.
 pub(crate) fn command_on(
     alloc: Global,
     name: &str,
@@ -72,6 +73,7 @@ pub(crate) fn command_on(
         "remove" => Ok(Command::Remove(owner, cells_of(alloc, part)?)),
         "aggregate" => Ok(Command::Aggregate(owner, cells_of(alloc, part)?)),
         "build" => Ok(Command::Build(owner, limit_of(part)?)),
+        "field" => Ok(Command::Field(owner, field_of(alloc, part)?)),
         _ => Err(PartError::BadForm),
     }
 }

@@ -201,7 +201,9 @@ fn write_one(alloc: Global, tx: &mut Transaction, mutation: Mutation) -> Result<
     match mutation {
         Mutation::Set { key, value } => shown(alloc, &tx.set(key, value)),
         Mutation::ClearRange(range) => shown(alloc, &tx.clear_range(range)),
-        Mutation::Add { .. } => Err(Fail::from("no pair and no range")),
+        Mutation::Add { .. } | Mutation::CompareAndClear { .. } => {
+            Err(Fail::from("no pair and no range"))
+        }
     }
 }
 

@@ -1,6 +1,7 @@
 //! Where ranges of keys stand in a store, a range of each kind a line.
 #![tactic(auto)]
 
+use record_layer::IndexOf::{Count, Value};
 use record_layer::{Bytes, Error, KeyRange, Kind, Schema, SchemaMaker, place_of};
 use std::alloc::Global;
 
@@ -64,8 +65,8 @@ fn shop(alloc: Global) -> Result<Schema, Error> {
     let asked = SchemaMaker::new(alloc)
         .with_type("book", &book, &["title"])?
         .with_type("mark", &mark, &["seal", "year", "by"])?
-        .with_value_index("by_author", "book", &["author"])?
-        .with_count_index("books", "book", &["author"])?;
+        .with_index(Value, "by_author", "book", &["author"])?
+        .with_index(Count, "books", "book", &["author"])?;
     Ok(asked.into_schema()?)
 }
 

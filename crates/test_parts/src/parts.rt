@@ -86,6 +86,11 @@ pub fn mutation_of(alloc: Global, word: &str) -> Result<Mutation, Fail> {
         let operand = bytes_of(alloc, operand)?;
         return Ok(Mutation::Add { key, operand });
     }
+    if let Some((key, operand)) = word.split_once('?') {
+        let key = bytes_of(alloc, key)?;
+        let operand = bytes_of(alloc, operand)?;
+        return Ok(Mutation::CompareAndClear { key, operand });
+    }
     if word.contains('-') {
         return Ok(Mutation::ClearRange(range_of(alloc, word)?));
     }

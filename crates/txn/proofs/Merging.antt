@@ -19,7 +19,7 @@ use Rattle.kv_core.proofs.Order.{tied_keys, tied_swap}
 use Rattle.kv_core.proofs.Changes.{alike, get-set, pairs_in-same}
 use Rattle.kv_core.proofs.Pairs.{directed, pairs_by_key, read_of-part, read_of-enough, inside_read}
 use Rattle.kv_core.proofs.Counts.{pairs_in-fewer}
-use Rattle.txn.specs.Own.{OwnState, worth, worth_of, sum_at, left_of, IsUnder, laid_over}
+use Rattle.txn.specs.Own.{OwnState, known, worth, worth_of, sum_at, left_of, laid_over}
 
 abbrev pub Pairs : Type 0
 Pairs = List (List ℕ × List ℕ)
@@ -123,6 +123,13 @@ laid_at sums (p ∷ pairs) m q once =
           ∙ sym (ap (λ t. worth_of (cond t (Some p.1) (find key_cmp q pairs)) (sum_at sums q) (get m q)) other)
     ]
 
+-- a map with all own pairs of a range put over it, key by key
+pub laid_whole : (sums : List (List ℕ × List (List ℕ))) (written m : Map) (range : KeyRange) (q : List ℕ) → contains range q ≡ true →
+    get (laid_over sums (pairs_in written range) m) q ≡ worth_of (get written q) (sum_at sums q) (get m q)
+laid_whole sums written m range q inside =
+    laid_at sums (pairs_in written range) m q (once_in written range)
+    ∙ ap (λ o. worth_of o (sum_at sums q) (get m q)) (found_in written range false q inside)
+
 -- a read that gives fewer pairs than the limit is decided by its whole range
 pub whole_read : (range : KeyRange) (limit : ℕ) (b : Bool) (pairs : Pairs) → nat_lt (length pairs) limit ≡ true → range_read range limit b pairs ≡ range
 whole_read range limit b pairs e =
@@ -138,7 +145,8 @@ is_under_some None sum before h = absurd (true≢false (sym h))
 is_under_some (Some v) sum before h = refl
 
 -- a read under own mutations is a read of the map with the own pairs put over the stored ones
-pub merged_is : (own : OwnState) (base n kept : Map) (part : KeyRange) (limit : ℕ) (b : Bool) → 1 ≤ limit → IsUnder own base n →
+pub merged_is : (own : OwnState) (base n kept : Map) (part : KeyRange) (limit : ℕ) (b : Bool) → 1 ≤ limit →
+    ((q : List ℕ) → contains part q ≡ true → get n q ≡ known own q (get base q)) →
     ((q : List ℕ) → contains part q ≡ true → get kept q ≡ left_of own.cleared q (get base q)) →
     read_of (laid_over own.sums (read_of own.written part limit b) kept) part limit b ≡ read_of n part limit b
 merged_is own base n kept part limit b some under_is same = by (nat_lt (length own_pairs) limit) refl
@@ -163,7 +171,7 @@ merged_is own base n kept part limit b some under_is same = by (nat_lt (length o
         laid_at own.sums own_pairs kept q once
         ∙ ap (λ o. worth_of o (sum_at own.sums q) (get kept q)) (ap (find key_cmp q) all ∙ found_in own.written here b q h)
         ∙ ap (worth_of (get own.written q) (sum_at own.sums q)) (same q (inside_read own.written part limit b some q h))
-        ∙ sym (under_is q)
+        ∙ sym (under_is q (inside_read own.written part limit b some q h))
 
     pairs_here : pairs_in laid here ≡ pairs_in n here
     pairs_here = pairs_in-same laid n here same_here
@@ -171,7 +179,7 @@ merged_is own base n kept part limit b some under_is same = by (nat_lt (length o
     long : limit ≤ length own_pairs → limit ≤ length (read_of n here limit b)
     long enough =
         let some_pairs : length (pairs_in own.written here) ≤ length (pairs_in n here) =
-        pairs_in-fewer own.written n here (λ q h e. ap is_some (under_is q) ∙ is_under_some (get own.written q) (sum_at own.sums q) (left_of own.cleared q (get base q)) e) in
+        pairs_in-fewer own.written n here (λ q h e. ap is_some (under_is q (inside_read own.written part limit b some q h)) ∙ is_under_some (get own.written q) (sum_at own.sums q) (left_of own.cleared q (get base q)) e) in
         let counted : length own_pairs ≡ length (pairs_in own.written here) = ap length all ∙ length-directed b (pairs_in own.written here) in
         let turned : length (directed b (pairs_in n here)) ≡ length (pairs_in n here) = length-directed b (pairs_in n here) in
         let there : limit ≤ length (directed b (pairs_in n here)) = omega (arith, enough, some_pairs, counted, turned) in

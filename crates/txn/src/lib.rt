@@ -2,6 +2,7 @@
 #![tactic(auto)]
 
 mod commit;
+mod compared;
 mod cursor;
 mod fail_at;
 mod finishing;

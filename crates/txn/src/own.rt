@@ -9,8 +9,9 @@ ghost use Rattle.std.specs.Ordering.{is_eq};
 ghost use Rattle.kv_core.specs.Addition.{added};
 ghost use Rattle.kv_core.specs.Bytes.{key_cmp};
 
+use crate::compared::{forget_key, forget_range, note_compared};
 use crate::sum::Sum;
-use kv_core::{Bytes, Coverage, KvMap, Mutation};
+use kv_core::{Bytes, Coverage, KvMap, Mutation, Mutations};
 use std::alloc::{AllocError, Global};
 use std::collections::BTreeMap;
 use std::mem;
@@ -18,13 +19,16 @@ use std::mem;
 /// What a transaction's own mutations come to, in the order of the keys.
 ///
 /// Beside the map that they make of nothing stand the keys that they clear, and the sums of the
-/// keys whose value they only add to. Mutations are noted when a read needs them.
+/// keys whose value they only add to. From its first comparison on, the mutations of a key stand by
+/// themselves, until one takes their place: what they make of a value is told when it is read.
+/// Mutations are noted when a read needs them.
 #[derive(Debug, Drop)]
 pub(crate) struct OwnWrites {
     pub(crate) alloc: Global,
     pub(crate) written: KvMap,
     pub(crate) cleared: Coverage,
     pub(crate) sums: BTreeMap<Bytes, Sum>,
+    pub(crate) compared: BTreeMap<Bytes, Mutations>,
     pub(crate) noted: usize,
 }
 
@@ -39,6 +43,7 @@ impl OwnWrites {
             written: KvMap::new(alloc),
             cleared: Coverage::new(alloc),
             sums: BTreeMap::new(alloc),
+            compared: BTreeMap::new(alloc),
             noted: 0,
         }
     }
@@ -53,11 +58,34 @@ impl OwnWrites {
         match mutation {
             Mutation::Set { key, .. } => {
                 own.sums.remove(key);
+                forget_key(&mut own.compared, key);
             }
-            Mutation::Add { key, operand } => own.add(key, operand)?,
-            Mutation::ClearRange(range) => own.cleared.add(range)?,
+            Mutation::Add { key, operand } => {
+                if own.compared.get(key).is_some() {
+                    return own.with_compared(key, mutation);
+                }
+                own.add(key, operand)?;
+            }
+            Mutation::ClearRange(range) => {
+                own.cleared.add(range)?;
+                forget_range(own.alloc, &mut own.compared, range)?;
+            }
+            Mutation::CompareAndClear { key, .. } => return own.with_compared(key, mutation),
         }
         own.written.apply(mutation)?;
+        Ok(own)
+    }
+
+    /// The own writes with one more mutation of a compared key. Where memory runs out they are gone.
+    fn with_compared(self, key: &Bytes, mutation: &Mutation) -> Result<OwnWrites, AllocError>
+        requires { (other : List ℕ) (before : Option (List ℕ)) → is_eq (key_cmp key.now other) ≡ false →
+            value_after mutation.now other before ≡ before }
+        ensures { IfOk result (λ own.
+            (other : List ℕ) (before : Option (List ℕ)) →
+            under (own_state own) other before ≡ value_after mutation.now other (under (own_state self) other before)) }
+    {
+        let mut own = self;
+        note_compared(own.alloc, &mut own.compared, key, mutation)?;
         Ok(own)
     }
 
@@ -67,6 +95,7 @@ impl OwnWrites {
         ensures written { OnOk result (self.new.written ≡ self.old.written) }
         ensures cleared { OnOk result (self.new.cleared ≡ self.old.cleared) }
         ensures noted { OnOk result (self.new.noted ≡ self.old.noted) }
+        ensures compared { OnOk result (self.new.compared ≡ self.old.compared) }
         ensures others { OnOk result ((other : List ℕ) → is_eq (key_cmp key.now other) ≡ false →
             sum_at self.new.sums.entries other ≡ sum_at self.old.sums.entries other) }
         ensures sum { OnOk result ((before : Option (List ℕ)) →

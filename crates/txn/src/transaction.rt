@@ -243,6 +243,21 @@ impl Transaction {
         self.write(Mutation::Add { key, operand })
     }
 
+    /// Takes out the pair of a key where its value is just the operand by the time of the commit: the
+    /// key isn't read.
+    ///
+    /// It is refused as `set` is, the operand as a value.
+    pub fn compare_and_clear(&mut self, key: Bytes, operand: Bytes) -> Result<(), WriteError>
+        ensures ok { OnOk result (self.new ≡ with_mutation (Mutation.CompareAndClear key operand) self.old) }
+        ensures allowed { OnOk result
+            (IsNone (write_refusal self.old.mutations (Mutation.CompareAndClear key operand))) }
+        ensures kept { OnErr result (self.new ≡ self.old) }
+        ensures refused { IfErr result (λ error. (error ≡ WriteError.Memory)
+            ⊎ (write_refusal self.old.mutations (Mutation.CompareAndClear key operand) ≡ Some error)) }
+    {
+        self.write(Mutation::CompareAndClear { key, operand })
+    }
+
     /// Adds mutations in their order, all of them or none.
     ///
     /// The first one that is refused gives the refusal, as `set` is refused. A refusal leaves the

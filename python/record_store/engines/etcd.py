@@ -5,9 +5,9 @@ after the revision that was read. That alone misses deletions, since a key that 
 for each pair that was found in a range, its key is there. For the range of one key where nothing was found: it isn't
 there.
 
-etcd has no ADD. So where something is added to a key, what stands there now is read, and the sum put with a compare
-that it stands there still; where that alone fails it is done again. So two transactions that add to one total don't
-conflict, but take turns.
+etcd has neither ADD nor COMPARE_AND_CLEAR. So where something is added to a key, or compared with what stands there,
+that is read now, and what comes of it written with a compare that it stands there still; where that alone fails it is
+done again. So two transactions that add to one total don't conflict, but take turns.
 
 A commit that was sent and isn't answered is Unknown, and is sent to no other member; reads are.
 
@@ -28,9 +28,11 @@ from typing import Any
 
 from ..engine import page_of, read_of
 from ..errors import Conflict, RecordError, TooLarge, TooOld, Unavailable, Unknown
-from ..form import ADD, CLEAR, Mutation, Read, Want, added
+from ..form import ADD, CLEAR, COMPARE_AND_CLEAR, Mutation, Read, Want, added
 
 ADD_ROUNDS = 200
+# the writes that look at what stands at their key
+LOOKING = ADD, COMPARE_AND_CLEAR
 # so many reads are asked for at once, in seconds how long it is waited before a read is asked of the next member
 READS, WAIT = 100, 0.05
 # codes of the gateway's errors: what isn't well formed, and what there is no room for, neither of which is made
@@ -169,30 +171,36 @@ class Writes:
     """Writes in their order, as what they come to: etcd takes no two writes of one key."""
 
     def __init__(self, mutations: Sequence[Mutation]) -> None:
-        self.mutations, self.clears, self.added_to = mutations, [], []
+        self.mutations, self.looked_at = mutations, list[bytes]()
         own: set[bytes] = set()
+        clears: list[Range] = []
         for kind, first, second in mutations:
             if kind == CLEAR:
-                self.clears.append((first, second))
-            elif kind == ADD and first not in own and not any(begin <= first < end for begin, end in self.clears):
-                self.added_to.append(first)
+                clears.append((first, second))
+            elif kind in LOOKING and first not in own and not any(begin <= first < end for begin, end in clears):
+                self.looked_at.append(first)
             if kind != CLEAR:
                 own.add(first)
 
-    def puts(self, stored: dict[bytes, bytes | None]) -> dict[bytes, bytes]:
-        """The pairs that are put, where this stands at the keys to which something is added."""
+    def made(self, stored: dict[bytes, bytes | None]) -> tuple[dict[bytes, bytes], list[Range]]:
+        """The pairs that are put and the ranges that are cleared, where this stands at the keys that are looked at."""
         puts: dict[bytes, bytes] = {}
         cleared: list[Range] = []
         for kind, first, second in self.mutations:
+            gone = any(begin <= first < end for begin, end in cleared)
+            there = puts.get(first, None if gone else stored.get(first))
             if kind == CLEAR:
                 puts = {key: value for key, value in puts.items() if not first <= key < second}
                 cleared.append((first, second))
             elif kind == ADD:
-                gone = any(begin <= first < end for begin, end in cleared)
-                puts[first] = added(puts.get(first, None if gone else stored.get(first)), second)
+                puts[first] = added(there, second)
+            elif kind == COMPARE_AND_CLEAR:
+                if there == second:
+                    puts.pop(first, None)
+                    cleared.append((first, first + b"\0"))
             else:
                 puts[first] = second
-        return puts
+        return puts, cleared
 
 
 class EtcdSnapshot:
@@ -210,11 +218,11 @@ class EtcdSnapshot:
         compares = self.compares(reads, known)
         writes = Writes(mutations)
         for _ in range(ADD_ROUNDS):
-            stored = self.stored(compares, writes.added_to) if writes.added_to else {}
+            stored = self.stored(compares, writes.looked_at) if writes.looked_at else {}
             more = [{"key": self.key(key), "target": "MOD", "result": "EQUAL", "mod_revision": revision}
                     for key, (revision, _) in stored.items()]
-            puts = writes.puts({key: value for key, (_, value) in stored.items()})
-            reply = self.send({"compare": compares + more, "success": self.operations(puts, writes.clears)})
+            puts, clears = writes.made({key: value for key, (_, value) in stored.items()})
+            reply = self.send({"compare": compares + more, "success": self.operations(puts, clears)})
             if reply.get("succeeded"):
                 return int(reply["header"]["revision"])
             if not more:
@@ -232,7 +240,7 @@ class EtcdSnapshot:
         return reply
 
     def stored(self, compares: list[dict[str, str]], keys: Sequence[bytes]) -> dict[bytes, tuple[str, bytes | None]]:
-        """What stands now at keys to which something is added, each with its revision, while what was read stands."""
+        """What stands now at keys that are looked at, each with its revision, while what was read stands."""
         asked = [{"requestRange": {"key": self.key(key)}} for key in keys]
         reply = self.engine.read_txn({"compare": compares, "success": asked})
         if not reply.get("succeeded"):

@@ -16,7 +16,7 @@ import fdb
 
 from ..engine import page_of, read_of
 from ..errors import Conflict, RecordError, TooLarge, TooOld, Unavailable, Unknown
-from ..form import ADD, CLEAR, Mutation, Read, Want
+from ..form import ADD, CLEAR, COMPARE_AND_CLEAR, Mutation, Read, Want
 
 API = 710
 # codes of FoundationDB's errors, of which each says that nothing was committed
@@ -78,6 +78,8 @@ class FoundationDbSnapshot:
                 transaction.clear_range(self.prefix + first, self.prefix + second)
             elif kind == ADD:
                 transaction.add(self.prefix + first, second)
+            elif kind == COMPARE_AND_CLEAR:
+                transaction.compare_and_clear(self.prefix + first, second)
             else:
                 transaction.set(self.prefix + first, second)
         try:

@@ -13,7 +13,7 @@ from collections.abc import Sequence
 
 from ..engine import page_of, read_of
 from ..errors import Conflict, TooOld
-from ..form import ADD, CLEAR, Mutation, Read, Want, added
+from ..form import ADD, CLEAR, COMPARE_AND_CLEAR, Mutation, Read, Want, added
 
 WINDOW = 10_000
 
@@ -80,6 +80,9 @@ class Memory:
                     self.put(key, None)
         elif mutation.kind == ADD:
             self.put(mutation.first, added(self.value(mutation.first, self.version), mutation.second))
+        elif mutation.kind == COMPARE_AND_CLEAR:
+            if self.value(mutation.first, self.version) == mutation.second:
+                self.put(mutation.first, None)
         else:
             self.put(mutation.first, mutation.second)
 

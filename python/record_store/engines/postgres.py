@@ -80,6 +80,9 @@ begin
         if kinds[place] = 1 then
             update record_pairs set value = null, version = made
                 where key >= firsts[place] and key < seconds[place] and value is not null;
+        elsif kinds[place] = 3 then
+            update record_pairs set value = null, version = made
+                where key = firsts[place] and value = seconds[place];
         else
             value_there := seconds[place];
             if kinds[place] = 2 then

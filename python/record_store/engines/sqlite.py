@@ -21,7 +21,7 @@ from contextlib import contextmanager, suppress
 
 from ..engine import page_of, read_of
 from ..errors import Conflict, TooOld, Unavailable, Unknown
-from ..form import ADD, CLEAR, Mutation, Read, Want, added
+from ..form import ADD, CLEAR, COMPARE_AND_CLEAR, Mutation, Read, Want, added
 
 TABLES = """
 create table if not exists pairs(key blob primary key, value blob, version integer not null) without rowid;
@@ -35,6 +35,7 @@ NEWER = "select 1 from pairs where key >= ? and key < ? and version > ? limit 1"
 PUT = """insert into pairs values (?, ?, ?)
     on conflict (key) do update set value = excluded.value, version = excluded.version"""
 CLEARED = "update pairs set value = null, version = ? where key >= ? and key < ? and value is not null"
+CLEARED_IF = "update pairs set value = null, version = ? where key = ? and value = ?"
 SWEEP_EACH, KEPT = 1000, 10_000
 
 
@@ -168,6 +169,9 @@ class SqliteSnapshot:
         kind, first, second = mutation
         if kind == CLEAR:
             self.connection.execute(CLEARED, (version, first, second))
+            return
+        if kind == COMPARE_AND_CLEAR:
+            self.connection.execute(CLEARED_IF, (version, first, second))
             return
         if kind == ADD:
             row = self.connection.execute("select value from pairs where key = ?", (first,)).fetchone()

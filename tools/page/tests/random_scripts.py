@@ -10,7 +10,8 @@ SPLITS = ("15011501", "15011502", "150115021501", "1501150215020203", "15011506"
 # of each kind of step how often it is made, beside the others
 WEIGHTS = {"begin": 8, "save": 14, "load": 4, "remove": 3, "query": 5, "plan": 4, "execute": 4, "commit": 8,
            "abandon": 1, "settle": 5, "resolve": 3, "log": 3, "report": 3, "pull": 3, "lost": 1, "index": 2,
-           "write_only": 2, "build": 4, "readable": 2, "state": 2, "aggregate": 3, "disable": 1, "drop": 1, "type": 1}
+           "write_only": 2, "build": 4, "readable": 2, "state": 2, "aggregate": 3, "disable": 1, "drop": 1, "type": 1,
+           "field": 1}
 ROLES = ("resolve", "log", "pull")
 ALONE = ("begin", "execute", "commit", "abandon")
 
@@ -37,7 +38,14 @@ class Maker:
         fields = [[f"f{it}", self.dice.choice(KINDS)] for it in range(count)]
         key = self.dice.sample([name for name, _ in fields], self.dice.randint(1, min(2, count)))
         made = {"name": f"t{len(self.types)}", "fields": fields, "key": key}
-        self.types.append(made)
+        self.types.append(dict(made))
+        return made
+
+    def new_field(self, owner):
+        """A field that is appended to the type, mostly one that isn't there yet."""
+        made = [f"f{len(owner['fields']) - (self.dice.random() < 0.1)}", self.dice.choice(KINDS)]
+        if made[0] not in dict(owner["fields"]):
+            owner["fields"] = [*owner["fields"], made]
         return made
 
     def new_index(self):
@@ -50,6 +58,8 @@ class Maker:
             made["summed"] = self.dice.choice(numbers)
         elif kind == "sum":
             made["kind"] = "count"
+        if made["kind"] == "count" and self.dice.random() < 0.5:
+            made["clear_when_zero"] = True
         self.indexes.append(made)
         return made
 
@@ -94,6 +104,8 @@ class Maker:
             return [name, client, owner["name"], [self.cell(kinds[it]) for it in owner["key"]]]
         if name == "type":
             return [name, client, self.new_type()]
+        if name == "field":
+            return [name, client, owner["name"], self.new_field(owner)]
         if name == "index" or not self.indexes:
             return ["index", client, self.new_index()]
         index = self.dice.choice(self.indexes)

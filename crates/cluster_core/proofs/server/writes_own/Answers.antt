@@ -10,3 +10,8 @@ returns-in-Set c = c.owns.ensures ∙ owns-point c.args.owner.now c.in-Set.key �
 
 pub returns-in-Add : goal.returns-in-Add
 returns-in-Add c = c.owns-in-Add.ensures ∙ owns-point c.args.owner.now c.in-Add.key ∙ ap (λ m. has_keys (cut c.args.owner.now (write_range m))) (sym c.in-Add.is)
+
+pub returns-in-CompareAndClear : goal.returns-in-CompareAndClear
+returns-in-CompareAndClear c =
+    c.owns-in-CompareAndClear.ensures ∙ owns-point c.args.owner.now c.in-CompareAndClear.key
+    ∙ ap (λ m. has_keys (cut c.args.owner.now (write_range m))) (sym c.in-CompareAndClear.is)

@@ -1,4 +1,5 @@
 use Rattle.index_maint.proofs.KeptLaw.{kept_follows, kept_ignores, kept_of_positions, kept_within, kept_writes_within}
+use Rattle.index_maint.proofs.AlikeRecords.{kept_of_alike}
 use Rattle.index_maint.proofs.SomeChanges.{kept_only_changes}
 use Rattle.index_maint.proofs.laws.kept_indexes_follow.Goals as goal
 
@@ -19,3 +20,6 @@ returns-clause-has_within c = kept_within
 
 pub returns-clause-of_positions : goal.returns-clause-of_positions
 returns-clause-of_positions c = kept_of_positions
+
+pub returns-clause-of_alike : goal.returns-clause-of_alike
+returns-clause-of_alike c = kept_of_alike

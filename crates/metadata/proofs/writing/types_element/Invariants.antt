@@ -4,4 +4,4 @@ use Rattle.metadata.specs.Written.{type_item}
 use Rattle.metadata.proofs.writing.types_element.Given as goal
 
 abbrev pub invariant-loop-definition : goal.invariant-loop-definition
-invariant-loop-definition l = items_in l.parts.items ≡ map type_item (take l.definition-index l.types)
+invariant-loop-definition l = items_in l.parts.items ≡ map (type_item l.second) (take l.definition-index l.types)

@@ -12,6 +12,11 @@ returns-in-Type-clause-performed g c =
     subst (λ command. IfOk c.add_type.result (λ answer. IsPerformed (g.S.Snapshot.map_at c.args.db.now) (λ range. g.S.Snapshot.may_refuse c.args.db.now range c.args.tx.now.read_version) command answer c.args.tx.now c.add_type.new.tx))
     (sym c.in-Type.is) c.add_type.ensures.performed
 
+pub returns-in-Field-clause-performed : goal.returns-in-Field-clause-performed
+returns-in-Field-clause-performed g c =
+    subst (λ command. IfOk c.add_field.result (λ answer. IsPerformed (g.S.Snapshot.map_at c.args.db.now) (λ range. g.S.Snapshot.may_refuse c.args.db.now range c.args.tx.now.read_version) command answer c.args.tx.now c.add_field.new.tx))
+    (sym c.in-Field.is) c.add_field.ensures.performed
+
 pub returns-in-Save-clause-performed : goal.returns-in-Save-clause-performed
 returns-in-Save-clause-performed g c =
     subst (λ command. IfOk c.save.result (λ answer. IsPerformed (g.S.Snapshot.map_at c.args.db.now) (λ range. g.S.Snapshot.may_refuse c.args.db.now range c.args.tx.now.read_version) command answer c.args.tx.now c.save.new.tx))

@@ -9,11 +9,11 @@ invariant_of-self c =
 
 pub returns-clause-holds : goal.returns-clause-holds
 returns-clause-holds c = λ key place h.
-    subst (λ xs. SegmentHolds xs key place) c.self.view_is (dropped_holds c.self.inside.segments c.drop_before.new.segments c.args.least c.drop_before.ensures.dropped key place h)
+    subst (λ xs. SegmentHolds xs key place) c.self.view_is (dropped_holds c.self.inside.segments.entries c.drop_before.new.segments.entries c.args.least c.drop_before.ensures.dropped key place h)
 
 pub returns-clause-kept : goal.returns-clause-kept
 returns-clause-kept c = λ key place from h.
-    dropped_kept c.self.inside.segments c.drop_before.new.segments c.args.least c.drop_before.ensures.dropped key place from
+    dropped_kept c.self.inside.segments.entries c.drop_before.new.segments.entries c.args.least c.drop_before.ensures.dropped key place from
     (subst (λ xs. IsCovered xs key place) (sym c.self.view_is) h)
 
 pub returns-clause-recent : goal.returns-clause-recent

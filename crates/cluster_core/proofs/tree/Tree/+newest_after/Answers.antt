@@ -29,7 +29,7 @@ returns t c =
     let n = has_node c.self.view_is c.requires c.in-Some.is c.deref-node.ensures in
     let node = c.deref-node.result.now in
     let low = c.args.low.now in
-    newest_fork (filter (λ e. key_lt low e.0) node.left) node.right (node.begin, node.segment) _ _
+    newest_fork (filter (λ e. key_lt low e.0) node.left.entries) node.right.entries (node.begin, node.segment) _ _
     (c.later-newest.ensures ∙ ap (λ own. later own (Some node.segment.place)) c.newest_after-2.ensures)
     (c.later.ensures ∙ ap (λ own. later own (Some c.later-newest.result)) c.newest.ensures)
     ∙ ap newest_of (sym (after_here _ _ _ n.order low (sym c.is_before.ensures ∙ c.if-not-is_before.false)))

@@ -29,7 +29,7 @@ returns t c =
     let n = has_node c.self.view_is c.requires c.in-Some.is c.deref-node.ensures in
     let node = c.deref-node.result.now in
     let high = c.args.high.now in
-    newest_fork node.left (filter (λ e. key_lt e.0 high) node.right) (node.begin, node.segment) _ _
+    newest_fork node.left.entries (filter (λ e. key_lt e.0 high) node.right.entries) (node.begin, node.segment) _ _
     (c.later-newest.ensures ∙ ap (λ own. later own (Some node.segment.place)) c.newest.ensures)
     (c.later.ensures ∙ ap (λ own. later own (Some c.later-newest.result)) c.newest_before-2.ensures)
     ∙ ap newest_of (sym (before_here _ _ _ n.order high (sym c.is_before.ensures ∙ c.if-not-is_before.false)))

@@ -50,7 +50,7 @@ returns t c =
     let node = c.deref-node.result.now in
     let low = c.args.low.now in
     let high = c.args.high.now in
-    newest_fork (filter (λ e. key_lt low e.0) node.left) (filter (λ e. key_lt e.0 high) node.right) (node.begin, node.segment) _ _
+    newest_fork (filter (λ e. key_lt low e.0) node.left.entries) (filter (λ e. key_lt e.0 high) node.right.entries) (node.begin, node.segment) _ _
     (c.later-newest.ensures ∙ ap (λ own. later own (Some node.segment.place)) c.newest_after.ensures)
     (c.later.ensures ∙ ap (λ own. later own (Some c.later-newest.result)) c.newest_before.ensures)
     ∙ ap newest_of (sym (between_here _ _ _ n.order low high (sym c.is_before.ensures ∙ c.if-not-is_before.false) (sym c.is_before-2.ensures ∙ c.if-not-is_before-2.false)))

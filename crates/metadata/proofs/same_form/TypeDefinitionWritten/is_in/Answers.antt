@@ -7,4 +7,4 @@ use Rattle.metadata.proofs.same_form.TypeDefinitionWritten.is_in.Goals as goal
 
 pub returns-in-Some : goal.returns-in-Some
 returns-in-Some c =
-    nested_told (item_in c.args.element.now) c.in-Some.parts.now (type_parts c.args.self.now) c.is_type.result (sym c.tuple_of.ensures ∙ ap option_copied c.in-Some.is) (rw (← c.elements.ensures.items) c.is_type.ensures)
+    nested_told (item_in c.args.element.now) c.in-Some.parts.now (type_parts c.args.second c.args.self.now) c.is_type_in.result (sym c.tuple_of.ensures ∙ ap option_copied c.in-Some.is) (rw (← c.elements.ensures.items) c.is_type_in.ensures)

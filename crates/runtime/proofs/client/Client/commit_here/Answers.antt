@@ -8,6 +8,7 @@ use Rattle.left_right.specs.Sides.{view as knowledge}
 use Rattle.runtime.specs.Clients.{HasReader, IsBegun, Knowledge, Remembers, knows_that}
 use Rattle.runtime.specs.declared.outcome.Outcome.{Outcome}
 use Rattle.runtime.specs.Commits.{Answers}
+use Rattle.runtime.specs.Logs.{IsOpenOver}
 use Rattle.runtime.specs.Outcomes.{IsEndOf, Shows, entry, last_then}
 use Rattle.runtime.proofs.Serving.{nothing_written}
 use Rattle.runtime.proofs.Answering.{IsTold, answers_by, told_by}
@@ -20,6 +21,14 @@ invariant_of-self-2 g c =
     let reader : HasReader (λ r. Remembers c.learnt.result (knowledge r.place)) c.self.inside.reader = reader_later (λ r. knowledge r.place) c.self.inside.me c.learnt.result c.self.inside.reader c.learnt.ensures.name c.learnt.ensures.log i.3 in
     let place : c.self.inside.number < c.learnt.result.name.config.places = subst (λ (n : Name). c.self.inside.number < n.config.places) (sym c.learnt.ensures.name) i.7 in
     search (reader, place, rules)
+
+pub critical_section-told-requires-clause-over : goal.critical_section-told-requires-clause-over
+critical_section-told-requires-clause-over g c =
+    let o : OpenTransaction = c.in-Some.field-0 in
+    let begun : c.self.inside.begun ≡ Some o = sym (sym c.in-Some.is ∙ c.take.ensures.value) in
+    let over : IsBegun c.self.inside.me (Some o) = subst (IsBegun c.self.inside.me) begun c.self.invariant.4 in
+    let own : c.into_request-request.result ≡ o.transaction = search rules in
+    subst (λ (q : CommitRequest). IsOpenOver o.prefix.name.config o.prefix.log q o.trace.attempts) (sym own) over.2
 
 pub returns-clause-answer : goal.returns-clause-answer
 returns-clause-answer g c w is =
