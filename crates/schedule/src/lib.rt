@@ -27,6 +27,7 @@ mod settle;
 mod shared_plan;
 mod starting;
 mod step;
+mod stepwise;
 mod transcript;
 
 pub use asked_query::AskedQuery;
@@ -39,6 +40,7 @@ pub use shared_plan::SharedPlan;
 use starting::laws_of;
 use std::alloc::{AllocError, Global};
 pub use step::{CLIENTS, Command, Step};
+pub use stepwise::Schedule;
 pub use transcript::{Commands, CommitEntry, Commits, Replies, ScheduleError, Transcript};
 
 /// Runs a schedule over an empty database, one step at a time.
