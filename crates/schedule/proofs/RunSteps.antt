@@ -94,15 +94,29 @@ next_run config steps replies step reply old new run next = record {
 abbrev pub RunsWith : Config → List Step → List Reply → Database → List (Option AskedPlan) → Type 0
 RunsWith config steps replies database plans = HasRun config steps replies database × AreKept (past_of [] steps replies) plans
 
+-- so it is after one step more
+pub longer_run : (config : Config) (steps : List Step) (replies : List Reply) (step : Step) (reply : Reply) (old new : Database) (plans kept : List (Option AskedPlan)) →
+    RunsWith config steps replies old plans → IsSteppedWith plans step reply old new → ((past : Past) → AreKept past plans → AreKept ((step, reply) ∷ past) kept) → RunsWith config (steps ++ step ∷ []) (replies ++ reply ∷ []) new kept
+longer_run config steps replies step reply old new plans kept run stepped_so keeps = (
+  next_run config steps replies step reply old new run.0 (stepped_so (past_of [] steps replies) run.0.stands run.1),
+  subst (λ past. AreKept past kept) (sym (one_more_past config steps replies step reply old run.0)) (keeps (past_of [] steps replies) run.1),
+)
+
+-- the same, whatever steps were done
+abbrev pub AnyRunWith : Database → List (Option AskedPlan) → Type 0
+AnyRunWith database plans = (config : Config) × (steps : List Step) × (replies : List Reply) × RunsWith config steps replies database plans
+
+pub one_longer : (step : Step) (reply : Reply) (old new : Database) (plans kept : List (Option AskedPlan)) → IsSteppedWith plans step reply old new → ((past : Past) → AreKept past plans → AreKept ((step, reply) ∷ past) kept)
+    → AnyRunWith old plans → AnyRunWith new kept
+one_longer step reply old new plans kept stepped_so keeps (config, steps, replies, run) =
+    (config, steps ++ step ∷ [], replies ++ reply ∷ [], longer_run config steps replies step reply old new plans kept run stepped_so keeps)
+
 -- a turn of the loop over steps
 pub turn : (config : Config) (steps : List Step) (i : ℕ) (step : Step) (before after : List Reply) (reply : Reply) (old new : Database) (plans kept : List (Option AskedPlan)) → i < length steps → step ≡ get_or steps i step → after ≡ before ++ reply ∷ [] →
     RunsWith config (take i steps) before old plans → IsSteppedWith plans step reply old new → ((past : Past) → AreKept past plans → AreKept ((step, reply) ∷ past) kept) → RunsWith config (take (i + 1) steps) after new kept
 turn config steps i step before after reply old new plans kept within is pushed run stepped_so keeps =
     let longer : take (i + 1) steps ≡ take i steps ++ step ∷ [] = take_more steps i step within ∙ ap (λ s. take i steps ++ s ∷ []) (sym is) in
-    subst₂ (λ ss rs. RunsWith config ss rs new kept) (sym longer) (sym pushed) (
-      next_run config (take i steps) before step reply old new run.0 (stepped_so (past_of [] (take i steps) before) run.0.stands run.1),
-      subst (λ past. AreKept past kept) (sym (one_more_past config (take i steps) before step reply old run.0)) (keeps (past_of [] (take i steps) before) run.1),
-    )
+    subst₂ (λ ss rs. RunsWith config ss rs new kept) (sym longer) (sym pushed) (longer_run config (take i steps) before step reply old new plans kept run stepped_so keeps)
 
 -- ---- the end
 
@@ -112,7 +126,7 @@ handed_out answers entries c = record { replies = answers; commits = entries; cl
 
 -- EXACT
 exact_ends : (config : Config) (steps : List Step) (answers : List Reply) (database : Database) → HasRun config steps answers database → IsLegal (history database.cluster.pipeline) →
-    IsExactRun config steps (handed_out answers database.commits.items database.cluster)
+    IsExactRun config steps (handed_out answers database.commits database.cluster)
 exact_ends config steps answers database run legal =
     let c = database.cluster in
     let subs = submitted_in (past_of [] steps answers) in
@@ -125,7 +139,7 @@ exact_ends config steps answers database run legal =
 
 -- HEADLINE
 headline_ends : (config : Config) (steps : List Step) (answers : List Reply) (database : Database) → HasRun config steps answers database → IsLegal (history database.cluster.pipeline) →
-    IsHeadline steps (handed_out answers database.commits.items database.cluster)
+    IsHeadline steps (handed_out answers database.commits database.cluster)
 headline_ends config steps answers database run legal =
     let c = database.cluster in
     let subs = submitted_in (past_of [] steps answers) in
@@ -134,9 +148,9 @@ headline_ends config steps answers database run legal =
     record {
       rows = λ transaction was.
           let still = run.opened transaction was in
-          all_answered (committed_store database.commits.items transaction.read_version) transaction.attempts
+          all_answered (committed_store database.commits transaction.read_version) transaction.attempts
           (subst (λ commits. IsSerialAt (committed_store commits transaction.read_version) transaction.attempts) (sym s.commits) (open_served c.pipeline subs legal s.submitted transaction still.request still.is));
-      indexes = λ version from upto. exact_indexes (database_at c version) (committed_store database.commits.items version) (holds version from upto);
+      indexes = λ version from upto. exact_indexes (database_at c version) (committed_store database.commits version) (holds version from upto);
     }
 
 -- RIGHT, but for what follows from what is exact
@@ -146,7 +160,7 @@ pub record IsEnded (config : Config) (steps : List Step) (run : Transcript) : Ty
   pub right : IsRightRun config steps run
 
 pub run_ends : (config : Config) (steps : List Step) (answers : List Reply) (database : Database) → HasRun config steps answers database → IsLegal (history database.cluster.pipeline) →
-    IsEnded config steps (handed_out answers database.commits.items database.cluster)
+    IsEnded config steps (handed_out answers database.commits database.cluster)
 run_ends config steps answers database run legal =
     let c = database.cluster in
     let subs = submitted_in (past_of [] steps answers) in
@@ -161,14 +175,14 @@ run_ends config steps answers database run legal =
         commits = s.commits;
         legal = legal;
         holds = subst (HoldsCommitted c) (sym s.commits) (holds_all c subs legal s.submitted);
-        serial = serial_right c database.commits.items subs exact.serial;
-        requests = requests_right (database_at c) database.commits.items subs c.pipeline.requests exact.requests;
+        serial = serial_right c database.commits subs exact.serial;
+        requests = requests_right (database_at c) database.commits subs c.pipeline.requests exact.requests;
         refusals = refusals_leave config c.pipeline.requests steps answers exact.replies;
       };
     }
 
 -- the same, with the replies and the commits as they are handed out
-pub ended : (config : Config) (steps : List Step) (given answers : List Reply) (handed : List CommitEntry) (database : Database) → answers ≡ given → handed ≡ database.commits.items → HasRun config steps given database →
+pub ended : (config : Config) (steps : List Step) (given answers : List Reply) (handed : List CommitEntry) (database : Database) → answers ≡ given → handed ≡ database.commits → HasRun config steps given database →
     IsLegal (history database.cluster.pipeline) → IsEnded config steps (handed_out answers handed database.cluster)
 ended config steps given answers handed database is_answers is_handed run legal =
     subst₂ (λ rs es. IsEnded config steps (handed_out rs es database.cluster)) (sym is_answers) (sym is_handed) (run_ends config steps given database run legal)
