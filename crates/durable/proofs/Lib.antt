@@ -1,0 +1,3 @@
+pub mod Logging
+pub mod Several
+pub mod Openings

@@ -1,0 +1,5 @@
+pub mod Accepting
+pub mod Performing
+pub mod Logs
+pub mod Replays
+pub mod Histories
