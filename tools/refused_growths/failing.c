@@ -1,6 +1,7 @@
-// An allocator whose allocation of a given number fails: FAILS says which, from 1 on; and after it each one whose number
-// EVERY divides, where that is given. How many were made is kept as a number of 64 bits in the file that COUNT names,
-// however the program ends. It is laid before the C library's by LD_PRELOAD.
+// An allocator whose allocation of a given number fails: FAILS says which, from 1 on; and after it one in EVERY, where
+// that is given, which ones is by chance: were it each one whose number EVERY divides, then what takes more of them at
+// once would never be done. How many were made is kept as a number of 64 bits in the file that COUNT names, however the
+// program ends. It is laid before the C library's by LD_PRELOAD.
 #define _GNU_SOURCE
 #include <dlfcn.h>
 #include <fcntl.h>
@@ -24,6 +25,13 @@ static void begin(void) {
     close(file);
 }
 
+// A number in the place of another, the same one each time, as if by chance (the last steps of SplitMix64).
+static uint64_t scrambled(uint64_t number) {
+    number = (number ^ number >> 30) * 0xbf58476d1ce4e5b9;
+    number = (number ^ number >> 27) * 0x94d049bb133111eb;
+    return number ^ number >> 31;
+}
+
 static int fails(void) {
     static int begun;
     if (!begun) {
@@ -31,7 +39,7 @@ static int fails(void) {
         begin();
     }
     uint64_t at = __atomic_add_fetch(made, 1, __ATOMIC_RELAXED);
-    return at == failing || (every && failing && at > failing && at % every == 0);
+    return at == failing || (every && failing && at > failing && scrambled(at) % every == 0);
 }
 
 void *malloc(size_t size) {
