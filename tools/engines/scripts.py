@@ -2,8 +2,8 @@
 
 Versions are the engine's own, so they are left out of what is compared, and of a conflict the range. A commit is made
 where the script settles, in the order in which it was asked for. Scripts that go through the roles of the cluster step
-by step, that split its keys or have a small window tell of that cluster alone, and are left out; so is what `execute`
-replies, which is a plan that the program keeps.
+by step, that split its keys or have a small window tell of that cluster alone, and are left out, as are those of more
+stores, since a host's database has one; so is what `execute` replies, which is a plan that the program keeps.
 """
 import json
 import os
@@ -35,6 +35,11 @@ def compared(reply: str) -> str:
     return VERSIONS.sub(r"\1", reply)
 
 
+def is_outside(step: Step) -> bool:
+    """Whether no engine can do a step: it is one of a role, or names a store."""
+    return step[0] in ROLES or (step[0] == "begin" and len(step) > 2)
+
+
 def suited() -> list[tuple[str, list[Step], bytes, str]]:
     """The scripts that tell of no cluster of their own: what each shows, its steps, and the output that it wants."""
     found = []
@@ -46,7 +51,7 @@ def suited() -> list[tuple[str, list[Step], bytes, str]]:
             with open(case.words[1], "rb") as file:
                 text = file.read()
         script = json.loads(text)
-        if not script.get("config") and not any(step[0] in ROLES for step in script["steps"]):
+        if not script.get("config") and not any(map(is_outside, script["steps"])):
             found.append((case.shows, script["steps"], text, case.output.decode()))
     return found
 

@@ -13,9 +13,10 @@ LAST_VERSION = 2**64 - 1
 
 @dataclass
 class Request:
-    """What a transaction submits: its client, its read version, what it read and wrote, and its commands."""
+    """What a transaction submits: its client, store and read version, what it read and wrote, and its commands."""
 
     client: int
+    store: int
     version: int
     reads: list
     writes: list
@@ -42,13 +43,14 @@ class Request:
 
 
 class Database:
-    """Requests in the order of their versions, how far each role is, and the committed store at each version."""
+    """Requests in the order of their versions, how far each role is, and the committed stores at each version."""
 
     def __init__(self, config):
         self.start, self.window = config.get("start", 0), config.get("window", 1000)
         self.resolvers = [Range(*it) for it in owned(config.get("resolver_splits", []))]
         self.servers = [Range(*it) for it in owned(config.get("storage_splits", []))]
-        self.requests, self.stores = [], [Store()]
+        # of each version the stores by number, but those in which nothing was committed
+        self.requests, self.stores = [], [{}]
         self.resolved = [0] * len(self.resolvers)
         self.logged = [0] * config.get("logs", 1)
         self.pulled = [0] * len(self.servers)
@@ -60,9 +62,9 @@ class Database:
     def read_version(self):
         return self.start + self.reported()
 
-    def view(self):
-        """A copy of what is committed at the read version."""
-        return self.stores[-1].copy()
+    def view(self, number):
+        """A copy of what is committed in the store of a number at the read version."""
+        return self.stores[-1].get(number, Store()).copy()
 
     def ask(self, range_, version):
         """Refuses a read of a range where a server that has a place of it can't tell the version."""
@@ -86,7 +88,7 @@ class Database:
         if last - tx.version > self.window:
             raise Refused("TooOld")
         writes = [it.range for it in tx.writes]
-        self.requests.append(Request(client, tx.version, list(tx.reads), writes, tx.done))
+        self.requests.append(Request(client, tx.number, tx.version, list(tx.reads), writes, tx.done))
         return last + 1
 
     def resolve(self, resolver):
@@ -105,6 +107,8 @@ class Database:
         for range_ in request.reads:
             part = common(range_, own)
             meeting = [it for it in newer if self.requests[it].wrote_in(part)]
+            if any(self.requests[it].store != request.store for it in meeting):
+                raise AssertionError(f"{range_.text()} of store {request.store} was written in another one")
             if meeting:
                 return self.start + meeting[-1] + 1, range_
         return None
@@ -122,11 +126,16 @@ class Database:
             return None
         request = self.requests[at]
         is_committed = request.is_committed()
-        self.stores.append(applied(self.stores[-1], request.done) if is_committed else self.stores[-1])
+        self.stores.append(self.after(request) if is_committed else self.stores[-1])
         if is_committed:
             return request.client, f"committed {self.start + at + 1}"
         seen, range_ = request.cause()
         return request.client, f"conflict {seen} {range_.text()}"
+
+    def after(self, request):
+        """The stores after a committed request, which changes its own alone."""
+        changed = applied(request.store, self.view(request.store), request.done)
+        return {**self.stores[-1], request.store: changed}
 
     def pull(self, server):
         """A server takes the next version of its log; whether there was one."""

@@ -127,8 +127,10 @@ EXAMPLES = {
         *setup(S), *committed(0, 2**64 - 1), (["begin", 0], None), (["save", 0, "t", [1, 0, 0]], "saved new"),
         (["commit", 0], "refused VersionsExhausted")]),
     "refusals": ({}, [
-        (["commit", 0], "refused NoTransaction"), (["begin", 16], "refused NoSuchClient"), (["begin", 0], "begun 0"),
-        (["begin", 0], "refused Busy"), (["save", 0, "t", [1, 1, 1]], "refused NoStore"), (["create", 0, SA], "ok"),
+        (["commit", 0], "refused NoTransaction"), (["begin", 16, 0], "refused NoSuchClient"), (["begin", 0], "begun 0"),
+        (["begin", 0], "refused Busy"), (["begin", 0, 0], "refused NoSuchStore"),
+        (["begin", 1, 65_536], "refused NoSuchStore"), (["begin", 1, 65_535], "begun 0"),
+        (["save", 0, "t", [1, 1, 1]], "refused NoStore"), (["create", 0, SA], "ok"),
         (["create", 0, SA], "refused AlreadyThere"), (["save", 0, "z", []], "refused UnknownType"),
         (["save", 0, "t", [1, "x", 1]], "refused WrongKind"), (["save", 0, "t", [None, 1, 1]], "refused NullKey"),
         (["aggregate", 0, "by_a", []], "refused NotAggregate"), (["execute", 0], "refused NoPlan"),
@@ -137,5 +139,26 @@ EXAMPLES = {
         (["abandon", 0], "ok")]),
     "a key that is too long": ({}, [
         *setup(SU), (["save", 0, "u", [1, "x" * 9988, None]], "saved new"), (["remove", 0, "u", [1]], "removed"),
-        (["save", 0, "u", [1, "x" * 9989, None]], "refused KeyTooLarge")]),
+        (["save", 0, "u", [1, "x" * 9989, None]], "refused KeyTooLarge"), (["begin", 1, 256], "begun 0"),
+        (["create", 1, SU], "ok"), (["save", 1, "u", [1, "x" * 9987, None]], "saved new"),
+        (["save", 1, "u", [2, "x" * 9988, None]], "refused KeyTooLarge")]),
+    "two stores of the same names": ({}, [
+        (["begin", 0], "begun 0"), (["begin", 1, 2], "begun 0"), (["create", 0, SA], "ok"), (["create", 1, S], "ok"),
+        (["save", 0, "t", [1, 1, 1]], "saved new"), (["save", 1, "t", [1, 2, 2]], "saved new"),
+        (["commit", 0], "submitted 1"), (["commit", 1], "submitted 2"),
+        (["settle"], "client 0 committed 1, client 1 committed 2"),
+        (["begin", 0, 2], "begun 2"), (["query", 0, {"type": "t"}], "rows [[1,2,2]]"), (["begin", 1], "begun 2"),
+        (["query", 1, {"type": "t"}], "rows [[1,1,1]]"), (["plan", 0, {"type": "t"}], "plan Scan(t,..ff)"),
+        (["commit", 0], "read only"), (["begin", 0, 1], "begun 2"), (["execute", 0], "rows [[1,1,1]]"),
+        (["plan", 0, {"type": "t", "sort": ["a"]}], "plan Fetch(IndexScan(by_a,..ff))"),
+        (["abandon", 0], "ok"), (["begin", 0, 2], "begun 2"), (["execute", 0], "refused IndexNotReadable"),
+        (["abandon", 0], "ok"), (["begin", 0, 3], "begun 2"), (["execute", 0], "refused NoStore")]),
+    "who reads all of a store meets no writer of another": ({}, [
+        *setup(S), *committed(0, 1), (["begin", 0, 2], "begun 1"), (["create", 0, S], "ok"), *committed(0, 2),
+        *((["begin", client, number], "begun 2") for client, number in enumerate([1, 2, 2, 1])),
+        *((["query", client, {"type": "t"}], "rows []") for client in (0, 1)),
+        *((["save", client, "t", [client, 0, 0]], "saved new") for client in range(4)),
+        *((["commit", client], f"submitted {it}") for it, client in enumerate([2, 0, 3, 1], 3)),
+        (["settle"], "client 2 committed 3, client 0 committed 4, client 3 committed 5, "
+                     "client 1 conflict 3 150215011501..150215011501ff")]),
 }

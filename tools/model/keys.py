@@ -1,8 +1,10 @@
-"""Places in the order of all that a store has: its schema, records, entries, totals, states and built positions.
+"""Places in the order of all that a database has: its stores by number, and of each its schema, records, entries,
+totals, states and built positions.
 
 What is read and written is told by places, which are compared as the values that they stand for: a null before bytes,
 these before text, this before whole numbers, one thing after another, a beginning first. Beside its order a place has
 the bytes by which a reply prints it, and nothing is decided by these but between two that stand at the same place.
+Commands tell places within their store; a transaction puts that of the store before them.
 """
 from functools import lru_cache
 from typing import NamedTuple
@@ -41,7 +43,6 @@ class Range(NamedTuple):
 # after all that begins so; just after the thing itself; behind nulls; the first place of all
 AFTER, JUST_AFTER, BEHIND_NULL = Cut(((0xFF,),), b"\xff"), Cut(((-1,),), b"\0"), Cut(((BYTES,),), b"\x01")
 FIRST = Cut((), b"")
-ROOT = Cut((), bytes.fromhex("1501"))
 
 
 def meet(one, other):
@@ -89,9 +90,14 @@ def elements(cells):
     return Cut(tuple(it.order[0] for it in parts), b"".join(it.spelled for it in parts))
 
 
+def root(number):
+    """The place of the store of a number among all stores."""
+    return element(number)
+
+
 def key(*cells):
-    """The place of what the store has under these cells."""
-    return ROOT + elements(cells)
+    """The place within a store of what it has under these cells."""
+    return elements(cells)
 
 
 def before_beginning(text):

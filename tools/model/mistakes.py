@@ -7,6 +7,7 @@ import commands
 import course
 import database
 import filters
+import keys
 import planning
 import schemas
 import sessions
@@ -56,8 +57,8 @@ def forgetful_scan(right):
     def scan(tx, range_, pairs, limit, reverse):
         found = right(tx, range_, pairs, limit, reverse)
         if found and not reverse and len(found) < limit:
-            part = Range(range_.begin, found[-1][0] + JUST_AFTER)
-            tx.reads = {part if it == range_ else it: None for it in tx.reads}
+            part = tx.under(Range(range_.begin, found[-1][0] + JUST_AFTER))
+            tx.reads = {part if it == tx.under(range_) else it: None for it in tx.reads}
         return found
     return scan
 
@@ -94,7 +95,7 @@ def newest_view(right):
     def command(session, client, kind, parts):
         tx = session.open[client]
         if not tx.writes:
-            tx.view = session.database.view()
+            tx.view = session.database.view(tx.number)
         return right(session, client, kind, parts)
     return command
 
@@ -270,6 +271,39 @@ def unchanged_save(right):
     return save
 
 
+def plan_of_store(right):
+    """A client that keeps a plan of each store, and not just its last one."""
+    def command(session, client, kind, parts):
+        kept, number = session.__dict__.setdefault("of_stores", {}), session.open[client].number
+        session.plans.pop(client, None)
+        if (client, number) in kept:
+            session.plans[client] = kept[client, number]
+        reply = right(session, client, kind, parts)
+        if client in session.plans:
+            kept[client, number] = session.plans[client]
+        return reply
+    return command
+
+
+def busy_first(right):
+    """A beginning whose client is looked at before its store."""
+    def begin(session, client, number=1):
+        if client in session.open:
+            raise schemas.Refused("Busy")
+        return right(session, client, number)
+    return begin
+
+
+def begun_again(right):
+    """A client that stays in the store in which it began first."""
+    def begin(session, client, number=1):
+        firsts = session.__dict__.setdefault("firsts", {})
+        reply = right(session, client, firsts.get(client, number))
+        firsts.setdefault(client, number)
+        return reply
+    return begin
+
+
 MISTAKES = [
     Mistake("a write-only index is read", planning, "paths_of",
             with_states(lambda it: "readable" if it == "write-only" else it)),
@@ -303,6 +337,15 @@ MISTAKES = [
     Mistake("a server tells versions that it hasn't pulled", database.Database, "read_refusal",
             lambda right: lambda self, known, version: None if version > known else right(self, known, version)),
     Mistake("a lost report drops the commit", sessions.Session, "lost", lost_commit),
+    Mistake("all stores are store 1", database.Database, "view", lambda right: lambda self, number: right(self, 1)),
+    Mistake("the places of all stores are those of store 1", keys, "root", lambda right: lambda number: right(1)),
+    Mistake("the place of a store is that of the next number", keys, "root",
+            lambda right: lambda number: right(number + 1)),
+    Mistake("a client stays in its first store", sessions.Session, "begin", begun_again),
+    Mistake("a client keeps a plan of each store", sessions.Session, "command", plan_of_store),
+    Mistake("there is a store 0", sessions, "STORES", lambda right: range(65_536)),
+    Mistake("there is no store 65,535", sessions, "STORES", lambda right: range(1, 65_535)),
+    Mistake("an open transaction comes before a number of no store", sessions.Session, "begin", busy_first),
     Mistake("a dropped index's number is given again", commands, "without_index", renumbered),
     Mistake("a plan is forgotten with its transaction", sessions.Session, "commit", plan_lost_at_end),
     Mistake("a plan is forgotten by a refused one", sessions.Session, "command", plan_lost_by_refusal),

@@ -1,9 +1,10 @@
-"""Random scripts: clients that write and read beside each other, builders, marks of indexes, and roles.
+"""Random scripts: clients that write and read beside each other in stores, builders, marks of indexes, and roles.
 
 A maker knows what it asked for, and never what is replied. So it guesses which indexes are being built, and which
-clients have a transaction: most steps are such as do something, and some are refused.
+clients have a transaction in which store: most steps are such as do something, and some are refused.
 """
 import keys
+from asked import MORE_STORES, ONE_STORE, OTHER_STORES, asked_first
 from replies import cells_of
 from values import WRONG_NAMES, Values
 
@@ -23,7 +24,7 @@ SCENES = {
 SHARES = {"writers": 5, "readers": 5, "builders": 7, "definitions": 3, "mixed": 5}
 ROLES = ("resolve", "log", "pull")
 MARKS = {"write_only": "write-only", "disable": "disabled", "readable": "readable"}
-LONG_TEXTS = [9_900, 9_980, 9_988, 9_989, 10_010, 99_990, 99_996, 99_997, 100_010]
+LONG_TEXTS = [9_900, 9_980, 9_987, 9_988, 9_989, 10_010, 99_990, 99_996, 99_997, 100_010]
 
 
 class Maker(Values):
@@ -37,11 +38,19 @@ class Maker(Values):
         self.long_share = self.pick([0, 0, 0, 0.02])
         self.is_long = self.likely(0.01)
         self.clients = list(range(16)) if self.is_long else self.pick([[0, 1], [0, 1, 2], [0, 1, 2], [0, 1, 2, 15]])
-        self.steps, self.open, self.planned = [], set(), set()
-        self.asked = self.large_schema() if self.is_large else self.schema()
-        self.types, self.indexes = list(self.asked["types"]), list(self.asked["indexes"])
-        self.guesses = {it["name"]: "readable" for it in self.indexes}
+        # the store of each client that has a transaction, and the clients that keep a plan
+        self.steps, self.open, self.planned = [], {}, set()
+        self.stores = self.some_stores()
+        # that of the client whose step is made
+        self.here = next(iter(self.stores.values()))
         self.config = self.configuration()
+
+    def some_stores(self):
+        """The stores of the script by number, often of the same definitions."""
+        first = self.large_schema() if self.is_large else self.schema()
+        numbers = self.pick(MORE_STORES if self.likely(0.35) else ONE_STORE)
+        others = {it: asked_first(first if self.likely(0.6) else self.schema()) for it in numbers[1:]}
+        return {numbers[0]: asked_first(first), **others}
 
     def configuration(self):
         """The configuration of the script."""
@@ -57,18 +66,22 @@ class Maker(Values):
         return config
 
     def splits(self):
-        """Places at which the next role begins, of the store's parts and within them."""
-        of = self.pick(self.types)
+        """Places at which the next role begins, of a store's parts and within them, and of stores."""
+        number = self.pick(list(self.stores))
+        of, root = self.pick(self.stores[number].types), keys.root(number)
         cells = cells_of(self.cells(of, 0))
         places = [keys.key(1), keys.key(1, 1), keys.key(1, 2), keys.key(1, 1, cells[0]), keys.key(2),
                   keys.key(2, 1), keys.key(2, 2), keys.key(2, 1, cells[-1]), keys.key(5), keys.key(5, 1),
                   keys.key(5, 2), keys.key(6), keys.key(6, 2)]
-        texts = [it.spelled.hex() for it in places] + ["15", "1501", "16", "02", "150115"]
-        return sorted(self.chance.sample(texts, self.pick([1, 1, 2, 3, 5])))
+        texts = [(root + it).spelled.hex() for it in places]
+        texts += ["15", "1501", "1502", "16", "160100", "02", "150115", root.spelled.hex()]
+        return sorted(self.chance.sample(sorted(set(texts)), self.pick([1, 1, 2, 3, 5])))
 
     def script(self):
         """The script."""
-        self.begin_store()
+        for client, number in enumerate(self.stores):
+            self.here = self.stores[number]
+            self.begin_store(client, number)
         turn = self.pick([self.round, self.round, self.turns])
         for _ in range(self.pick([15, 30]) if self.is_long else self.pick([2, 4, 5])):
             turn()
@@ -77,7 +90,8 @@ class Maker(Values):
 
     def heavy_script(self):
         """A transaction that writes as much as it may, or more."""
-        self.add("begin", 0)
+        store = self.pick([[], [1], [65_535]])
+        self.add("begin", 0, *store)
         self.add("create", 0, self.heavy_schema())
         for longest in [9_950] * 45 + [990] * 12 + [90] * 12 + [9] * 12:
             length = self.chance.randint(longest * 9 // 10, longest)
@@ -85,48 +99,56 @@ class Maker(Values):
         self.add(self.pick(["drop", "disable"]), 0, "h0")
         self.add("remove", 0, "t", [1])
         self.add("commit", 0)
-        return {"steps": self.steps + [["settle"], ["begin", 9], ["query", 9, {"type": "t"}]]}
+        return {"steps": self.steps + [["settle"], ["begin", 9, *store], ["query", 9, {"type": "t"}]]}
 
     def add(self, *step):
         self.steps.append(list(step))
 
     def begin(self, client):
-        self.open.add(client)
-        self.add("begin", client)
+        """A client begins in one of the stores, sometimes after a number of none."""
+        if self.likely(0.01):
+            self.add("begin", client, self.pick(OTHER_STORES[:3]))
+        self.begin_in(client, self.pick(list(self.stores)))
 
-    def begin_store(self):
-        """A client makes the store with some records, mostly in a transaction of its own, and indexes to be built."""
+    def begin_in(self, client, number):
+        """A client begins in the store of a number."""
+        self.open[client] = number
+        self.add("begin", client, *[number] * (number != 1 or self.likely(0.3)))
+
+    def begin_store(self, client, number):
+        """A client makes a store with some records, mostly in a transaction of its own, and indexes to be built."""
         if self.likely(0.02):
             return
         if self.likely(0.06):
-            self.abandoned()
-        self.begin(0)
-        self.add("create", 0, self.asked)
+            self.abandoned(client, number)
+        self.begin_in(client, number)
+        self.add("create", client, self.here.schema)
         for _ in range(self.pick([80, 140]) if self.is_large else self.pick([0, 2, 4, 8])):
-            self.save(0)
+            self.save(client)
         if self.scene == "builders" or self.likely(0.1):
-            self.indexes_to_build(0)
+            self.indexes_to_build(client)
         if self.likely(0.95):
-            self.open.discard(0)
-            self.add("commit" if self.likely(0.99) else "abandon", 0)
+            self.open.pop(client)
+            self.add("commit" if self.likely(0.99) else "abandon", client)
             if self.likely(0.98):
                 self.add("settle")
 
-    def abandoned(self):
+    def abandoned(self, client, number):
         """Plans are kept of a store that comes to nothing, with the same types, others or more indexes."""
-        types = [self.type("t") if self.likely(0.4) else it for it in self.types]
-        indexes = [it for it in self.indexes if self.likely(0.7) and types == self.types]
-        self.add("begin", 0)
-        self.add("create", 0, {"types": types, "indexes": indexes + [self.index("w", types[0])]})
-        self.add("plan", 0, self.query(types[0], [it for it in indexes if it["type"] == "t"], 0))
-        self.add("abandon", 0)
-        self.planned.add(0)
+        types = [self.type("t") if self.likely(0.4) else it for it in self.here.types]
+        indexes = [it for it in self.here.indexes if self.likely(0.7) and types == self.here.types]
+        self.begin_in(client, number)
+        self.add("create", client, {"types": types, "indexes": indexes + [self.index("w", types[0])]})
+        self.add("plan", client, self.query(types[0], [it for it in indexes if it["type"] == "t"], 0))
+        self.add("abandon", client)
+        self.open.pop(client)
+        self.planned.add(client)
 
     def indexes_to_build(self, client):
         """Some new indexes over records, which are to be built."""
         for _ in range(self.pick([1, 1, 2, 3])):
             self.new_index(client)
-            self.marked("write_only", client, self.indexes[-1]["name"])
+            self.marked("write_only", client, self.here.indexes[-1]["name"])
 
     def round(self):
         """Clients begin together, work in turns, commit one after another, and all is settled."""
@@ -190,7 +212,7 @@ class Maker(Values):
 
     def finish(self, client, settled):
         """A transaction ends, and its commit may be settled at once; the client may begin again before that."""
-        self.open.discard(client)
+        self.open.pop(client, None)
         self.add("commit" if self.likely(0.93) else "abandon", client)
         if self.likely(0.07):
             self.begin(client)
@@ -199,6 +221,7 @@ class Maker(Values):
 
     def command(self, client):
         """A command of a client."""
+        self.here = self.stores[self.open.get(client) or next(iter(self.stores))]
         kind = self.chance.choices(list(self.kinds), list(self.kinds.values()))[0]
         if self.likely(0.01):
             kind = self.pick(["save", "execute", "create", "begin", "build", "type"])
@@ -215,7 +238,9 @@ class Maker(Values):
             self.by_key(client, kind)
         elif kind in ("wrong_type", "wrong_index"):
             self.refused(client, kind)
-        elif kind in ("execute", "begin"):
+        elif kind == "begin":
+            self.add(kind, client, *self.pick([[], [], [self.pick(OTHER_STORES)], [self.pick(list(self.stores))]]))
+        elif kind == "execute":
             self.add(kind, client)
         else:
             self.marked(kind, client, self.index_name("write-only" if kind == "readable" else None))
@@ -225,20 +250,20 @@ class Maker(Values):
 
     def marked(self, kind, client, name):
         """A step that marks an index, or another one of an index alone."""
-        self.guesses[name] = MARKS.get(kind, self.guesses.get(name))
+        self.here.guesses[name] = MARKS.get(kind, self.here.guesses.get(name))
         self.add(kind, client, name)
 
     def index_name(self, state=None):
         """The name of an index that was asked for, mostly of one in a state."""
-        known = [it["name"] for it in self.indexes]
-        fitting = [it for it in known if self.guesses.get(it) == state]
+        known = [it["name"] for it in self.here.indexes]
+        fitting = [it for it in known if self.here.guesses.get(it) == state]
         if fitting and self.likely(0.8):
             return self.pick(fitting)
         return self.pick(known) if known and self.likely(0.97) else "none"
 
     def save(self, client):
         """A record is saved."""
-        of = self.pick(self.types)
+        of = self.pick(self.here.types)
         cells = self.cells(of)
         kinds = [kind for (_, kind), _ in zip(of["fields"], cells)]
         if "text" in kinds and self.likely(self.long_share):
@@ -248,13 +273,13 @@ class Maker(Values):
         self.add("save", client, of["name"] if self.likely(0.99) else "none", cells)
 
     def by_key(self, client, kind):
-        of = self.pick(self.types)
+        of = self.pick(self.here.types)
         self.add(kind, client, of["name"] if self.likely(0.99) else "none", self.key_cells(of))
 
     def ask(self, client, kind):
         """A query, or a plan of one."""
-        of = self.pick(self.types)
-        query = self.query(of, [it for it in self.indexes if it["type"] == of["name"]])
+        of = self.pick(self.here.types)
+        query = self.query(of, [it for it in self.here.indexes if it["type"] == of["name"]])
         if self.likely(0.003):
             query["filter"] = self.pick([["and", *[["null", "none"]] * 256], deep(33), deep(32)])
         if kind == "plan":
@@ -264,18 +289,19 @@ class Maker(Values):
     def new_index(self, client):
         """A new index, sometimes under a name that is known."""
         name = f"i{self.chance.randrange(7)}"
-        made = self.index(name, self.pick(self.types))
-        self.indexes = [it for it in self.indexes if it["name"] != name or self.likely(0.3)] + [made]
-        self.guesses[name] = "disabled"
+        here = self.here
+        made = self.index(name, self.pick(here.types))
+        here.indexes = [it for it in here.indexes if it["name"] != name or self.likely(0.3)] + [made]
+        here.guesses[name] = "disabled"
         self.add("index", client, made)
         if self.likely(0.5):
             self.marked("write_only", client, name)
 
     def renew(self, client):
         """An index is dropped and made anew as it was, between a plan and its execution."""
-        if not self.indexes:
+        if not self.here.indexes:
             return
-        made = self.pick(self.indexes)
+        made = self.pick(self.here.indexes)
         self.planned.add(client)
         self.add("plan", client, {"type": made["type"], "sort": made["columns"]})
         self.add("drop", client, made["name"])
@@ -284,28 +310,29 @@ class Maker(Values):
 
     def new_type(self, client):
         made = self.type(self.pick(["t", "u", "v", "w"]))
-        if made["name"] not in [it["name"] for it in self.types]:
-            self.types.append(made)
+        if made["name"] not in [it["name"] for it in self.here.types]:
+            self.here.types.append(made)
         self.add("type", client, made)
 
     def new_field(self, client):
         """A field is appended to a type; records and indexes that are asked for later have it."""
-        of = self.pick(self.types)
+        types = self.here.types
+        of = self.pick(types)
         made = self.field(of)
         if made[0] not in [*WRONG_NAMES, *(name for name, _ in of["fields"])]:
-            self.types[self.types.index(of)] = {**of, "fields": [*of["fields"], made]}
+            types[types.index(of)] = {**of, "fields": [*of["fields"], made]}
         self.add("field", client, of["name"] if self.likely(0.98) else "none", made)
 
     def create(self, client):
         """The store is asked for again, with other definitions or with wrong ones."""
-        schema = self.pick([self.asked, {"types": [self.type("t")]}])
+        schema = self.pick([self.here.schema, {"types": [self.type("t")]}])
         if self.likely(0.3):
-            schema = {"types": [*schema["types"], self.wrong_type(self.types[0])]}
+            schema = {"types": [*schema["types"], self.wrong_type(self.here.types[0])]}
         self.add("create", client, schema)
 
     def refused(self, client, kind):
         """A type or an index that is refused."""
-        of = self.pick(self.types)
+        of = self.pick(self.here.types)
         made = self.wrong_type(of) if kind == "wrong_type" else self.wrong_index(of, self.index_name())
         self.add(kind.removeprefix("wrong_"), client, made)
 
@@ -318,7 +345,7 @@ class Maker(Values):
 
     def aggregate(self, client):
         """The total of a group, mostly of a COUNT or a SUM."""
-        totals = [it for it in self.indexes if it["kind"] != "value"]
+        totals = [it for it in self.here.indexes if it["kind"] != "value"]
         if not totals or self.likely(0.03):
             self.add("aggregate", client, self.index_name(), [])
         else:
@@ -326,26 +353,27 @@ class Maker(Values):
 
     def total(self, client, index, wrong):
         """The total of a group of an index."""
-        kinds = {name: kind for of in self.types if of["name"] == index["type"] for name, kind in of["fields"]}
+        kinds = {name: kind for of in self.here.types if of["name"] == index["type"] for name, kind in of["fields"]}
         cells = [self.cell(kinds.get(it, "int"), 0.15, wrong) for it in index["columns"]]
         self.add("aggregate", client, index["name"], cells + [None] if self.likely(wrong) else cells)
 
     def end(self):
-        """All is settled, and a client asks for all that there is."""
+        """All is settled, and a client for each store asks for all that there is."""
         self.add("settle")
-        self.add("begin", 9)
-        self.steps += [["query", 9, {"type": it["name"]}] for it in self.types]
-        for index in self.indexes:
-            self.asked_of(index)
+        for client, (number, self.here) in enumerate(self.stores.items(), 9):
+            self.begin_in(client, number)
+            self.steps += [["query", client, {"type": it["name"]}] for it in self.here.types]
+            for index in self.here.indexes:
+                self.asked_of(client, index)
 
-    def asked_of(self, index):
+    def asked_of(self, client, index):
         """What an index has, asked for by a sort or by groups."""
         if index["kind"] == "value":
-            self.add("query", 9, {"type": index["type"], "sort": index["columns"]})
+            self.add("query", client, {"type": index["type"], "sort": index["columns"]})
             return
-        self.add("state", 9, index["name"])
+        self.add("state", client, index["name"])
         for _ in index["columns"][:2] * 2 or [None]:
-            self.total(9, index, 0)
+            self.total(client, index, 0)
 
 
 def deep(levels):

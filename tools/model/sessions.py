@@ -1,9 +1,10 @@
-"""The replies to the steps of a script: its clients, each with a transaction and a kept plan, and the roles."""
+"""The replies to the steps of a script: its clients, each with a kept plan and a transaction in a store, and roles."""
 from database import Database
 from schemas import Refused, schema_of
 from transactions import Transaction
 
 CLIENTS = 16
+STORES = range(1, 65_536)
 
 
 class Session:
@@ -62,7 +63,7 @@ class Session:
         if client >= CLIENTS:
             raise Refused("NoSuchClient")
         if kind == "begin":
-            return self.begin(client)
+            return self.begin(client, *parts)
         if client not in self.open:
             raise Refused("NoTransaction")
         if kind == "abandon":
@@ -72,11 +73,13 @@ class Session:
             return self.commit(client)
         return self.command(client, kind, parts)
 
-    def begin(self, client):
+    def begin(self, client, number=1):
+        if number not in STORES:
+            raise Refused("NoSuchStore")
         if client in self.open:
             raise Refused("Busy")
         database = self.database
-        self.open[client] = Transaction(database.read_version(), database.view(), database.ask)
+        self.open[client] = Transaction(number, database.read_version(), database.view(number), database.ask)
         return f"begun {database.read_version()}"
 
     def commit(self, client):

@@ -1,5 +1,5 @@
-"""The place that the bytes of a split stand for, by which resolvers and servers share the places of a store."""
-from keys import AFTER, BYTES, FIRST, NULL, NUMBER, ROOT, TEXT, ZERO, Cut
+"""The place that the bytes of a split stand for, by which resolvers and servers share the places of all stores."""
+from keys import AFTER, BYTES, FIRST, NULL, NUMBER, TEXT, ZERO, Cut
 
 
 def number_of(code, rest):
@@ -38,13 +38,8 @@ def next_atom(rest):
 
 
 def cut_of(raw):
-    """The place of a split among those of the store."""
-    root = ROOT.spelled
-    if raw <= root:
-        return FIRST
-    if not raw.startswith(root):
-        return AFTER
-    order, rest = (), raw[len(root):]
+    """The place of a split among those of all stores."""
+    order, rest = (), raw
     while rest:
         atom, rest = next_atom(rest)
         order += (atom,)

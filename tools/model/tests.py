@@ -9,7 +9,7 @@ import unittest
 from comparing import Difference, difference, model_replies, shrunk
 from examples import EXAMPLES, S
 from filters import truth
-from keys import AFTER, FIRST, JUST_AFTER, Cut, before_beginning, behind_beginning, element, elements, key
+from keys import AFTER, FIRST, JUST_AFTER, Cut, before_beginning, behind_beginning, element, elements, key, root
 from mistakes import MISTAKES, made
 from schemas import Type, schema_bytes, schema_of, with_field
 from scripts import script_of
@@ -36,12 +36,21 @@ WRITTEN = "1501150114050515010274000505026b0015010005026100150100050262001501000
 # and with a field c of whole numbers appended
 WIDENED = ("1502150114050515010274000505026b00150100050261001501000502620015010005026300150100000514001503000005"
            "00")
+
+
+def first(*cells):
+    """The place of what store 1 has under these cells."""
+    return root(1) + key(*cells)
+
+
 # splits that spell no whole place, and between which places they stand
 SPLITS = [
-    ("15", None, key(0)), ("1501", None, key(0)), ("16", key(6, 99, "z"), None), ("1501150500", key(5), key(5, 1)),
-    ("15011501150116", key(1, 1, 255), key(1, 1, 256)), ("1501150115010261", key(1, 1, "Z"), key(1, 1, "a")),
-    ("150115011501ff", key(1, 1, 2**63), key(1, 2)), ("15011501150112", key(1, 1, "z"), key(1, 1, -65535)),
-    ("1501150115010b", key(1, 1, "z"), key(1, 1, -1)),
+    ("15", None, first(0)), ("1501", None, first(0)), ("1501150500", first(5), first(5, 1)),
+    ("15011501150116", first(1, 1, 255), first(1, 1, 256)), ("1501150115010261", first(1, 1, "Z"), first(1, 1, "a")),
+    ("150115011501ff", first(1, 1, 2**63), first(1, 2)), ("15011501150112", first(1, 1, "z"), first(1, 1, -65535)),
+    ("1501150115010b", first(1, 1, "z"), first(1, 1, -1)), ("02", None, first(0)), ("ff", root(65535) + AFTER, None),
+    ("1501ff", first(6, 99, "z"), root(2)), ("1502", first(6, 99, "z"), root(2)), ("16", root(255) + AFTER, root(256)),
+    ("1601", root(255) + AFTER, root(256)), ("16ff", root(65279) + AFTER, root(65280)),
 ]
 
 
@@ -57,8 +66,9 @@ class Places(unittest.TestCase):
 
     def test_a_split_is_read_as_the_place_that_it_spells(self):
         for cells in itertools.product(CELLS, [it for it in CELLS if it is not None]):
-            place = key(1, 1, *cells)
-            self.assertEqual(cut_of(place.spelled).order, place.order)
+            for number in (1, 255, 256, 65535):
+                place = root(number) + key(1, 1, *cells)
+                self.assertEqual(cut_of(place.spelled).order, place.order)
 
     def test_splits_that_spell_no_whole_place(self):
         for raw, below, above in SPLITS:
@@ -68,7 +78,7 @@ class Places(unittest.TestCase):
     def test_spellings(self):
         for cell, wanted in [(None, "00"), (0, "14"), (-1, "13fe"), (255, "15ff"), (256, "160100"), (-255, "1300"),
                              (-256, "12feff"), (-5551212, "11ab4b93"), ("FÔO\0bar", "0246c3944f00ff62617200"),
-                             (b"foo\0bar", "01666f6f00ff62617200")]:
+                             (b"foo\0bar", "01666f6f00ff62617200"), (65535, "16ffff")]:
             self.assertEqual(element(cell).spelled.hex(), wanted)
         self.assertEqual(elements(()), Cut((), b""))
         self.assertEqual(schema_bytes(schema_of(S)).hex(), WRITTEN)

@@ -14,36 +14,36 @@ use Rattle.cluster_core.proofs.Composition.{holds_at, replied_at}
 use Rattle.record_store.specs.Store.{Serial}
 use Rattle.schedule.specs.Past.{Attempt}
 use Rattle.schedule.specs.Holds.{Stands}
-use Rattle.schedule.specs.Layout.{store_prefix}
+use Rattle.record_store.specs.Layout.{store_prefix}
 use Rattle.schedule.specs.Exact.{IsSerialAt}
 use Rattle.schedule.specs.Headline.{AreRightlyAnswered}
 use Rattle.schedule.proofs.Promised.{all_answered, exact_indexes}
 use Rattle.schedule.proofs.Turning.{done_serve, done_version}
-use Rattle.drive.specs.Driving.{resumed}
+use Rattle.drive.specs.Driving.{host_store, resumed}
 use Rattle.drive.specs.Histories.{AreCalled, IsOfCalls, after_call, after_calls, stored_at, CallByCall, IsHostHistory, HostHistoriesHold, AnswersAreCalls}
 
 -- a map without pairs holds no store
-none_held : Stands empty None
-none_held = λ bytes. get-empty key_cmp (store_prefix ++ bytes)
+none_held : Stands host_store empty None
+none_held = λ bytes. get-empty key_cmp (store_prefix host_store ++ bytes)
 
 -- over each map that agrees with what was read the commands have their replies, and what is written leads to a map that holds what is there after them
 calls_serve : (maps : ℕ → Map) (version : ℕ) (reads : List KeyRange) (written : List Mutation) (calls : List (List Attempt)) (last : List Mutation) → AreCalled maps version reads written calls last →
-    (m : Map) (serial : Serial) → Agree reads (maps version) m → Stands (after_all written m) serial → CallByCall IsSerialAt serial calls × Stands (after_all last m) (after_calls serial calls)
-calls_serve maps version reads written [] last same m serial agree holds = (tt, subst (λ ms. Stands (after_all ms m) serial) same holds)
+    (m : Map) (serial : Serial) → Agree reads (maps version) m → Stands host_store (after_all written m) serial → CallByCall IsSerialAt serial calls × Stands host_store (after_all last m) (after_calls serial calls)
+calls_serve maps version reads written [] last same m serial agree holds = (tt, subst (λ ms. Stands host_store (after_all ms m) serial) same holds)
 calls_serve maps version reads written (attempts ∷ calls) last (request, done, within, rest) m serial agree holds =
-    let at : request.read_version ≡ version = done_version maps attempts (resumed version written) request done in
+    let at : request.read_version ≡ version = done_version host_store maps attempts (resumed version written) request done in
     let there : Agree request.reads (maps version) m = λ key h. agree key (within key h) in
     let own : Agree request.reads (maps request.read_version) m = subst (λ v. Agree request.reads (maps v) m) (sym at) there in
-    let served = done_serve maps attempts (resumed version written) request done m serial own holds in
+    let served = done_serve host_store maps attempts (resumed version written) request done m serial own holds in
     let later = calls_serve maps version reads request.mutations calls last rest m (after_call serial attempts) agree served.1 in
     ((served.0, later.0), later.1)
 
 -- the same as the composition says it
-turns_replied : (serial : Serial) (calls : List (List Attempt)) → CallByCall IsSerialAt serial calls → AllReplied Stands IsSerialAt after_call serial calls
+turns_replied : (serial : Serial) (calls : List (List Attempt)) → CallByCall IsSerialAt serial calls → AllReplied (Stands host_store) IsSerialAt after_call serial calls
 turns_replied serial [] is = tt
 turns_replied serial (attempts ∷ calls) is = (is.0, turns_replied (after_call serial attempts) calls is.1)
 
-replied_turns : (serial : Serial) (calls : List (List Attempt)) → AllReplied Stands IsSerialAt after_call serial calls → CallByCall IsSerialAt serial calls
+replied_turns : (serial : Serial) (calls : List (List Attempt)) → AllReplied (Stands host_store) IsSerialAt after_call serial calls → CallByCall IsSerialAt serial calls
 replied_turns serial [] is = tt
 replied_turns serial (attempts ∷ calls) is = (is.0, replied_turns (after_call serial attempts) calls is.1)
 
@@ -58,10 +58,10 @@ module _ (calls_of : Entry → List (List Attempt)) (history : List Entry) (risi
   Called entry = IsOfCalls (map_at history) (calls_of entry) entry.request
 
   abbrev Again : Entry → Type 0
-  Again entry = Replays Stands IsSerialAt after_call calls_of history entry
+  Again entry = Replays (Stands host_store) IsSerialAt after_call calls_of history entry
 
   abbrev Replied : Entry → Type 0
-  Replied entry = AllReplied Stands IsSerialAt after_call (state_at Stands IsSerialAt after_call calls_of None history (entry.version - 1)) (calls_of entry)
+  Replied entry = AllReplied (Stands host_store) IsSerialAt after_call (state_at (Stands host_store) IsSerialAt after_call calls_of None history (entry.version - 1)) (calls_of entry)
 
   abbrev Meant : Entry → Type 0
   Meant entry = CallByCall IsSerialAt (stored_at calls_of history (entry.version - 1)) (calls_of entry)
@@ -82,11 +82,11 @@ module _ (calls_of : Entry → List (List Attempt)) (history : List Entry) (risi
   again : All Again history
   again = All-from_recursion Again history (each_again history (recursion_from_All Called history are))
 
-  holds_then : (version : ℕ) → Stands (map_at history version) (stored_at calls_of history version)
-  holds_then version = holds_at Stands IsSerialAt after_call calls_of None none_held history rising legal again version
+  holds_then : (version : ℕ) → Stands host_store (map_at history version) (stored_at calls_of history version)
+  holds_then version = holds_at (Stands host_store) IsSerialAt after_call calls_of None none_held history rising legal again version
 
   meant : All Meant history
-  meant = All-from_recursion Meant history (each_meant history (recursion_from_All Replied history (replied_at Stands IsSerialAt after_call calls_of None none_held history rising legal again)))
+  meant = All-from_recursion Meant history (each_meant history (recursion_from_All Replied history (replied_at (Stands host_store) IsSerialAt after_call calls_of None none_held history rising legal again)))
 
   rows_then : (calls : List (List Attempt)) (request : CommitRequest) → IsOfCalls (map_at history) calls request → CallByCall AreRightlyAnswered (stored_at calls_of history request.read_version) calls
   rows_then calls request called =
@@ -99,7 +99,7 @@ module _ (calls_of : Entry → List (List Attempt)) (history : List Entry) (risi
   host_history : IsHostHistory calls_of history
   host_history = record {
     holds = holds_then;
-    indexes = λ version. exact_indexes (map_at history version) (stored_at calls_of history version) (holds_then version);
+    indexes = λ version. exact_indexes host_store (map_at history version) (stored_at calls_of history version) (holds_then version);
     serial = meant;
     rows = rows_then;
   }

@@ -14,11 +14,11 @@ use Rattle.schedule.proofs.Turning.{performed_did}
 use Rattle.txn.proofs.Running.{ran_keeps}
 use Rattle.std.specs.List.{AllByRecursion}
 use Rattle.drive.specs.declared.wanted.Want.{Want}
-use Rattle.drive.specs.Driving.{ArePerformed, IsHostAnswered, IsHostAsked, attempts_at, resumed}
+use Rattle.drive.specs.Driving.{ArePerformed, IsHostAnswered, IsHostAsked, attempts_at, host_store, resumed}
 use Rattle.drive.specs.Wanted.{AreWithin, HasFrom, IsLeftOfOne, IsUncovered}
 
 -- a command over the given pairs is one over each database that agrees with them on what was read
-one_over : (pairs : Map) (maps : ℕ → Map) (command : Command) (reply : Reply) (old new : CommitRequest) → Agree new.reads pairs (maps old.read_version) → IsPerformed (λ version. pairs) (λ range error. ⊥) command reply old new → IsPerformed maps (λ range error. ⊥) command reply old new
+one_over : (pairs : Map) (maps : ℕ → Map) (command : Command) (reply : Reply) (old new : CommitRequest) → Agree new.reads pairs (maps old.read_version) → IsPerformed host_store (λ version. pairs) (λ range error. ⊥) command reply old new → IsPerformed host_store maps (λ range error. ⊥) command reply old new
 one_over pairs maps command reply old new base did = record {
   opened = did.opened;
   added = did.added;
@@ -59,24 +59,24 @@ all_over pairs maps version (command ∷ commands) (reply ∷ replies) old new a
     )
 
 -- they are attempts that were made
-done_of : (maps : ℕ → Map) (commands : List Command) (replies : List Reply) (old new : CommitRequest) → ArePerformed maps commands replies old new → AreDone maps (attempts_at commands replies) old new
+done_of : (maps : ℕ → Map) (commands : List Command) (replies : List Reply) (old new : CommitRequest) → ArePerformed maps commands replies old new → AreDone host_store maps (attempts_at commands replies) old new
 done_of maps [] [] old new same = same
 done_of maps [] (reply ∷ replies) old new done = absurd done
 done_of maps (command ∷ commands) [] old new done = absurd done
 done_of maps (command ∷ commands) (reply ∷ replies) old new (mid, did, rest) =
-    (mid, performed_did maps (λ range error. ⊥) command reply old mid did, done_of maps commands replies mid new rest)
+    (mid, performed_did host_store maps (λ range error. ⊥) command reply old mid did, done_of maps commands replies mid new rest)
 
 -- one more command with its reply
 pub performed_append : (maps : ℕ → Map) (commands : List Command) (replies : List Reply) (command : Command) (reply : Reply) (old mid new : CommitRequest) →
-    ArePerformed maps commands replies old mid → IsPerformed maps (λ range error. ⊥) command reply mid new → ArePerformed maps (commands ++ command ∷ []) (replies ++ reply ∷ []) old new
-performed_append maps [] [] command reply old mid new same did = (new, subst (λ (t : CommitRequest). IsPerformed maps (λ range error. ⊥) command reply t new) (sym same) did, refl)
+    ArePerformed maps commands replies old mid → IsPerformed host_store maps (λ range error. ⊥) command reply mid new → ArePerformed maps (commands ++ command ∷ []) (replies ++ reply ∷ []) old new
+performed_append maps [] [] command reply old mid new same did = (new, subst (λ (t : CommitRequest). IsPerformed host_store maps (λ range error. ⊥) command reply t new) (sym same) did, refl)
 performed_append maps [] (first ∷ replies) command reply old mid new done did = absurd done
 performed_append maps (one ∷ commands) [] command reply old mid new done did = absurd done
 performed_append maps (one ∷ commands) (first ∷ replies) command reply old mid new (next, earlier, rest) did = (next, earlier, performed_append maps commands replies command reply next mid new rest did)
 
 -- so it is once the next command of a list is performed
 pub performed_turn : (maps : ℕ → Map) (commands : List Command) (i : ℕ) (command : Command) (before after : List Reply) (reply : Reply) (old mid new : CommitRequest) → i < length commands → command ≡ get_or commands i command → after ≡ before ++ reply ∷ [] →
-    ArePerformed maps (take i commands) before old mid → IsPerformed maps (λ range error. ⊥) command reply mid new → ArePerformed maps (take (i + 1) commands) after old new
+    ArePerformed maps (take i commands) before old mid → IsPerformed host_store maps (λ range error. ⊥) command reply mid new → ArePerformed maps (take (i + 1) commands) after old new
 performed_turn maps commands i command before after reply old mid new within is pushed done did =
     let longer : take (i + 1) commands ≡ take i commands ++ command ∷ [] = take_more commands i command within ∙ ap (λ s. take i commands ++ s ∷ []) (sym is) in
     subst₂ (λ cs rs. ArePerformed maps cs rs old new) (sym longer) (sym pushed) (performed_append maps (take i commands) before command reply old mid new done did)

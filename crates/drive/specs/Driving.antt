@@ -16,6 +16,10 @@ use Rattle.drive.specs.declared.given.Given.{Given}
 use Rattle.drive.specs.declared.answering.Driven.{Driven}
 use Rattle.drive.specs.declared.answering.Driven.TheVariants.{Wants, Done}
 
+-- a host's database has one store, that of this number
+abbrev pub host_store : ℕ
+host_store = 1
+
 -- each of these commands with its reply
 abbrev pub attempts_at : List Command → List Reply → List Attempt
 attempts_at (command ∷ commands) (reply ∷ replies) =
@@ -26,7 +30,7 @@ attempts_at commands replies = []
 abbrev pub ArePerformed : (ℕ → Map) → List Command → List Reply → CommitRequest → CommitRequest → Type 0
 ArePerformed maps [] [] old new = old ≡ new
 ArePerformed maps (command ∷ commands) (reply ∷ replies) old new =
-    (mid : CommitRequest) × IsPerformed maps (λ range error. ⊥) command reply old mid
+    (mid : CommitRequest) × IsPerformed host_store maps (λ range error. ⊥) command reply old mid
     × ArePerformed maps commands replies mid new
 ArePerformed maps commands replies old new = ⊥
 
@@ -45,7 +49,7 @@ pub record IsHostAnswered (version : ℕ) (covered : List KeyRange) (pairs : Map
       ArePerformed maps commands replies (resumed version written) request
   pub done :
       (maps : ℕ → Map) → Agree covered pairs (maps version) →
-      AreDone maps (attempts_at commands replies) (resumed version written) request
+      AreDone host_store maps (attempts_at commands replies) (resumed version written) request
 
 -- ranges are wanted that aren't covered where they are to be read from; the commands, over the given pairs as if there
 -- were no others, read a range that isn't covered, and one of those that are wanted begins with what is left of it

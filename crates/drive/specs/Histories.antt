@@ -15,7 +15,7 @@ use Rattle.schedule.specs.Contract.{attempted}
 use Rattle.schedule.specs.Exact.{IsSerialAt}
 use Rattle.schedule.specs.Headline.{AreRightlyAnswered, HasExactIndexes}
 use Rattle.schedule.specs.Turns.{AreDone}
-use Rattle.drive.specs.Driving.{IsHostAnswered, attempts_at, resumed}
+use Rattle.drive.specs.Driving.{IsHostAnswered, attempts_at, host_store, resumed}
 use Rattle.drive.specs.Wanted.{AreWithin}
 
 -- calls of one transaction, in turn: each was performed over the database at this version, in a transaction that has
@@ -23,7 +23,7 @@ use Rattle.drive.specs.Wanted.{AreWithin}
 abbrev pub AreCalled : (ℕ → Map) → ℕ → List KeyRange → List Mutation → List (List Attempt) → List Mutation → Type 0
 AreCalled maps version reads written [] last = written ≡ last
 AreCalled maps version reads written (attempts ∷ calls) last =
-    (request : CommitRequest) × AreDone maps attempts (resumed version written) request
+    (request : CommitRequest) × AreDone host_store maps attempts (resumed version written) request
     × AreWithin reads request.reads × AreCalled maps version reads request.mutations calls last
 
 -- the request is what these calls made of a transaction that reads at the request's version
@@ -50,9 +50,9 @@ CallByCall Is serial (attempts ∷ calls) = Is serial attempts × CallByCall Is 
 -- what a history is, by the calls of each entry
 pub record IsHostHistory (calls_of : Entry → List (List Attempt)) (history : List Entry) : Type 0 where
   -- at each version the database holds just the store that the calls up to it make
-  pub holds : (version : ℕ) → Stands (map_at history version) (stored_at calls_of history version)
+  pub holds : (version : ℕ) → Stands host_store (map_at history version) (stored_at calls_of history version)
   -- at each version each readable index has just what the records there define
-  pub indexes : (version : ℕ) → HasExactIndexes (map_at history version) (stored_at calls_of history version)
+  pub indexes : (version : ℕ) → HasExactIndexes host_store (map_at history version) (stored_at calls_of history version)
   -- version order is a serial order: each accepted command has its reply just before its entry's version too
   pub serial :
       All (λ entry. CallByCall IsSerialAt (stored_at calls_of history (entry.version - 1)) (calls_of entry)) history

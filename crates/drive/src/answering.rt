@@ -14,7 +14,7 @@ use crate::given::Given;
 use crate::partial::Partial;
 use crate::wanted::{Want, rest_between, rest_of};
 use kv_core::{CommitRequest, Coverage, KeyRange, Mutation};
-use record_store::KnownSchema;
+use record_store::{KnownSchema, StoreNumber};
 use schedule::{Command, Reply, perform_knowing};
 use std::alloc::{AllocError, Global};
 use txn::Transaction;
@@ -46,7 +46,7 @@ fn copy_of(written: &Vec<Mutation>) -> Result<Vec<Mutation>, AllocError>
     Ok(copy)
 }
 
-/// Performs commands, one after another.
+/// Performs commands on the host's store, one after another.
 fn perform_each(
     alloc: Global,
     commands: &[Command],
@@ -56,10 +56,11 @@ fn perform_each(
     ensures { IfOk result (λ replies. ArePerformed (λ version. partial.now.pairs.now) commands.now
         replies.items tx.old tx.new) }
 {
+    let store = StoreNumber::first();
     let mut known = KnownSchema::new();
     let mut replies = Vec::new(alloc);
     for command in commands {
-        let reply = perform_knowing(alloc, command, tx, partial, &mut known)?;
+        let reply = perform_knowing(alloc, command, store, tx, partial, &mut known)?;
         replies.push(reply)?;
     }
     Ok(replies)

@@ -32,7 +32,7 @@ DoesEach body old (Err error) new after = after ≡ body
 abbrev pub RunsEach : List Command → Knowledge → Knowledge → Type 0
 RunsEach commands old new =
     (done : Done) × ((body : InTurn) × (body.commands.now ≡ commands)
-    × ((after : InTurn) × IsRun DoesEach true 1000 (body, old) (Ok (tt, done)) (after, new)))
+    × ((after : InTurn) × IsRun 1 DoesEach true 1000 (body, old) (Ok (tt, done)) (after, new)))
 
 -- records were saved one after another, each in a transaction of its own
 abbrev pub SavesEach : List ℕ → List (List Cell) → Knowledge → Knowledge → Type 0
@@ -48,5 +48,5 @@ is_passed old place new = new ≡ old
 abbrev pub BuildsIndex : Race → Knowledge → Knowledge → Type 0
 BuildsIndex race old new =
     (totals : Totals) × ((after : _)
-    × IsWork (Works is_passed) race.index.name 1000
+    × IsWork 1 (Works is_passed) race.index.name 1000
     (record { index = race.index.name; limit = race.limit; gate = record {} }, old) (Ok totals) (after, new))

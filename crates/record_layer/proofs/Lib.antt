@@ -1,5 +1,5 @@
 pub mod Settling
 pub mod Completing
 pub mod Querying
-pub use Rattle.runtime.proofs.Attempts
+pub use Rattle.runtime.proofs.RunAttempts
 pub use Rattle.runtime.proofs.Sendable

@@ -13,6 +13,7 @@ use Rattle.metadata.specs.Records.{of_type}
 use Rattle.metadata.specs.Schema.{Schema, find_type}
 use Rattle.record_store.specs.Call.{AtStore, Call, IsAnswered, IsRefused, Opened}
 use Rattle.record_store.specs.Calls.{index_states, save_call}
+use Rattle.record_store.specs.Layout.{first_prefix}
 use Rattle.record_store.specs.Opening.{IsNewStore, IsOpened, IsUncreated, IsUnopened}
 use Rattle.record_store.specs.Steps.{DidRead}
 use Rattle.query.specs.Checked.{query_refusal}
@@ -29,7 +30,6 @@ use Rattle.planner.specs.declared.plan.PlanError.TheVariants.{SortNotServed}
 use Rattle.plan_exec.specs.Executing.{IsExecuted, IsExecutionRefused}
 use Rattle.plan_exec.specs.Planning.{AnswersQuery, ScansReadable}
 use Rattle.plan_exec.specs.declared.error.ExecError.TheVariants as execution
-use Rattle.schedule.specs.Layout.{store_prefix}
 use Rattle.record_layer.specs.declared.error.Error.{Error}
 use Rattle.record_layer.specs.declared.error.Error.TheVariants as errors
 use Rattle.record_layer.specs.declared.not_done.NotDone.{NotDone}
@@ -55,20 +55,20 @@ refused_over cluster = MayRefuse (tier_of cluster)
 -- a session was opened: just what an opening reads was read, in a new transaction
 pub record IsSession (db : DatabaseView) (session : SessionView) : Type 0 where
   pub cluster : session.cluster ≡ db.cluster
-  pub prefix : session.store.prefix ≡ store_prefix
+  pub prefix : session.store.prefix ≡ first_prefix
   pub opened : IsOpened (database_at db.cluster) session.store (begun_over db.cluster) session.tx
 
 -- why none was
 abbrev pub IsNoSession : Error → DatabaseView → Type 0
 IsNoSession (errors.Store error) db =
     (tx : CommitRequest)
-    × IsUnopened (database_at db.cluster) (refused_over db.cluster) store_prefix error (begun_over db.cluster) tx
+    × IsUnopened (database_at db.cluster) (refused_over db.cluster) first_prefix error (begun_over db.cluster) tx
 IsNoSession error db = ⊥
 
 -- a new transaction makes the store, of this schema
 abbrev pub MakesStore : Schema → CommitRequest → DatabaseView → Type 0
 MakesStore schema tx db =
-    (store : Opened) × IsNewStore (database_at db.cluster) store_prefix schema (begun_over db.cluster) tx store
+    (store : Opened) × IsNewStore (database_at db.cluster) first_prefix schema (begun_over db.cluster) tx store
 
 -- the store was made in a transaction of its own, which is committed at this version
 abbrev pub IsStoreMade : Schema → ℕ → DatabaseView → DatabaseView → Type 0
@@ -79,7 +79,7 @@ abbrev pub IsUnmakeable : Schema → Error → DatabaseView → Type 0
 IsUnmakeable schema (errors.Store error) db =
     (tx : CommitRequest)
     × IsUncreated (database_at db.cluster) (refused_over db.cluster)
-    (record { prefix = store_prefix; schema = schema; states = [] }) error (begun_over db.cluster) tx
+    (record { prefix = first_prefix; schema = schema; states = [] }) error (begun_over db.cluster) tx
 IsUnmakeable schema error db = ⊥
 
 -- it wasn't made, and nothing has changed; or what makes it isn't committed, or isn't known to be

@@ -28,10 +28,10 @@ pub use places::{Place, place_of};
 pub use plan_exec::{ExecError, execute, execute_each, plan_for_store};
 pub use planner::{Plan, PlanError};
 pub use query::{Filter, Operator, Query, QueryError};
-pub use record_store::{KnownSchema, Records, Store, StoreError};
+pub use record_store::{KnownSchema, Records, Store, StoreError, StoreNumber};
 pub use runtime::{
     Body, Built, Client, CommandError, CommitError, Done, End, EnterError, Gate, GatePoint,
-    OpenError, RunError, Seen, Txn, Waits, begin, build_worker, open,
+    OpenError, RunError, Seen, Txn, Waits, begin, begin_in, build_worker, build_worker_in, open,
 };
 pub use schedule::{AskedQuery, Command, Reply, SharedPlan};
 pub use session::Session;

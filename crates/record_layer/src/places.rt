@@ -4,13 +4,13 @@ ghost use Rattle.std.specs.Prelude.{◌≡◌, IfOk, is_some};
 ghost use Rattle.record_layer.specs.Databases.{is_conflict};
 
 use crate::database::NotCommitted;
-use crate::session::PREFIX;
 use crate::shown::{CellsShown, Span};
 use kv_core::{Bytes, KeyRange};
 use metadata::{
     Cells, IndexDefinition, IndexKind, PLACE_OF_BUILT_RANGES, PLACE_OF_ENTRIES, PLACE_OF_RECORDS,
     PLACE_OF_SCHEMA, PLACE_OF_STATES, Schema, TypeDefinition,
 };
+use record_store::StoreNumber;
 use std::alloc::{AllocError, Global};
 use std::fmt;
 use tuple_codec::{Element, Text, UnpackFailure, unpack, unpack_first};
@@ -90,10 +90,14 @@ fn number_first(alloc: Global, bytes: &[u8]) -> Result<Option<(u64, &[u8])>, All
     }
 }
 
-/// The number of its place with which a key of the store begins, and what stands after it.
+/// The number of its place with which a key of a store goes on behind the store's number, and what
+/// stands after it.
 fn place_first(alloc: Global, key: &Bytes) -> Result<Option<(u64, &[u8])>, AllocError> {
-    match key.as_slice().strip_prefix(&PREFIX) {
-        Some(rest) => number_first(alloc, rest),
+    let Some((number, rest)) = number_first(alloc, key.as_slice())? else {
+        return Ok(None);
+    };
+    match StoreNumber::new(number) {
+        Some(_) => number_first(alloc, rest),
         None => Ok(None),
     }
 }
@@ -222,7 +226,8 @@ fn numbered_place(
     }
 }
 
-/// Where in the store of this schema a range of keys begins, as the one of a conflict.
+/// Where in the store of this schema, whichever number it has, a range of keys begins, as the one
+/// of a conflict, whose keys are those of the transaction's own store.
 pub fn place_of(alloc: Global, schema: &Schema, range: &KeyRange) -> Result<Place, AllocError> {
     let Some((place, rest)) = place_first(alloc, range.begin())? else {
         return Ok(Place::Outside);

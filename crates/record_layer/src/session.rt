@@ -23,8 +23,8 @@ use std::alloc::Global;
 use std::marker::Model;
 use txn::Transaction;
 
-/// What each key of the store begins with, as in scripts and on threads: the pack of (1).
-pub(crate) const PREFIX: [u8; 2] = [0x15, 0x01];
+/// What each key of the store begins with, which is store 1: the pack of (1).
+const PREFIX: [u8; 2] = [0x15, 0x01];
 
 /// The open store of a database and a transaction over it, which is committed by what `session`
 /// was called on. Nothing else is committed while a session is open.

@@ -37,3 +37,4 @@ pub mod Widened
 pub mod PartReads
 pub mod Aggregates
 pub mod EightBytes
+pub mod Stores

@@ -1,5 +1,5 @@
 -- The keys and values that stand for a store under its prefix.
-use Rattle.std.specs.Prelude.{ℕ, List, [], ◌∷◌, ◌++◌, pos}
+use Rattle.std.specs.Prelude.{ℕ, Bool, ◌&&◌, nat_le, List, [], ◌∷◌, ◌++◌, pos}
 use Rattle.tuple_codec.specs.Codes.{highest_byte}
 use Rattle.tuple_codec.specs.Item.{int}
 use Rattle.tuple_codec.specs.Spelling.{spelling}
@@ -13,6 +13,18 @@ use Rattle.metadata.specs.Written.{schema_bytes}
 use Rattle.range_set.specs.Stored.{whole_range}
 pub use Rattle.metadata.specs.Layout.{place, record_key, record_value}
 pub use Rattle.index_maint.specs.Layout.{built_place}
+
+-- the number is one of a store
+abbrev pub is_store_number : ℕ → Bool
+is_store_number number = nat_le 1 number && nat_le number 65_535
+
+-- what each key of the store with this number begins with: the pack of (number)
+abbrev pub store_prefix : ℕ → List ℕ
+store_prefix number = spelling (int (pos number) ∷ [])
+
+-- that of store 1, byte by byte
+abbrev pub first_prefix : List ℕ
+first_prefix = 0x15 ∷ 0x01 ∷ []
 
 -- the key (0) of the schema
 abbrev pub schema_key : List ℕ → List ℕ

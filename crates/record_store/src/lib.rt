@@ -17,6 +17,7 @@ mod known;
 mod layout;
 mod load;
 mod marks;
+mod number;
 mod opening;
 mod parts;
 mod reading;
@@ -29,5 +30,6 @@ mod types;
 
 pub use error::StoreError;
 pub use known::KnownSchema;
+pub use number::{StoreNumber, stores_are_apart};
 pub use scan::Records;
 pub use store::Store;

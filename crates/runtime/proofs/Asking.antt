@@ -11,7 +11,7 @@ use Rattle.runtime.specs.declared.recent_outcomes.TheConstants.{KEPT_OUTCOMES}
 use Rattle.runtime.specs.declared.submission_status.SubmissionStatus.{SubmissionStatus}
 use Rattle.runtime.specs.declared.submission_status.SubmissionStatus.TheVariants.{Committed, Refused, Pending, Forgotten, NotSubmitted}
 use Rattle.runtime.specs.declared.worker_progress.Unsettled.{Unsettled}
-use Rattle.runtime.specs.Builds.{HasAsked}
+use Rattle.runtime.specs.Builds.{HasAsked, IndexIn}
 use Rattle.runtime.specs.Clients.{Knowledge}
 use Rattle.runtime.specs.Logs.{cause_next, count_of, has_submission, is_once, version_of}
 use Rattle.runtime.specs.Outcomes.{entry}
@@ -110,7 +110,7 @@ token_begins log before e false begins once there = by begins.0 begins.1
 
 -- ---- what the client is told
 
-module _ (index : List ℕ) (a b : Knowledge) (one : Unsettled) (asked : HasAsked a b) (is : IsUnsettled index a one) (low : 1 ≤ one.number) (high : one.number ≤ a.last) (status : SubmissionStatus)
+module _ (index : IndexIn) (a b : Knowledge) (one : Unsettled) (asked : HasAsked a b) (is : IsUnsettled index a one) (low : 1 ≤ one.number) (high : one.number ≤ a.last) (status : SubmissionStatus)
     (told : status ≡ told_status b.name.config b.log a.number a.last one.number) where
   number_same : b.number ≡ a.number
   number_same = ap (λ (k : Knowledge). k.number) asked.1

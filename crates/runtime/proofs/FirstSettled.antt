@@ -4,7 +4,7 @@ use Rattle.runtime.specs.declared.answers.RunError.{RunError}
 use Rattle.runtime.specs.declared.answers.RunError.TheVariants as runs
 use Rattle.runtime.specs.declared.worker_progress.Progress.{Progress}
 use Rattle.runtime.specs.declared.worker_progress.Unsettled.{Unsettled}
-use Rattle.runtime.specs.Builds.{HasAsked}
+use Rattle.runtime.specs.Builds.{HasAsked, IndexIn}
 use Rattle.runtime.specs.Clients.{Knowledge}
 use Rattle.runtime.specs.Logs.{is_once}
 use Rattle.runtime.specs.Runs.{GoesOnFrom}
@@ -18,7 +18,7 @@ above_zero low one lt = omega (arith, lt)
 below : {top low high : ℕ} → top ≤ low → high ≡ low → top ≤ high
 below le same = omega (arith, le, same)
 
-module _ (index : List ℕ) (old a b : Knowledge) (top : ℕ) (p : Progress) (one : Unsettled) (others : List Unsettled) (asked : HasAsked a b) (is : IsProgress index old a top p) (items : p.lost.items ≡ one ∷ others) where
+module _ (index : IndexIn) (old a b : Knowledge) (top : ℕ) (p : Progress) (one : Unsettled) (others : List Unsettled) (asked : HasAsked a b) (is : IsProgress index old a top p) (items : p.lost.items ≡ one ∷ others) where
   -- what is told of a number that was given
   abbrev IfGiven : Type 0 → Type 0
   IfGiven Tells = IsUnsettled index a one → 1 ≤ one.number → one.number ≤ a.last → Tells

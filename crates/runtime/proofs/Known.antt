@@ -26,9 +26,9 @@ reader_later view me longer None name this known = known
 
 -- the transaction goes on over its log, which the longer one begins with
 pub begun_on : (me known : Prefix) (open_tx after : OpenTransaction) → IsBegun me (Some open_tx) → known.name ≡ me.name → IsPrefix me.log known.log → after.prefix ≡ open_tx.prefix →
-    IsOpenOver open_tx.prefix.name.config open_tx.prefix.log after.transaction after.trace.attempts → after.transaction.read_version ≡ open_tx.transaction.read_version → IsBegun known (Some after)
+    IsOpenOver open_tx.prefix.name.config open_tx.prefix.log after.transaction after.trace → after.transaction.read_version ≡ open_tx.transaction.read_version → IsBegun known (Some after)
 begun_on me known open_tx after is name log prefix over version =
-    subst (λ (f : Prefix). (f.name ≡ known.name) × IsPrefix f.log known.log × IsOpenOver f.name.config f.log after.transaction after.trace.attempts × (after.transaction.read_version ≡ version_of f.name.config f.log)) (sym prefix)
+    subst (λ (f : Prefix). (f.name ≡ known.name) × IsPrefix f.log known.log × IsOpenOver f.name.config f.log after.transaction after.trace × (after.transaction.read_version ≡ version_of f.name.config f.log)) (sym prefix)
     (is.0 ∙ sym name, prefix_trans open_tx.prefix.log me.log known.log is.1 log, over, version ∙ is.3)
 
 -- a longer log begins with the one over which the transaction was begun

@@ -12,7 +12,7 @@ pub mod Numbers
 pub mod Places
 pub mod Reporting
 pub mod Answering
-pub mod Attempts
+pub mod RunAttempts
 pub mod Replying
 pub mod Works
 pub mod Serving

@@ -114,13 +114,13 @@ Taken n last log q r due =
     × (is_numbered (slice_set last due.submitted.client due.submitted.number) (log ++ submitted_entry due.submitted ∷ []) ≡ true)
 
 pub taken_next : (n : Name) (last : List ℕ) (log prefix : List Entry) (due : Due) (request : CommitRequest) (p q : PipelineState) (r : Reported) →
-    IsWellFormedLog n.config log → IsPrefix prefix log → IsOpenOver n.config prefix request due.submitted.trace.attempts → due.submitted.request.value ≡ request → is_numbered last log ≡ true → due.submitted.client < length last →
+    IsWellFormedLog n.config log → IsPrefix prefix log → IsOpenOver n.config prefix request due.submitted.trace → due.submitted.request.value ≡ request → is_numbered last log ≡ true → due.submitted.client < length last →
     slice_index last due.submitted.client < due.submitted.number → due.submitted.number ≡ count_of due.submitted.client log + 1 →
     p ≡ pipeline_of n.config log → q ≡ all_handled (submit request p) → r ≡ verdict request q → is_some (submit_refusal p request.read_version) ≡ false → due.mutations ≡ request.mutations → IsRecorded n log due →
     Taken n last log q r due
 taken_next n last log prefix due request p q r law begins over same num inside above turn old new told_so allowed copied recorded =
     let e : Entry = submitted_entry due.submitted in
-    let over_it : IsOpenOver n.config prefix e.request e.trace.attempts = subst (λ (v : CommitRequest). IsOpenOver n.config prefix v due.submitted.trace.attempts) (sym same) over in
+    let over_it : IsOpenOver n.config prefix e.request e.trace = subst (λ (v : CommitRequest). IsOpenOver n.config prefix v due.submitted.trace) (sym same) over in
     let handled : q ≡ all_handled (submit e.request p) = new ∙ ap (λ (v : CommitRequest). all_handled (submit v p)) (sym same) in
     let verdict_is : r ≡ verdict e.request q = told_so ∙ ap (λ (v : CommitRequest). verdict v q) (sym same) in
     let next = commit_next n.config log e p q r old handled verdict_is in
@@ -159,13 +159,13 @@ Held n last log q due =
 
 -- memory ran out after it was submitted
 pub held_next : (n : Name) (last : List ℕ) (log prefix : List Entry) (due : Due) (request : CommitRequest) (p q : PipelineState) →
-    IsWellFormedLog n.config log → IsPrefix prefix log → IsOpenOver n.config prefix request due.submitted.trace.attempts → due.submitted.request.value ≡ request → is_numbered last log ≡ true → due.submitted.client < length last →
+    IsWellFormedLog n.config log → IsPrefix prefix log → IsOpenOver n.config prefix request due.submitted.trace → due.submitted.request.value ≡ request → is_numbered last log ≡ true → due.submitted.client < length last →
     slice_index last due.submitted.client < due.submitted.number → due.submitted.number ≡ count_of due.submitted.client log + 1 →
     p ≡ pipeline_of n.config log → HeldError holds.Unknown request (without_servers p) (without_servers q) → due.mutations ≡ request.mutations → IsRecorded n log due →
     Held n last log q due
 held_next n last log prefix due request p q law begins over same num inside above turn old held copied recorded =
     let e : Entry = submitted_entry due.submitted in
-    let over_it : IsOpenOver n.config prefix e.request e.trace.attempts = subst (λ (v : CommitRequest). IsOpenOver n.config prefix v due.submitted.trace.attempts) (sym same) over in
+    let over_it : IsOpenOver n.config prefix e.request e.trace = subst (λ (v : CommitRequest). IsOpenOver n.config prefix v due.submitted.trace) (sym same) over in
     let stands = held.1.2.stands in
     let given : PipelineState = submit request p in
     let more : length (p.requests ++ request ∷ []) ≡ length p.requests + 1 = length-append p.requests (request ∷ []) in

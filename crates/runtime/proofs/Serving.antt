@@ -1,5 +1,5 @@
 -- What stands in the type of a log: its history is legal, and its map at each version holds the serial store.
-use Rattle.std.proofs.Common.{All, ◌≡◌, ℕ, suc, ◌+◌, ◌-◌, ◌<◌, ◌≤◌, Bool, true, false, cond, not, ◌==◌, nat_lt, List, [], ◌∷◌, ◌++◌, length, map, Option, None, Some, inl, inr, refl, sym, ap, ◌∙◌, subst, arith, append-nil, true≢false}
+use Rattle.std.proofs.Common.{◌≡◌, ℕ, suc, ◌+◌, ◌-◌, ◌<◌, ◌≤◌, Bool, true, false, cond, not, ◌==◌, nat_lt, List, [], ◌∷◌, ◌++◌, length, map, Option, None, Some, inl, inr, refl, sym, ap, ◌∙◌, subst, arith, append-nil, true≢false}
 use Rattle.std.proofs.lemmas.Bool.Decides.{nat_tests}
 use Rattle.std.proofs.lemmas.List.{length-map}
 use Rattle.std.proofs.lemmas.List.Elements.{All-contains, All-from_recursion}
@@ -25,20 +25,20 @@ use Rattle.schedule.specs.declared.step.Command.{Command}
 use Rattle.schedule.specs.declared.reply.Reply.{Reply}
 use Rattle.schedule.specs.declared.reply.Reply.TheVariants.{Stopped}
 use Rattle.schedule.specs.Exact.{IsSerialAt}
-use Rattle.schedule.specs.Holds.{Stands}
 use Rattle.schedule.specs.Past.{Attempt, Open, Submission, is_changed}
 use Rattle.schedule.specs.Performed.{IsCommandStopped, IsPerformed, IsReadRefusal}
-use Rattle.schedule.specs.Standing.{listed}
 use Rattle.schedule.specs.Turns.{AreDone, AreSubmitted, DidAttempt, IsOpenTransaction, fresh_request}
 use Rattle.schedule.proofs.Composed.{holds_committed, open_served, performed_right, serial_all}
 use Rattle.schedule.proofs.Promised.{all_answered, exact_indexes}
 use Rattle.schedule.proofs.Submitting.{numbered_length}
 use Rattle.schedule.proofs.Turning.{done_append, open_changed, open_grown}
 use Rattle.runtime.specs.declared.log_entry.Entry.{Entry}
-use Rattle.runtime.specs.declared.trace.Performed.{Performed}
+use Rattle.runtime.specs.declared.performed.Performed.{Performed}
+use Rattle.runtime.specs.declared.trace.Trace.{Trace}
 use Rattle.runtime.specs.Logs.{requests_of, version_of, numbered_of, history_of, log_map, pipeline_of}
-use Rattle.runtime.specs.Logs.{logged_mutations, log_tier, attempts_of, opened, submissions_of, committed_at}
-use Rattle.runtime.specs.Logs.{IsHeadlineOf, IsWellFormedLog, IsOpenOver, IsServedLog}
+use Rattle.runtime.specs.Logs.{logged_mutations, log_tier, submissions_of, committed_at}
+use Rattle.runtime.specs.Logs.{HoldsEach, IsHeadlineOf, IsSerialLog, IsWellFormedLog, IsOpenOver, IsServedLog}
+use Rattle.runtime.specs.Traces.{attempts_of, opened, with_performed}
 use Rattle.runtime.specs.Serves.{IsAnswer, stopped}
 use Rattle.txn.specs.Refusing.{MayRefuse}
 use Rattle.txn.specs.Runs.{Ran}
@@ -59,13 +59,12 @@ legal_of config log law =
     committed_is_legal config.resolver_splits (numbered_of config log) (rising-numbered config.start (requests_of log))
     (All-from_recursion (λ (e : histories.Entry). e.request.read_version < e.version) (numbered_of config log) (reads_below (log_map config log) (version_of config log) config.start (submissions_of config log) (requests_of log) law.submitted))
 
--- the map at each version holds what the accepted commands of the committed entries up to there give
-pub holds_of : (config : Config) (log : List Entry) → IsWellFormedLog config log → (v : ℕ) → v ≤ version_of config log → Stands (log_map config log v) (committed_at config log v)
+-- the map at each version holds of each store what the accepted commands of its committed entries up to there give
+pub holds_of : (config : Config) (log : List Entry) → IsWellFormedLog config log → HoldsEach config log
 holds_of config log law v below = holds_committed (pipeline_of config log) (submissions_of config log) (legal_of config log law) law.submitted v below
 
 -- version order is a serial order
-pub serial_of : (config : Config) (log : List Entry) → IsWellFormedLog config log →
-    All (λ (one : Submission). IsSerialAt (committed_at config log (one.version - 1)) one.transaction.attempts) (listed (pipeline_of config log) (submissions_of config log))
+pub serial_of : (config : Config) (log : List Entry) → IsWellFormedLog config log → IsSerialLog config log
 serial_of config log law = serial_all (pipeline_of config log) (submissions_of config log) (legal_of config log law) law.submitted
 
 -- the requests were those of open transactions
@@ -80,7 +79,7 @@ pub served_of : (config : Config) (log : List Entry) → IsWellFormedLog config 
 served_of config log law transaction (one, there, is) =
     let open_as = All-contains WasOpen (submissions_of config log) one
     (All-from_recursion WasOpen (submissions_of config log) (submitted_open (log_map config log) (version_of config log) config.start (submissions_of config log) (requests_of log) law.submitted)) there in
-    subst (λ (t : Open). IsSerialAt (committed_at config log t.read_version) t.attempts) is
+    subst (λ (t : Open). IsSerialAt (committed_at config log t.store t.read_version) t.attempts) is
     (open_served (pipeline_of config log) (submissions_of config log) (legal_of config log law) law.submitted one.transaction open_as.0 open_as.1)
   where
     WasOpen : Submission → Type 0
@@ -89,8 +88,8 @@ served_of config log law transaction (one, there, is) =
 -- the headline
 pub headline_of : (config : Config) (log : List Entry) → IsWellFormedLog config log → IsHeadlineOf config log
 headline_of config log law = record {
-  rows = λ transaction of_log. all_answered (committed_at config log transaction.read_version) transaction.attempts (served_of config log law transaction of_log);
-  indexes = λ version from upto. exact_indexes (log_map config log version) (committed_at config log version) (holds_of config log law version upto);
+  rows = λ transaction of_log. all_answered (committed_at config log transaction.store transaction.read_version) transaction.attempts (served_of config log law transaction of_log);
+  indexes = λ number lawful version from upto. exact_indexes number (log_map config log version) (committed_at config log number version) ((holds_of config log law version upto).each number lawful);
 }
 
 -- ---- what the servers that have pulled a log answer
@@ -168,9 +167,9 @@ ran_elsewhere maps maps2 {new = new} same ran = record {
   over = λ m agree. ran.over m (subst (λ (base : Map). Agree new.reads base m) (sym same) agree);
 }
 
-performed_elsewhere : (maps maps2 : ℕ → Map) (refuses : KeyRange → ReadError → Type 0) (command : Command) (answer : Reply) (old new : CommitRequest) → maps old.read_version ≡ maps2 old.read_version →
-    IsPerformed maps refuses command answer old new → IsPerformed maps2 refuses command answer old new
-performed_elsewhere maps maps2 refuses command answer old new same performed = record {
+performed_elsewhere : (number : ℕ) (maps maps2 : ℕ → Map) (refuses : KeyRange → ReadError → Type 0) (command : Command) (answer : Reply) (old new : CommitRequest) → maps old.read_version ≡ maps2 old.read_version →
+    IsPerformed number maps refuses command answer old new → IsPerformed number maps2 refuses command answer old new
+performed_elsewhere number maps maps2 refuses command answer old new same performed = record {
   opened = performed.opened;
   added = performed.added;
   written = performed.written;
@@ -179,8 +178,8 @@ performed_elsewhere maps maps2 refuses command answer old new same performed = r
 }
 
 -- a command that stopped did what one does that has not read all
-stopped_did : (maps : ℕ → Map) (command : Command) (old new : CommitRequest) → IsCommandStopped maps command old new → DidAttempt maps (record { command = command; reply = Stopped }) old new
-stopped_did maps command old new is = record {
+stopped_did : (number : ℕ) (maps : ℕ → Map) (command : Command) (old new : CommitRequest) → IsCommandStopped number maps command old new → DidAttempt number maps (record { command = command; reply = Stopped }) old new
+stopped_did number maps command old new is = record {
   added = is.added;
   written = [];
   changes = refl;
@@ -194,8 +193,8 @@ attempts_more (x ∷ xs) one = ap (λ (l : List Attempt). (record { command = x.
 abbrev attempt_of : Performed → Attempt
 attempt_of one = record { command = one.command; reply = one.reply }
 
-did_elsewhere : (maps maps2 : ℕ → Map) (attempt : Attempt) (old new : CommitRequest) → maps old.read_version ≡ maps2 old.read_version → DidAttempt maps attempt old new → DidAttempt maps2 attempt old new
-did_elsewhere maps maps2 attempt old new same did = record { added = did.added; written = did.written; changes = did.changes; ran = ran_elsewhere maps maps2 same did.ran }
+did_elsewhere : (number : ℕ) (maps maps2 : ℕ → Map) (attempt : Attempt) (old new : CommitRequest) → maps old.read_version ≡ maps2 old.read_version → DidAttempt number maps attempt old new → DidAttempt number maps2 attempt old new
+did_elsewhere number maps maps2 attempt old new same did = record { added = did.added; written = did.written; changes = did.changes; ran = ran_elsewhere maps maps2 same did.ran }
 
 none_some : (o : Option ReadError) {e : ReadError} → o ≡ None → o ≡ Some e → ⊥
 none_some None none some = cc
@@ -208,18 +207,18 @@ same_map config log ys version begins seen from near =
     tier_map config ys version from (let l = version_begins config log ys begins in omega (arith, seen, l)) near ∙ map_begins config log ys version begins seen
 
 -- the transaction's facts stand over its own log, and the reply is the serial store's for what it sees there
-pub answers_right : (config : Config) (log ys : List Entry) (old new : CommitRequest) (done : List Performed) (command : Command) (answer : Reply) → IsWellFormedLog config log → IsPrefix log ys → IsOpenOver config log old done → config.start ≤ old.read_version →
-    version_of config ys - old.read_version ≤ config.window → IsPerformed (whole_map (log_tier config ys)) (λ range. MayRefuse (log_tier config ys) range old.read_version) command answer old new →
-    IsOpenOver config log new (done ++ (record { command = command; reply = answer }) ∷ []) × IsAnswer config log old done command answer × (new.read_version ≡ old.read_version)
-answers_right config log ys old new done command answer law begins over from near performed =
+pub answers_right : (config : Config) (log ys : List Entry) (old new : CommitRequest) (trace : Trace) (command : Command) (answer : Reply) → IsWellFormedLog config log → IsPrefix log ys → IsOpenOver config log old trace → config.start ≤ old.read_version →
+    version_of config ys - old.read_version ≤ config.window → IsPerformed trace.store (whole_map (log_tier config ys)) (λ range. MayRefuse (log_tier config ys) range old.read_version) command answer old new →
+    IsOpenOver config log new (with_performed trace (record { command = command; reply = answer })) × IsAnswer config log old trace command answer × (new.read_version ≡ old.read_version)
+answers_right config log ys old new trace command answer law begins over from near performed =
     let seen : old.read_version ≤ version_of config log = over.seen in
     let reached : old.read_version ≤ version_of config ys = let l = version_begins config log ys begins in omega (arith, seen, l) in
     let same : whole_map (log_tier config ys) old.read_version ≡ log_map config log old.read_version = same_map config log ys old.read_version begins seen from near in
-    let here : IsPerformed (log_map config log) (λ range. MayRefuse (log_tier config ys) range old.read_version) command answer old new = performed_elsewhere (whole_map (log_tier config ys)) (log_map config log) _ command answer old new same performed in
-    let grown = open_grown (log_map config log) (version_of config log) (opened old done) old new (λ range. MayRefuse (log_tier config ys) range old.read_version) command answer over here in
-    let right = performed_right (pipeline_of config log) (submissions_of config log) (legal_of config log law) law.submitted (opened old done) old new (λ v range. MayRefuse (log_tier config ys) range v) command answer over here in
+    let here : IsPerformed trace.store (log_map config log) (λ range. MayRefuse (log_tier config ys) range old.read_version) command answer old new = performed_elsewhere trace.store (whole_map (log_tier config ys)) (log_map config log) _ command answer old new same performed in
+    let grown = open_grown (log_map config log) (version_of config log) (opened old trace) old new (λ range. MayRefuse (log_tier config ys) range old.read_version) command answer over here in
+    let right = performed_right (pipeline_of config log) (submissions_of config log) (legal_of config log law) law.submitted (opened old trace) old new (λ v range. MayRefuse (log_tier config ys) range v) command answer over here in
     let version : new.read_version ≡ old.read_version = performed.ran.version in (
-      subst (λ (o : Open). IsOpenTransaction (log_map config log) (version_of config log) o new) (λ i. record { read_version = sym version i; attempts = sym (attempts_more done (record { command = command; reply = answer })) i }) grown,
+      subst (λ (o : Open). IsOpenTransaction (log_map config log) (version_of config log) o new) (λ i. record { store = trace.store; read_version = sym version i; attempts = sym (attempts_more trace.attempts.list (record { command = command; reply = answer })) i }) grown,
       elim right [
         | inl served ↦ served
         | inr refused ↦ absurd (unrefused (λ range. MayRefuse (log_tier config ys) range old.read_version) _ answer (λ range error is. none_some (refusal (log_tier config ys) range old.read_version) (tier_answers config ys range old.read_version reached near) is) refused)
@@ -228,31 +227,33 @@ answers_right config log ys old new done command answer law begins over from nea
     )
 
 -- the transaction goes on where a command stopped
-pub stops_right : (config : Config) (log ys : List Entry) (old new : CommitRequest) (done : List Performed) (command : Command) → IsPrefix log ys → IsOpenOver config log old done → config.start ≤ old.read_version →
-    version_of config ys - old.read_version ≤ config.window → IsCommandStopped (whole_map (log_tier config ys)) command old new →
-    IsOpenOver config log new (done ++ stopped command ∷ []) × (new.mutations ≡ old.mutations) × (new.read_version ≡ old.read_version)
-stops_right config log ys old new done command begins over from near is =
+pub stops_right : (config : Config) (log ys : List Entry) (old new : CommitRequest) (trace : Trace) (command : Command) → IsPrefix log ys → IsOpenOver config log old trace → config.start ≤ old.read_version →
+    version_of config ys - old.read_version ≤ config.window → IsCommandStopped trace.store (whole_map (log_tier config ys)) command old new →
+    IsOpenOver config log new (with_performed trace (stopped command)) × (new.mutations ≡ old.mutations) × (new.read_version ≡ old.read_version)
+stops_right config log ys old new trace command begins over from near is =
     let same : whole_map (log_tier config ys) old.read_version ≡ log_map config log old.read_version = same_map config log ys old.read_version begins over.seen from near in
-    let did = did_elsewhere (whole_map (log_tier config ys)) (log_map config log) (attempt_of (stopped command)) old new same (stopped_did (whole_map (log_tier config ys)) command old new is) in
+    let did = did_elsewhere trace.store (whole_map (log_tier config ys)) (log_map config log) (attempt_of (stopped command)) old new same (stopped_did trace.store (whole_map (log_tier config ys)) command old new is) in
     let version : new.read_version ≡ old.read_version = is.ran.version in (
       record {
+        store = over.store;
         at = refl;
         seen = subst (λ (v : ℕ). v ≤ version_of config log) (sym version) over.seen;
-        done = subst (λ (attempts : List Attempt). AreDone (log_map config log) attempts (fresh_request new.read_version) new) (sym (attempts_more done (stopped command)))
-            (done_append (log_map config log) (attempts_of done) (attempt_of (stopped command)) (fresh_request new.read_version) old new (subst (λ (v : ℕ). AreDone (log_map config log) (attempts_of done) (fresh_request v) old) (sym version) over.done) did);
+        done = subst (λ (attempts : List Attempt). AreDone trace.store (log_map config log) attempts (fresh_request new.read_version) new) (sym (attempts_more trace.attempts.list (stopped command)))
+            (done_append trace.store (log_map config log) (attempts_of trace.attempts.list) (attempt_of (stopped command)) (fresh_request new.read_version) old new
+            (subst (λ (v : ℕ). AreDone trace.store (log_map config log) (attempts_of trace.attempts.list) (fresh_request v) old) (sym version) over.done) did);
       },
       is.ran.wrote ∙ append-nil old.mutations,
       version,
     )
 
 -- a transaction without mutations has changed nothing
-pub unchanged : (config : Config) (log : List Entry) (request : CommitRequest) (done : List Performed) → IsOpenOver config log request done → request.mutations ≡ [] → is_changed (attempts_of done) ≡ false
-unchanged config log request done over none = open_changed (log_map config log) (version_of config log) (opened request done) request over ∙ ap (λ (ms : List Mutation). not (length ms == 0)) none
+pub unchanged : (config : Config) (log : List Entry) (request : CommitRequest) (trace : Trace) → IsOpenOver config log request trace → request.mutations ≡ [] → is_changed (attempts_of trace.attempts.list) ≡ false
+unchanged config log request trace over none = open_changed (log_map config log) (version_of config log) (opened request trace) request over ∙ ap (λ (ms : List Mutation). not (length ms == 0)) none
 
 none_of_none : (ms : List Mutation) → not (length ms == 0) ≡ false → ms ≡ []
 none_of_none [] h = refl
 none_of_none (m ∷ ms) h = let some : (suc (length ms) == 0) ≡ false = grind (arith, nat_tests) in absurd (true≢false (ap not (sym some) ∙ h))
 
 -- one that has changed nothing has none
-pub nothing_written : (config : Config) (log : List Entry) (request : CommitRequest) (done : List Performed) → IsOpenOver config log request done → is_changed (attempts_of done) ≡ false → request.mutations ≡ []
-nothing_written config log request done over none = none_of_none request.mutations (sym (open_changed (log_map config log) (version_of config log) (opened request done) request over) ∙ none)
+pub nothing_written : (config : Config) (log : List Entry) (request : CommitRequest) (trace : Trace) → IsOpenOver config log request trace → is_changed (attempts_of trace.attempts.list) ≡ false → request.mutations ≡ []
+nothing_written config log request trace over none = none_of_none request.mutations (sym (open_changed (log_map config log) (version_of config log) (opened request trace) request over) ∙ none)

@@ -13,7 +13,7 @@ use Rattle.runtime.specs.declared.open_transaction.OpenTransaction.{OpenTransact
 use Rattle.runtime.specs.declared.outcome.Outcome.{Outcome}
 use Rattle.runtime.specs.declared.outcome.Outcome.TheVariants as outcomes
 use Rattle.runtime.specs.declared.trace.Trace.{Trace}
-use Rattle.runtime.specs.Builds.{Commits, HasAsked, IsSubmission, IsTooMuch, IsWorkerRound}
+use Rattle.runtime.specs.Builds.{Commits, HasAsked, IndexIn, IsSubmission, IsTooMuch, IsWorkerRound}
 use Rattle.runtime.specs.Builds.{has_marked, own_of}
 use Rattle.runtime.specs.Clients.{Knowledge}
 use Rattle.runtime.specs.Logs.{IsWellFormedLog, has_submission}
@@ -21,7 +21,7 @@ use Rattle.runtime.specs.Outcomes.{entry}
 use Rattle.runtime.specs.Runs.{GoesOnFrom}
 use Rattle.runtime.specs.Settles.{AreUnsettled, Counted, HasCounted, IsProgress, IsSettledUpto, IsUnsettled}
 use Rattle.runtime.specs.Settles.{NoneStands, Overflows, upto}
-use Rattle.runtime.proofs.Attempts.{follows_self, follows_trans}
+use Rattle.runtime.proofs.RunAttempts.{follows_self, follows_trans}
 use Rattle.runtime.proofs.Beginnings.{prefix_trans}
 use Rattle.runtime.proofs.Counting.{own_none}
 use Rattle.runtime.proofs.Numbers.{number_begins, number_of_last}
@@ -31,7 +31,7 @@ use Rattle.runtime.proofs.Unsettled.{asked_follows, asked_last, none_open}
 
 -- ---- a round more
 
-pub nothing_yet : (index : List ℕ) (k : Knowledge) (p : Progress) → p.built.records ≡ 0 → p.built.steps ≡ 0 → p.marked ≡ false → p.lost.items ≡ [] → IsProgress index k k k.last p
+pub nothing_yet : (index : IndexIn) (k : Knowledge) (p : Progress) → p.built.records ≡ 0 → p.built.steps ≡ 0 → p.marked ≡ false → p.lost.items ≡ [] → IsProgress index k k k.last p
 nothing_yet index k p records steps marked lost =
     let none = counted_first index k in record {
       above = k.last;
@@ -55,7 +55,7 @@ commits_later a b c open_tx known name number grown last commits = commits_from 
       | inr told ↦ inr (told.0, (told.1.0, submits (outcomes.Conflict told.0 told.1.0) told.1.1))
     ]
 
-round_later : (index : List ℕ) (round : Round) (a b c : Knowledge) → c.name ≡ a.name → c.number ≡ a.number → IsPrefix b.log c.log → c.last ≡ b.last → IsWorkerRound index (Some round) a b → IsWorkerRound index (Some round) (upto a.last c) c
+round_later : (index : IndexIn) (round : Round) (a b c : Knowledge) → c.name ≡ a.name → c.number ≡ a.number → IsPrefix b.log c.log → c.last ≡ b.last → IsWorkerRound index (Some round) a b → IsWorkerRound index (Some round) (upto a.last c) c
 round_later index (Built more) a b c name number grown last is = (is.0, is.1, commits_later a b c is.0 true name number grown last is.2)
 round_later index Marked a b c name number grown last is = (is.0, is.1, commits_later a b c is.0 true name number grown last is.2)
 
@@ -64,11 +64,11 @@ stands_there k top request trace outcome is =
     let e : Entry = entry k.number (top + 1) request trace in
     number_begins k.number (top + 1) (is.1.0 ++ e ∷ []) k.log (subst (λ (l : List Entry). IsPrefix l k.log) is.1.1 is.2) (number_of_last k.number (top + 1) is.1.0 e refl refl)
 
-round_there : (index : List ℕ) (round : Round) (k : Knowledge) (top : ℕ) → IsWorkerRound index (Some round) (upto top k) k → has_submission k.number (top + 1) k.log ≡ true
+round_there : (index : IndexIn) (round : Round) (k : Knowledge) (top : ℕ) → IsWorkerRound index (Some round) (upto top k) k → has_submission k.number (top + 1) k.log ≡ true
 round_there index (Built more) k top is = stands_there k top is.0.transaction is.0.trace (outcomes.Committed is.2.0) is.2.1
 round_there index Marked k top is = stands_there k top is.0.transaction is.0.trace (outcomes.Committed is.2.0) is.2.1
 
-module _ (index : List ℕ) (old k : Knowledge) (top : ℕ) (p q : Progress) (is : IsSettledUpto index old k top p) (law : IsWellFormedLog k.name.config k.log) (lost : q.lost.items ≡ p.lost.items) where
+module _ (index : IndexIn) (old k : Knowledge) (top : ℕ) (p q : Progress) (is : IsSettledUpto index old k top p) (law : IsWellFormedLog k.name.config k.log) (lost : q.lost.items ≡ p.lost.items) where
   -- all is settled where the next number stands
   nothing_open : has_submission k.number (top + 1) k.log ≡ true → p.lost.items ≡ []
   nothing_open there = none_open index k is.0.above top p.lost.items is.0.lost is.1 law.in_turn there
@@ -118,7 +118,7 @@ module _ (index : List ℕ) (old k : Knowledge) (top : ℕ) (p q : Progress) (is
       too_much index old (upto top k) k p q (upto_from old k top is.0.follows) (upto_all k top) law.once round (known none) came over
 
 -- a round began after these were settled or are lost, and then the client asked
-module _ (index : List ℕ) (old a b c : Knowledge) (p q : Progress) (on : GoesOnFrom a b) (asked : HasAsked b c) (law : IsWellFormedLog c.name.config c.log) (is : IsSettledUpto index old c a.last p) where
+module _ (index : IndexIn) (old a b c : Knowledge) (p q : Progress) (on : GoesOnFrom a b) (asked : HasAsked b c) (law : IsWellFormedLog c.name.config c.log) (is : IsSettledUpto index old c a.last p) where
   later : (round : Round) → IsWorkerRound index (Some round) a b → IsWorkerRound index (Some round) (upto a.last c) c
   later round came =
       let all : GoesOnFrom a c = follows_trans on (asked_follows b c asked) in
@@ -153,7 +153,7 @@ module _ (index : List ℕ) (old a b c : Knowledge) (p q : Progress) (on : GoesO
   ]
 
 -- one more is lost
-pub lost_then : (index : List ℕ) (old k : Knowledge) (top : ℕ) (p q : Progress) (one : Unsettled) → k.last ≡ top + 1 → one.number ≡ k.last → IsUnsettled index k one → IsProgress index old k top p → q.built ≡ p.built → q.marked ≡ p.marked → q.lost.items ≡ p.lost.items ++ one ∷ [] →
+pub lost_then : (index : IndexIn) (old k : Knowledge) (top : ℕ) (p q : Progress) (one : Unsettled) → k.last ≡ top + 1 → one.number ≡ k.last → IsUnsettled index k one → IsProgress index old k top p → q.built ≡ p.built → q.marked ≡ p.marked → q.lost.items ≡ p.lost.items ++ one ∷ [] →
     IsProgress index old k k.last q
 lost_then index old k top p q one next number unsettled is built marked lost = record {
   above = is.above;
@@ -165,7 +165,7 @@ lost_then index old k top p q one next number unsettled is built marked lost = r
 }
 
 -- it is the same where nothing of it changed
-pub progress_same : (index : List ℕ) (old k : Knowledge) (top : ℕ) (p q : Progress) → q.built ≡ p.built → q.marked ≡ p.marked → q.lost.items ≡ p.lost.items → IsProgress index old k top p → IsProgress index old k top q
+pub progress_same : (index : IndexIn) (old k : Knowledge) (top : ℕ) (p q : Progress) → q.built ≡ p.built → q.marked ≡ p.marked → q.lost.items ≡ p.lost.items → IsProgress index old k top p → IsProgress index old k top q
 progress_same index old k top p q built marked lost is = record {
   above = is.above;
   follows = is.follows;

@@ -18,7 +18,7 @@ wrote client number read_version reads = record {
   client = client;
   number = number;
   request = record { read_version = read_version; reads = reads; mutations = Set (1 ∷ []) (9 ∷ []) ∷ [] };
-  trace = record { attempts = [] };
+  trace = record { store = 1; attempts = record { list = [] } };
 }
 
 -- client 0 writes the key; client 1, which had read it before that, is refused; client 0 writes it again

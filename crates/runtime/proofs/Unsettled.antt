@@ -19,7 +19,7 @@ use Rattle.runtime.specs.declared.submission_status.SubmissionStatus.TheVariants
 use Rattle.runtime.specs.declared.trace.Trace.{Trace}
 use Rattle.runtime.specs.declared.answers.RunError.{RunError}
 use Rattle.runtime.specs.declared.answers.RunError.TheVariants as runs
-use Rattle.runtime.specs.Builds.{HasAsked, IsBuilt, IsSubmission, IsTooMuch, IsWorkerRound}
+use Rattle.runtime.specs.Builds.{HasAsked, IndexIn, IsBuilt, IsSubmission, IsTooMuch, IsWorkerRound}
 use Rattle.runtime.specs.Builds.{committed_behind, entry_has_built, has_marked, own_of, records_built}
 use Rattle.runtime.specs.Clients.{Knowledge, knows_that}
 use Rattle.runtime.specs.History.{Name}
@@ -29,7 +29,7 @@ use Rattle.runtime.specs.Runs.{GoesOnFrom}
 use Rattle.runtime.specs.Settles.{AreTokensOf, AreUnsettled, Counted, HasCounted, IsProgress, IsSettledUpto, TellsOne, IsUnsettled}
 use Rattle.runtime.specs.Settles.{AskingEnds, IsWithheld, NoneStands, Overflows, upto}
 use Rattle.runtime.specs.Submissions.{outcome_in, status_next}
-use Rattle.runtime.proofs.Attempts.{follows_trans}
+use Rattle.runtime.proofs.RunAttempts.{follows_trans}
 use Rattle.runtime.proofs.Beginnings.{prefix_self, prefix_trans}
 use Rattle.runtime.proofs.Counting.{none_before_by, own_rest, stands_below, sum_wider}
 use Rattle.runtime.proofs.Rounds.{built_marks, counted_by, counted_marked, marked_next, nothing_marks, nothing_next}
@@ -38,11 +38,11 @@ use Rattle.runtime.proofs.Works.{worker_round}
 
 -- ---- in order
 
-pub above_le : (index : List ℕ) (k : Knowledge) (above top : ℕ) (lost : List Unsettled) → AreUnsettled index k above top lost → above ≤ top
+pub above_le : (index : IndexIn) (k : Knowledge) (above top : ℕ) (lost : List Unsettled) → AreUnsettled index k above top lost → above ≤ top
 above_le index k above top [] are = omega (arith, are)
 above_le index k above top (one ∷ others) are = let le : above + 1 ≤ top = above_le index k (above + 1) top others are.2 in omega (arith, le)
 
-pub names_of : (index : List ℕ) (k : Knowledge) (above top : ℕ) (lost : List Unsettled) → AreUnsettled index k above top lost → AreTokensOf k.name lost
+pub names_of : (index : IndexIn) (k : Knowledge) (above top : ℕ) (lost : List Unsettled) → AreUnsettled index k above top lost → AreTokensOf k.name lost
 names_of index k above top [] are = tt
 names_of index k above top (one ∷ others) are = (are.1.1.1.0, names_of index k (above + 1) top others are.2)
 
@@ -51,7 +51,7 @@ names_more name [] one are is = (is, tt)
 names_more name (first ∷ others) one are is = (are.0, names_more name others one are.1 is)
 
 -- they stay where the name, the client's number and the numbers stay
-pub unsettled_kept : (index : List ℕ) (a b : Knowledge) (above top : ℕ) (lost : List Unsettled) → b.name ≡ a.name → b.number ≡ a.number → AreUnsettled index a above top lost → AreUnsettled index b above top lost
+pub unsettled_kept : (index : IndexIn) (a b : Knowledge) (above top : ℕ) (lost : List Unsettled) → b.name ≡ a.name → b.number ≡ a.number → AreUnsettled index a above top lost → AreUnsettled index b above top lost
 unsettled_kept index a b above top [] name number are = are
 unsettled_kept index a b above top (one ∷ others) name number are =
     let own = are.1 in (
@@ -61,7 +61,7 @@ unsettled_kept index a b above top (one ∷ others) name number are =
     )
 
 -- with one more, which has the next number
-pub unsettled_more : (index : List ℕ) (k : Knowledge) (above top : ℕ) (lost : List Unsettled) (one : Unsettled) → one.number ≡ top + 1 → IsUnsettled index k one → AreUnsettled index k above top lost → AreUnsettled index k above (top + 1) (lost ++ one ∷ [])
+pub unsettled_more : (index : IndexIn) (k : Knowledge) (above top : ℕ) (lost : List Unsettled) (one : Unsettled) → one.number ≡ top + 1 → IsUnsettled index k one → AreUnsettled index k above top lost → AreUnsettled index k above (top + 1) (lost ++ one ∷ [])
 unsettled_more index k above top [] one next is are = (next ∙ ap (λ (n : ℕ). n + 1) are, is, ap (λ (n : ℕ). n + 1) are)
 unsettled_more index k above top (first ∷ others) one next is are = (are.0, are.1, unsettled_more index k (above + 1) top others one next is are.2)
 
@@ -84,7 +84,7 @@ decides config before log e begins once =
     ap (λ (l : List Entry). outcome_in config l e.client e.number) (sym all) ∙ outcome_of_entry config before begins.0 e none
 
 -- what the log says of a submission that is lost is decided by the entries before its own
-settled_next : (index : List ℕ) (old new : Knowledge) (one : Unsettled) (status : SubmissionStatus) → (is : IsUnsettled index old one) → IsPrefix one.prefix.log new.log → is_once new.log ≡ true → outcome_in old.name.config new.log old.number one.number ≡ status →
+settled_next : (index : IndexIn) (old new : Knowledge) (one : Unsettled) (status : SubmissionStatus) → (is : IsUnsettled index old one) → IsPrefix one.prefix.log new.log → is_once new.log ≡ true → outcome_in old.name.config new.log old.number one.number ≡ status →
     status_next old.name.config is.1.1.1.0 is.0 ≡ status
 settled_next index old new one status is begins once told =
     let e : Entry = entry old.number one.number is.0 is.1.0 in
@@ -92,7 +92,7 @@ settled_next index old new one status is begins once told =
     sym (decides old.name.config is.1.1.1.0 new.log e grown once) ∙ told
 
 -- so one that is committed was, as if that had been told
-pub settled_committed : (index : List ℕ) (old new : Knowledge) (above v : ℕ) (one : Unsettled) → one.number ≡ above + 1 → (is : IsUnsettled index old one) → IsPrefix one.prefix.log new.log → is_once new.log ≡ true →
+pub settled_committed : (index : IndexIn) (old new : Knowledge) (above v : ℕ) (one : Unsettled) → one.number ≡ above + 1 → (is : IsUnsettled index old one) → IsPrefix one.prefix.log new.log → is_once new.log ≡ true →
     outcome_in old.name.config new.log old.number one.number ≡ Committed v → IsSubmission (upto above old) (upto (above + 1) new) is.0 is.1.0 (outcomes.Committed v)
 settled_committed index old new above v one next is begins once told =
     let before : List Entry = is.1.1.1.0 in
@@ -101,7 +101,7 @@ settled_committed index old new above v one next is begins once told =
     (one.prefix.log, (before, is.1.1.1.1 ∙ ap (λ (n : ℕ). before ++ entry old.number n is.0 is.1.0 ∷ []) next, reason), begins, refl)
 
 -- and so one that is refused
-pub settled_refused : (index : List ℕ) (old new : Knowledge) (above : ℕ) (one : Unsettled) → one.number ≡ above + 1 → (is : IsUnsettled index old one) → IsPrefix one.prefix.log new.log → is_once new.log ≡ true →
+pub settled_refused : (index : IndexIn) (old new : Knowledge) (above : ℕ) (one : Unsettled) → one.number ≡ above + 1 → (is : IsUnsettled index old one) → IsPrefix one.prefix.log new.log → is_once new.log ≡ true →
     outcome_in old.name.config new.log old.number one.number ≡ Refused → (cause : Cause) × IsSubmission (upto above old) (upto (above + 1) new) is.0 is.1.0 (outcomes.Conflict cause.seen cause.range)
 settled_refused index old new above one next is begins once told =
     let before : List Entry = is.1.1.1.0 in
@@ -110,7 +110,7 @@ settled_refused index old new above one next is begins once told =
 
 -- ---- a round that is committed, or comes to nothing
 
-module _ (index : List ℕ) (old mid new : Knowledge) (p q : Progress) (before : GoesOnFrom old mid) (after : GoesOnFrom mid new) (once : is_once new.log ≡ true) where
+module _ (index : IndexIn) (old mid new : Knowledge) (p q : Progress) (before : GoesOnFrom old mid) (after : GoesOnFrom mid new) (once : is_once new.log ≡ true) where
   abbrev pub Knows : Knowledge → Progress → Type 0
   Knows k r = Counted index old k r.built.steps r.built.records × (r.marked ≡ list_any (has_marked index) (own_of old k))
 
@@ -152,7 +152,7 @@ pub upto_all : (k : Knowledge) (above : ℕ) → GoesOnFrom (upto above k) k
 upto_all k above = record { name = refl; number = refl; log = prefix_self k.log }
 
 -- the log may have grown
-pub kept : (index : List ℕ) (old a b : Knowledge) (top : ℕ) (p : Progress) → GoesOnFrom a b → is_once b.log ≡ true → top ≤ b.last → IsProgress index old a top p → IsProgress index old b top p
+pub kept : (index : IndexIn) (old a b : Knowledge) (top : ℕ) (p : Progress) → GoesOnFrom a b → is_once b.log ≡ true → top ≤ b.last → IsProgress index old a top p → IsProgress index old b top p
 kept index old a b top p on once le is =
     let knows = counted_nothing index old (upto is.above a) (upto is.above b) p p (upto_from old a is.above is.follows) (upto_both a b is.above is.above on) once (is.counted, is.marked) (inl refl) refl refl in
     record {
@@ -174,12 +174,12 @@ told_before a b number status on is =
 abbrev tx_of : Unsettled → CommitRequest → Trace → OpenTransaction
 tx_of one request trace = record { prefix = one.prefix; transaction = request; trace = trace }
 
-committed_open : (index : List ℕ) (a b : Knowledge) (above : ℕ) (one : Unsettled) → GoesOnFrom a b → is_once b.log ≡ true → one.number ≡ above + 1 → IsUnsettled index a one → TellsOne b one (Some true) → IsWorkerRound index (Some one.round) (upto above a) (upto (above + 1) b)
+committed_open : (index : IndexIn) (a b : Knowledge) (above : ℕ) (one : Unsettled) → GoesOnFrom a b → is_once b.log ≡ true → one.number ≡ above + 1 → IsUnsettled index a one → TellsOne b one (Some true) → IsWorkerRound index (Some one.round) (upto above a) (upto (above + 1) b)
 committed_open index a b above one on once next is told =
     worker_round index one.round (upto above a) (upto (above + 1) b) (tx_of one is.0 is.1.0) is.1.2
     (told.1.0, settled_committed index a b above told.1.0 one next is told.0 once (told_before a b one.number (Committed told.1.0) on told.1.1))
 
-refused_open : (index : List ℕ) (a b : Knowledge) (above : ℕ) (one : Unsettled) → GoesOnFrom a b → is_once b.log ≡ true → one.number ≡ above + 1 → IsUnsettled index a one → TellsOne b one (Some false) → IsWorkerRound index None (upto above a) (upto (above + 1) b)
+refused_open : (index : IndexIn) (a b : Knowledge) (above : ℕ) (one : Unsettled) → GoesOnFrom a b → is_once b.log ≡ true → one.number ≡ above + 1 → IsUnsettled index a one → TellsOne b one (Some false) → IsWorkerRound index None (upto above a) (upto (above + 1) b)
 refused_open index a b above one on once next is told =
     let why = settled_refused index a b above one next is told.0 once (told_before a b one.number Refused on told.1) in
     inr (tx_of one is.0 is.1.0, inr (why.0.seen, (why.0.range, why.1)))
@@ -191,13 +191,13 @@ above_all : (x y z : ℕ) → x ≤ y → y ≤ z → x ≤ z
 above_all x y z p q = omega (arith, p, q)
 
 -- what is too much up to a number is too much
-wide_enough : (index : List ℕ) (old b : Knowledge) (n : ℕ) → n ≤ b.last → IsTooMuch index old (upto n b) → IsTooMuch index old b
+wide_enough : (index : IndexIn) (old b : Knowledge) (n : ℕ) → n ≤ b.last → IsTooMuch index old (upto n b) → IsTooMuch index old b
 wide_enough index old b n le much = elim much [
   | inl records ↦ inl (above_all (2 ^ 64) (sum_by (records_built index) (own_of old (upto n b))) (sum_by (records_built index) (own_of old b)) records (wider old b n (records_built index) le))
   | inr steps ↦ inr (above_all (2 ^ 64) (count_by (entry_has_built index) (own_of old (upto n b))) (count_by (entry_has_built index) (own_of old b)) steps (wider old b n (λ (e : Entry). cond (entry_has_built index e) 1 0) le))
 ]
 
-module _ (index : List ℕ) (old a b : Knowledge) (top : ℕ) (p : Progress) (one : Unsettled) (others : List Unsettled) (on : GoesOnFrom a b) (same : b.last ≡ a.last)
+module _ (index : IndexIn) (old a b : Knowledge) (top : ℕ) (p : Progress) (one : Unsettled) (others : List Unsettled) (on : GoesOnFrom a b) (same : b.last ≡ a.last)
     (is : IsProgress index old a top p) (items : p.lost.items ≡ one ∷ others) where
   pub first_open : AreUnsettled index a is.above top (one ∷ others)
   first_open = subst (AreUnsettled index a is.above top) items is.lost
@@ -236,7 +236,7 @@ module _ (index : List ℕ) (old a b : Knowledge) (top : ℕ) (p : Progress) (on
   pub first_gives_up : (error : RunError) → error ≡ runs.GaveUp → IsTooMuch index old b → AskingEnds index old b error
   first_gives_up error gives_up much = subst (AskingEnds index old b) (sym gives_up) (inl much)
 
-module _ (index : List ℕ) (old a b : Knowledge) (top : ℕ) (p : Progress) (one : Unsettled) (others : List Unsettled) (on : GoesOnFrom a b) (same : b.last ≡ a.last) (once : is_once b.log ≡ true)
+module _ (index : IndexIn) (old a b : Knowledge) (top : ℕ) (p : Progress) (one : Unsettled) (others : List Unsettled) (on : GoesOnFrom a b) (same : b.last ≡ a.last) (once : is_once b.log ≡ true)
     (is : IsProgress index old a top p) (items : p.lost.items ≡ one ∷ others) where
   own_first : AreUnsettled index a is.above top (one ∷ others)
   own_first = first_open index old a b top p one others on same is items
@@ -265,7 +265,7 @@ module _ (index : List ℕ) (old a b : Knowledge) (top : ℕ) (p : Progress) (on
 
 -- ---- none of those that are lost stands
 
-pub none_open : (index : List ℕ) (k : Knowledge) (above top : ℕ) (lost : List Unsettled) → AreUnsettled index k above top lost → NoneStands k lost → are_in_turn [] k.log ≡ true → has_submission k.number (top + 1) k.log ≡ true → lost ≡ []
+pub none_open : (index : IndexIn) (k : Knowledge) (above top : ℕ) (lost : List Unsettled) → AreUnsettled index k above top lost → NoneStands k lost → are_in_turn [] k.log ≡ true → has_submission k.number (top + 1) k.log ≡ true → lost ≡ []
 none_open index k above top [] are none turn there = refl
 none_open index k above top (one ∷ others) are none turn there =
     let le : above + 1 ≤ top = above_le index k (above + 1) top others are.2 in
@@ -273,7 +273,7 @@ none_open index k above top (one ∷ others) are none turn there =
     let stands : has_submission k.number one.number k.log ≡ true = stands_below k.number one.number (top + 1) k.log turn (omega (arith, next)) (omega (arith, next, le)) there in
     absurd (true≢false (sym stands ∙ none))
 
-rest_none : (index : List ℕ) (k : Knowledge) (above top : ℕ) (lost : List Unsettled) → AreUnsettled index k above top lost → NoneStands k lost → are_in_turn [] k.log ≡ true → (n : ℕ) → above < n → n ≤ top → has_submission k.number n k.log ≡ false
+rest_none : (index : IndexIn) (k : Knowledge) (above top : ℕ) (lost : List Unsettled) → AreUnsettled index k above top lost → NoneStands k lost → are_in_turn [] k.log ≡ true → (n : ℕ) → above < n → n ≤ top → has_submission k.number n k.log ≡ false
 rest_none index k above top [] are none turn n low high = absurd (omega (arith, are, low, high))
 rest_none index k above top (one ∷ others) are none turn n low high = by (has_submission k.number n k.log) refl
   where
@@ -284,7 +284,7 @@ rest_none index k above top (one ∷ others) are none turn n low high = by (has_
         absurd (true≢false (sym stands ∙ none))
     by false is = is
 
-module _ (index : List ℕ) (old k : Knowledge) (p : Progress) (is : IsSettledUpto index old k k.last p) (law : IsWellFormedLog k.name.config k.log) where
+module _ (index : IndexIn) (old k : Knowledge) (p : Progress) (is : IsSettledUpto index old k k.last p) (law : IsWellFormedLog k.name.config k.log) where
   -- what is committed of all its submissions is what is committed of those that are settled
   own_settled : own_of old k ≡ own_of old (upto is.0.above k)
   own_settled =

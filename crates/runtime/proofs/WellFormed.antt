@@ -14,12 +14,16 @@ use Rattle.cluster_core.specs.Roles.{PipelineState, all_handled, submit, submitt
 use Rattle.kv_core.specs.Map.{Map}
 use Rattle.kv_core.specs.declared.change.CommitRequest.{CommitRequest}
 use Rattle.schedule.specs.Past.{Submission}
-use Rattle.schedule.specs.Turns.{AreSubmitted, fresh_request}
+use Rattle.record_store.specs.Layout.{is_store_number}
+use Rattle.schedule.specs.Turns.{AreSubmitted, IsOpenTransaction, fresh_request}
 use Rattle.schedule.proofs.Turning.{open_elsewhere, open_fresh, open_later}
 use Rattle.schedule.proofs.Submitting.{submitted_more, submitted_later}
 use Rattle.runtime.specs.declared.log_entry.Entry.{Entry}
-use Rattle.runtime.specs.Logs.{requests_of, version_of, log_map, pipeline_of, opened, submissions_from}
+use Rattle.runtime.specs.declared.performed.Performed.{Performed}
+use Rattle.runtime.specs.declared.trace.Trace.{Trace}
+use Rattle.runtime.specs.Logs.{requests_of, version_of, log_map, pipeline_of, submissions_from}
 use Rattle.runtime.specs.Logs.{submissions_of, IsOpenOver, is_same_submission, is_once, IsWellFormedLog, count_of, is_numbered}
+use Rattle.runtime.specs.Traces.{attempts_of, opened}
 use Rattle.runtime.proofs.Entries.{requests_append, map_begins, version_begins, version_next}
 use Rattle.runtime.proofs.Submissions.{in_turn_more}
 
@@ -107,23 +111,23 @@ pipeline_next config log e =
 -- ---- one entry more
 
 submissions_more : (last : ℕ) (log : List Entry) (e : Entry) →
-    submissions_from last (log ++ e ∷ []) ≡ submissions_from last log ++ (record { version = last + length (requests_of log) + 1; client = e.client; transaction = opened e.request e.trace.attempts }) ∷ []
-submissions_more last [] e = let n : last + 1 ≡ last + 0 + 1 = omega arith in ap (λ v. (record { version = v; client = e.client; transaction = opened e.request e.trace.attempts }) ∷ []) n
+    submissions_from last (log ++ e ∷ []) ≡ submissions_from last log ++ (record { version = last + length (requests_of log) + 1; client = e.client; transaction = opened e.request e.trace }) ∷ []
+submissions_more last [] e = let n : last + 1 ≡ last + 0 + 1 = omega arith in ap (λ v. (record { version = v; client = e.client; transaction = opened e.request e.trace }) ∷ []) n
 submissions_more last (x ∷ xs) e =
     let n : (last + 1) + length (requests_of xs) + 1 ≡ last + suc (length (requests_of xs)) + 1 = omega arith in
-    ap (λ ss. (record { version = last + 1; client = x.client; transaction = opened x.request x.trace.attempts }) ∷ ss)
-    (submissions_more (last + 1) xs e ∙ ap (λ v. submissions_from (last + 1) xs ++ (record { version = v; client = e.client; transaction = opened e.request e.trace.attempts }) ∷ []) n)
+    ap (λ ss. (record { version = last + 1; client = x.client; transaction = opened x.request x.trace }) ∷ ss)
+    (submissions_more (last + 1) xs e ∙ ap (λ v. submissions_from (last + 1) xs ++ (record { version = v; client = e.client; transaction = opened e.request e.trace }) ∷ []) n)
 
 -- what was performed over a beginning was performed over the log
-pub open_begins : (config : Config) (log ys : List Entry) (e : Entry) → IsPrefix log ys → IsOpenOver config log e.request e.trace.attempts → IsOpenOver config ys e.request e.trace.attempts
+pub open_begins : (config : Config) (log ys : List Entry) (e : Entry) → IsPrefix log ys → IsOpenOver config log e.request e.trace → IsOpenOver config ys e.request e.trace
 open_begins config log ys e p is =
-    open_later (log_map config ys) (version_of config log) (version_of config ys) (opened e.request e.trace.attempts) e.request (version_begins config log ys p)
-    (open_elsewhere (log_map config log) (log_map config ys) (version_of config log) (opened e.request e.trace.attempts) e.request (λ v h. sym (map_begins config log ys v p h)) is)
+    open_later (log_map config ys) (version_of config log) (version_of config ys) (opened e.request e.trace) e.request (version_begins config log ys p)
+    (open_elsewhere (log_map config log) (log_map config ys) (version_of config log) (opened e.request e.trace) e.request (λ v h. sym (map_begins config log ys v p h)) is)
 
 abbrev next_of : Config → List Entry → Entry → Submission
-next_of config log e = record { version = version_of config log + 1; client = e.client; transaction = opened e.request e.trace.attempts }
+next_of config log e = record { version = version_of config log + 1; client = e.client; transaction = opened e.request e.trace }
 
-submitted_next : (config : Config) (log : List Entry) (e : Entry) → IsWellFormedLog config log → IsOpenOver config log e.request e.trace.attempts →
+submitted_next : (config : Config) (log : List Entry) (e : Entry) → IsWellFormedLog config log → IsOpenOver config log e.request e.trace →
     AreSubmitted (log_map config (log ++ e ∷ [])) (version_of config (log ++ e ∷ [])) config.start (submissions_of config (log ++ e ∷ [])) (requests_of (log ++ e ∷ []))
 submitted_next config log e law is =
     let next : ℕ = version_of config (log ++ e ∷ []) in
@@ -131,13 +135,13 @@ submitted_next config log e law is =
     let maps : List CommitRequest → ℕ → Map = λ qs v. map_at (committed config.resolver_splits (numbered config.start qs)) v in
     let subs : List Submission = submissions_of config log ++ next_of config log e ∷ [] in
     let base : AreSubmitted (maps (requests_of log ++ e.request ∷ [])) (version_of config log) config.start subs (requests_of log ++ e.request ∷ []) =
-    submitted_more (pipeline_of config log) (submissions_of config log) (version_of config log + 1) e.client (opened e.request e.trace.attempts) e.request law.submitted (omega arith) refl is in
+    submitted_more (pipeline_of config log) (submissions_of config log) (version_of config log + 1) e.client (opened e.request e.trace) e.request law.submitted (omega arith) refl is in
     let later : AreSubmitted (maps (requests_of log ++ e.request ∷ [])) next config.start subs (requests_of log ++ e.request ∷ []) =
     submitted_later (maps (requests_of log ++ e.request ∷ [])) (version_of config log) next config.start subs (requests_of log ++ e.request ∷ []) below base in
     subst (λ (ss : List Submission). AreSubmitted (log_map config (log ++ e ∷ [])) next config.start ss (requests_of (log ++ e ∷ []))) (sym (submissions_more config.start log e))
     (subst (λ (qs : List CommitRequest). AreSubmitted (maps qs) next config.start subs qs) (sym (requests_append log (e ∷ []))) later)
 
-pub lawful_next : (config : Config) (last : List ℕ) (log : List Entry) (e : Entry) → IsWellFormedLog config log → IsOpenOver config log e.request e.trace.attempts →
+pub lawful_next : (config : Config) (last : List ℕ) (log : List Entry) (e : Entry) → IsWellFormedLog config log → IsOpenOver config log e.request e.trace →
     is_numbered last log ≡ true → slice_index last e.client < e.number → e.number ≡ count_of e.client log + 1 → version_of config log + 1 < 2 ^ 64 → IsWellFormedLog config (log ++ e ∷ [])
 lawful_next config last log e law is num above next room = record {
   submitted = submitted_next config log e law is;
@@ -175,5 +179,7 @@ pipeline_first config =
     }
 
 -- a transaction that has done nothing yet
-pub open_first : (config : Config) (log : List Entry) → IsOpenOver config log (fresh_request (version_of config log)) []
-open_first config log = open_fresh (log_map config log) (version_of config log) (version_of config log) (omega arith)
+pub open_first : (config : Config) (log : List Entry) (trace : Trace) → is_store_number trace.store ≡ true → trace.attempts.list ≡ [] → IsOpenOver config log (fresh_request (version_of config log)) trace
+open_first config log trace lawful none =
+    subst (λ (done : List Performed). IsOpenTransaction (log_map config log) (version_of config log) (record { store = trace.store; read_version = version_of config log; attempts = attempts_of done }) (fresh_request (version_of config log))) (sym none)
+    (open_fresh (log_map config log) (version_of config log) trace.store (version_of config log) lawful (omega arith))

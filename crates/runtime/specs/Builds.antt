@@ -14,7 +14,7 @@ use Rattle.schedule.specs.declared.step.Command.TheVariants.{Build, Readable}
 use Rattle.schedule.specs.declared.reply.Reply.{Reply}
 use Rattle.schedule.specs.declared.reply.Reply.TheVariants as replies
 use Rattle.runtime.specs.declared.log_entry.Entry.{Entry}
-use Rattle.runtime.specs.declared.trace.Performed.{Performed}
+use Rattle.runtime.specs.declared.performed.Performed.{Performed}
 use Rattle.runtime.specs.declared.trace.Trace.{Trace}
 use Rattle.runtime.specs.declared.open_transaction.OpenTransaction.{OpenTransaction}
 use Rattle.runtime.specs.declared.worker_progress.Round.{Round}
@@ -62,28 +62,42 @@ abbrev pub is_mark : List ℕ → Command → Reply → Bool
 is_mark index (Readable name) reply = bytes_eq name index && is_accepted reply
 is_mark index command reply = false
 
--- the same of the commands that an entry's transaction performed
-abbrev pub entry_has_built : List ℕ → Entry → Bool
-entry_has_built index e = list_any (λ (one : Performed). is_build index one.command one.reply) e.trace.attempts
+-- an index by the number of its store, and its name there
+abbrev pub IndexIn : Type 0
+IndexIn = ℕ × List ℕ
 
-abbrev pub records_built : List ℕ → Entry → ℕ
-records_built index e = sum_by (λ (one : Performed). records_by index one.command one.reply) e.trace.attempts
+-- the entry's transaction works in the index's store
+abbrev pub is_in_store : IndexIn → Entry → Bool
+is_in_store index e = e.trace.store == index.0
 
-abbrev pub has_marked : List ℕ → Entry → Bool
-has_marked index e = list_any (λ (one : Performed). is_mark index one.command one.reply) e.trace.attempts
+-- the same of the commands that an entry's transaction performed: an index of the name in another store doesn't count
+abbrev pub entry_has_built : IndexIn → Entry → Bool
+entry_has_built index e =
+    is_in_store index e
+    && list_any (λ (one : Performed). is_build index.1 one.command one.reply) e.trace.attempts.list
+
+abbrev pub records_built : IndexIn → Entry → ℕ
+records_built index e =
+    if is_in_store index e
+    then sum_by (λ (one : Performed). records_by index.1 one.command one.reply) e.trace.attempts.list
+    else 0
+
+abbrev pub has_marked : IndexIn → Entry → Bool
+has_marked index e =
+    is_in_store index e && list_any (λ (one : Performed). is_mark index.1 one.command one.reply) e.trace.attempts.list
 
 -- what a worker built: of the committed entries in its client's log at the end, those of its submissions in between.
 -- One marked the index readable; `steps` counts those that built a part of it, and `records` adds up what they built
 abbrev pub own_of : Knowledge → Knowledge → List Entry
 own_of old new = own_committed old.name.config old.number old.last new.last new.log
 
-pub record IsBuilt (index : List ℕ) (old new : Knowledge) (totals : Totals) : Type 0 where
+pub record IsBuilt (index : IndexIn) (old new : Knowledge) (totals : Totals) : Type 0 where
   pub marked : list_any (has_marked index) (own_of old new) ≡ true
   pub steps : totals.steps ≡ count_by (entry_has_built index) (own_of old new)
   pub records : totals.records ≡ sum_by (records_built index) (own_of old new)
 
 -- the numbers don't suffice for what it built
-abbrev pub IsTooMuch : List ℕ → Knowledge → Knowledge → Type 0
+abbrev pub IsTooMuch : IndexIn → Knowledge → Knowledge → Type 0
 IsTooMuch index old new =
     (2 ^ 64 ≤ sum_by (records_built index) (own_of old new))
     ⊎ (2 ^ 64 ≤ count_by (entry_has_built index) (own_of old new))
@@ -103,14 +117,19 @@ HasForgotten old new =
 -- ---- rounds of a worker
 
 -- Private: what a round performed
-abbrev pub HasWorked : List ℕ → Round → List Performed → Type 0
-HasWorked index (Built records) attempts =
+abbrev pub HasPerformedRound : List ℕ → Round → List Performed → Type 0
+HasPerformedRound index (Built records) attempts =
     (limit : ℕ) × ((range : KeyRange)
     × (attempts ≡ record { command = Build index limit; reply = replies.Built records range } ∷ []))
-HasWorked index Marked attempts =
+HasPerformedRound index Marked attempts =
     (limit : ℕ) × (attempts
     ≡ record { command = Build index limit; reply = replies.Finished }
     ∷ record { command = Readable index; reply = replies.Done } ∷ [])
+
+-- Private: so it did in the index's store
+pub record HasWorked (index : IndexIn) (round : Round) (trace : Trace) : Type 0 where
+  pub store : trace.store ≡ index.0
+  pub performed : HasPerformedRound index.1 round trace.attempts.list
 
 -- Private: a submission came to this, and the client knows its entry
 abbrev pub IsSubmission : Knowledge → Knowledge → CommitRequest → Trace → Outcome → Type 0
@@ -128,10 +147,10 @@ Commits old new open_tx false =
     × IsSubmission old new open_tx.transaction open_tx.trace (outcomes.Conflict seen range)))
 
 -- Private: a round came to this, and its entry is committed; or it came to nothing, and has no entry or a refused one
-abbrev pub IsWorkerRound : List ℕ → Option Round → Knowledge → Knowledge → Type 0
+abbrev pub IsWorkerRound : IndexIn → Option Round → Knowledge → Knowledge → Type 0
 IsWorkerRound index None old new =
     (new.last ≡ old.last) ⊎ ((open_tx : OpenTransaction) × Commits old new open_tx false)
 IsWorkerRound index (Some (Built records)) old new =
-    (open_tx : OpenTransaction) × HasWorked index (Built records) open_tx.trace.attempts × Commits old new open_tx true
+    (open_tx : OpenTransaction) × HasWorked index (Built records) open_tx.trace × Commits old new open_tx true
 IsWorkerRound index (Some Marked) old new =
-    (open_tx : OpenTransaction) × HasWorked index Marked open_tx.trace.attempts × Commits old new open_tx true
+    (open_tx : OpenTransaction) × HasWorked index Marked open_tx.trace × Commits old new open_tx true

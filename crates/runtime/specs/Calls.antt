@@ -1,5 +1,5 @@
 -- What a call that performs a command does with a client.
-use Rattle.std.specs.Prelude.{◌≡◌, Bool, true, false, ℕ, List, [], ◌∷◌, ◌++◌, Option, Some, None, Result}
+use Rattle.std.specs.Prelude.{◌≡◌, Bool, true, false, ℕ, List, Option, Some, None, Result}
 use Rattle.std.specs.Prelude.{Ok, Err, IfOk, IfErr, OnOk}
 use Rattle.kv_core.specs.Range.{KeyRange}
 use Rattle.metadata.specs.declared.cells.Cell.{Cell}
@@ -14,6 +14,7 @@ use Rattle.runtime.specs.Errors.{accepted_reply}
 use Rattle.runtime.specs.Clients.{IsSameTransaction, Knowledge, knows_that}
 use Rattle.runtime.specs.Runs.{Continues}
 use Rattle.runtime.specs.Serves.{IsAnswer, IsUnanswered}
+use Rattle.runtime.specs.Traces.{with_performed}
 
 -- the command was performed in the client's open transaction, with this result
 pub record HasPerformed (command : Command) (old : Knowledge) (result : Result Reply EnterError) (new : Knowledge) :
@@ -24,14 +25,14 @@ pub record HasPerformed (command : Command) (old : Knowledge) (result : Result R
   -- the reply is the serial store's over the transaction's log, or a write limit
   pub answer :
       (open_tx : OpenTransaction) → old.begun ≡ Some open_tx → IfOk result (λ reply.
-      IsAnswer open_tx.prefix.name.config open_tx.prefix.log open_tx.transaction open_tx.trace.attempts command reply)
+      IsAnswer open_tx.prefix.name.config open_tx.prefix.log open_tx.transaction open_tx.trace command reply)
   -- a reply is given in an open transaction
   pub open_then : OnOk result ((open_tx : OpenTransaction) × (old.begun ≡ Some open_tx))
   -- it stands among those that were performed
   pub grown :
       (open_tx : OpenTransaction) → old.begun ≡ Some open_tx → IfOk result (λ reply.
       (after : OpenTransaction) × (new.begun ≡ Some after) × IsSameTransaction open_tx after
-      × (after.trace.attempts ≡ open_tx.trace.attempts ++ record { command = command; reply = reply } ∷ []))
+      × (after.trace ≡ with_performed open_tx.trace (record { command = command; reply = reply })))
   -- or there is no reply, for its reason
   pub refused :
       (open_tx : OpenTransaction) → old.begun ≡ Some open_tx → IfErr result (λ error.

@@ -22,23 +22,25 @@ abbrev pub knows_that : Name → List Entry → ℕ → ℕ → Option OpenTrans
 knows_that name log number last begun =
     record { name = name; log = log; number = number; last = last; begun = begun }
 
--- a transaction at the end of a log, which has done nothing yet
-pub record IsFresh (name : Name) (log : List Entry) (open_tx : OpenTransaction) : Type 0 where
+-- a transaction in a store at the end of a log, which has done nothing yet
+pub record IsFresh (name : Name) (log : List Entry) (number : ℕ) (open_tx : OpenTransaction) : Type 0 where
   pub over : open_tx.prefix ≡ log_prefix name log
   pub request : open_tx.transaction ≡ fresh_request (version_of name.config log)
-  pub attempts : open_tx.trace.attempts ≡ []
+  pub store : open_tx.trace.store ≡ number
+  pub attempts : open_tx.trace.attempts.list ≡ []
 
--- it is the same transaction: over the same log, at the same version
+-- it is the same transaction: over the same log, at the same version, in the same store
 pub record IsSameTransaction (old new : OpenTransaction) : Type 0 where
   pub over : new.prefix ≡ old.prefix
   pub version : new.transaction.read_version ≡ old.transaction.read_version
+  pub store : new.trace.store ≡ old.trace.store
 
 -- Private: the open transaction began at a beginning of the client's log, reads at its version, and is what its
 -- commands made of it over that log
 abbrev pub IsBegun : Prefix → Option OpenTransaction → Type 0
 IsBegun me (Some open_tx) =
     (open_tx.prefix.name ≡ me.name) × IsPrefix open_tx.prefix.log me.log
-    × IsOpenOver open_tx.prefix.name.config open_tx.prefix.log open_tx.transaction open_tx.trace.attempts
+    × IsOpenOver open_tx.prefix.name.config open_tx.prefix.log open_tx.transaction open_tx.trace
     × (open_tx.transaction.read_version ≡ version_of open_tx.prefix.name.config open_tx.prefix.log)
 IsBegun me None = Unit {0}
 

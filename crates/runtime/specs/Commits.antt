@@ -13,7 +13,7 @@ use Rattle.runtime.specs.declared.answers.Done.TheVariants.{Committed, ReadOnly}
 use Rattle.runtime.specs.declared.answers.CommitError.{CommitError}
 use Rattle.runtime.specs.declared.answers.CommitError.TheVariants.{Conflict, TooOld, VersionsExhausted, Unknown, Memory}
 use Rattle.runtime.specs.History.{Name, Prefix}
-use Rattle.runtime.specs.Logs.{attempts_of}
+use Rattle.runtime.specs.Traces.{attempts_of}
 use Rattle.runtime.specs.Outcomes.{IsEndOf, Shows, entry, gives_number, last_then}
 use Rattle.runtime.specs.Clients.{Knowledge}
 
@@ -39,7 +39,7 @@ abbrev pub Answers : Knowledge → Knowledge → CommitRequest → Trace → Res
 Answers old new request trace (Ok (Committed version seen)) =
     Learns old new request trace (outcomes.Committed version) seen.prefix.log × (seen.prefix.name ≡ old.name)
 Answers old new request trace (Ok ReadOnly) =
-    (new.last ≡ old.last) × (is_changed (attempts_of trace.attempts) ≡ false)
+    (new.last ≡ old.last) × (is_changed (attempts_of trace.attempts.list) ≡ false)
 Answers old new request trace (Err error) = (log : List Entry) × Learns old new request trace (told_outcome error) log
 
 -- Private: the log ends with the entry of the client's open transaction

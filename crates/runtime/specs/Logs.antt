@@ -15,15 +15,17 @@ use Rattle.cluster_core.specs.Configuration.{first_pipeline, first_tier}
 use Rattle.cluster_core.specs.Roles.{PipelineState, all_handled}
 use Rattle.cluster_core.specs.Tier.{TierState, after_log}
 use Rattle.record_store.specs.Store.{Serial}
-use Rattle.schedule.specs.Past.{Attempt, Open, Submission}
+use Rattle.schedule.specs.declared.transcript.CommitEntry.{CommitEntry}
+use Rattle.schedule.specs.Past.{Open, Submission}
 use Rattle.schedule.specs.Exact.{IsSerialAt}
 use Rattle.schedule.specs.Headline.{Headline}
-use Rattle.schedule.specs.Holds.{Stands}
+use Rattle.schedule.specs.Contract.{HoldsAt}
 use Rattle.schedule.specs.Standing.{commits_of, listed}
 use Rattle.schedule.specs.Commits.{committed_store}
 use Rattle.schedule.specs.Turns.{AreSubmitted, IsOpenTransaction}
-use Rattle.runtime.specs.declared.trace.Performed.{Performed}
+use Rattle.runtime.specs.declared.trace.Trace.{Trace}
 use Rattle.runtime.specs.declared.log_entry.Entry.{Entry}
+use Rattle.runtime.specs.Traces.{opened}
 
 -- ---- the database of a log
 
@@ -71,33 +73,28 @@ logged_next config log request = if is_none (cause_next config log request) then
 
 -- ---- its transactions
 
--- the commands that a transaction performed, as a schedule has them
-abbrev pub attempts_of : List Performed → List Attempt
-attempts_of done = map (λ one. record { command = one.command; reply = one.reply }) done
-
--- the transaction of a request
-abbrev pub opened : CommitRequest → List Performed → Open
-opened request done = record { read_version = request.read_version; attempts = attempts_of done }
-
 -- the entries as submissions, from the version after this one on
 abbrev pub submissions_from : ℕ → List Entry → List Submission
 submissions_from last [] = []
 submissions_from last (e ∷ es) =
-    record { version = last + 1; client = e.client; transaction = opened e.request e.trace.attempts }
+    record { version = last + 1; client = e.client; transaction = opened e.request e.trace }
     ∷ submissions_from (last + 1) es
 
 abbrev pub submissions_of : Config → List Entry → List Submission
 submissions_of config log = submissions_from config.start log
 
--- what the accepted commands of the committed entries up to a version give
-abbrev pub committed_at : Config → List Entry → ℕ → Serial
-committed_at config log version =
-    committed_store (commits_of (pipeline_of config log) (submissions_of config log)) version
+-- the committed transactions
+abbrev pub commits_in : Config → List Entry → List CommitEntry
+commits_in config log = commits_of (pipeline_of config log) (submissions_of config log)
 
--- a transaction over a log performed these commands, which came to this request
-abbrev pub IsOpenOver : Config → List Entry → CommitRequest → List Performed → Type 0
-IsOpenOver config log request done =
-    IsOpenTransaction (log_map config log) (version_of config log) (opened request done) request
+-- what the accepted commands of the store's committed entries up to a version give
+abbrev pub committed_at : Config → List Entry → ℕ → ℕ → Serial
+committed_at config log number version = committed_store number (commits_in config log) version
+
+-- a transaction over a log did this, which came to this request
+abbrev pub IsOpenOver : Config → List Entry → CommitRequest → Trace → Type 0
+IsOpenOver config log request trace =
+    IsOpenTransaction (log_map config log) (version_of config log) (opened request trace) request
 
 -- ---- well-formed logs
 
@@ -157,34 +154,34 @@ IsExhausted config log e =
     (version_of config log ≡ 2 ^ 64 - 1)
     ⊎ ((e.number ≡ 2 ^ 64) × (has_submission e.client (2 ^ 64 - 1) log ≡ true))
 
--- the map at each version of the log holds what the accepted commands of the committed entries up to there give
+-- the map at each version of the log holds of each store what the accepted commands of its committed entries up to
+-- there give, and nothing else
 abbrev pub HoldsEach : Config → List Entry → Type 0
 HoldsEach config log =
     (version : ℕ) → version ≤ version_of config log →
-    Stands (log_map config log version) (committed_at config log version)
+    HoldsAt (commits_in config log) version (log_map config log version)
 
--- each accepted command of a committed entry has its reply just before the entry's version, after the entry's earlier
--- ones
+-- each accepted command of a committed entry has its reply in its store just before the entry's version, after the
+-- entry's earlier ones
 abbrev pub IsSerialLog : Config → List Entry → Type 0
 IsSerialLog config log =
-    All (λ (one : Submission). IsSerialAt (committed_at config log (one.version - 1)) one.transaction.attempts)
-    (listed (pipeline_of config log) (submissions_of config log))
+    All (λ (one : Submission). IsSerialAt (committed_at config log one.transaction.store (one.version - 1))
+    one.transaction.attempts) (listed (pipeline_of config log) (submissions_of config log))
 
 -- a transaction of the log: that of one of its entries
 abbrev pub IsOfLog : Config → List Entry → Open → Type 0
 IsOfLog config log transaction =
     (one : Submission) × Contains (submissions_of config log) one × (one.transaction ≡ transaction)
 
--- each accepted command of a transaction of the log has its reply at the transaction's read version, after the
--- transaction's earlier ones
+-- each accepted command of a transaction of the log has its reply in its store at the transaction's read version, after
+-- the transaction's earlier ones
 abbrev pub IsServedLog : Config → List Entry → Type 0
 IsServedLog config log =
     (transaction : Open) → IsOfLog config log transaction →
-    IsSerialAt (committed_at config log transaction.read_version) transaction.attempts
+    IsSerialAt (committed_at config log transaction.store transaction.read_version) transaction.attempts
 
 -- the headline for a log: what the planned queries of its transactions answered, and what the readable indexes have at
 -- each of its versions
 abbrev pub IsHeadlineOf : Config → List Entry → Type 0
 IsHeadlineOf config log =
-    Headline (log_map config log) (commits_of (pipeline_of config log) (submissions_of config log)) config.start
-    (version_of config log) (IsOfLog config log)
+    Headline (log_map config log) (commits_in config log) config.start (version_of config log) (IsOfLog config log)

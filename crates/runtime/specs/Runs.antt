@@ -1,4 +1,4 @@
--- What a run of transactions comes to: attempts, one after another, and how the last one ended.
+-- What a run of transactions in a store comes to: attempts, one after another, and how the last one ended.
 use Rattle.std.specs.Prelude.{◌≡◌, ◌⊎◌, ℕ, zero, suc, ◌<◌, max, Bool, true, false}
 use Rattle.std.specs.Prelude.{Option, Some, Result, Ok, Err, if◌then◌else◌}
 use mathlib.Core.List.{IsPrefix}
@@ -36,12 +36,12 @@ pub record Continues (old new : Knowledge) : Type 0 where
       (open_tx : OpenTransaction) → old.begun ≡ Some open_tx →
       (after : OpenTransaction) × (new.begun ≡ Some after) × IsSameTransaction open_tx after
 
--- a transaction of the client begins, over a log that begins with its own, which is its own then
-pub record Starts (old new : Knowledge) : Type 0 where
+-- a transaction of the client begins in a store, over a log that begins with its own, which is its own then
+pub record Starts (store : ℕ) (old new : Knowledge) : Type 0 where
   pub follows : GoesOnFrom old new
   pub last : new.last ≡ old.last
   pub begun :
-      (open_tx : OpenTransaction) × (new.begun ≡ Some open_tx) × IsFresh new.name new.log open_tx
+      (open_tx : OpenTransaction) × (new.begun ≡ Some open_tx) × IsFresh new.name new.log store open_tx
 
 -- the client's transaction is committed, or not, so
 pub record Ends (old : Knowledge) (result : Result Done CommitError) (new : Knowledge) : Type 0 where
@@ -91,10 +91,10 @@ ended_by VersionsExhausted = ends.Other
 ended_by Unknown = ends.Unknown
 ended_by Memory = ends.Other
 
-module _ {B A : Type 0} (did : B → Knowledge → Result A CommandError → Knowledge → B → Type 0) where
+module _ {B A : Type 0} (store : ℕ) (did : B → Knowledge → Result A CommandError → Knowledge → B → Type 0) where
   -- a transaction began, and the body had this answer in it
   abbrev pub Tries : B × Knowledge → Result A CommandError → B × Knowledge → Type 0
-  Tries old answer new = (start : Knowledge) × Starts old.1 start × did old.0 start answer new.1 new.0
+  Tries old answer new = (start : Knowledge) × Starts store old.1 start × did old.0 start answer new.1 new.0
 
   -- the body had this answer, and its transaction was committed, or not, so
   abbrev pub TriesAndEnds : B × Knowledge → A → Result Done CommitError → B × Knowledge → Type 0

@@ -1,5 +1,5 @@
 -- What a transaction over a log is answered.
-use Rattle.std.specs.Prelude.{◌≡◌, ◌-◌, ◌<◌, List, [], ◌∷◌, ◌++◌}
+use Rattle.std.specs.Prelude.{◌≡◌, ◌-◌, ◌<◌, List}
 use mathlib.Core.List.{IsPrefix}
 use Rattle.kv_core.specs.Map.{after_all}
 use Rattle.kv_core.specs.declared.change.CommitRequest.{CommitRequest}
@@ -11,25 +11,25 @@ use Rattle.schedule.specs.Commits.{view}
 use Rattle.schedule.specs.Exact.{commands_written}
 use Rattle.schedule.specs.Past.{accepted}
 use Rattle.schedule.specs.Performed.{IsServed}
-use Rattle.schedule.specs.Standing.{commits_of}
 use Rattle.runtime.specs.declared.log_entry.Entry.{Entry}
-use Rattle.runtime.specs.declared.trace.Performed.{Performed}
+use Rattle.runtime.specs.declared.performed.Performed.{Performed}
 use Rattle.runtime.specs.declared.trace.Trace.{Trace}
 use Rattle.runtime.specs.declared.published_reads.EnterError.{EnterError}
 use Rattle.runtime.specs.declared.published_reads.EnterError.TheVariants.{NotEntered, TooOld, Memory}
 use Rattle.runtime.specs.History.{Prefix}
-use Rattle.runtime.specs.Logs.{attempts_of, committed_at, log_map, opened, pipeline_of, submissions_of}
-use Rattle.runtime.specs.Logs.{version_of}
+use Rattle.runtime.specs.Logs.{commits_in, committed_at, log_map, version_of}
+use Rattle.runtime.specs.Traces.{attempts_of, opened, with_performed}
 
--- the reply is the serial store's for what is committed in the log at the transaction's read version, as its own
--- accepted commands change it; or a write limit
-abbrev pub IsAnswer : Config → List Entry → CommitRequest → List Performed → Command → Reply → Type 0
-IsAnswer config log request done command reply =
+-- the reply is the serial store's for what is committed in the log of the transaction's store at its read version, as
+-- its own accepted commands change it; or a write limit
+abbrev pub IsAnswer : Config → List Entry → CommitRequest → Trace → Command → Reply → Type 0
+IsAnswer config log request trace command reply =
     let base = log_map config log request.read_version in
     let before =
-    commands_written base (committed_at config log request.read_version) (accepted (attempts_of done)) in
-    IsServed (after_all before base) before
-    (view (commits_of (pipeline_of config log) (submissions_of config log)) (opened request done)) command reply
+    commands_written trace.store base (committed_at config log trace.store request.read_version)
+    (accepted (attempts_of trace.attempts.list)) in
+    IsServed trace.store (after_all before base) before (view (commits_in config log) (opened request trace)) command
+    reply
 
 -- a command that stopped for want of memory stands among those performed with a reply of its own: it has read
 -- the first of its ranges, and changed nothing
@@ -47,4 +47,4 @@ IsUnanswered prefix published TooOld command old before new after =
     × (prefix.name.config.window
     < version_of prefix.name.config published - version_of prefix.name.config prefix.log)
 IsUnanswered prefix published Memory command old before new after =
-    (new.mutations ≡ old.mutations) × (after.attempts ≡ before.attempts ++ stopped command ∷ [])
+    (new.mutations ≡ old.mutations) × (after ≡ with_performed before (stopped command))

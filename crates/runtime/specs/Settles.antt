@@ -14,7 +14,8 @@ use Rattle.runtime.specs.declared.worker_progress.Progress.{Progress}
 use Rattle.runtime.specs.declared.worker_progress.Round.{Round}
 use Rattle.runtime.specs.declared.worker_progress.Round.TheVariants.{Built, Marked}
 use Rattle.runtime.specs.declared.worker_progress.Unsettled.{Unsettled}
-use Rattle.runtime.specs.Builds.{HasForgotten, HasWorked, IsTooMuch, entry_has_built, has_marked, own_of, records_built}
+use Rattle.runtime.specs.Builds.{HasForgotten, HasWorked, IndexIn, IsTooMuch, entry_has_built, has_marked, own_of}
+use Rattle.runtime.specs.Builds.{records_built}
 use Rattle.runtime.specs.Clients.{Knowledge, knows_that}
 use Rattle.runtime.specs.History.{Name}
 use Rattle.runtime.specs.Logs.{has_submission}
@@ -25,13 +26,13 @@ use Rattle.runtime.specs.Submissions.{outcome_in, recent_outcome}
 -- ---- what is lost
 
 -- the log ends with the submission's entry, whose transaction performed the round
-abbrev pub IsUnsettled : List ℕ → Knowledge → Unsettled → Type 0
+abbrev pub IsUnsettled : IndexIn → Knowledge → Unsettled → Type 0
 IsUnsettled index k one =
     (request : CommitRequest) × ((trace : Trace)
-    × IsEndOf k.name (entry k.number one.number request trace) one.prefix × HasWorked index one.round trace.attempts)
+    × IsEndOf k.name (entry k.number one.number request trace) one.prefix × HasWorked index one.round trace)
 
 -- these are the submissions numbered above one number and not above another, in order
-abbrev pub AreUnsettled : List ℕ → Knowledge → ℕ → ℕ → List Unsettled → Type 0
+abbrev pub AreUnsettled : IndexIn → Knowledge → ℕ → ℕ → List Unsettled → Type 0
 AreUnsettled index k above top [] = top ≡ above
 AreUnsettled index k above top (one ∷ others) =
     (one.number ≡ above + 1) × IsUnsettled index k one × AreUnsettled index k (above + 1) top others
@@ -49,14 +50,14 @@ upto last k = knows_that k.name k.log k.number last k.begun
 
 -- each number that was given in between stands in the log; so many of those that are committed there built a part, and
 -- so many records together
-pub record Counted (index : List ℕ) (old now : Knowledge) (s r : ℕ) : Type 0 where
+pub record Counted (index : IndexIn) (old now : Knowledge) (s r : ℕ) : Type 0 where
   pub given : (n : ℕ) → old.last < n → n ≤ now.last → has_submission old.number n now.log ≡ true
   pub last : old.last ≤ now.last
   pub steps : s ≡ count_by (entry_has_built index) (own_of old now)
   pub records : r ≡ sum_by (records_built index) (own_of old now)
 
 -- of the submissions up to one number it is known what became; those above, up to another, are lost
-pub record IsProgress (index : List ℕ) (old now : Knowledge) (top : ℕ) (progress : Progress) : Type 0 where
+pub record IsProgress (index : IndexIn) (old now : Knowledge) (top : ℕ) (progress : Progress) : Type 0 where
   pub above : ℕ
   pub follows : GoesOnFrom old now
   pub counted : Counted index old (upto above now) progress.built.steps progress.built.records
@@ -70,7 +71,7 @@ NoneStands now [] = Unit {0}
 NoneStands now (one ∷ others) = has_submission now.number one.number now.log ≡ false
 
 -- of each submission it is known what became as far as the client's log tells it
-abbrev pub IsSettledUpto : List ℕ → Knowledge → Knowledge → ℕ → Progress → Type 0
+abbrev pub IsSettledUpto : IndexIn → Knowledge → Knowledge → ℕ → Progress → Type 0
 IsSettledUpto index old now top progress = IsProgress index old now top progress × NoneStands now progress.lost.items
 
 -- ---- one more
@@ -103,6 +104,6 @@ IsWithheld now number (Refused error) = error ≡ NotEntered
 IsWithheld now number GaveUp = recent_outcome now.name.config now.log now.number number ≡ statuses.Forgotten
 
 -- why asking ends the work
-abbrev pub AskingEnds : List ℕ → Knowledge → Knowledge → RunError → Type 0
+abbrev pub AskingEnds : IndexIn → Knowledge → Knowledge → RunError → Type 0
 AskingEnds index old now (Refused error) = error ≡ NotEntered
 AskingEnds index old now GaveUp = IsTooMuch index old now ⊎ HasForgotten old now

@@ -60,20 +60,20 @@ pub record Works {G : Type 0} (passed : G → GatePoint → G → Type 0) (old :
 abbrev pub MayGoOn : Ended → Type 0
 MayGoOn ended = (ended ≡ ends.Conflict) ⊎ (ended ≡ ends.TooOld)
 
-module _ {B : Type 0} (did : B → Knowledge → Result Round CommandError → Knowledge → B → Type 0) where
+module _ {B : Type 0} (store : ℕ) (did : B → Knowledge → Result Round CommandError → Knowledge → B → Type 0) where
   -- a round came to this, and its transaction is committed
   abbrev pub CommitsRound : B × Knowledge → Round → B × Knowledge → Type 0
-  CommitsRound old round new = (done : Done) × TriesAndEnds did old round (Ok done) new
+  CommitsRound old round new = (done : Done) × TriesAndEnds store did old round (Ok done) new
 
   -- a round that another one may follow: it read too long ago, was refused with a conflict, or isn't known to be
   -- committed; or it built so many records
   abbrev pub GoesFurther : B × Knowledge → B × Knowledge → Type 0
-  GoesFurther old new = AttemptFails did true old new ⊎ ((records : ℕ) × CommitsRound old (Built records) new)
+  GoesFurther old new = AttemptFails store did true old new ⊎ ((records : ℕ) × CommitsRound old (Built records) new)
 
   -- a round, whatever it came to: such a one, or one that marked the index, or whose transaction was given up
   abbrev pub IsWorkRound : B × Knowledge → B × Knowledge → Type 0
   IsWorkRound old new =
-      GoesFurther old new ⊎ (CommitsRound old Marked new ⊎ ((error : CommandError) × IsRefusal did old error new))
+      GoesFurther old new ⊎ (CommitsRound old Marked new ⊎ ((error : CommandError) × IsRefusal store did old error new))
 
   -- such a round, and then the client asked what became of earlier ones
   abbrev pub ThenAsks : (B × Knowledge → B × Knowledge → Type 0) → B × Knowledge → B × Knowledge → Type 0
@@ -93,16 +93,16 @@ module _ {B : Type 0} (did : B → Knowledge → Result Round CommandError → K
   abbrev pub RefusesWork : List ℕ → Knowledge → B × Knowledge → CommandError → B × Knowledge → Type 0
   RefusesWork index start old error new =
       ((error ≡ Memory) × (new ≡ old))
-      ⊎ ((ThenAsks (λ a b. IsRefusal did a error b) old new
-      × (list_any (has_marked index) (own_of start new.1) ≡ false))
+      ⊎ ((ThenAsks (λ a b. IsRefusal store did a error b) old new
+      × (list_any (has_marked (store, index)) (own_of start new.1) ≡ false))
       ⊎ ((error ≡ NotEntered) × ThenAsks IsWorkRound old new))
 
   -- why it gives up in a round: the commit ended otherwise, or no token was had of one that isn't known to be
   -- committed; or the numbers don't suffice for what was built; or what became of an earlier one is forgotten
   abbrev pub GivesUp : List ℕ → Knowledge → B × Knowledge → B × Knowledge → Type 0
   GivesUp index start old new =
-      Stops did false old new
-      ⊎ (ThenAsks IsWorkRound old new × (IsTooMuch index start new.1 ⊎ HasForgotten start new.1))
+      Stops store did false old new
+      ⊎ (ThenAsks IsWorkRound old new × (IsTooMuch (store, index) start new.1 ⊎ HasForgotten start new.1))
 
   -- Private: why it ends so in a round
   abbrev pub EndsWork : List ℕ → Knowledge → B × Knowledge → RunError → B × Knowledge → Type 0

@@ -1,6 +1,6 @@
 // Clients, each with a reader of its own. Made by `db` for whoever opens a database; used by
 // `transaction`, `retrying` and `index_worker`.
-ghost use Rattle.std.specs.Prelude.{◌≡◌, ℕ, ◌++◌, ◌∷◌, [], Some, None, IfOk, IfErr, IfSome, OnOk, OnErr, Ok};
+ghost use Rattle.std.specs.Prelude.{◌≡◌, ℕ, [], Some, None, IfOk, IfErr, IfSome, OnOk, OnErr, Ok};
 ghost use Rattle.std.specs.Prelude.{false, Err, ◌<◌, ◌≤◌, ◌^◌};
 ghost use Rattle.std.specs.Arc.{arc_value};
 ghost use Rattle.left_right.specs.Sides.{view as knowledge};
@@ -9,10 +9,11 @@ ghost use Rattle.schedule.specs.Past.{is_changed};
 ghost use Rattle.runtime.specs.Clients.{IsFresh, IsSameTransaction, knows_that};
 ghost use Rattle.runtime.specs.History.{log_prefix};
 ghost use Rattle.runtime.specs.Commits.{Answers, IsDue, IsLogOf, commit_answer, unshown_answer};
-ghost use Rattle.runtime.specs.Logs.{IsWellFormedLog, attempts_of};
+ghost use Rattle.runtime.specs.Logs.{IsWellFormedLog};
 ghost use Rattle.runtime.specs.Serves.{IsAnswer, IsUnanswered};
 ghost use Rattle.runtime.specs.Publication.{knows};
 ghost use Rattle.runtime.specs.Submissions.{told_status};
+ghost use Rattle.runtime.specs.Traces.{attempts_of, with_performed};
 
 use crate::answers::{CommitError, Done, Seen};
 use crate::commit_lock::{CommitLock, LockKey};
@@ -23,6 +24,7 @@ use crate::outcome::Outcome;
 use crate::publication::StateReader;
 use crate::published_reads::{EnterError, look, look_up, perform_at};
 use crate::submission_status::SubmissionStatus;
+use record_store::StoreNumber;
 use schedule::{Command, Reply};
 use std::alloc::Global;
 use std::marker::Model;
@@ -154,10 +156,10 @@ impl<E: End> Client<E> {
         self.alloc
     }
 
-    /// Enters the published log, and begins a transaction there.
-    pub(crate) fn begin_here(&mut self) -> Result<(), EnterError>
+    /// Enters the published log, and begins a transaction in a store there.
+    pub(crate) fn begin_here(&mut self, store: StoreNumber) -> Result<(), EnterError>
         ensures begun { OnOk result ((open_tx : _) × (self.new.begun ≡ Some open_tx)
-            × IsFresh self.new.name self.new.log open_tx) }
+            × IsFresh self.new.name self.new.log store open_tx) }
         ensures log { IsPrefix self.old.log self.new.log }
         ensures same { self.new
             ≡ knows_that self.old.name self.new.log self.old.number self.old.last self.new.begun }
@@ -176,7 +178,7 @@ impl<E: End> Client<E> {
             return Err(EnterError::NotEntered);
         }
         self.me = prefix.again();
-        self.begun = Some(OpenTransaction::new(self.alloc, prefix));
+        self.begun = Some(OpenTransaction::new(self.alloc, prefix, store));
         Ok(())
     }
 
@@ -187,12 +189,12 @@ impl<E: End> Client<E> {
         ensures log { IsPrefix self.old.log self.new.log }
         ensures answer { (open_tx : _) → self.old.begun ≡ Some open_tx → IfOk result (λ reply.
             IsAnswer open_tx.prefix.name.config open_tx.prefix.log
-            open_tx.transaction open_tx.trace.attempts command.now reply) }
+            open_tx.transaction open_tx.trace command.now reply) }
         ensures open_then { OnOk result ((open_tx : _) × (self.old.begun ≡ Some open_tx)) }
         ensures grown { (open_tx : _) → self.old.begun ≡ Some open_tx → IfOk result (λ reply.
             (after : _) × (self.new.begun ≡ Some after) × IsSameTransaction open_tx after
-            × (after.trace.attempts
-            ≡ open_tx.trace.attempts ++ record { command = command.now; reply = reply } ∷ [])) }
+            × (after.trace
+            ≡ with_performed open_tx.trace (record { command = command.now; reply = reply }))) }
         ensures refused { (open_tx : _) → self.old.begun ≡ Some open_tx → IfErr result (λ error.
             (after : _) × (self.new.begun ≡ Some after) × IsSameTransaction open_tx after
             × IsUnanswered open_tx.prefix self.new.log error command.now open_tx.transaction open_tx.trace
@@ -248,7 +250,7 @@ impl<E: End> Client<E> {
         ensures answer { (open_tx : _) → self.old.begun ≡ Some open_tx →
             Answers self.old self.new open_tx.transaction open_tx.trace result.0 }
         ensures read_only { (open_tx : _) → self.old.begun ≡ Some open_tx →
-            is_changed (attempts_of open_tx.trace.attempts) ≡ false → result.0 ≡ Ok Done.ReadOnly }
+            is_changed (attempts_of open_tx.trace.attempts.list) ≡ false → result.0 ≡ Ok Done.ReadOnly }
         ensures due { IsDue self.old result.1 }
         ensures log { IsPrefix self.old.log self.new.log }
         ensures same { self.new

@@ -199,7 +199,7 @@ impl CommitState {
         trace: Trace,
     ) -> Result<Reported, Outcome>
         requires name { prefix.now.name ≡ self.old.name }
-        requires open { IsOpenOver self.old.name.config prefix.now.log request trace.attempts }
+        requires open { IsOpenOver self.old.name.config prefix.now.log request trace }
         requires waiting { IsOneDue self.old.log self.old.due }
         requires earlier { HasEarlier self.old.due (next_entry self.old.last client request trace) }
         ensures told { IfOk result (λ reported.
@@ -266,7 +266,7 @@ impl CommitState {
         trace: Trace,
     ) -> HandedIn
         requires name { prefix.now.name ≡ self.old.name }
-        requires open { IsOpenOver self.old.name.config prefix.now.log request trace.attempts }
+        requires open { IsOpenOver self.old.name.config prefix.now.log request trace }
         ensures handled { IsHandled self.old self.new
             (next_entry self.old.last client request trace) result.outcome }
         ensures due { IfSome result.due (IsEndOf self.old.name

@@ -101,7 +101,7 @@ fn request_and_publish<R: Wait>(
     trace: Trace,
 ) -> (CommitState, Told)
     requires name { prefix.now.name ≡ state.name }
-    requires over { IsOpenOver state.name.config prefix.now.log request trace.attempts }
+    requires over { IsOpenOver state.name.config prefix.now.log request trace }
     ensures name { result.0.name ≡ state.name }
     ensures numbers { GivesOne state.last result.0.last
         (next_entry state.last client request trace) result.1.outcome }
@@ -140,7 +140,7 @@ pub fn critical_section<E: End, R: Wait>(
     requires key { (key.old.table_id ≡ lock.now.table.shared.table_id) × (key.old.me.1 ≡ []) }
     requires client { key.old.me.0.client ≡ Some client }
     requires name { prefix.now.name ≡ key.old.me.0.about.value.state.name }
-    requires over { IsOpenOver prefix.now.name.config prefix.now.log request trace.attempts }
+    requires over { IsOpenOver prefix.now.name.config prefix.now.log request trace }
     ensures table { key.new.table_id ≡ key.old.table_id }
     ensures key { key.new.me ≡ (with_last result.last key.old.me.0, []) }
     ensures last { result.last ≡ last_then key.old.me.0.last result.outcome }

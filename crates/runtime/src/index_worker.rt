@@ -16,6 +16,7 @@ use crate::retrying::{Body, Failure, attempt};
 use crate::transaction::Txn;
 use crate::worker_progress::{Built, Progress, Round, Unsettled, settle};
 use kv_core::KeyRange;
+use record_store::StoreNumber;
 use schedule::Command;
 use std::sync::Wait;
 use tuple_codec::Text;
@@ -119,28 +120,31 @@ fn go_on(ended: Ended) -> Result<(), RunError>
     }
 }
 
-/// One round, and then what became of it and of those before it, as far as that is known.
+/// One round in a store, and then what became of it and of those before it, as far as that is
+/// known.
 fn take_round<E: End, R: Wait, G: Gate>(
     rt: &R,
     client: &mut Client<E>,
+    store: StoreNumber,
     worker: &mut Worker<G>,
     progress: &mut Progress,
 ) -> Result<(), RunError>
     requires names { AreTokensOf client.old.name progress.old.lost.items }
     ensures follows { GoesOnFrom client.old client.new }
     ensures index { OnOk result (worker.new.index ≡ worker.old.index) }
-    ensures round { OnOk result (TakesRound (Works G.passed) progress.new.marked
+    ensures round { OnOk result (TakesRound store (Works G.passed) progress.new.marked
         (worker.old, client.old) (worker.new, client.new)) }
     ensures progress { (start : Knowledge) →
-        IsProgress worker.old.index start client.old client.old.last progress.old →
-        OnOk result (IsSettledUpto worker.old.index start client.new client.new.last progress.new) }
+        IsProgress (store, worker.old.index) start client.old client.old.last progress.old →
+        OnOk result (IsSettledUpto (store, worker.old.index) start client.new client.new.last
+        progress.new) }
     ensures ended { (start : Knowledge) →
-        IsProgress worker.old.index start client.old client.old.last progress.old →
-        IfErr result (λ error. EndsWork (Works G.passed) worker.old.index start
+        IsProgress (store, worker.old.index) start client.old client.old.last progress.old →
+        IfErr result (λ error. EndsWork store (Works G.passed) worker.old.index start
         (worker.old, client.old) error (worker.new, client.new)) }
 {
     progress.lost.reserve(1)?;
-    let ended = attempt(rt, client, worker);
+    let ended = attempt(rt, client, store, worker);
     prove!(client.submissions() <= u64::MAX);
     match ended {
         Ok((round, _)) => {
@@ -172,16 +176,7 @@ fn take_round<E: End, R: Wait, G: Gate>(
     }
 }
 
-/// Builds a write-only index, a transaction for each part of so many records at most, until every
-/// position of it is built, and marks it readable then.
-///
-/// It passes the gate in each round. A round that read too long ago or was refused with a conflict
-/// is followed by the next one, and so is one of which it isn't known what became: as soon as the
-/// log has its entry, what it built is counted where it is committed. A refusal of a command is
-/// `Refused`, and so is `NotEntered`, and want of memory before a command; but where a mark of
-/// which it wasn't known is committed, the work is done. `GaveUp` is told where a commit is refused
-/// otherwise, where an outcome is forgotten, where the numbers of what is built don't suffice, and
-/// after so many rounds.
+/// Builds a write-only index of store 1, as `build_worker_in` does.
 pub fn build_worker<E: End, R: Wait, G: Gate>(
     rt: &R,
     client: &mut Client<E>,
@@ -191,15 +186,45 @@ pub fn build_worker<E: End, R: Wait, G: Gate>(
     gate: G,
 ) -> Result<Built, RunError>
     ensures follows { GoesOnFrom client.old client.new }
-    ensures built { IfOk result (λ built. IsBuilt index client.old client.new built) }
-    ensures work { (after : _) × IsWork (Works G.passed) index rounds
+    ensures built { IfOk result (λ built. IsBuilt (1, index) client.old client.new built) }
+    ensures work { (after : _) × IsWork 1 (Works G.passed) index rounds
+        (record { index = index; limit = limit; gate = gate }, client.old) result
+        (after, client.new) }
+{
+    let store = StoreNumber::first();
+    build_worker_in(rt, client, store, index, limit, rounds, gate)
+}
+
+/// Builds a write-only index of a store, a transaction for each part of so many records at most,
+/// until every position of it is built, and marks it readable then. An index of that name in
+/// another store has nothing to do with it.
+///
+/// It passes the gate in each round. A round that read too long ago or was refused with a conflict
+/// is followed by the next one, and so is one of which it isn't known what became: as soon as the
+/// log has its entry, what it built is counted where it is committed. A refusal of a command is
+/// `Refused`, and so is `NotEntered`, and want of memory before a command; but where a mark of
+/// which it wasn't known is committed, the work is done. `GaveUp` is told where a commit is refused
+/// otherwise, where an outcome is forgotten, where the numbers of what is built don't suffice, and
+/// after so many rounds.
+pub fn build_worker_in<E: End, R: Wait, G: Gate>(
+    rt: &R,
+    client: &mut Client<E>,
+    store: StoreNumber,
+    index: Text,
+    limit: u32,
+    rounds: u32,
+    gate: G,
+) -> Result<Built, RunError>
+    ensures follows { GoesOnFrom client.old client.new }
+    ensures built { IfOk result (λ built. IsBuilt (store, index) client.old client.new built) }
+    ensures work { (after : _) × IsWork store (Works G.passed) index rounds
         (record { index = index; limit = limit; gate = gate }, client.old) result
         (after, client.new) }
 {
     let mut worker = Worker { index, limit, gate };
     let mut progress = Progress::new(client.allocator());
     for round in 0..rounds {
-        take_round(rt, client, &mut worker, &mut progress)?;
+        take_round(rt, client, store, &mut worker, &mut progress)?;
         prove!(client.submissions() <= u64::MAX);
         if progress.marked {
             return Ok(progress.built);

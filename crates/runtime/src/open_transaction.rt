@@ -5,6 +5,7 @@ ghost use Rattle.runtime.specs.Logs.{IsOpenOver, version_of};
 
 use crate::log_prefix::LogPrefix;
 use crate::trace::Trace;
+use record_store::StoreNumber;
 use std::alloc::Global;
 use txn::Transaction;
 
@@ -17,20 +18,20 @@ pub struct OpenTransaction {
 }
 
 impl OpenTransaction {
-    /// A transaction at the version of a log, which has done nothing yet.
+    /// A transaction in a store at the version of a log, which has done nothing yet.
     #[tactic(auto, using(crate::proofs::WellFormed::open_first))]
-    pub fn new(alloc: Global, prefix: LogPrefix) -> OpenTransaction
+    pub fn new(alloc: Global, prefix: LogPrefix, store: StoreNumber) -> OpenTransaction
         ensures prefix { result.prefix ≡ prefix }
-        ensures fresh { IsFresh prefix.name prefix.log result }
+        ensures fresh { IsFresh prefix.name prefix.log store result }
         ensures over { IsOpenOver prefix.name.config prefix.log
-            result.transaction result.trace.attempts }
+            result.transaction result.trace }
         ensures at { result.transaction.read_version ≡ version_of prefix.name.config prefix.log }
     {
         let transaction = Transaction::begin(alloc, prefix.version());
         OpenTransaction {
             prefix,
             transaction,
-            trace: Trace::new(),
+            trace: Trace::new(store),
         }
     }
 }

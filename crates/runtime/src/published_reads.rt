@@ -7,6 +7,7 @@ ghost use Rattle.runtime.specs.Logs.{IsOpenOver, version_of};
 ghost use Rattle.runtime.specs.Serves.{IsAnswer, IsUnanswered};
 ghost use Rattle.runtime.specs.Publication.{IsFold, IsLater, has_seen};
 ghost use Rattle.runtime.specs.Submissions.{recent_outcome};
+ghost use Rattle.runtime.specs.Traces.{with_performed};
 
 use crate::log_prefix::LogPrefix;
 use crate::publication::{See, StateReader, StateReading};
@@ -112,8 +113,8 @@ fn status_there(state: &Published, client: u64, number: u64) -> (LogPrefix, Subm
     (state.prefix.again(), state.recent.status(client, number))
 }
 
-/// Performs a command over the servers, where these have pulled a log that begins with the
-/// transaction's.
+/// Performs a command in the transaction's store over the servers, where these have pulled a log
+/// that begins with the transaction's.
 fn perform_over(
     state: &Published,
     alloc: Global,
@@ -123,16 +124,16 @@ fn perform_over(
     command: &Command,
 ) -> Result<Reply, EnterError>
     requires state { IsFold state.now × (state.now.prefix.name ≡ prefix.now.name) }
-    requires over { IsOpenOver prefix.now.name.config prefix.now.log tx.old trace.old.attempts }
+    requires over { IsOpenOver prefix.now.name.config prefix.now.log tx.old trace.old }
     requires at { tx.old.read_version ≡ version_of prefix.now.name.config prefix.now.log }
     ensures answer { IfOk result (λ reply.
         IsAnswer prefix.now.name.config prefix.now.log
-        tx.old trace.old.attempts command.now reply) }
+        tx.old trace.old command.now reply) }
     ensures done { IfOk result (λ reply.
-        trace.new.attempts
-        ≡ trace.old.attempts ++ record { command = command.now; reply = reply } ∷ []) }
-    ensures over { IsOpenOver prefix.now.name.config prefix.now.log tx.new trace.new.attempts }
+        trace.new ≡ with_performed trace.old (record { command = command.now; reply = reply })) }
+    ensures over { IsOpenOver prefix.now.name.config prefix.now.log tx.new trace.new }
     ensures version { tx.new.read_version ≡ tx.old.read_version }
+    ensures store { trace.new.store ≡ trace.old.store }
     ensures refused { IfErr result (λ error.
         IsUnanswered prefix.now state.now.prefix.log error command.now tx.old trace.old
         tx.new trace.new) }
@@ -146,13 +147,13 @@ fn perform_over(
         return Err(EnterError::TooOld);
     }
     prove!(prefix.version() <= u64::MAX);
-    match perform(alloc, command, tx, &state.tier) {
+    match perform(alloc, command, trace.store, tx, &state.tier) {
         Ok(reply) => {
-            *trace = trace.then(command, &reply);
+            trace.add(command, &reply);
             Ok(reply)
         }
         Err(AllocError) => {
-            *trace = trace.then(command, &Reply::Stopped);
+            trace.add(command, &Reply::Stopped);
             Err(EnterError::Memory)
         }
     }
@@ -175,19 +176,19 @@ pub fn perform_at(
 ) -> (StateReader, Result<Reply, EnterError>, LogPrefix)
     requires reader { (knowledge reader.place).named ≡ true }
     requires prefix { prefix.now.name ≡ (knowledge reader.place).prefix.name }
-    requires over { IsOpenOver prefix.now.name.config prefix.now.log tx.old trace.old.attempts }
+    requires over { IsOpenOver prefix.now.name.config prefix.now.log tx.old trace.old }
     requires at { tx.old.read_version ≡ version_of prefix.now.name.config prefix.now.log }
     ensures reader { (knowledge result.0.place ≡ knowledge reader.place)
         ⊎ (knowledge result.0.place ≡ has_seen result.2) }
     ensures seen { result.2.name ≡ prefix.now.name }
     ensures answer { IfOk result.1 (λ reply.
         IsAnswer prefix.now.name.config prefix.now.log
-        tx.old trace.old.attempts command.now reply) }
+        tx.old trace.old command.now reply) }
     ensures done { IfOk result.1 (λ reply.
-        trace.new.attempts
-        ≡ trace.old.attempts ++ record { command = command.now; reply = reply } ∷ []) }
-    ensures over { IsOpenOver prefix.now.name.config prefix.now.log tx.new trace.new.attempts }
+        trace.new ≡ with_performed trace.old (record { command = command.now; reply = reply })) }
+    ensures over { IsOpenOver prefix.now.name.config prefix.now.log tx.new trace.new }
     ensures version { tx.new.read_version ≡ tx.old.read_version }
+    ensures store { trace.new.store ≡ trace.old.store }
     ensures refused { IfErr result.1 (λ error.
         IsUnanswered prefix.now result.2.log error command.now tx.old trace.old tx.new trace.new) }
     ensures unentered { result.1 ≡ Err EnterError.NotEntered

@@ -8,6 +8,7 @@ use crate::client::Client;
 use crate::critical_section::End;
 use crate::log_prefix::LogPrefix;
 use crate::transaction::Txn;
+use record_store::StoreNumber;
 use schedule::Refusal;
 use std::sync::Wait;
 use txn::{Ended, Next, Retry};
@@ -93,19 +94,20 @@ fn answer_of<E: End, B: Body<E>>(
     body.attempt(&mut tx)
 }
 
-/// One attempt.
+/// One attempt, in a store.
 pub(crate) fn attempt<E: End, R: Wait, B: Body<E>>(
     rt: &R,
     client: &mut Client<E>,
+    store: StoreNumber,
     body: &mut B,
 ) -> Result<(B::Answer, Done), Failure<B::Answer>>
     ensures follows { GoesOnFrom client.old client.new }
     ensures done { IfOk result (λ both.
-        TriesAndEnds B.did (body.old, client.old) both.0 (Ok both.1) (body.new, client.new)) }
+        TriesAndEnds store B.did (body.old, client.old) both.0 (Ok both.1) (body.new, client.new)) }
     ensures failed { IfErr result (λ failure.
-        FailsSo B.did (body.old, client.old) failure (body.new, client.new)) }
+        FailsSo store B.did (body.old, client.old) failure (body.new, client.new)) }
 {
-    if let Err(error) = client.begin_here() {
+    if let Err(error) = client.begin_here(store) {
         return Err(Failure::Refused(CommandError::from(error)));
     }
     let answer = match answer_of(client, body) {
@@ -121,10 +123,7 @@ pub(crate) fn attempt<E: End, R: Wait, B: Body<E>>(
 }
 
 impl<E: End> Client<E> {
-    /// Runs the body in a transaction and commits it, until it is committed, or changed nothing.
-    /// Another attempt follows one that read too long ago or was refused with a conflict, up to the
-    /// limit of `retry`; where the writes are repeatable, also one of which it isn't known whether
-    /// it is committed.
+    /// Runs the body in store 1, as `run_in` does.
     pub fn run<R: Wait, B: Body<E>>(
         &mut self,
         rt: &R,
@@ -133,12 +132,32 @@ impl<E: End> Client<E> {
         body: &mut B,
     ) -> Result<(B::Answer, Done), RunError>
         ensures follows { GoesOnFrom self.old self.new }
-        ensures run { IsRun B.did repeatable retry.limit (body.old, self.old) result
+        ensures run { IsRun 1 B.did repeatable retry.limit (body.old, self.old) result
+            (body.new, self.new) }
+    {
+        let store = StoreNumber::first();
+        self.run_in(rt, store, retry, repeatable, body)
+    }
+
+    /// Runs the body in a transaction in a store and commits it, until it is committed, or changed
+    /// nothing. Another attempt follows one that read too long ago or was refused with a conflict,
+    /// up to the limit of `retry`; where the writes are repeatable, also one of which it isn't
+    /// known whether it is committed.
+    pub fn run_in<R: Wait, B: Body<E>>(
+        &mut self,
+        rt: &R,
+        store: StoreNumber,
+        retry: Retry,
+        repeatable: bool,
+        body: &mut B,
+    ) -> Result<(B::Answer, Done), RunError>
+        ensures follows { GoesOnFrom self.old self.new }
+        ensures run { IsRun store B.did repeatable retry.limit (body.old, self.old) result
             (body.new, self.new) }
     {
         let mut number = 1u64;
         loop {
-            let failure = match attempt(rt, self, body) {
+            let failure = match attempt(rt, self, store, body) {
                 Ok(both) => return Ok(both),
                 Err(failure) => failure,
             };

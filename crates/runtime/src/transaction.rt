@@ -5,10 +5,11 @@ ghost use Rattle.std.specs.Borrow.{sem, RestsIfErr};
 ghost use mathlib.Core.List.{IsPrefix};
 ghost use Rattle.runtime.specs.contracts.client.Client.{the_row};
 ghost use Rattle.schedule.specs.Past.{is_changed};
-ghost use Rattle.runtime.specs.Calls.{HasCalled, HasPerformed, found_reply, removed_reply, saved_reply};
+ghost use Rattle.runtime.specs.Calls.{HasCalled, HasPerformed};
+ghost use Rattle.runtime.specs.Calls.{found_reply, removed_reply, saved_reply};
 ghost use Rattle.runtime.specs.Clients.{IsFresh, knows_that};
 ghost use Rattle.runtime.specs.Commits.{Answers};
-ghost use Rattle.runtime.specs.Logs.{attempts_of};
+ghost use Rattle.runtime.specs.Traces.{attempts_of};
 
 use crate::answers::{CommandError, CommitError, Done};
 use crate::client::Client;
@@ -16,6 +17,7 @@ use crate::critical_section::End;
 use crate::published_reads::EnterError;
 use crate::replies::{accepted, found, planned, removed, rows, saved, total};
 use metadata::Cells;
+use record_store::StoreNumber;
 use schedule::{AskedQuery, Command, Reply, Rows, SharedPlan};
 use std::sync::Wait;
 use tuple_codec::Text;
@@ -26,34 +28,55 @@ pub struct Txn<'a, E: End> {
     pub client: &'a mut Client<E>,
 }
 
-/// Begins a transaction at a published log that begins with the client's, which is the client's
-/// from now on. It waits for nobody.
+/// Begins a transaction in store 1, as `begin_in` does.
 pub fn begin<E: End>(client: &mut Client<E>) -> Result<Txn<'_, E>, EnterError>
     ensures* refused { sem 𝓛
         (RestsIfErr (the_row E.row E.End) client.entry (λ t. t.client.ghost_name) result
         (λ n. n ≡ client.old)) }
     ensures same_reference { IfOk result (λ t. t.client.ghost_name ≡ client.entry.ghost_name) }
     ensures begun { IfOk result (λ t. (open_tx : _) × (t.client.now.begun ≡ Some open_tx)
-        × IsFresh t.client.now.name t.client.now.log open_tx) }
+        × IsFresh t.client.now.name t.client.now.log 1 open_tx) }
     ensures log { IfOk result (λ t. IsPrefix client.old.log t.client.now.log) }
     ensures numbers { IfOk result (λ t.
         (t.client.now.last ≡ client.old.last) × (t.client.now.number ≡ client.old.number)) }
     ensures name { IfOk result (λ t. t.client.now.name ≡ client.old.name) }
     ensures why { IfErr result (λ error. error ≡ EnterError.NotEntered) }
 {
-    client.begin_here()?;
+    client.begin_here(StoreNumber::first())?;
+    Ok(Txn { client })
+}
+
+/// Begins a transaction in a store, at a published log that begins with the client's, which is the
+/// client's from now on. It waits for nobody.
+pub fn begin_in<E: End>(
+    client: &mut Client<E>,
+    store: StoreNumber,
+) -> Result<Txn<'_, E>, EnterError>
+    ensures* refused { sem 𝓛
+        (RestsIfErr (the_row E.row E.End) client.entry (λ t. t.client.ghost_name) result
+        (λ n. n ≡ client.old)) }
+    ensures same_reference { IfOk result (λ t. t.client.ghost_name ≡ client.entry.ghost_name) }
+    ensures begun { IfOk result (λ t. (open_tx : _) × (t.client.now.begun ≡ Some open_tx)
+        × IsFresh t.client.now.name t.client.now.log store open_tx) }
+    ensures log { IfOk result (λ t. IsPrefix client.old.log t.client.now.log) }
+    ensures numbers { IfOk result (λ t.
+        (t.client.now.last ≡ client.old.last) × (t.client.now.number ≡ client.old.number)) }
+    ensures name { IfOk result (λ t. t.client.now.name ≡ client.old.name) }
+    ensures why { IfErr result (λ error. error ≡ EnterError.NotEntered) }
+{
+    client.begin_here(store)?;
     Ok(Txn { client })
 }
 
 impl<E: End> Txn<'_, E> {
     /// Performs a command. It waits for nobody.
     ///
-    /// The reply is the serial store's for what is committed in the transaction's log at its read
-    /// version, as its own accepted commands change it, or a write limit. It is never that of a
-    /// refused read: where the published log is more than the window above the transaction's, the
-    /// command has no reply but `TooOld`, and the client has learnt that log. Where there is no
-    /// reply the transaction can go on; after `Memory` it has written nothing more, and the command
-    /// stands among those performed with the reply `Stopped`.
+    /// The reply is the serial store's for what is committed of the transaction's store in its log
+    /// at its read version, as its own accepted commands change it, or a write limit. It is never
+    /// that of a refused read: where the published log is more than the window above the
+    /// transaction's, the command has no reply but `TooOld`, and the client has learnt that log.
+    /// Where there is no reply the transaction can go on; after `Memory` it has written nothing
+    /// more, and the command stands among those performed with the reply `Stopped`.
     pub fn perform(&mut self, command: &Command) -> Result<Reply, EnterError>
         ensures same_reference { self.new.client.ghost_name ≡ self.old.client.ghost_name }
         ensures performed { HasPerformed command.now
@@ -137,16 +160,17 @@ impl<E: End> Txn<'_, E> {
     ///
     /// After `Committed` the client has learnt a published log that ends with this transaction's
     /// entry, committed, and after `Conflict` one that ends with its entry, refused with that
-    /// cause. `ReadOnly` submits nothing. After `TooOld` it has learnt a log that is more than the window
-    /// above the transaction's, and after `VersionsExhausted` one after which no version is left,
-    /// or no number for this client. Each of these logs has all earlier submissions of this client,
-    /// also those of which `Unknown` was told. A number is given to the submission with
+    /// cause. `ReadOnly` submits nothing. After `TooOld` it has learnt a log that is more than the
+    /// window above the transaction's, and after `VersionsExhausted` one after which no version is
+    /// left, or no number for this client. Each of these logs has all earlier submissions of this
+    /// client, also those of which `Unknown` was told. A number is given to the submission with
     /// `Committed`, `Conflict` and `Unknown`, and in no other case.
     pub fn commit<R: Wait>(self, rt: &R) -> Result<Done, CommitError>
         ensures answer { (open_tx : _) → self.entry.client.now.begun ≡ Some open_tx →
             Answers self.entry.client.now self.exit.0.now open_tx.transaction open_tx.trace result }
         ensures read_only { (open_tx : _) → self.entry.client.now.begun ≡ Some open_tx →
-            is_changed (attempts_of open_tx.trace.attempts) ≡ false → result ≡ Ok Done.ReadOnly }
+            is_changed (attempts_of open_tx.trace.attempts.list) ≡ false →
+            result ≡ Ok Done.ReadOnly }
         ensures log { IsPrefix self.entry.client.now.log self.exit.0.now.log }
         ensures same { self.exit.0.now ≡ knows_that self.entry.client.now.name self.exit.0.now.log
             self.entry.client.now.number self.exit.0.now.last None }

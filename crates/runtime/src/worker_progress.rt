@@ -1,9 +1,9 @@
 // How far a worker is, and what became of its submissions of which it wasn't told. Used by
 // `index_worker`.
-ghost use Rattle.std.specs.Prelude.{◌≡◌, ◌+◌, ◌<◌, ◌≤◌, ◌^◌, ◌⊎◌, ℕ, List, [], false, vec_len};
+ghost use Rattle.std.specs.Prelude.{◌≡◌, ◌+◌, ◌<◌, ◌≤◌, ◌^◌, ◌⊎◌, ℕ, [], false, vec_len};
 ghost use Rattle.std.specs.Prelude.{IfOk, MatchBool, MatchOption, MatchResult, OnOk};
 ghost use Rattle.std.specs.Bool.{OnTrue};
-ghost use Rattle.runtime.specs.Builds.{HasAsked};
+ghost use Rattle.runtime.specs.Builds.{HasAsked, IndexIn};
 ghost use Rattle.runtime.specs.Clients.{Knowledge};
 ghost use Rattle.runtime.specs.Logs.{IsWellFormedLog};
 ghost use Rattle.runtime.specs.Settles.{AreTokensOf, AskingEnds, HasCounted, IsProgress};
@@ -107,7 +107,7 @@ impl Progress {
 fn is_committed<E: End>(client: &mut Client<E>, one: &Unsettled) -> Result<Option<bool>, RunError>
     requires name { one.now.prefix.name ≡ client.old.name }
     ensures asked { HasAsked client.old client.new }
-    ensures told { (index : List ℕ) → IsUnsettled index client.old one.now →
+    ensures told { (index : IndexIn) → IsUnsettled index client.old one.now →
         1 ≤ one.now.number → one.now.number ≤ client.old.last → MatchResult result
         (λ told. TellsOne client.new one.now told)
         (λ error. IsWithheld client.new one.now.number error) }
@@ -136,7 +136,7 @@ fn settle_first<E: End>(client: &mut Client<E>, progress: &mut Progress) -> Resu
     ensures names { OnOk result (AreTokensOf client.new.name progress.new.lost.items) }
     ensures fewer { IfOk result (λ one.
         OnTrue one (vec_len progress.new.lost < vec_len progress.old.lost)) }
-    ensures settled { (index : List ℕ) (start : Knowledge) (top : ℕ) →
+    ensures settled { (index : IndexIn) (start : Knowledge) (top : ℕ) →
         IsProgress index start client.old top progress.old → MatchResult result
         (λ one. MatchBool one (IsProgress index start client.new top progress.new)
         (IsSettledUpto index start client.new top progress.new))
@@ -164,7 +164,7 @@ pub(crate) fn settle<E: End>(
 ) -> Result<(), RunError>
     requires names { AreTokensOf client.old.name progress.old.lost.items }
     ensures asked { HasAsked client.old client.new }
-    ensures settled { (index : List ℕ) (start : Knowledge) (top : ℕ) →
+    ensures settled { (index : IndexIn) (start : Knowledge) (top : ℕ) →
         IsProgress index start client.old top progress.old → MatchResult result
         (λ _. IsSettledUpto index start client.new top progress.new)
         (λ error. AskingEnds index start client.new error) }

@@ -1,11 +1,13 @@
 -- What a step of a client replies and leaves, over plain values.
-use Rattle.std.proofs.Common.{◌≡◌, ℕ, ◌<◌, cond, List, [], ◌∷◌, ◌++◌, length, get_or, refl, sym, ap, subst, subst₂, ◌∙◌, Option, Some, None, append-nil, arith}
+use Rattle.std.proofs.Common.{◌≡◌, ℕ, ◌<◌, ◌≤◌, true, false, cond, List, [], ◌∷◌, ◌++◌, length, get_or, refl, sym, ap, subst, subst₂, ◌∙◌, Option, Some, None, append-nil, arith}
 use Rattle.std.specs.Prelude.{slice_set}
 use Rattle.kv_core.specs.declared.change.CommitRequest.{CommitRequest}
-use Rattle.schedule.specs.declared.refusal.Refusal.TheVariants.{NoTransaction}
-use Rattle.cluster_core.specs.Cluster.{ClusterState, database_at}
+use Rattle.schedule.specs.declared.refusal.Refusal.TheVariants.{NoSuchStore, NoTransaction}
+use Rattle.cluster_core.specs.Cluster.{ClusterState, database_at, tier_of}
 use Rattle.cluster_core.specs.History.{IsLegal}
 use Rattle.cluster_core.specs.Roles.{history}
+use Rattle.txn.specs.Refusing.{MayRefuse}
+use Rattle.record_store.specs.Layout.{is_store_number}
 use Rattle.schedule.specs.declared.step.Command.{Command}
 use Rattle.schedule.specs.declared.step.Step.TheVariants.{Begin, Perform, Commit, Abandon}
 use Rattle.schedule.specs.declared.step.TheConstants.{CLIENTS}
@@ -18,10 +20,11 @@ use Rattle.schedule.specs.declared.transcript.CommitEntry.{CommitEntry}
 use Rattle.schedule.specs.Past.{Past, Attempt, Open, Submission, grown, open_of, submitted_in, is_accepted, submission, submitted_after}
 use Rattle.schedule.specs.Contract.{InTransaction, begin_reply, commit_reply}
 use Rattle.schedule.specs.Exact.{IsExactReply}
+use Rattle.schedule.specs.Performed.{IsPerformed}
 use Rattle.schedule.specs.Standing.{cluster_stepped, commits_of}
 use Rattle.schedule.specs.Turns.{IsOpenTransaction, fresh_request}
-use Rattle.schedule.specs.Running.{ArePlaces, IsOpen, IsPlace, IsPerformedBy, IsStanding, IsStandingAt, IsStepped, IsSubmit, submitted_by}
-use Rattle.schedule.proofs.Places.{accepted-append, changed_at, client_there, place_found, place_none, place_some, places_same, places_set}
+use Rattle.schedule.specs.Running.{ArePlaces, IsOpen, IsPlace, IsPerformedBy, IsStanding, IsStandingAt, IsStepped, IsSubmit, StandsAfter, submitted_by}
+use Rattle.schedule.proofs.Places.{accepted-append, changed_at, client_there, place_found, place_none, place_some, places_same, places_set, store_missing, store_there}
 use Rattle.schedule.proofs.Composed.{command_right}
 use Rattle.schedule.proofs.Turning.{open_fresh, open_grown}
 
@@ -83,24 +86,36 @@ same_requests old new same = ap (λ (c : ClusterState). c.pipeline.requests) sam
 
 -- ---- begin
 
-pub begin_steps : (old new : Database) (client version : ℕ) (found : Option OpenTransaction) (transaction : OpenTransaction) → client < CLIENTS →
-    found ≡ get_or old.transactions.items client found → found ≡ None → version ≡ old.cluster.pipeline.reported → transaction.transaction ≡ fresh_request version → transaction.commands.items ≡ [] →
-    IsSet old new client (Some transaction) → IsStepped (Begin client) (Begun version) old new
-begin_steps old new client version found transaction there is closed at is_fresh none set past s =
+pub begin_steps : (old new : Database) (client number version : ℕ) (found : Option OpenTransaction) (transaction : OpenTransaction) → client < CLIENTS → is_store_number number ≡ true →
+    found ≡ get_or old.transactions.items client found → found ≡ None → version ≡ old.cluster.pipeline.reported → transaction.store ≡ number → transaction.transaction ≡ fresh_request version → transaction.commands.items ≡ [] →
+    IsSet old new client (Some transaction) → IsStepped (Begin client number) (Begun version) old new
+begin_steps old new client number version found transaction there lawful is closed at in_store is_fresh none set past s =
     let maps = database_at old.cluster in
     let placed : IsPlace maps old.cluster.pipeline.reported (open_of client past) None = subst (λ (o : Option OpenTransaction). IsPlace maps old.cluster.pipeline.reported (open_of client past) o) closed (placed_at _ _ old client found there is s) in
-    let begun : Open = record { read_version = version; attempts = [] } in
+    let begun : Open = record { store = number; read_version = version; attempts = [] } in
     let now_open : IsOpen maps old.cluster.pipeline.reported begun transaction = record {
-      done = subst (IsOpenTransaction maps old.cluster.pipeline.reported begun) (sym is_fresh) (open_fresh maps old.cluster.pipeline.reported version (omega (arith, at)));
+      store = in_store;
+      done = subst (IsOpenTransaction maps old.cluster.pipeline.reported begun) (sym is_fresh) (open_fresh maps old.cluster.pipeline.reported number version lawful (omega (arith, at)));
       commands = none;
     } in
     record {
-      right = client_there client (Begun version) (Begun version ≡ begin_reply old.cluster (open_of client past)) there (ap Begun at ∙ sym (ap (begin_reply old.cluster) (place_none maps old.cluster.pipeline.reported (open_of client past) placed)));
+      right = client_there client (Begun version) _ there (store_there number (Begun version) (Begun version ≡ begin_reply old.cluster (open_of client past)) lawful
+          (ap Begun at ∙ sym (ap (begin_reply old.cluster) (place_none maps old.cluster.pipeline.reported (open_of client past) placed))));
       moved = λ more. sym set.cluster;
       added = [];
       grown = same_requests old new set.cluster;
       after = after_set old new client (Some transaction) (λ _. Some begun) (λ who. open_of who past) (submitted_in past) there set s now_open;
     }
+
+-- there is no such store
+pub begin_missing : (d : Database) (client number : ℕ) → client < CLIENTS → is_store_number number ≡ false → IsStepped (Begin client number) (Refused NoSuchStore) d d
+begin_missing d client number there none past s = record {
+  right = client_there client (Refused NoSuchStore) _ there (store_missing number (Refused NoSuchStore) (Refused NoSuchStore ≡ begin_reply d.cluster (open_of client past)) none refl);
+  moved = λ more. refl;
+  added = [];
+  grown = none_added d.cluster.pipeline.requests;
+  after = s;
+}
 
 -- ---- perform
 
@@ -113,14 +128,16 @@ perform_steps old new client command reply found transaction after there is open
     let placed : IsPlace maps reported (open_of client past) (Some transaction) = subst (λ (o : Option OpenTransaction). IsPlace maps reported (open_of client past) o) opened (placed_at _ _ old client found there is s) in
     let (open_now, e, is_open) = place_some maps reported (open_of client past) transaction placed in
     let attempt : Attempt = record { command = command; reply = reply } in
-    let grows : IsOpen maps reported (record { read_version = open_now.read_version; attempts = open_now.attempts ++ attempt ∷ [] }) after = record {
-      done = open_grown maps reported open_now transaction.transaction after.transaction _ command reply is_open.done performed.performed;
+    let here = subst (λ number. IsPerformed number maps (λ range. MayRefuse (tier_of old.cluster) range transaction.transaction.read_version) command reply transaction.transaction after.transaction) is_open.store performed.performed in
+    let grows : IsOpen maps reported (record open_now { attempts = open_now.attempts ++ attempt ∷ [] }) after = record {
+      store = performed.store ∙ is_open.store;
+      done = open_grown maps reported open_now transaction.transaction after.transaction _ command reply is_open.done here;
       commands = performed.commands ∙ ap (λ cs. cs ++ cond (is_accepted reply) (command ∷ []) []) is_open.commands ∙ sym (accepted-append open_now.attempts attempt);
     } in
     record {
       right = client_there client reply _ there
           (subst (λ o. InTransaction o (λ now. IsExactReply old.cluster (commits_of old.cluster.pipeline (submitted_in past)) now command reply) reply) (sym e)
-          (command_right old.cluster (submitted_in past) open_now transaction.transaction after.transaction command reply legal s.submitted is_open.done performed.performed));
+          (command_right old.cluster (submitted_in past) open_now transaction.transaction after.transaction command reply legal s.submitted is_open.done here));
       moved = λ more. sym set.cluster;
       added = [];
       grown = same_requests old new set.cluster;
@@ -209,6 +226,16 @@ submitted_same : (client : ℕ) (past : Past) (ended : Open) (reply : Reply) (be
     submitted_by client ended reply before ≡ submitted_after (Commit client) reply past before
 submitted_same client past ended (Submitted version) before e = ap (λ o. before ++ submission client version o) (sym e)
 submitted_same client past ended reply before e = refl
+
+-- an open transaction reads at a version that was reported
+pub ended_seen : (old : Database) (client : ℕ) (found : Option OpenTransaction) (ended : OpenTransaction) → client < CLIENTS →
+    found ≡ get_or old.transactions.items client found → found ≡ Some ended → (past : Past) × StandsAfter past old → ended.transaction.read_version ≤ old.cluster.pipeline.reported
+ended_seen old client found ended there is opened (past, s) =
+    let maps = database_at old.cluster in
+    let reported = old.cluster.pipeline.reported in
+    let placed : IsPlace maps reported (open_of client past) (Some ended) = subst (λ (o : Option OpenTransaction). IsPlace maps reported (open_of client past) o) opened (placed_at _ _ old client found there is s) in
+    let (open_now, e, is_open) = place_some maps reported (open_of client past) ended placed in
+    subst (λ version. version ≤ reported) (sym is_open.done.at) is_open.done.seen
 
 pub commit_steps : (old mid new : Database) (client : ℕ) (reply : Reply) (found : Option OpenTransaction) (ended : OpenTransaction) → client < CLIENTS →
     found ≡ get_or old.transactions.items client found → found ≡ Some ended → IsSet old mid client None → IsSubmit client ended reply mid new → IsStepped (Commit client) reply old new

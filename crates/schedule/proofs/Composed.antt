@@ -1,10 +1,8 @@
--- What the submitted transactions come to: the database holds what is committed at each version, and version order is a serial order.
-use Rattle.std.proofs.Common.{◌≡◌, ℕ, suc, ◌+◌, ◌-◌, ◌≤◌, Bool, true, false, cond, ◌&&◌, ◌⊎◌, inl, inr, List, [], ◌∷◌, ◌++◌, map, slice_get, refl, sym, ap, subst, ◌∙◌, Option, Some, None, arith, nat_le, is_none, fold}
+-- What the submitted transactions come to: the database holds of each store what is committed at each version, and nothing else, and version order is a serial order.
+use Rattle.std.proofs.Common.{◌≡◌, ℕ, suc, ◌+◌, ◌-◌, ◌≤◌, Bool, true, false, cond, ◌&&◌, ◌==◌, ◌⊎◌, inl, inr, List, [], ◌∷◌, map, slice_get, refl, sym, ap, subst, ◌∙◌, Option, Some, None, arith, nat_le, is_none, fold}
 use Rattle.std.specs.List.{All, AllByRecursion, filter}
 use Rattle.std.specs.Option.{option_map_or}
-use Rattle.std.specs.FinMap.{empty, get-empty}
-use Rattle.kv_core.specs.Bytes.{key_cmp}
-use Rattle.schedule.specs.Layout.{store_prefix}
+use Rattle.std.specs.FinMap.{get}
 use Rattle.std.proofs.lemmas.Bool.{le-leb, leb-true, true≢false}
 use Rattle.std.proofs.lemmas.List.Elements.{recursion_from_All, All-from_recursion}
 use Rattle.kv_core.specs.Range.{KeyRange}
@@ -12,7 +10,7 @@ use Rattle.kv_core.specs.Map.{Map, after_all}
 use Rattle.kv_core.specs.declared.change.CommitRequest.{CommitRequest}
 use Rattle.cluster_core.specs.Cluster.{ClusterState, database_at, tier_of}
 use Rattle.cluster_core.specs.History.{Entry, map_at, IsRising, IsLegal}
-use Rattle.cluster_core.specs.Decision.{numbered, cause, is_committed, committed as committed_entries}
+use Rattle.cluster_core.specs.Decision.{numbered, cause, is_committed}
 use Rattle.cluster_core.specs.Roles.{PipelineState, entries, history, outcome, told, told_of}
 use Rattle.cluster_core.specs.Serial.{after_commands, AllReplied, Replays, state_at}
 use Rattle.txn.specs.Refusing.{MayRefuse}
@@ -24,33 +22,18 @@ use Rattle.schedule.specs.declared.step.Command.{Command}
 use Rattle.schedule.specs.declared.reply.Reply.{Reply}
 use Rattle.schedule.specs.declared.transcript.CommitEntry.{CommitEntry}
 use Rattle.record_store.specs.Store.{Serial}
-use Rattle.schedule.specs.Serve.{IsReply, effects}
-use Rattle.schedule.specs.Past.{Attempt, Open, Submission, accepted, is_accepted}
+use Rattle.schedule.specs.Serve.{effects}
+use Rattle.schedule.specs.Past.{Open, Submission, accepted}
 use Rattle.schedule.specs.Holds.{Stands}
 use Rattle.schedule.specs.Reach.{opened_in, reach}
 use Rattle.schedule.specs.Performed.{IsServed, IsReadRefusal, IsPerformed}
-use Rattle.schedule.specs.Commits.{committed_store, view}
+use Rattle.schedule.specs.Commits.{committed_store, is_of_upto, view}
 use Rattle.schedule.specs.Standing.{is_told, is_listed, listed, commit_entry, commits_of}
-use Rattle.schedule.specs.Contract.{attempted, EachRequest, HoldsCommitted}
+use Rattle.schedule.specs.Contract.{EachRequest, HoldsAt, HoldsCommitted}
 use Rattle.schedule.specs.Exact.{commands_written, AreReads, IsExactReply, IsExactRequest, IsSerial, IsSerialAt}
 use Rattle.schedule.specs.Turns.{fresh_request, IsOpenTransaction, AreSubmitted}
-use Rattle.schedule.proofs.Turning.{after_attempts, attempts_effects, done_serve, done_writes, done_reads}
-
--- an attempt has its reply, where it was accepted
-abbrev Replied : Serial → Attempt → Type 0
-Replied serial attempt = is_accepted attempt.reply ≡ true → IsReply serial attempt.command attempt.reply
-
--- an empty map holds no store
-holds_nothing : Stands empty None
-holds_nothing = λ bytes. get-empty key_cmp (store_prefix ++ bytes)
-
-serial_replied : (serial : Serial) (attempts : List Attempt) → IsSerialAt serial attempts → AllReplied Stands Replied attempted serial attempts
-serial_replied serial [] is = tt
-serial_replied serial (attempt ∷ attempts) is = (is.0, serial_replied (attempted serial attempt) attempts is.1)
-
-replied_serial : (serial : Serial) (attempts : List Attempt) → AllReplied Stands Replied attempted serial attempts → IsSerialAt serial attempts
-replied_serial serial [] is = tt
-replied_serial serial (attempt ∷ attempts) is = (is.0, replied_serial (attempted serial attempt) attempts is.1)
+use Rattle.schedule.proofs.Turning.{attempts_effects, done_serve, done_writes, done_reads}
+use Rattle.schedule.proofs.OwnStore.{HoldsAll, Replied, Stores, Turn, all_after, holds_nothing, served, turned}
 
 -- told to be committed is what has no cause against it
 told_committed : (why : Option Rattle.cluster_core.specs.Decision.Cause) (version : ℕ) → is_told (told why version) ≡ is_none why
@@ -61,14 +44,17 @@ module _ (p : PipelineState) (subs : List Submission) where
   abbrev maps : ℕ → Map
   maps version = map_at (history p) version
 
-  -- the attempts of the submission of an entry
-  abbrev commands_of : Entry → List Attempt
-  commands_of entry = option_map_or (λ (one : Submission). one.transaction.attempts) (slice_get subs (entry.version - p.start - 1)) []
+  abbrev turn_of : Submission → List Turn
+  turn_of one = (one.transaction.store, one.transaction.attempts) ∷ []
+
+  -- the turn of the submission of an entry
+  abbrev commands_of : Entry → List Turn
+  commands_of entry = option_map_or turn_of (slice_get subs (entry.version - p.start - 1)) []
 
   -- an entry and its submission
   record IsPair (entry : Entry) (one : Submission) : Type 0 where
     same_version : entry.version ≡ one.version
-    commands : commands_of entry ≡ one.transaction.attempts
+    commands : commands_of entry ≡ turn_of one
     open_as : IsOpenTransaction maps p.reported one.transaction entry.request
     same_end : is_told (outcome p one.version) ≡ is_committed p.splits (entries p) entry
 
@@ -86,7 +72,7 @@ module _ (p : PipelineState) (subs : List Submission) where
   pairs_from n (one ∷ ss) (request ∷ requests) are in_subs in_entries = (
     record {
       same_version = sym at;
-      commands = ap (λ place. option_map_or (λ (s : Submission). s.transaction.attempts) (slice_get subs place) []) place_is ∙ ap (λ o. option_map_or (λ (s : Submission). s.transaction.attempts) o []) (in_subs 0);
+      commands = ap (λ place. option_map_or turn_of (slice_get subs place) []) place_is ∙ ap (λ o. option_map_or turn_of o []) (in_subs 0);
       open_as = are.0.open_as;
       same_end = ap (λ v. is_told (told_of p (slice_get (entries p) (v - p.start - 1)))) at
           ∙ ap (λ place. is_told (told_of p (slice_get (entries p) place))) place_is ∙ ap (λ o. is_told (told_of p o)) (in_entries 0)
@@ -115,8 +101,8 @@ module _ (p : PipelineState) (subs : List Submission) where
 
   -- ---- what is there at a version, by the history and by the committed transactions
 
-  abbrev after_entry : Serial → Entry → Serial
-  after_entry serial entry = after_commands Stands Replied attempted serial (commands_of entry)
+  abbrev after_entry : Stores → Entry → Stores
+  after_entry stores entry = after_commands HoldsAll Replied turned stores (commands_of entry)
 
   abbrev after_commit : Serial → CommitEntry → Serial
   after_commit serial one = effects serial one.commands
@@ -127,44 +113,54 @@ module _ (p : PipelineState) (subs : List Submission) where
   abbrev entries_upto : ℕ → List Entry → List Entry
   entries_upto v es = filter (λ (e : Entry). nat_le e.version v) (passing es)
 
-  abbrev commits_upto : ℕ → List Submission → List CommitEntry
-  commits_upto v ss = filter (λ (c : CommitEntry). nat_le c.version v) (map commit_entry (filter (is_listed p) ss))
+  module _ (number : ℕ) where
+    abbrev commits_upto : ℕ → List Submission → List CommitEntry
+    commits_upto v ss = filter (is_of_upto number v) (map commit_entry (filter (is_listed p) ss))
 
-  states_same : (v : ℕ) → v ≤ p.reported → (es : List Entry) (ss : List Submission) → ArePairs es ss → (serial : Serial) →
-      fold after_entry serial (entries_upto v es) ≡ fold after_commit serial (commits_upto v ss)
-  states_same v below [] [] pairs serial = refl
-  states_same v below [] (one ∷ ss) pairs serial = absurd pairs
-  states_same v below (entry ∷ es) [] pairs serial = absurd pairs
-  states_same v below (entry ∷ es) (one ∷ ss) (pair, pairs) serial =
-      ap (fold after_entry serial) (left (is_committed p.splits (entries p) entry))
-      ∙ by_test (is_committed p.splits (entries p) entry) (nat_le entry.version v) (nat_le one.version p.reported) shown (states_same v below es ss pairs)
-      ∙ (λ i. fold after_commit serial (cond (nat_le one.version p.reported && sym pair.same_end i) (cond (nat_le (pair.same_version i) v) (commit_entry one ∷ commits_upto v ss) (commits_upto v ss)) (commits_upto v ss)))
-      ∙ ap (fold after_commit serial) (sym (right (nat_le one.version p.reported && is_told (outcome p one.version))))
-    where
-      left : (b : Bool) → filter (λ (e : Entry). nat_le e.version v) (cond b (entry ∷ passing es) (passing es)) ≡ cond b (cond (nat_le entry.version v) (entry ∷ entries_upto v es) (entries_upto v es)) (entries_upto v es)
-      left true = refl
-      left false = refl
+    states_same : (v : ℕ) → v ≤ p.reported → (es : List Entry) (ss : List Submission) → ArePairs es ss → (stores : Stores) (serial : Serial) → stores number ≡ serial →
+        fold after_entry stores (entries_upto v es) number ≡ fold after_commit serial (commits_upto v ss)
+    states_same v below [] [] pairs stores serial same = same
+    states_same v below [] (one ∷ ss) pairs stores serial same = absurd pairs
+    states_same v below (entry ∷ es) [] pairs stores serial same = absurd pairs
+    states_same v below (entry ∷ es) (one ∷ ss) (pair, pairs) stores serial same =
+        ap (λ xs. fold after_entry stores xs number) (left (is_committed p.splits (entries p) entry))
+        ∙ by_test (is_committed p.splits (entries p) entry) (nat_le entry.version v) (nat_le one.version p.reported) own shown step (states_same v below es ss pairs)
+        ∙ (λ i. fold after_commit serial (cond (nat_le one.version p.reported && sym pair.same_end i) (cond (own && nat_le (pair.same_version i) v) (commit_entry one ∷ commits_upto v ss) (commits_upto v ss)) (commits_upto v ss)))
+        ∙ ap (fold after_commit serial) (sym (right (nat_le one.version p.reported && is_told (outcome p one.version))))
+      where
+        own : Bool
+        own = one.transaction.store == number
 
-      right : (b : Bool) → filter (λ (c : CommitEntry). nat_le c.version v) (map commit_entry (cond b (one ∷ filter (is_listed p) ss) (filter (is_listed p) ss)))
-          ≡ cond b (cond (nat_le one.version v) (commit_entry one ∷ commits_upto v ss) (commits_upto v ss)) (commits_upto v ss)
-      right true = refl
-      right false = refl
+        left : (b : Bool) → filter (λ (e : Entry). nat_le e.version v) (cond b (entry ∷ passing es) (passing es)) ≡ cond b (cond (nat_le entry.version v) (entry ∷ entries_upto v es) (entries_upto v es)) (entries_upto v es)
+        left true = refl
+        left false = refl
 
-      shown : nat_le entry.version v ≡ true → nat_le one.version p.reported ≡ true
-      shown h = let at : entry.version ≡ one.version = pair.same_version in let e : entry.version ≤ v = leb-true entry.version v h in le-leb one.version p.reported (omega (arith, at, e, below))
+        right : (b : Bool) → filter (is_of_upto number v) (map commit_entry (cond b (one ∷ filter (is_listed p) ss) (filter (is_listed p) ss)))
+            ≡ cond b (cond (own && nat_le one.version v) (commit_entry one ∷ commits_upto v ss) (commits_upto v ss)) (commits_upto v ss)
+        right true = refl
+        right false = refl
 
-      same_step : after_entry serial entry ≡ after_commit serial (commit_entry one)
-      same_step = ap (after_attempts serial) pair.commands ∙ attempts_effects serial one.transaction.attempts
+        shown : nat_le entry.version v ≡ true → nat_le one.version p.reported ≡ true
+        shown h = let at : entry.version ≡ one.version = pair.same_version in let e : entry.version ≤ v = leb-true entry.version v h in le-leb one.version p.reported (omega (arith, at, e, below))
 
-      by_test : (b u r : Bool) → (u ≡ true → r ≡ true) → ((s : Serial) → fold after_entry s (entries_upto v es) ≡ fold after_commit s (commits_upto v ss)) →
-          fold after_entry serial (cond b (cond u (entry ∷ entries_upto v es) (entries_upto v es)) (entries_upto v es))
-          ≡ fold after_commit serial (cond (r && b) (cond u (commit_entry one ∷ commits_upto v ss) (commits_upto v ss)) (commits_upto v ss))
-      by_test false u true so rest = rest serial
-      by_test false u false so rest = rest serial
-      by_test true true true so rest = rest (after_entry serial entry) ∙ ap (λ s. fold after_commit s (commits_upto v ss)) same_step
-      by_test true true false so rest = absurd (true≢false (sym (so refl)))
-      by_test true false true so rest = rest serial
-      by_test true false false so rest = rest serial
+        step : after_entry stores entry number ≡ cond own (after_commit serial (commit_entry one)) serial
+        step =
+            ap (λ turns. after_commands HoldsAll Replied turned stores turns number) pair.commands
+            ∙ ap (λ t. cond own t (stores number)) (attempts_effects (stores number) one.transaction.attempts)
+            ∙ ap (λ s. cond own (after_commit s (commit_entry one)) s) same
+
+        by_test : (b u r w : Bool) → (u ≡ true → r ≡ true) → after_entry stores entry number ≡ cond w (after_commit serial (commit_entry one)) serial →
+            ((t : Stores) (s : Serial) → t number ≡ s → fold after_entry t (entries_upto v es) number ≡ fold after_commit s (commits_upto v ss)) →
+            fold after_entry stores (cond b (cond u (entry ∷ entries_upto v es) (entries_upto v es)) (entries_upto v es)) number
+            ≡ fold after_commit serial (cond (r && b) (cond (w && u) (commit_entry one ∷ commits_upto v ss) (commits_upto v ss)) (commits_upto v ss))
+        by_test false u true w so now rest = rest stores serial same
+        by_test false u false w so now rest = rest stores serial same
+        by_test true true true true so now rest = rest (after_entry stores entry) (after_commit serial (commit_entry one)) now
+        by_test true true true false so now rest = rest (after_entry stores entry) serial now
+        by_test true true false w so now rest = absurd (true≢false (sym (so refl)))
+        by_test true false true true so now rest = rest stores serial same
+        by_test true false true false so now rest = rest stores serial same
+        by_test true false false w so now rest = rest stores serial same
 
   -- ---- the submissions of a cluster whose history is legal
 
@@ -179,41 +175,47 @@ module _ (p : PipelineState) (subs : List Submission) where
         here : p.start ≡ p.start + 0
         here = omega arith
 
-    one_replays : (entry : Entry) (one : Submission) → IsPair entry one → Replays Stands Replied attempted commands_of (history p) entry
-    one_replays entry one pair m serial holds agree =
-        let served = done_serve maps one.transaction.attempts (fresh_request one.transaction.read_version) entry.request pair.open_as.done m serial agree holds in (
-          subst (AllReplied Stands Replied attempted serial) (sym pair.commands) (serial_replied serial one.transaction.attempts served.0),
-          subst (λ attempts. Stands (after_all entry.request.mutations m) (after_attempts serial attempts)) (sym pair.commands) served.1,
+    one_replays : (entry : Entry) (one : Submission) → IsPair entry one → Replays HoldsAll Replied turned commands_of (history p) entry
+    one_replays entry one pair m stores holds agree =
+        let open_as = pair.open_as in (
+          subst (AllReplied HoldsAll Replied turned stores) (sym pair.commands) ((served maps one.transaction entry.request p.reported open_as m stores holds agree).0, tt),
+          subst (λ turns. HoldsAll (after_all entry.request.mutations m) (after_commands HoldsAll Replied turned stores turns)) (sym pair.commands) (all_after maps one.transaction entry.request p.reported open_as m stores holds agree),
         )
 
-    each_replays : (es : List Entry) (ss : List Submission) → ArePairs es ss → AllByRecursion (Replays Stands Replied attempted commands_of (history p)) (passing es)
+    each_replays : (es : List Entry) (ss : List Submission) → ArePairs es ss → AllByRecursion (Replays HoldsAll Replied turned commands_of (history p)) (passing es)
     each_replays [] [] pairs = tt
     each_replays [] (one ∷ ss) pairs = absurd pairs
     each_replays (entry ∷ es) [] pairs = absurd pairs
     each_replays (entry ∷ es) (one ∷ ss) (pair, pairs) = by_test (is_committed p.splits (entries p) entry) (one_replays entry one pair) (each_replays es ss pairs)
       where
-        by_test : (b : Bool) → Replays Stands Replied attempted commands_of (history p) entry → AllByRecursion (Replays Stands Replied attempted commands_of (history p)) (passing es) →
-            AllByRecursion (Replays Stands Replied attempted commands_of (history p)) (cond b (entry ∷ passing es) (passing es))
+        by_test : (b : Bool) → Replays HoldsAll Replied turned commands_of (history p) entry → AllByRecursion (Replays HoldsAll Replied turned commands_of (history p)) (passing es) →
+            AllByRecursion (Replays HoldsAll Replied turned commands_of (history p)) (cond b (entry ∷ passing es) (passing es))
         by_test true now rest = (now, rest)
         by_test false now rest = rest
 
-    replays : All (Replays Stands Replied attempted commands_of (history p)) (history p)
-    replays = All-from_recursion (Replays Stands Replied attempted commands_of (history p)) (history p) (each_replays (entries p) subs pairs_now)
+    replays : All (Replays HoldsAll Replied turned commands_of (history p)) (history p)
+    replays = All-from_recursion (Replays HoldsAll Replied turned commands_of (history p)) (history p) (each_replays (entries p) subs pairs_now)
 
     rising : IsRising (history p)
     rising = rising-filter (is_committed p.splits (entries p)) (entries p) (rising-numbered p.start p.requests)
 
-    state_is : (v : ℕ) → v ≤ p.reported → state_at Stands Replied attempted commands_of None (history p) v ≡ committed_store (commits_of p subs) v
-    state_is v below = states_same v below (entries p) subs pairs_now None
+    -- what is there of each store at a version, by the history
+    abbrev stores_at : ℕ → Stores
+    stores_at v = state_at HoldsAll Replied turned commands_of (λ number. None) (history p) v
 
-    -- HOLDS: the map at each version up to the last reported one holds what is committed there
-    pub holds_committed : (v : ℕ) → v ≤ p.reported → Stands (maps v) (committed_store (commits_of p subs) v)
-    holds_committed v below = subst (Stands (maps v)) (state_is v below) (holds_at Stands Replied attempted commands_of None holds_nothing (history p) rising legal replays v)
+    state_is : (number v : ℕ) → v ≤ p.reported → stores_at v number ≡ committed_store number (commits_of p subs) v
+    state_is number v below = states_same number v below (entries p) subs pairs_now (λ n. None) None refl
+
+    -- HOLDS: the map at each version up to the last reported one holds of each store what is committed there, and nothing else
+    pub holds_committed : (v : ℕ) → v ≤ p.reported → HoldsAt (commits_of p subs) v (maps v)
+    holds_committed v below =
+        let all = holds_at HoldsAll Replied turned commands_of (λ number. None) holds_nothing (history p) rising legal replays v in
+        record { each = λ number lawful. subst (Stands number (maps v)) (state_is number v below) (all.each number lawful); nothing_else = all.nothing_else }
 
     -- SERIAL: each listed transaction has its replies just before its version
     serial_each : (es : List Entry) (ss : List Submission) → ArePairs es ss →
-        AllByRecursion (λ (e : Entry). AllReplied Stands Replied attempted (state_at Stands Replied attempted commands_of None (history p) (e.version - 1)) (commands_of e)) (passing es) →
-        AllByRecursion (λ (one : Submission). IsSerialAt (committed_store (commits_of p subs) (one.version - 1)) one.transaction.attempts) (filter (is_listed p) ss)
+        AllByRecursion (λ (e : Entry). AllReplied HoldsAll Replied turned (stores_at (e.version - 1)) (commands_of e)) (passing es) →
+        AllByRecursion (λ (one : Submission). IsSerialAt (committed_store one.transaction.store (commits_of p subs) (one.version - 1)) one.transaction.attempts) (filter (is_listed p) ss)
     serial_each [] [] pairs all = tt
     serial_each [] (one ∷ ss) pairs all = absurd pairs
     serial_each (entry ∷ es) [] pairs all = absurd pairs
@@ -222,18 +224,17 @@ module _ (p : PipelineState) (subs : List Submission) where
         (by_test (is_committed p.splits (entries p) entry) (nat_le one.version p.reported) refl all (serial_each es ss pairs))
       where
         X : Entry → Type 0
-        X e = AllReplied Stands Replied attempted (state_at Stands Replied attempted commands_of None (history p) (e.version - 1)) (commands_of e)
+        X e = AllReplied HoldsAll Replied turned (stores_at (e.version - 1)) (commands_of e)
 
         Y : Submission → Type 0
-        Y s = IsSerialAt (committed_store (commits_of p subs) (s.version - 1)) s.transaction.attempts
+        Y s = IsSerialAt (committed_store s.transaction.store (commits_of p subs) (s.version - 1)) s.transaction.attempts
 
         here : nat_le one.version p.reported ≡ true → X entry → Y one
         here h x =
             let below : one.version ≤ p.reported = leb-true one.version p.reported h in
             let at : entry.version ≡ one.version = pair.same_version in
-            replied_serial (committed_store (commits_of p subs) (one.version - 1)) one.transaction.attempts
-            (subst (AllReplied Stands Replied attempted (committed_store (commits_of p subs) (one.version - 1))) pair.commands
-            (subst (λ s. AllReplied Stands Replied attempted s (commands_of entry)) (ap (λ v. state_at Stands Replied attempted commands_of None (history p) (v - 1)) at ∙ state_is (one.version - 1) (omega (arith, below))) x))
+            subst (λ s. IsSerialAt s one.transaction.attempts) (ap (λ v. stores_at (v - 1) one.transaction.store) at ∙ state_is one.transaction.store (one.version - 1) (omega (arith, below)))
+            (subst (AllReplied HoldsAll Replied turned (stores_at (entry.version - 1))) pair.commands x).0
 
         by_test : (b r : Bool) → nat_le one.version p.reported ≡ r → AllByRecursion X (cond b (entry ∷ passing es) (passing es)) → (AllByRecursion X (passing es) → AllByRecursion Y (filter (is_listed p) ss)) →
             AllByRecursion Y (cond (r && b) (one ∷ filter (is_listed p) ss) (filter (is_listed p) ss))
@@ -242,35 +243,35 @@ module _ (p : PipelineState) (subs : List Submission) where
         by_test true true is every rest = (here is every.0, rest every.1)
         by_test true false is every rest = rest every.1
 
-    pub serial_all : All (λ (one : Submission). IsSerialAt (committed_store (commits_of p subs) (one.version - 1)) one.transaction.attempts) (listed p subs)
-    serial_all = All-from_recursion (λ (one : Submission). IsSerialAt (committed_store (commits_of p subs) (one.version - 1)) one.transaction.attempts) (listed p subs)
+    pub serial_all : All (λ (one : Submission). IsSerialAt (committed_store one.transaction.store (commits_of p subs) (one.version - 1)) one.transaction.attempts) (listed p subs)
+    serial_all = All-from_recursion (λ (one : Submission). IsSerialAt (committed_store one.transaction.store (commits_of p subs) (one.version - 1)) one.transaction.attempts) (listed p subs)
         (serial_each (entries p) subs pairs_now
-        (recursion_from_All (λ (e : Entry). AllReplied Stands Replied attempted (state_at Stands Replied attempted commands_of None (history p) (e.version - 1)) (commands_of e)) (history p)
-        (replied_at Stands Replied attempted commands_of None holds_nothing (history p) rising legal replays)))
+        (recursion_from_All (λ (e : Entry). AllReplied HoldsAll Replied turned (stores_at (e.version - 1)) (commands_of e)) (history p)
+        (replied_at HoldsAll Replied turned commands_of (λ number. None) holds_nothing (history p) rising legal replays)))
 
     -- OPEN: what an open transaction wrote and read, and what it sees
-    open_writes : (open_now : Open) (request : CommitRequest) → IsOpenTransaction maps p.reported open_now request → request.mutations ≡ commands_written (maps open_now.read_version) (committed_store (commits_of p subs) open_now.read_version) (accepted open_now.attempts)
+    open_writes : (open_now : Open) (request : CommitRequest) → IsOpenTransaction maps p.reported open_now request → request.mutations ≡ commands_written open_now.store (maps open_now.read_version) (committed_store open_now.store (commits_of p subs) open_now.read_version) (accepted open_now.attempts)
     open_writes open_now request is =
-        done_writes maps open_now.attempts (fresh_request open_now.read_version) request is.done (maps open_now.read_version) (committed_store (commits_of p subs) open_now.read_version)
-        (λ key h. ap (λ v. Rattle.std.specs.FinMap.get (maps v) key) is.at) (holds_committed open_now.read_version is.seen)
+        done_writes open_now.store maps open_now.attempts (fresh_request open_now.read_version) request is.done (maps open_now.read_version) (committed_store open_now.store (commits_of p subs) open_now.read_version)
+        (λ key h. ap (λ v. get (maps v) key) is.at) ((holds_committed open_now.read_version is.seen).each open_now.store is.store)
 
-    open_reads : (open_now : Open) (request : CommitRequest) → IsOpenTransaction maps p.reported open_now request → AreReads (maps open_now.read_version) (committed_store (commits_of p subs) open_now.read_version) open_now.attempts request.reads
+    open_reads : (open_now : Open) (request : CommitRequest) → IsOpenTransaction maps p.reported open_now request → AreReads open_now.store (maps open_now.read_version) (committed_store open_now.store (commits_of p subs) open_now.read_version) open_now.attempts request.reads
     open_reads open_now request is =
-        let (ranges, have, are_these) = done_reads maps open_now.attempts (fresh_request open_now.read_version) request is.done (maps open_now.read_version) (committed_store (commits_of p subs) open_now.read_version)
-        (λ k h. ap (λ v. Rattle.std.specs.FinMap.get (maps v) k) is.at) (holds_committed open_now.read_version is.seen) in
+        let (ranges, have, are_these) = done_reads open_now.store maps open_now.attempts (fresh_request open_now.read_version) request is.done (maps open_now.read_version) (committed_store open_now.store (commits_of p subs) open_now.read_version)
+        (λ k h. ap (λ v. get (maps v) k) is.at) ((holds_committed open_now.read_version is.seen).each open_now.store is.store) in
         record { added = ranges; each = have; are = are_these }
 
-    open_sees : (open_now : Open) (request : CommitRequest) → IsOpenTransaction maps p.reported open_now request → Stands (seen request (maps open_now.read_version)) (view (commits_of p subs) open_now)
+    open_sees : (open_now : Open) (request : CommitRequest) → IsOpenTransaction maps p.reported open_now request → Stands open_now.store (seen request (maps open_now.read_version)) (view (commits_of p subs) open_now)
     open_sees open_now request is =
-        subst (Stands (seen request (maps open_now.read_version))) (attempts_effects (committed_store (commits_of p subs) open_now.read_version) open_now.attempts)
-        (done_serve maps open_now.attempts (fresh_request open_now.read_version) request is.done (maps open_now.read_version) (committed_store (commits_of p subs) open_now.read_version)
-        (λ key h. ap (λ v. Rattle.std.specs.FinMap.get (maps v) key) is.at) (holds_committed open_now.read_version is.seen)).1
+        subst (Stands open_now.store (seen request (maps open_now.read_version))) (attempts_effects (committed_store open_now.store (commits_of p subs) open_now.read_version) open_now.attempts)
+        (done_serve open_now.store maps open_now.attempts (fresh_request open_now.read_version) request is.done (maps open_now.read_version) (committed_store open_now.store (commits_of p subs) open_now.read_version)
+        (λ key h. ap (λ v. get (maps v) key) is.at) ((holds_committed open_now.read_version is.seen).each open_now.store is.store)).1
 
     -- SERVED: each accepted command of an open transaction has its reply at what the transaction sees
-    pub open_served : (open_now : Open) (request : CommitRequest) → IsOpenTransaction maps p.reported open_now request → IsSerialAt (committed_store (commits_of p subs) open_now.read_version) open_now.attempts
+    pub open_served : (open_now : Open) (request : CommitRequest) → IsOpenTransaction maps p.reported open_now request → IsSerialAt (committed_store open_now.store (commits_of p subs) open_now.read_version) open_now.attempts
     open_served open_now request is =
-        (done_serve maps open_now.attempts (fresh_request open_now.read_version) request is.done (maps open_now.read_version) (committed_store (commits_of p subs) open_now.read_version)
-        (λ key h. ap (λ v. Rattle.std.specs.FinMap.get (maps v) key) is.at) (holds_committed open_now.read_version is.seen)).0
+        (done_serve open_now.store maps open_now.attempts (fresh_request open_now.read_version) request is.done (maps open_now.read_version) (committed_store open_now.store (commits_of p subs) open_now.read_version)
+        (λ key h. ap (λ v. get (maps v) key) is.at) ((holds_committed open_now.read_version is.seen).each open_now.store is.store)).0
 
     -- REQUESTS: each is that of its submission
     requests_each : (last : ℕ) (ss : List Submission) (requests : List CommitRequest) → AreSubmitted maps p.reported last ss requests → EachRequest (IsExactRequest maps (commits_of p subs)) ss requests
@@ -291,26 +292,26 @@ module _ (p : PipelineState) (subs : List Submission) where
 
     -- a reply that was right over every map is right by what the transaction sees
     pub performed_right : (open_now : Open) (request new : CommitRequest) (refuses : ℕ → KeyRange → Rattle.cluster_core.specs.declared.answers.ReadError.ReadError → Type 0) (command : Command) (answer : Reply) →
-        IsOpenTransaction maps p.reported open_now request → IsPerformed maps (refuses request.read_version) command answer request new →
-        IsServed (after_all (commands_written (maps open_now.read_version) (committed_store (commits_of p subs) open_now.read_version) (accepted open_now.attempts)) (maps open_now.read_version))
-        (commands_written (maps open_now.read_version) (committed_store (commits_of p subs) open_now.read_version) (accepted open_now.attempts)) (view (commits_of p subs) open_now) command answer
-        ⊎ IsReadRefusal (refuses open_now.read_version) (reach (opened_in (view (commits_of p subs) open_now)) command
-        (after_all (commands_written (maps open_now.read_version) (committed_store (commits_of p subs) open_now.read_version) (accepted open_now.attempts)) (maps open_now.read_version))) answer
+        IsOpenTransaction maps p.reported open_now request → IsPerformed open_now.store maps (refuses request.read_version) command answer request new →
+        IsServed open_now.store (after_all (commands_written open_now.store (maps open_now.read_version) (committed_store open_now.store (commits_of p subs) open_now.read_version) (accepted open_now.attempts)) (maps open_now.read_version))
+        (commands_written open_now.store (maps open_now.read_version) (committed_store open_now.store (commits_of p subs) open_now.read_version) (accepted open_now.attempts)) (view (commits_of p subs) open_now) command answer
+        ⊎ IsReadRefusal (refuses open_now.read_version) (reach open_now.store (opened_in open_now.store (view (commits_of p subs) open_now)) command
+        (after_all (commands_written open_now.store (maps open_now.read_version) (committed_store open_now.store (commits_of p subs) open_now.read_version) (accepted open_now.attempts)) (maps open_now.read_version))) answer
     performed_right open_now request new refuses command answer is performed =
         let base : maps request.read_version ≡ maps open_now.read_version = ap maps is.at in
-        let over = performed.ran.over (maps open_now.read_version) (λ key h. ap (λ m. Rattle.std.specs.FinMap.get m key) base) in
+        let over = performed.ran.over (maps open_now.read_version) (λ key h. ap (λ m. get m key) base) in
         let at = over.1 (view (commits_of p subs) open_now) (open_sees open_now request is) in
         elim at.right [
-          | inl served ↦ inl (subst (λ before. IsServed (after_all before (maps open_now.read_version)) before (view (commits_of p subs) open_now) command answer) (open_writes open_now request is) served)
-          | inr refused ↦ inr (subst (λ before. IsReadRefusal (refuses open_now.read_version) (reach (opened_in (view (commits_of p subs) open_now)) command (after_all before (maps open_now.read_version))) answer) (open_writes open_now request is)
-              (subst (λ v. IsReadRefusal (refuses v) (reach (opened_in (view (commits_of p subs) open_now)) command (seen request (maps open_now.read_version))) answer) is.at refused))
+          | inl served ↦ inl (subst (λ before. IsServed open_now.store (after_all before (maps open_now.read_version)) before (view (commits_of p subs) open_now) command answer) (open_writes open_now request is) served)
+          | inr refused ↦ inr (subst (λ before. IsReadRefusal (refuses open_now.read_version) (reach open_now.store (opened_in open_now.store (view (commits_of p subs) open_now)) command (after_all before (maps open_now.read_version))) answer) (open_writes open_now request is)
+              (subst (λ v. IsReadRefusal (refuses v) (reach open_now.store (opened_in open_now.store (view (commits_of p subs) open_now)) command (seen request (maps open_now.read_version))) answer) is.at refused))
         ]
 
 -- ---- as the clauses of a schedule say it
 
 pub command_right : (c : ClusterState) (subs : List Submission) (open_now : Open) (request new : CommitRequest) (command : Command) (answer : Reply) →
     IsLegal (history c.pipeline) → AreSubmitted (database_at c) c.pipeline.reported c.pipeline.start subs c.pipeline.requests → IsOpenTransaction (database_at c) c.pipeline.reported open_now request →
-    IsPerformed (database_at c) (λ range. MayRefuse (tier_of c) range request.read_version) command answer request new →
+    IsPerformed open_now.store (database_at c) (λ range. MayRefuse (tier_of c) range request.read_version) command answer request new →
     IsExactReply c (commits_of c.pipeline subs) open_now command answer
 command_right c subs open_now request new command answer legal are is performed =
     performed_right c.pipeline subs legal are open_now request new (λ version range. MayRefuse (tier_of c) range version) command answer is performed

@@ -16,14 +16,13 @@ use Rattle.schedule.specs.declared.reply.Reply.TheVariants.{Begun, Done, SavedNe
 use Rattle.schedule.specs.declared.reply.Report.TheVariants as reports
 use Rattle.kv_core.specs.Map.{Map}
 use Rattle.record_store.specs.Store.{Serial}
-use Rattle.record_store.specs.Layout.{place, record_key, record_value, schema_key, states_range}
+use Rattle.record_store.specs.Layout.{place, record_key, record_value, schema_key, states_range, store_prefix}
 use Rattle.schedule.specs.Serve.{Line, Refuses, Replies, effect, effects, serial_line}
 use Rattle.schedule.specs.Past.{Past, open_of, submitted_in}
 use Rattle.schedule.specs.Commits.{committed_store}
 use Rattle.schedule.specs.Standing.{cluster_after, commits_of}
 use Rattle.schedule.specs.Contract.{begin_reply, commit_reply, past_of, role_reply, settle_reply}
 use Rattle.schedule.specs.Reach.{opened_in, own_reading, writes}
-use Rattle.schedule.specs.Layout.{store_prefix}
 use Rattle.schedule.specs.declared.transcript.CommitEntry.{CommitEntry}
 use Rattle.cluster_core.specs.declared.answers.Config.{Config}
 use Rattle.cluster_core.specs.Roles.{may_append, may_resolve}
@@ -119,8 +118,8 @@ config = record { resolver_splits = []; storage_splits = []; logs = 1; window = 
 -- two clients each load a record and save the one that the other loaded; what both commit comes after what both read
 abbrev steps : List Step
 steps =
-    Begin 0 ∷ Perform 0 create ∷ Perform 0 (save 1 0) ∷ Perform 0 (save 2 0) ∷ Commit 0 ∷ Settle
-    ∷ Begin 0 ∷ Begin 1 ∷ Perform 0 (Load t (i 2 ∷ [])) ∷ Perform 0 (save 1 1) ∷ Perform 1 (Load t (i 1 ∷ [])) ∷ Perform 1 (save 2 1) ∷ Commit 0 ∷ Commit 1 ∷ []
+    Begin 0 1 ∷ Perform 0 create ∷ Perform 0 (save 1 0) ∷ Perform 0 (save 2 0) ∷ Commit 0 ∷ Settle
+    ∷ Begin 0 1 ∷ Begin 1 1 ∷ Perform 0 (Load t (i 2 ∷ [])) ∷ Perform 0 (save 1 1) ∷ Perform 1 (Load t (i 1 ∷ [])) ∷ Perform 1 (save 2 1) ∷ Commit 0 ∷ Commit 1 ∷ []
 
 abbrev given : List Reply
 given =
@@ -173,18 +172,18 @@ abbrev commits : List CommitEntry
 commits = commits_of (cluster_after config requests settled_past).pipeline (submitted_in settled_past)
 
 listed_two : commits
-    ≡ record { version = 1; client = 0; read_version = 0; commands = create ∷ save 1 0 ∷ save 2 0 ∷ [] }
-    ∷ record { version = 2; client = 0; read_version = 1; commands = Load t (i 2 ∷ []) ∷ save 1 1 ∷ [] } ∷ []
+    ≡ record { version = 1; client = 0; store = 1; read_version = 0; commands = create ∷ save 1 0 ∷ save 2 0 ∷ [] }
+    ∷ record { version = 2; client = 0; store = 1; read_version = 1; commands = Load t (i 2 ∷ []) ∷ save 1 1 ∷ [] } ∷ []
 listed_two = refl
 
-before_and_after : (committed_store commits 1 ≡ effects None (create ∷ save 1 0 ∷ save 2 0 ∷ [])) × (committed_store commits 3 ≡ effects None (create ∷ save 1 1 ∷ save 2 0 ∷ []))
+before_and_after : (committed_store 1 commits 1 ≡ effects None (create ∷ save 1 0 ∷ save 2 0 ∷ [])) × (committed_store 1 commits 3 ≡ effects None (create ∷ save 1 1 ∷ save 2 0 ∷ []))
 before_and_after = (refl, refl)
 
 -- a commit of a transaction that only read is read only, and one that read too long ago is refused
-reads_only : commit_reply (cluster_after config requests past) (record { read_version = 1; attempts = (record { command = Load t (i 2 ∷ []); reply = Found (row 2 0) }) ∷ [] }) ≡ ReadOnly
+reads_only : commit_reply (cluster_after config requests past) (record { store = 1; read_version = 1; attempts = (record { command = Load t (i 2 ∷ []); reply = Found (row 2 0) }) ∷ [] }) ≡ ReadOnly
 reads_only = refl
 
-too_old : commit_reply (cluster_after (record config { window = 1 }) requests past) (record { read_version = 1; attempts = (record { command = save 1 1; reply = SavedOver (row 1 0) }) ∷ [] }) ≡ Refused TooOld
+too_old : commit_reply (cluster_after (record config { window = 1 }) requests past) (record { store = 1; read_version = 1; attempts = (record { command = save 1 1; reply = SavedOver (row 1 0) }) ∷ [] }) ≡ Refused TooOld
 too_old = refl
 
 -- ---- what commands may read and write
@@ -193,27 +192,27 @@ abbrev there : Serial
 there = effects None (create ∷ save 1 0 ∷ [])
 
 -- a save writes its record, and a removal clears what is there, whatever the map has
-save_writes_record : (m : Map) → writes m there (save 1 1) ≡ Set one (record_value (row 1 1)) ∷ []
+save_writes_record : (m : Map) → writes 1 m there (save 1 1) ≡ Set one (record_value (row 1 1)) ∷ []
 unfolding int_spelling byte_count
 save_writes_record m = refl
 
-removal_clears : (m : Map) → (writes m there (Remove t (i 1 ∷ [])) ≡ ClearRange (point one) ∷ []) × (writes m there (Remove t (i 2 ∷ [])) ≡ []) × (writes m None (save 1 1) ≡ [])
+removal_clears : (m : Map) → (writes 1 m there (Remove t (i 1 ∷ [])) ≡ ClearRange (point one) ∷ []) × (writes 1 m there (Remove t (i 2 ∷ [])) ≡ []) × (writes 1 m None (save 1 1) ≡ [])
 unfolding int_spelling byte_count
 removal_clears m = (refl, refl, refl)
 
 -- a type that is added is a write of the schema, and reads no more than opening does
-type_writes_schema : (m : Map) → (length (writes m there («Type» (asked z (k ∷ []) (k ∷ [])))) ≡ 1) × (writes m there («Type» (asked t (k ∷ []) (k ∷ []))) ≡ []) × ((own_reading (opened_in there) («Type» (asked z (k ∷ []) (k ∷ [])))).added m ≡ [])
+type_writes_schema : (m : Map) → (length (writes 1 m there («Type» (asked z (k ∷ []) (k ∷ [])))) ≡ 1) × (writes 1 m there («Type» (asked t (k ∷ []) (k ∷ []))) ≡ []) × ((own_reading (opened_in 1 there) («Type» (asked z (k ∷ []) (k ∷ [])))).added m ≡ [])
 type_writes_schema m = (refl, refl, refl)
 
 -- a load reads its record's key behind what opening reads, a refused one no more than that
-reaches : (m : Map) → ((own_reading (opened_in there) (Load t (i 2 ∷ []))).added m ≡ point two ∷ []) × ((own_reading (opened_in there) (Load t (Null ∷ []))).added m ≡ []) × ((own_reading (opened_in there) (save 2 1)).added m ≡ point two ∷ [])
+reaches : (m : Map) → ((own_reading (opened_in 1 there) (Load t (i 2 ∷ []))).added m ≡ point two ∷ []) × ((own_reading (opened_in 1 there) (Load t (Null ∷ []))).added m ≡ []) × ((own_reading (opened_in 1 there) (save 2 1)).added m ≡ point two ∷ [])
 unfolding int_spelling byte_count
 reaches m = (refl, refl, refl)
 
 -- ---- the layout
 
 -- the key and the value of the record 1, 5, null of the type 1
-one_key : record_key store_prefix (int (pos 1) ∷ int (pos 1) ∷ []) ≡ 0x15 ∷ 0x01 ∷ 0x15 ∷ 0x01 ∷ 0x15 ∷ 0x01 ∷ 0x15 ∷ 0x01 ∷ []
+one_key : record_key (store_prefix 1) (int (pos 1) ∷ int (pos 1) ∷ []) ≡ 0x15 ∷ 0x01 ∷ 0x15 ∷ 0x01 ∷ 0x15 ∷ 0x01 ∷ 0x15 ∷ 0x01 ∷ []
 unfolding int_spelling byte_count
 one_key = refl
 
@@ -222,6 +221,6 @@ unfolding int_spelling byte_count
 one_value = refl
 
 -- the keys of records begin with the store's prefix (1) and their subspace (1), the states of indexes stand under (5), and the schema at (0)
-prefixes : (store_prefix ≡ spelling (int (pos 1) ∷ [])) × (place store_prefix 1 ≡ spelling (int (pos 1) ∷ int (pos 1) ∷ [])) × (schema_key store_prefix ≡ 0x15 ∷ 0x01 ∷ 0x14 ∷ []) × ((states_range store_prefix).begin ≡ spelling (int (pos 1) ∷ int (pos 5) ∷ null ∷ []))
+prefixes : (store_prefix 1 ≡ spelling (int (pos 1) ∷ [])) × (place (store_prefix 1) 1 ≡ spelling (int (pos 1) ∷ int (pos 1) ∷ [])) × (schema_key (store_prefix 1) ≡ 0x15 ∷ 0x01 ∷ 0x14 ∷ []) × ((states_range (store_prefix 1)).begin ≡ spelling (int (pos 1) ∷ int (pos 5) ∷ null ∷ []))
 unfolding int_spelling byte_count
 prefixes = (refl, refl, refl, refl)

@@ -14,12 +14,11 @@ use Rattle.kv_core.specs.declared.change.Mutation.TheVariants.{Set, ClearRange}
 use Rattle.kv_core.specs.Map.{Map}
 use Rattle.kv_core.specs.Read.{range_read, read_of}
 use Rattle.record_store.specs.Store.{Serial}
-use Rattle.record_store.specs.Layout.{record_value, type_range}
+use Rattle.record_store.specs.Layout.{record_value, store_prefix, type_range}
 use Rattle.schedule.specs.declared.step.Command.{Command}
 use Rattle.schedule.specs.declared.step.Command.TheVariants.{Create, Save, Remove, Index, Drop, Disable, Readable, State, WriteOnly}
 use Rattle.schedule.specs.declared.reply.Reply.TheVariants as answers
 use Rattle.schedule.specs.declared.reply.Reply.TheVariants.{Done, SavedNew, Refused}
-use Rattle.schedule.specs.Layout.{store_prefix}
 use Rattle.schedule.specs.Reach.{opened_in, own_reading, writes}
 use Rattle.schedule.specs.Serve.{effects}
 use Rattle.schedule.proofs.Examples.{replies}
@@ -86,24 +85,24 @@ abbrev entry : ℕ → List ℕ
 entry value = 0x15 ∷ 0x01 ∷ 0x15 ∷ 0x02 ∷ 0x15 ∷ 0x01 ∷ 0x15 ∷ value ∷ 0x15 ∷ 0x01 ∷ 0x15 ∷ 0x01 ∷ []
 
 -- a save writes the record, then its old entry goes and its new one comes; where the columns are the same neither is touched
-saving : (m : Map) → (writes m there (save 1 6) ≡ Set one (record_value (row 1 6)) ∷ ClearRange (point (entry 5)) ∷ Set (entry 6) [] ∷ []) × (writes m there (save 1 5) ≡ Set one (record_value (row 1 5)) ∷ [])
+saving : (m : Map) → (writes 1 m there (save 1 6) ≡ Set one (record_value (row 1 6)) ∷ ClearRange (point (entry 5)) ∷ Set (entry 6) [] ∷ []) × (writes 1 m there (save 1 5) ≡ Set one (record_value (row 1 5)) ∷ [])
 unfolding int_spelling byte_count
 saving m = (refl, refl)
 
 -- a removal takes out the record, then its entry
-removing : (m : Map) → (writes m there (Remove t (i 1 ∷ [])) ≡ ClearRange (point one) ∷ ClearRange (point (entry 5)) ∷ []) × (writes m there (Remove t (i 2 ∷ [])) ≡ [])
+removing : (m : Map) → (writes 1 m there (Remove t (i 1 ∷ [])) ≡ ClearRange (point one) ∷ ClearRange (point (entry 5)) ∷ []) × (writes 1 m there (Remove t (i 2 ∷ [])) ≡ [])
 unfolding int_spelling byte_count
 removing m = (refl, refl)
 
 -- a disabled index isn't written, and what disabling writes is its state and the ranges of its entries and of its built ranges
-disabled : (m : Map) → (writes m (effects there (Disable a ∷ [])) (save 1 6) ≡ Set one (record_value (row 1 6)) ∷ [])
-    × (writes m there (Disable a) ≡ Set (0x15 ∷ 0x01 ∷ 0x15 ∷ 0x05 ∷ 0x15 ∷ 0x01 ∷ []) (0x15 ∷ 0x02 ∷ []) ∷ ClearRange (record { begin = 0x15 ∷ 0x01 ∷ 0x15 ∷ 0x02 ∷ 0x15 ∷ 0x01 ∷ []; end = 0x15 ∷ 0x01 ∷ 0x15 ∷ 0x02 ∷ 0x15 ∷ 0x01 ∷ 0xff ∷ [] }) ∷ ClearRange (record { begin = 0x15 ∷ 0x01 ∷ 0x15 ∷ 0x06 ∷ 0x15 ∷ 0x01 ∷ 0x00 ∷ []; end = 0x15 ∷ 0x01 ∷ 0x15 ∷ 0x06 ∷ 0x15 ∷ 0x01 ∷ 0xff ∷ [] }) ∷ [])
+disabled : (m : Map) → (writes 1 m (effects there (Disable a ∷ [])) (save 1 6) ≡ Set one (record_value (row 1 6)) ∷ [])
+    × (writes 1 m there (Disable a) ≡ Set (0x15 ∷ 0x01 ∷ 0x15 ∷ 0x05 ∷ 0x15 ∷ 0x01 ∷ []) (0x15 ∷ 0x02 ∷ []) ∷ ClearRange (record { begin = 0x15 ∷ 0x01 ∷ 0x15 ∷ 0x02 ∷ 0x15 ∷ 0x01 ∷ []; end = 0x15 ∷ 0x01 ∷ 0x15 ∷ 0x02 ∷ 0x15 ∷ 0x01 ∷ 0xff ∷ [] }) ∷ ClearRange (record { begin = 0x15 ∷ 0x01 ∷ 0x15 ∷ 0x06 ∷ 0x15 ∷ 0x01 ∷ 0x00 ∷ []; end = 0x15 ∷ 0x01 ∷ 0x15 ∷ 0x06 ∷ 0x15 ∷ 0x01 ∷ 0xff ∷ [] }) ∷ [])
 unfolding int_spelling byte_count
 disabled m = (refl, refl)
 
 -- a new index reads up to the first record of its type, a refused one and a dropped one read nothing
-reaches : (m : Map) (value : List ℕ) → read_of m (type_range store_prefix 1) 1 false ≡ (one, value) ∷ [] →
-    ((own_reading (opened_in there) (Index (asked b t (b ∷ [])))).added m ≡ record { begin = (type_range store_prefix 1).begin; end = next_key one } ∷ [])
-    × ((own_reading (opened_in there) (Index (asked a t (b ∷ [])))).added m ≡ []) × ((own_reading (opened_in there) (Drop a)).added m ≡ [])
+reaches : (m : Map) (value : List ℕ) → read_of m (type_range (store_prefix 1) 1) 1 false ≡ (one, value) ∷ [] →
+    ((own_reading (opened_in 1 there) (Index (asked b t (b ∷ [])))).added m ≡ record { begin = (type_range (store_prefix 1) 1).begin; end = next_key one } ∷ [])
+    × ((own_reading (opened_in 1 there) (Index (asked a t (b ∷ [])))).added m ≡ []) × ((own_reading (opened_in 1 there) (Drop a)).added m ≡ [])
 unfolding int_spelling byte_count
-reaches m value first = (ap (λ pairs. range_read (type_range store_prefix 1) 1 false pairs ∷ []) first, refl, refl)
+reaches m value first = (ap (λ pairs. range_read (type_range (store_prefix 1) 1) 1 false pairs ∷ []) first, refl, refl)

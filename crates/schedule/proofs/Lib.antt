@@ -1,5 +1,6 @@
 pub mod Turning
 pub mod Submitting
+pub mod OwnStore
 pub mod Composed
 pub mod Growing
 pub mod Refusing
@@ -31,3 +32,5 @@ pub mod Written
 pub mod ReachWrites
 pub mod ReachReads
 pub mod Rightly
+pub mod Within
+pub mod Isolated

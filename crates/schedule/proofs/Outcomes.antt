@@ -22,11 +22,11 @@ use Rattle.record_store.specs.Call.{AtStore, Call, IsAnswered, IsDamagedAt, IsDo
 use Rattle.record_store.specs.Call as call
 use Rattle.record_store.specs.Opening.{AtSerials, HasSchema, IsOpenFailure, IsOpened, IsThereAs, IsUnopened, opening_reach}
 use Rattle.record_store.specs.Steps.{IsBeginning, IsNextRefused, of_metadata}
+use Rattle.record_store.specs.Layout.{store_prefix}
 use Rattle.record_store.proofs.Stopping.{begin_behind}
 use Rattle.schedule.specs.declared.step.Command.{Command}
 use Rattle.schedule.specs.declared.reply.Reply.{Reply}
 use Rattle.schedule.specs.declared.reply.Reply.TheVariants as reply
-use Rattle.schedule.specs.Layout.{store_prefix}
 use Rattle.schedule.specs.Serve.{IsReply, IsReplyOf, answering, effect, left_by, serial_line}
 use Rattle.schedule.specs.Serve as serve
 use Rattle.schedule.specs.Past.{is_accepted, tells_change}
@@ -38,42 +38,42 @@ use Rattle.schedule.proofs.Reached.{all_added, begin_open, next_within, opening_
 use Rattle.schedule.proofs.Stops.{IsRight, IsStop, at, limit_right, memory_opened, own_right, read_right, refused_by, refused_right, opened_is, stop_memory, stopped_all, told_damage, told_limit, told_read, told_refused}
 
 -- UNOPENED: no store was opened
-pub refused_unopened : {maps : ℕ → Map} {refuses : KeyRange → ℕ → ReadError → Type 0} {old new : CommitRequest} (command : Command) (error : StoreError) → open_reach command ≡ opening_reach store_prefix → IsReply None command (reply.Refused NoStore) →
-    ((m : Map) → writes m None command ≡ []) → IsUnopened maps refuses store_prefix error old new → IsCommandRefused maps refuses command error old new
-refused_unopened {refuses = refuses} {old = old} command error opens is none unopened = refused_by command None error unopened.added (ran_because unopened.ran (λ m says. stop error unopened.added m says))
+pub refused_unopened : (number : ℕ) {maps : ℕ → Map} {refuses : KeyRange → ℕ → ReadError → Type 0} {old new : CommitRequest} (command : Command) (error : StoreError) → open_reach number command ≡ opening_reach (store_prefix number) → IsReply None command (reply.Refused NoStore) →
+    ((m : Map) → writes number m None command ≡ []) → IsUnopened maps refuses (store_prefix number) error old new → IsCommandRefused number maps refuses command error old new
+refused_unopened number {refuses = refuses} {old = old} command error opens is none unopened = refused_by number command None error unopened.added (ran_because unopened.ran (λ m says. stop error unopened.added m says))
   where
     refused : KeyRange → ReadError → Type 0
     refused range = refuses range old.read_version
 
-    nothing : (m : Map) (serial : Serial) → serial ≡ None → IsRight refused command old.mutations fault.NoStore m serial
-    nothing m serial there = subst (IsRight refused command old.mutations fault.NoStore m) (sym there) (own_right refused command old.mutations fault.NoStore NoStore m None refl is (none m))
+    nothing : (m : Map) (serial : Serial) → serial ≡ None → IsRight number refused command old.mutations fault.NoStore m serial
+    nothing m serial there = subst (IsRight number refused command old.mutations fault.NoStore m) (sym there) (own_right number refused command old.mutations fault.NoStore NoStore m None refl is (none m))
 
-    stop : (error : StoreError) (ranges : List KeyRange) (m : Map) → IsOpenFailure refused store_prefix error ranges m → IsStop refused None command old.mutations error ranges m
+    stop : (error : StoreError) (ranges : List KeyRange) (m : Map) → IsOpenFailure refused (store_prefix number) error ranges m → IsStop number refused None command old.mutations error ranges m
     stop Memory ranges m says =
-        stop_memory refused None command old.mutations ranges m tt (begin_open command ((own_reading None command).added m) opens says) (λ serial stands. begin_open command (((own_reading (opened_in serial) command).added m)) opens says)
+        stop_memory number refused None command old.mutations ranges m tt (begin_open number command ((own_reading None command).added m) opens says) (λ serial stands. begin_open number command (((own_reading (opened_in number serial) command).added m)) opens says)
     stop (Read reason) ranges m says = record {
       there = tt;
-      reads = begin_open command ((own_reading None command).added m) opens says.0;
-      told = λ answer same. told_read None command reason answer m same;
+      reads = begin_open number command ((own_reading None command).added m) opens says.0;
+      told = λ answer same. told_read number None command reason answer m same;
       held = λ serial stands. (
-        λ answer same. inr (read_right refused (reach (opened_in serial) command m) reason answer same (next_within refused (opening_reach store_prefix) ranges (reach (opened_in serial) command m) reason (opening_asked (opened_in serial) command m opens) says.1)),
-        begin_open command (((own_reading (opened_in serial) command).added m)) opens says.0,
+        λ answer same. inr (read_right refused (reach number (opened_in number serial) command m) reason answer same (next_within refused (opening_reach (store_prefix number)) ranges (reach number (opened_in number serial) command m) reason (opening_asked number (opened_in number serial) command m opens) says.1)),
+        begin_open number command (((own_reading (opened_in number serial) command).added m)) opens says.0,
       );
     }
     stop (Write reason) ranges m says = absurd says
     stop (Corrupt key) ranges m says = record {
       there = tt;
-      reads = says.0 ∙ opening_added None command m opens refl;
-      told = λ answer same. told_damage None command key answer m same (says.1, says.2);
+      reads = says.0 ∙ opening_added number None command m opens refl;
+      told = λ answer same. told_damage number None command key answer m same (says.1, says.2);
       held = λ serial stands. absurd (says.3 serial stands);
     }
     stop fault.NoStore ranges m says = record {
       there = tt;
-      reads = says.0 ∙ opening_added None command m opens refl;
-      told = λ answer same. told_refused None command NoStore answer m same (sound_none command m says.1);
+      reads = says.0 ∙ opening_added number None command m opens refl;
+      told = λ answer same. told_refused number None command NoStore answer m same (sound_none number command m says.1);
       held = λ serial stands. (
         nothing m serial (says.2 serial stands),
-        says.0 ∙ opening_added None command m opens refl ∙ ap (λ (s : Serial). added_by (opened_in s) command m) (sym (says.2 serial stands)),
+        says.0 ∙ opening_added number None command m opens refl ∙ ap (λ (s : Serial). added_by number (opened_in number s) command m) (sym (says.2 serial stands)),
       );
     }
     stop (Refused refusal) ranges m says = absurd says
@@ -87,18 +87,18 @@ refused_unopened {refuses = refuses} {old = old} command error opens is none uno
 -- ---- calls on an open store
 
 -- what a command is by the service that it asks of the store: it reads the same behind the opening, and its line at each store that was opened so is the service's, and what it may write
-pub record Serves {A : Type 0} (opened : Opened) (command : Command) (service : Service A) (told : A → Reply) : Type 0 where
-  pub opens : open_reach command ≡ opening_reach store_prefix
+pub record Serves (number : ℕ) {A : Type 0} (opened : Opened) (command : Command) (service : Service A) (told : A → Reply) : Type 0 where
+  pub opens : open_reach number command ≡ opening_reach (store_prefix number)
   pub reads : own_reading (Some opened) command ≡ service.footprint.reading
   pub undamaged : (m : Map) → own_damage (Some opened) command m ≡ None
   pub accepted : (answer : A) → is_accepted (told answer) ≡ true
   pub telling : (answer : A) → service.meaning.changes answer ≡ tells_change (told answer)
   pub lines : (store : Store) → IsOpenAs opened store → serial_line (Some store) command ≡ answering store told service.meaning (service.meaning.answer store)
-  pub prints : (m : Map) (store : Store) → IsOpenAs opened store → footprint_writes m (Some store) command ≡ service.footprint.writes m store
+  pub prints : (m : Map) (store : Store) → IsOpenAs opened store → footprint_writes number m (Some store) command ≡ service.footprint.writes m store
 
 -- what a command is whose call has this refusal of its own: it reads nothing behind the opening, and its line at each store that was opened so is that refusal
-pub record Refuses (opened : Opened) (command : Command) (error : StoreError) : Type 0 where
-  pub opens : open_reach command ≡ opening_reach store_prefix
+pub record Refuses (number : ℕ) (opened : Opened) (command : Command) (error : StoreError) : Type 0 where
+  pub opens : open_reach number command ≡ opening_reach (store_prefix number)
   pub reads : own_reading (Some opened) command ≡ whole []
   pub undamaged : (m : Map) → own_damage (Some opened) command m ≡ None
   pub refusal : Refusal
@@ -106,12 +106,12 @@ pub record Refuses (opened : Opened) (command : Command) (error : StoreError) : 
   pub lines : (store : Store) → IsOpenAs opened store → serial_line (Some store) command ≡ serve.Refuses (reply_of error)
 
 -- what a command is by its call
-abbrev pub Meets : {A : Type 0} → Opened → Command → Call A → (A → Reply) → Type 0
-Meets opened command (Ok service) told = Serves opened command service told
-Meets opened command (Err error) told = Refuses opened command error
+abbrev pub Meets : (number : ℕ) {A : Type 0} → Opened → Command → Call A → (A → Reply) → Type 0
+Meets number opened command (Ok service) told = Serves number opened command service told
+Meets number opened command (Err error) told = Refuses number opened command error
 
 -- at a store that is answered so
-module _ {A : Type 0} (opened : Opened) (command : Command) (service : Service A) (told : A → Reply) (serves : Serves opened command service told) (store : Store) (same : IsOpenAs opened store) (answer : A) (is : service.meaning.answer store ≡ Ok answer) where
+module _ (number : ℕ) {A : Type 0} (opened : Opened) (command : Command) (service : Service A) (told : A → Reply) (serves : Serves number opened command service told) (store : Store) (same : IsOpenAs opened store) (answer : A) (is : service.meaning.answer store ≡ Ok answer) where
   lines_so : serial_line (Some store) command ≡ serve.Replies (told answer) (Some (service.meaning.after store))
   lines_so = serves.lines store same ∙ ap (answering store told service.meaning) is
 
@@ -121,95 +121,95 @@ module _ {A : Type 0} (opened : Opened) (command : Command) (service : Service A
   leaves_so : effect (Some store) command ≡ Some (service.meaning.after store)
   leaves_so = ap (left_by (Some store)) lines_so
 
-  writes_so : (m : Map) → writes m (Some store) command ≡ service.footprint.writes m store
-  writes_so m = ap (λ l. written_with l (footprint_writes m (Some store) command)) lines_so ∙ serves.prints m store same
+  writes_so : (m : Map) → writes number m (Some store) command ≡ service.footprint.writes m store
+  writes_so m = ap (λ l. written_with l (footprint_writes number m (Some store) command)) lines_so ∙ serves.prints m store same
 
 -- nothing is written when a store is opened
-unwritten : {maps : ℕ → Map} {old new : CommitRequest} (opened : Opened) → IsOpened maps (at opened) old new → new.mutations ≡ old.mutations
-unwritten {old = old} opened is = is.ran.wrote ∙ append-nil old.mutations
+unwritten : (number : ℕ) {maps : ℕ → Map} {old new : CommitRequest} (opened : Opened) → IsOpened maps (at number opened) old new → new.mutations ≡ old.mutations
+unwritten number {old = old} opened is = is.ran.wrote ∙ append-nil old.mutations
 
 -- the ranges that were added by what was opened are those that are added at what is there
-pub at_serial : (opened : Opened) (command : Command) (m : Map) (serial : Serial) (ranges : List KeyRange) → Holds store_prefix m serial → IsThereAs (at opened) serial → ranges ≡ added_by (Some (at opened)) command m → ranges ≡ added_by (opened_in serial) command m
-at_serial opened command m serial ranges holds has is = is ∙ ap (λ s. added_by s command m) (sym (opened_is (at opened) serial refl has))
+pub at_serial : (number : ℕ) (opened : Opened) (command : Command) (m : Map) (serial : Serial) (ranges : List KeyRange) → Holds (store_prefix number) m serial → IsThereAs (at number opened) serial → ranges ≡ added_by number (Some (at number opened)) command m → ranges ≡ added_by number (opened_in number serial) command m
+at_serial number opened command m serial ranges holds has is = is ∙ ap (λ s. added_by number s command m) (sym (opened_is number (at number opened) serial refl has))
 
-pub begin_serial : (opened : Opened) (command : Command) (m : Map) (serial : Serial) (ranges : List KeyRange) → Holds store_prefix m serial → IsThereAs (at opened) serial → IsBeginning ranges (added_by (Some (at opened)) command m) →
-    IsBeginning ranges (added_by (opened_in serial) command m)
-begin_serial opened command m serial ranges holds has begin = subst (IsBeginning ranges) (ap (λ s. added_by s command m) (sym (opened_is (at opened) serial refl has))) begin
+pub begin_serial : (number : ℕ) (opened : Opened) (command : Command) (m : Map) (serial : Serial) (ranges : List KeyRange) → Holds (store_prefix number) m serial → IsThereAs (at number opened) serial → IsBeginning ranges (added_by number (Some (at number opened)) command m) →
+    IsBeginning ranges (added_by number (opened_in number serial) command m)
+begin_serial number opened command m serial ranges holds has begin = subst (IsBeginning ranges) (ap (λ s. added_by number s command m) (sym (opened_is number (at number opened) serial refl has))) begin
 
 -- OWN: a store was opened, and the command has its own refusal
-pub refused_own : {maps : ℕ → Map} {refuses : KeyRange → ℕ → ReadError → Type 0} {old mid : CommitRequest} (opened : Opened) (command : Command) (error : StoreError) → Refuses (at opened) command error → IsOpened maps (at opened) old mid →
-    IsCommandRefused maps refuses command error old mid
-refused_own {refuses = refuses} {old = old} opened command error so is =
-    refused_by command (Some (at opened)) error (opening_reach store_prefix) (ran_because is.ran (λ m has. record {
+pub refused_own : (number : ℕ) {maps : ℕ → Map} {refuses : KeyRange → ℕ → ReadError → Type 0} {old mid : CommitRequest} (opened : Opened) (command : Command) (error : StoreError) → Refuses number (at number opened) command error → IsOpened maps (at number opened) old mid →
+    IsCommandRefused number maps refuses command error old mid
+refused_own number {refuses = refuses} {old = old} opened command error so is =
+    refused_by number command (Some (at number opened)) error (opening_reach (store_prefix number)) (ran_because is.ran (λ m has. record {
       there = (refl, has.0);
-      reads = stopped_all error (opening_added (Some (at opened)) command m so.opens so.reads);
-      told = λ answer same. told_refused (Some (at opened)) command so.refusal answer m (sym so.told ∙ same) (sound_by (at opened) command (reply.Refused so.refusal) m (whole []) so.reads (so.undamaged m) tt);
+      reads = stopped_all error (opening_added number (Some (at number opened)) command m so.opens so.reads);
+      told = λ answer same. told_refused number (Some (at number opened)) command so.refusal answer m (sym so.told ∙ same) (sound_by number (at number opened) command (reply.Refused so.refusal) m (whole []) so.reads (so.undamaged m) tt);
       held = λ serial stands. (
         right m serial (has.1 serial stands),
-        stopped_all error (at_serial opened command m serial (opening_reach store_prefix) stands (has.1 serial stands) (opening_added (Some (at opened)) command m so.opens so.reads)),
+        stopped_all error (at_serial number opened command m serial (opening_reach (store_prefix number)) stands (has.1 serial stands) (opening_added number (Some (at number opened)) command m so.opens so.reads)),
       );
     }))
   where
-    right : (m : Map) (serial : Serial) → IsThereAs (at opened) serial → IsRight (λ range. refuses range old.read_version) command old.mutations error m serial
+    right : (m : Map) (serial : Serial) → IsThereAs (at number opened) serial → IsRight number (λ range. refuses range old.read_version) command old.mutations error m serial
     right m None has = absurd has
-    right m (Some store) has = refused_right (λ range. refuses range old.read_version) command old.mutations error m (Some store) (so.lines store has)
+    right m (Some store) has = refused_right number (λ range. refuses range old.read_version) command old.mutations error m (Some store) (so.lines store has)
 
-module _ {A : Type 0} (opened : Opened) (command : Command) (service : Service A) (told : A → Reply) (serves : Serves (at opened) command service told) (ranges : List KeyRange) (m : Map) where
+module _ (number : ℕ) {A : Type 0} (opened : Opened) (command : Command) (service : Service A) (told : A → Reply) (serves : Serves number (at number opened) command service told) (ranges : List KeyRange) (m : Map) where
   -- the ranges of the opening, and behind them those of the call
-  pub all_ranges : ranges ≡ service.footprint.reading.added m → opening_reach store_prefix ++ ranges ≡ added_by (Some (at opened)) command m
+  pub all_ranges : ranges ≡ service.footprint.reading.added m → opening_reach (store_prefix number) ++ ranges ≡ added_by number (Some (at number opened)) command m
   all_ranges is i = sym serves.opens i ++ (is ∙ ap (λ (r : Reading). r.added m) (sym serves.reads)) i
 
-  pub first_ranges : IsBeginning ranges (service.footprint.reading.added m) → IsBeginning (opening_reach store_prefix ++ ranges) (added_by (Some (at opened)) command m)
+  pub first_ranges : IsBeginning ranges (service.footprint.reading.added m) → IsBeginning (opening_reach (store_prefix number) ++ ranges) (added_by number (Some (at number opened)) command m)
   first_ranges begin =
-      subst (λ (r : Reading). IsBeginning (opening_reach store_prefix ++ ranges) (open_reach command ++ r.added m)) (sym serves.reads)
-      (subst (λ first. IsBeginning (opening_reach store_prefix ++ ranges) (first ++ service.footprint.reading.added m)) (sym serves.opens) (begin_behind (opening_reach store_prefix) begin))
+      subst (λ (r : Reading). IsBeginning (opening_reach (store_prefix number) ++ ranges) (open_reach number command ++ r.added m)) (sym serves.reads)
+      (subst (λ first. IsBeginning (opening_reach (store_prefix number) ++ ranges) (first ++ service.footprint.reading.added m)) (sym serves.opens) (begin_behind (opening_reach (store_prefix number)) begin))
 
 -- ANSWERED: a store was opened, and a call on it was answered
-performed_at : {maps : ℕ → Map} {refuses : KeyRange → ReadError → Type 0} {old mid new : CommitRequest} {A : Type 0} (opened : Opened) (command : Command) (asked : Call A) (told : A → Reply) (answer : A) →
-    Meets (at opened) command asked told → IsOpened maps (at opened) old mid → IsAnswered maps (at opened) asked answer mid new → IsPerformed maps refuses command (told answer) old new
-performed_at {refuses = refuses} {old = old} {mid = mid} {A = A} opened command asked told answer meets is_opened is = record {
-  opened = Some (at opened);
-  added = opening_reach store_prefix ++ is.added;
+performed_at : (number : ℕ) {maps : ℕ → Map} {refuses : KeyRange → ReadError → Type 0} {old mid new : CommitRequest} {A : Type 0} (opened : Opened) (command : Command) (asked : Call A) (told : A → Reply) (answer : A) →
+    Meets number (at number opened) command asked told → IsOpened maps (at number opened) old mid → IsAnswered maps (at number opened) asked answer mid new → IsPerformed number maps refuses command (told answer) old new
+performed_at number {refuses = refuses} {old = old} {mid = mid} {A = A} opened command asked told answer meets is_opened is = record {
+  opened = Some (at number opened);
+  added = opening_reach (store_prefix number) ++ is.added;
   written = is.written;
   changes = is.changes ∙ ap not (serves.telling answer);
   ran = ran_then is_opened.ran is.ran (λ m has fact. (
     record {
       there = (refl, has.0);
-      reads = all_added (told answer) (all_ranges opened command is.service told serves is.added m fact.0);
-      told = told_accepted (Some (at opened)) command (told answer) m (serves.accepted answer) (sound_by (at opened) command (told answer) m is.service.footprint.reading serves.reads (serves.undamaged m) fact.1);
+      reads = all_added (told answer) (all_ranges number opened command is.service told serves is.added m fact.0);
+      told = told_accepted number (Some (at number opened)) command (told answer) m (serves.accepted answer) (sound_by number (at number opened) command (told answer) m is.service.footprint.reading serves.reads (serves.undamaged m) fact.1);
     },
     λ serial stands. here m fact.0 fact.2 serial stands (has.1 serial stands),
   ));
 }
   where
-    serves : Serves (at opened) command is.service told
-    serves = subst (λ (c : Call A). Meets (at opened) command c told) is.accepted meets
+    serves : Serves number (at number opened) command is.service told
+    serves = subst (λ (c : Call A). Meets number (at number opened) command c told) is.accepted meets
 
-    here : (m : Map) → is.added ≡ is.service.footprint.reading.added m → AtStore (at opened) m (IsDone (at opened) is.service answer mid.mutations is.written m) → (serial : Serial) → Stands m serial → IsThereAs (at opened) serial →
-        IsPerformedAt refuses command (told answer) old.mutations is.written (opening_reach store_prefix ++ is.added) m serial
+    here : (m : Map) → is.added ≡ is.service.footprint.reading.added m → AtStore (at number opened) m (IsDone (at number opened) is.service answer mid.mutations is.written m) → (serial : Serial) → Stands number m serial → IsThereAs (at number opened) serial →
+        IsPerformedAt number refuses command (told answer) old.mutations is.written (opening_reach (store_prefix number) ++ is.added) m serial
     here m reads done None stands has = absurd has
     here m reads done (Some store) stands has =
         let now = done store stands has in
-        let wrote : is.written ≡ writes m (Some store) command = now.wrote ∙ sym (writes_so (at opened) command is.service told serves store has answer now.answers m) in record {
+        let wrote : is.written ≡ writes number m (Some store) command = now.wrote ∙ sym (writes_so number (at number opened) command is.service told serves store has answer now.answers m) in record {
           right = inl (subst (λ o. IsLimited o (Some store) command (told answer))
-              (sym now.allowed ∙ ap (λ ms. write_all_refusal ms is.written) (unwritten opened is_opened) ∙ ap (write_all_refusal old.mutations) wrote)
-              (replies_so (at opened) command is.service told serves store has answer now.answers));
-          wrote = wrote ∙ ap (λ b. cond b (writes m (Some store) command) []) (sym (serves.accepted answer));
-          holds = subst (λ b. Stands (after_all is.written m) (cond b (effect (Some store) command) (Some store))) (sym (serves.accepted answer))
-              (subst (Stands (after_all is.written m)) (sym (leaves_so (at opened) command is.service told serves store has answer now.answers)) now.holds);
-          reads = all_added (told answer) (at_serial opened command m (Some store) (opening_reach store_prefix ++ is.added) stands has (all_ranges opened command is.service told serves is.added m reads));
+              (sym now.allowed ∙ ap (λ ms. write_all_refusal ms is.written) (unwritten number opened is_opened) ∙ ap (write_all_refusal old.mutations) wrote)
+              (replies_so number (at number opened) command is.service told serves store has answer now.answers));
+          wrote = wrote ∙ ap (λ b. cond b (writes number m (Some store) command) []) (sym (serves.accepted answer));
+          holds = subst (λ b. Stands number (after_all is.written m) (cond b (effect (Some store) command) (Some store))) (sym (serves.accepted answer))
+              (subst (Stands number (after_all is.written m)) (sym (leaves_so number (at number opened) command is.service told serves store has answer now.answers)) now.holds);
+          reads = all_added (told answer) (at_serial number opened command m (Some store) (opening_reach (store_prefix number) ++ is.added) stands has (all_ranges number opened command is.service told serves is.added m reads));
         }
 
 -- NOT ANSWERED: a store was opened, and a call on it was refused
-refused_at : {maps : ℕ → Map} {refuses : KeyRange → ℕ → ReadError → Type 0} {old mid new : CommitRequest} {A : Type 0} (opened : Opened) (command : Command) (asked : Call A) (told : A → Reply) (error : StoreError) →
-    open_reach command ≡ opening_reach store_prefix → Meets (at opened) command asked told → IsOpened maps (at opened) old mid → call.IsRefused maps refuses (at opened) asked error mid new → IsCommandRefused maps refuses command error old new
-refused_at {maps = maps} {refuses = refuses} {old = old} {mid = mid} {new = new} opened command (Err refusal) told error opens meets is_opened is =
-    subst (λ (t : CommitRequest). IsCommandRefused maps refuses command error old t) (sym is.1) (elim is.0 [
-      | inl memory ↦ subst (λ e. IsCommandRefused maps refuses command e old mid) (sym memory) (memory_opened opened command opens is_opened)
-      | inr own ↦ subst (λ e. IsCommandRefused maps refuses command e old mid) (sym own) (refused_own opened command refusal meets is_opened)
+refused_at : (number : ℕ) {maps : ℕ → Map} {refuses : KeyRange → ℕ → ReadError → Type 0} {old mid new : CommitRequest} {A : Type 0} (opened : Opened) (command : Command) (asked : Call A) (told : A → Reply) (error : StoreError) →
+    open_reach number command ≡ opening_reach (store_prefix number) → Meets number (at number opened) command asked told → IsOpened maps (at number opened) old mid → call.IsRefused maps refuses (at number opened) asked error mid new → IsCommandRefused number maps refuses command error old new
+refused_at number {maps = maps} {refuses = refuses} {old = old} {mid = mid} {new = new} opened command (Err refusal) told error opens meets is_opened is =
+    subst (λ (t : CommitRequest). IsCommandRefused number maps refuses command error old t) (sym is.1) (elim is.0 [
+      | inl memory ↦ subst (λ e. IsCommandRefused number maps refuses command e old mid) (sym memory) (memory_opened number opened command opens is_opened)
+      | inr own ↦ subst (λ e. IsCommandRefused number maps refuses command e old mid) (sym own) (refused_own number opened command refusal meets is_opened)
     ])
-refused_at {refuses = refuses} {old = old} {mid = mid} opened command (Ok service) told error opens serves is_opened is =
-    refused_by command (Some (at opened)) error (opening_reach store_prefix ++ is.added) (ran_then is_opened.ran is.ran (λ m has says. stop error is.added m has says))
+refused_at number {refuses = refuses} {old = old} {mid = mid} opened command (Ok service) told error opens serves is_opened is =
+    refused_by number command (Some (at number opened)) error (opening_reach (store_prefix number) ++ is.added) (ran_then is_opened.ran is.ran (λ m has says. stop error is.added m has says))
   where
     refused : KeyRange → ReadError → Type 0
     refused range = refuses range old.read_version
@@ -218,64 +218,64 @@ refused_at {refuses = refuses} {old = old} {mid = mid} opened command (Ok servic
     same_version = is_opened.ran.version
 
     -- the store that is there is refused
-    unanswered : (error : StoreError) (refusal : Refusal) → reply_of error ≡ Some (reply.Refused refusal) → (ranges : List KeyRange) (m : Map) → HasSchema (at opened) m × AtSerials store_prefix m (IsThereAs (at opened)) →
-        IsRefusedThere (at opened) service error ranges m → IsStop refused (Some (at opened)) command old.mutations error (opening_reach store_prefix ++ ranges) m
+    unanswered : (error : StoreError) (refusal : Refusal) → reply_of error ≡ Some (reply.Refused refusal) → (ranges : List KeyRange) (m : Map) → HasSchema (at number opened) m × AtSerials (store_prefix number) m (IsThereAs (at number opened)) →
+        IsRefusedThere (at number opened) service error ranges m → IsStop number refused (Some (at number opened)) command old.mutations error (opening_reach (store_prefix number) ++ ranges) m
     unanswered error refusal is_reply ranges m has says = record {
       there = (refl, has.0);
-      reads = stopped_all error (all_ranges opened command service told serves ranges m says.1);
-      told = λ answer same. told_refused (Some (at opened)) command refusal answer m (sym is_reply ∙ same) (sound_by (at opened) command (reply.Refused refusal) m service.footprint.reading serves.reads (serves.undamaged m) says.2);
+      reads = stopped_all error (all_ranges number opened command service told serves ranges m says.1);
+      told = λ answer same. told_refused number (Some (at number opened)) command refusal answer m (sym is_reply ∙ same) (sound_by number (at number opened) command (reply.Refused refusal) m service.footprint.reading serves.reads (serves.undamaged m) says.2);
       held = λ serial stands. (
         right serial stands (has.1 serial stands),
-        stopped_all error (at_serial opened command m serial (opening_reach store_prefix ++ ranges) stands (has.1 serial stands) (all_ranges opened command service told serves ranges m says.1)),
+        stopped_all error (at_serial number opened command m serial (opening_reach (store_prefix number) ++ ranges) stands (has.1 serial stands) (all_ranges number opened command service told serves ranges m says.1)),
       );
     }
       where
-        right : (serial : Serial) → Holds store_prefix m serial → IsThereAs (at opened) serial → IsRight refused command old.mutations error m serial
+        right : (serial : Serial) → Holds (store_prefix number) m serial → IsThereAs (at number opened) serial → IsRight number refused command old.mutations error m serial
         right None holds none = absurd none
-        right (Some store) holds same = refused_right refused command old.mutations error m (Some store) (serves.lines store same ∙ ap (answering store told service.meaning) (says.3 store holds same))
+        right (Some store) holds same = refused_right number refused command old.mutations error m (Some store) (serves.lines store same ∙ ap (answering store told service.meaning) (says.3 store holds same))
 
-    stop : (error : StoreError) (ranges : List KeyRange) (m : Map) → HasSchema (at opened) m × AtSerials store_prefix m (IsThereAs (at opened)) → IsFailure (λ range. refuses range mid.read_version) (at opened) service error mid.mutations ranges m →
-        IsStop refused (Some (at opened)) command old.mutations error (opening_reach store_prefix ++ ranges) m
+    stop : (error : StoreError) (ranges : List KeyRange) (m : Map) → HasSchema (at number opened) m × AtSerials (store_prefix number) m (IsThereAs (at number opened)) → IsFailure (λ range. refuses range mid.read_version) (at number opened) service error mid.mutations ranges m →
+        IsStop number refused (Some (at number opened)) command old.mutations error (opening_reach (store_prefix number) ++ ranges) m
     stop Memory ranges m has says =
-        stop_memory refused (Some (at opened)) command old.mutations (opening_reach store_prefix ++ ranges) m (refl, has.0) (first_ranges opened command service told serves ranges m says)
-        (λ serial stands. begin_serial opened command m serial (opening_reach store_prefix ++ ranges) stands (has.1 serial stands) (first_ranges opened command service told serves ranges m says))
+        stop_memory number refused (Some (at number opened)) command old.mutations (opening_reach (store_prefix number) ++ ranges) m (refl, has.0) (first_ranges number opened command service told serves ranges m says)
+        (λ serial stands. begin_serial number opened command m serial (opening_reach (store_prefix number) ++ ranges) stands (has.1 serial stands) (first_ranges number opened command service told serves ranges m says))
     stop (Read reason) ranges m has says = record {
       there = (refl, has.0);
-      reads = first_ranges opened command service told serves ranges m says.0;
-      told = λ answer same. told_read (Some (at opened)) command reason answer m same;
+      reads = first_ranges number opened command service told serves ranges m says.0;
+      told = λ answer same. told_read number (Some (at number opened)) command reason answer m same;
       held = λ serial stands. (
-        λ answer same. inr (read_right refused (reach (opened_in serial) command m) reason answer same
-            (subst (λ s. IsReadRefusedAs refused (reach s command m) reason) (sym (opened_is (at opened) serial refl (has.1 serial stands)))
-            (next_within refused (service.footprint.reading.asked m) ranges (reach (Some (at opened)) command m) reason (own_asked (Some (at opened)) command m service.footprint.reading serves.reads)
+        λ answer same. inr (read_right refused (reach number (opened_in number serial) command m) reason answer same
+            (subst (λ s. IsReadRefusedAs refused (reach number s command m) reason) (sym (opened_is number (at number opened) serial refl (has.1 serial stands)))
+            (next_within refused (service.footprint.reading.asked m) ranges (reach number (Some (at number opened)) command m) reason (own_asked number (Some (at number opened)) command m service.footprint.reading serves.reads)
             (subst (λ v. IsNextRefused (λ range. refuses range v) (service.footprint.reading.asked m) ranges reason) same_version says.1)))),
-        begin_serial opened command m serial (opening_reach store_prefix ++ ranges) stands (has.1 serial stands) (first_ranges opened command service told serves ranges m says.0),
+        begin_serial number opened command m serial (opening_reach (store_prefix number) ++ ranges) stands (has.1 serial stands) (first_ranges number opened command service told serves ranges m says.0),
       );
     }
     stop (Corrupt key) ranges m has says = record {
       there = (refl, has.0);
-      reads = all_ranges opened command service told serves ranges m says.0;
-      told = λ answer same. told_damage (Some (at opened)) command key answer m same (inl (subst (λ (r : Reading). IsDamagedAt (at opened) r key m) (sym serves.reads) says.1));
+      reads = all_ranges number opened command service told serves ranges m says.0;
+      told = λ answer same. told_damage number (Some (at number opened)) command key answer m same (inl (subst (λ (r : Reading). IsDamagedAt (at number opened) r key m) (sym serves.reads) says.1));
       held = λ serial stands. damaged serial stands (has.1 serial stands);
     }
       where
-        damaged : (serial : Serial) → Holds store_prefix m serial → IsThereAs (at opened) serial → IsRight refused command old.mutations (Corrupt key) m serial × (opening_reach store_prefix ++ ranges ≡ added_by (opened_in serial) command m)
+        damaged : (serial : Serial) → Holds (store_prefix number) m serial → IsThereAs (at number opened) serial → IsRight number refused command old.mutations (Corrupt key) m serial × (opening_reach (store_prefix number) ++ ranges ≡ added_by number (opened_in number serial) command m)
         damaged None holds none = absurd none
         damaged (Some store) holds same = absurd (says.2 store holds same)
     stop (Write reason) ranges m has says = record {
       there = (refl, has.0);
-      reads = all_ranges opened command service told serves ranges m says.0;
-      told = λ answer same. told_limit (Some (at opened)) command reason answer m same (λ refusal other. sound_by (at opened) command (reply.Refused refusal) m service.footprint.reading serves.reads (serves.undamaged m) says.1);
+      reads = all_ranges number opened command service told serves ranges m says.0;
+      told = λ answer same. told_limit number (Some (at number opened)) command reason answer m same (λ refusal other. sound_by number (at number opened) command (reply.Refused refusal) m service.footprint.reading serves.reads (serves.undamaged m) says.1);
       held = λ serial stands. (
         limited serial stands (has.1 serial stands),
-        at_serial opened command m serial (opening_reach store_prefix ++ ranges) stands (has.1 serial stands) (all_ranges opened command service told serves ranges m says.0),
+        at_serial number opened command m serial (opening_reach (store_prefix number) ++ ranges) stands (has.1 serial stands) (all_ranges number opened command service told serves ranges m says.0),
       );
     }
       where
-        limited : (serial : Serial) → Holds store_prefix m serial → IsThereAs (at opened) serial → IsRight refused command old.mutations (Write reason) m serial
+        limited : (serial : Serial) → Holds (store_prefix number) m serial → IsThereAs (at number opened) serial → IsRight number refused command old.mutations (Write reason) m serial
         limited None holds none = absurd none
         limited (Some store) holds same =
-            limit_right refused command old.mutations reason m (Some store)
-            (ap (λ ms. write_all_refusal ms (writes m (Some store) command)) (sym (unwritten opened is_opened)) ∙ ap (write_all_refusal mid.mutations) (writes_so (at opened) command service told serves store same (says.2 store holds same).0.answer (says.2 store holds same).0.is m) ∙ (says.2 store holds same).1)
+            limit_right number refused command old.mutations reason m (Some store)
+            (ap (λ ms. write_all_refusal ms (writes number m (Some store) command)) (sym (unwritten number opened is_opened)) ∙ ap (write_all_refusal mid.mutations) (writes_so number (at number opened) command service told serves store same (says.2 store holds same).0.answer (says.2 store holds same).0.is m) ∙ (says.2 store holds same).1)
     stop (Refused refusal) ranges m has says = unanswered (Refused refusal) (of_schema refusal) refl ranges m has says
     stop fault.NoStore ranges m has says = unanswered fault.NoStore NoStore refl ranges m has says
     stop fault.AlreadyThere ranges m has says = unanswered fault.AlreadyThere AlreadyThere refl ranges m has says
@@ -287,32 +287,32 @@ refused_at {refuses = refuses} {old = old} {mid = mid} opened command (Ok servic
 
 -- ---- the same where the opened store stands at the store's prefix
 
-pub located : (opened : Opened) → opened.prefix ≡ store_prefix → opened ≡ at opened
-located opened is = λ i. record { prefix = is i; schema = opened.schema; states = opened.states }
+pub located : (number : ℕ) (opened : Opened) → opened.prefix ≡ store_prefix number → opened ≡ at number opened
+located number opened is = λ i. record { prefix = is i; schema = opened.schema; states = opened.states }
 
 -- ANSWERED
-pub performed : {maps : ℕ → Map} {refuses : KeyRange → ReadError → Type 0} {old mid new : CommitRequest} {A : Type 0} (opened : Opened) (command : Command) (asked : Opened → Call A) (told : A → Reply) (answer : A) → opened.prefix ≡ store_prefix →
-    Meets (at opened) command (asked (at opened)) told → IsOpened maps opened old mid → IsAnswered maps opened (asked opened) answer mid new → IsPerformed maps refuses command (told answer) old new
-performed {maps = maps} {old = old} {mid = mid} {new = new} opened command asked told answer here meets is_opened is =
-    performed_at opened command (asked (at opened)) told answer meets (subst (λ o. IsOpened maps o old mid) (located opened here) is_opened)
-    (subst (λ o. IsAnswered maps o (asked o) answer mid new) (located opened here) is)
+pub performed : (number : ℕ) {maps : ℕ → Map} {refuses : KeyRange → ReadError → Type 0} {old mid new : CommitRequest} {A : Type 0} (opened : Opened) (command : Command) (asked : Opened → Call A) (told : A → Reply) (answer : A) → opened.prefix ≡ store_prefix number →
+    Meets number (at number opened) command (asked (at number opened)) told → IsOpened maps opened old mid → IsAnswered maps opened (asked opened) answer mid new → IsPerformed number maps refuses command (told answer) old new
+performed number {maps = maps} {old = old} {mid = mid} {new = new} opened command asked told answer here meets is_opened is =
+    performed_at number opened command (asked (at number opened)) told answer meets (subst (λ o. IsOpened maps o old mid) (located number opened here) is_opened)
+    (subst (λ o. IsAnswered maps o (asked o) answer mid new) (located number opened here) is)
 
 -- NOT ANSWERED
-pub refused : {maps : ℕ → Map} {refuses : KeyRange → ℕ → ReadError → Type 0} {old mid new : CommitRequest} {A : Type 0} (opened : Opened) (command : Command) (asked : Opened → Call A) (told : A → Reply) (error : StoreError) →
-    open_reach command ≡ opening_reach store_prefix → opened.prefix ≡ store_prefix →
-    Meets (at opened) command (asked (at opened)) told → IsOpened maps opened old mid → call.IsRefused maps refuses opened (asked opened) error mid new → IsCommandRefused maps refuses command error old new
-refused {maps = maps} {refuses = refuses} {old = old} {mid = mid} {new = new} opened command asked told error opens here meets is_opened is =
-    refused_at opened command (asked (at opened)) told error opens meets (subst (λ o. IsOpened maps o old mid) (located opened here) is_opened)
-    (subst (λ o. call.IsRefused maps refuses o (asked o) error mid new) (located opened here) is)
+pub refused : (number : ℕ) {maps : ℕ → Map} {refuses : KeyRange → ℕ → ReadError → Type 0} {old mid new : CommitRequest} {A : Type 0} (opened : Opened) (command : Command) (asked : Opened → Call A) (told : A → Reply) (error : StoreError) →
+    open_reach number command ≡ opening_reach (store_prefix number) → opened.prefix ≡ store_prefix number →
+    Meets number (at number opened) command (asked (at number opened)) told → IsOpened maps opened old mid → call.IsRefused maps refuses opened (asked opened) error mid new → IsCommandRefused number maps refuses command error old new
+refused number {maps = maps} {refuses = refuses} {old = old} {mid = mid} {new = new} opened command asked told error opens here meets is_opened is =
+    refused_at number opened command (asked (at number opened)) told error opens meets (subst (λ o. IsOpened maps o old mid) (located number opened here) is_opened)
+    (subst (λ o. call.IsRefused maps refuses o (asked o) error mid new) (located number opened here) is)
 
 -- OWN REFUSAL: what the command asks for is refused by the schema, before a call is made
-pub refused_asked : {maps : ℕ → Map} {refuses : KeyRange → ℕ → ReadError → Type 0} {old mid : CommitRequest} {A : Type 0} (opened : Opened) (command : Command) (outcome : Result A SchemaRefusal) (error : MetadataError) →
-    open_reach command ≡ opening_reach store_prefix → opened.prefix ≡ store_prefix →
-    ((refusal : SchemaRefusal) → outcome ≡ Err refusal → Refuses (at opened) command (Refused refusal)) → IsOpened maps opened old mid → IsRefusedAs error outcome → IsCommandRefused maps refuses command (of_metadata error) old mid
-refused_asked {maps = maps} {old = old} {mid = mid} opened command outcome meta.Memory opens here so is_opened is = memory_opened opened command opens (subst (λ o. IsOpened maps o old mid) (located opened here) is_opened)
-refused_asked {maps = maps} {old = old} {mid = mid} opened command outcome (meta.Refused refusal) opens here so is_opened is =
-    refused_own opened command (Refused refusal) (so refusal is) (subst (λ o. IsOpened maps o old mid) (located opened here) is_opened)
+pub refused_asked : (number : ℕ) {maps : ℕ → Map} {refuses : KeyRange → ℕ → ReadError → Type 0} {old mid : CommitRequest} {A : Type 0} (opened : Opened) (command : Command) (outcome : Result A SchemaRefusal) (error : MetadataError) →
+    open_reach number command ≡ opening_reach (store_prefix number) → opened.prefix ≡ store_prefix number →
+    ((refusal : SchemaRefusal) → outcome ≡ Err refusal → Refuses number (at number opened) command (Refused refusal)) → IsOpened maps opened old mid → IsRefusedAs error outcome → IsCommandRefused number maps refuses command (of_metadata error) old mid
+refused_asked number {maps = maps} {old = old} {mid = mid} opened command outcome meta.Memory opens here so is_opened is = memory_opened number opened command opens (subst (λ o. IsOpened maps o old mid) (located number opened here) is_opened)
+refused_asked number {maps = maps} {old = old} {mid = mid} opened command outcome (meta.Refused refusal) opens here so is_opened is =
+    refused_own number opened command (Refused refusal) (so refusal is) (subst (λ o. IsOpened maps o old mid) (located number opened here) is_opened)
 
 -- AS: the reply is an equal one
-pub answered_as : {maps : ℕ → Map} {refuses : KeyRange → ReadError → Type 0} {command : Command} {answer made : Reply} {old new : CommitRequest} → answer ≡ made → IsPerformed maps refuses command made old new → IsPerformed maps refuses command answer old new
-answered_as {maps = maps} {refuses = refuses} {command = command} {old = old} {new = new} same so = subst (λ a. IsPerformed maps refuses command a old new) (sym same) so
+pub answered_as : (number : ℕ) {maps : ℕ → Map} {refuses : KeyRange → ReadError → Type 0} {command : Command} {answer made : Reply} {old new : CommitRequest} → answer ≡ made → IsPerformed number maps refuses command made old new → IsPerformed number maps refuses command answer old new
+answered_as number {maps = maps} {refuses = refuses} {command = command} {old = old} {new = new} same so = subst (λ a. IsPerformed number maps refuses command a old new) (sym same) so

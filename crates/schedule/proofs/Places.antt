@@ -4,11 +4,14 @@ use Rattle.std.specs.Prelude.{is_some, slice_set}
 use Rattle.std.proofs.lemmas.Bool.{eqb-true, eqb-false, ltb-false, true≢false}
 use Rattle.std.proofs.lemmas.List.{get_or_default, get_or-replicate, get_or-set_same, get_or-set_other, set-get_or}
 use Rattle.kv_core.specs.Map.{Map}
+use Rattle.record_store.specs.Layout.{is_store_number}
 use Rattle.schedule.specs.declared.step.TheConstants.{CLIENTS}
+use Rattle.schedule.specs.declared.refusal.Refusal.TheVariants.{NoSuchStore}
 use Rattle.schedule.specs.declared.reply.Reply.{Reply}
+use Rattle.schedule.specs.declared.reply.Reply.TheVariants.{Refused}
 use Rattle.schedule.specs.declared.database.OpenTransaction.{OpenTransaction}
 use Rattle.schedule.specs.Past.{Attempt, Open, accepted, is_accepted}
-use Rattle.schedule.specs.Contract.{OfClient}
+use Rattle.schedule.specs.Contract.{OfClient, OfStore}
 use Rattle.schedule.specs.Running.{IsOpen, IsPlace, ArePlaces}
 
 -- ---- one place
@@ -83,6 +86,20 @@ none_from (Some x) is = absurd (true≢false is)
 
 pub client_there : (client : ℕ) (reply : Reply) (IsRight : Type 0) → client < CLIENTS → IsRight → OfClient client reply IsRight
 client_there client reply IsRight below right = (λ _. right, λ none. absurd (let above : CLIENTS ≤ client = ltb-false client CLIENTS none in omega (arith, above, below)))
+
+pub store_there : (number : ℕ) (reply : Reply) (IsRight : Type 0) → is_store_number number ≡ true → IsRight → OfStore number reply IsRight
+store_there number reply IsRight lawful right = (λ _. right, λ none. absurd (true≢false (sym lawful ∙ none)))
+
+-- a number that isn't one of a store
+pub no_number : (number : ℕ) → (is_store_number number ≡ true → ⊥) → is_store_number number ≡ false
+no_number number not_one = by_test (is_store_number number) refl
+  where
+    by_test : (b : Bool) → is_store_number number ≡ b → b ≡ false
+    by_test true is = absurd (not_one is)
+    by_test false is = refl
+
+pub store_missing : (number : ℕ) (reply : Reply) (IsRight : Type 0) → is_store_number number ≡ false → reply ≡ Refused NoSuchStore → OfStore number reply IsRight
+store_missing number reply IsRight none refused = (λ lawful. absurd (true≢false (sym lawful ∙ none)), λ _. refused)
 
 -- ---- accepted commands
 

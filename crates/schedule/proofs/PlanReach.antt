@@ -52,7 +52,6 @@ use Rattle.plan_exec.proofs.Answers.{scannable}
 use Rattle.plan_exec.proofs.Told.{states_told}
 use Rattle.plan_exec.proofs.Within.{reads_within}
 use Rattle.schedule.specs.declared.step.Command.TheVariants.{Execute, Query}
-use Rattle.schedule.specs.Layout.{store_prefix}
 use Rattle.schedule.specs.Query.{opened_as}
 use Rattle.schedule.specs.Executed.{PlanSteps, plan_steps, query_steps, steps_for, steps_reading, steps_with, unless_refused}
 use Rattle.schedule.specs.Keys.{IsOfRecords, IsOfType, MayReadIn, MayReadScanning}
@@ -109,16 +108,16 @@ not_below a k is = ap is_lt (nat_list_cmp_total.antisymm k a) ∙ by_order (key_
     by_order Equal le = refl
     by_order Greater le = absurd (cc)
 
-path_begins : (t : TypeDefinition) (s : PathScan) (key : List ℕ) → scan_has store_prefix t s key ≡ true → BeginsWith (path_prefix store_prefix t s.path) key
-path_begins t s key is =
-    let p = path_prefix store_prefix t s.path in
+path_begins : (prefix : List ℕ) (t : TypeDefinition) (s : PathScan) (key : List ℕ) → scan_has prefix t s key ≡ true → BeginsWith (path_prefix prefix t s.path) key
+path_begins prefix t s key is =
+    let p = path_prefix prefix t s.path in
     let parts = and_parts (is_le (key_cmp (p ++ s.range.begin) key)) (is_lt (key_cmp key (p ++ s.range.end))) is in
     under p s.range.begin s.range.end key (λ i. not (not_below (p ++ s.range.begin) key parts.0 i) && parts.1 i)
 
 -- the key of a record to which an entry leads is one of the type
-key_begins : (t : TypeDefinition) (key : List Cell) → is_primary_key t key ≡ true → IsOfRecords t.number (record_key store_prefix (items_of key))
-key_begins t [] is = absurd (cc)
-key_begins t (number ∷ cells) is = (spelling (items_of cells), ap (λ s. store_prefix ++ (first ++ s)) own ∙ ap (λ s. store_prefix ++ s) (sym (append_assoc first (its ++ []) (spelling (items_of cells)))) ∙ sym (append_assoc store_prefix (first ++ (its ++ [])) (spelling (items_of cells))))
+key_begins : (prefix : List ℕ) (t : TypeDefinition) (key : List Cell) → is_primary_key t key ≡ true → IsOfRecords prefix t.number (record_key prefix (items_of key))
+key_begins prefix t [] is = absurd (cc)
+key_begins prefix t (number ∷ cells) is = (spelling (items_of cells), ap (λ s. prefix ++ (first ++ s)) own ∙ ap (λ s. prefix ++ s) (sym (append_assoc first (its ++ []) (spelling (items_of cells)))) ∙ sym (append_assoc prefix (first ++ (its ++ [])) (spelling (items_of cells))))
   where
     first : List ℕ
     first = item_spelling outer (int (pos 1))
@@ -133,8 +132,8 @@ key_begins t (number ∷ cells) is = (spelling (items_of cells), ap (λ s. store
     own : item_spelling outer (item_of number) ++ spelling (items_of cells) ≡ (its ++ []) ++ spelling (items_of cells)
     own = sym (append_assoc (item_spelling outer (item_of number)) [] (spelling (items_of cells))) ∙ ap (λ s. s ++ spelling (items_of cells)) same
 
-entry_leads : (t : TypeDefinition) (i : IndexDefinition) (entry : Pair) (key : List Cell) → entry_primary_key store_prefix t i entry ≡ Some key → is_primary_key t key ≡ true
-entry_leads t i entry key is = by_value (length entry.1 == 0) is
+entry_leads : (prefix : List ℕ) (t : TypeDefinition) (i : IndexDefinition) (entry : Pair) (key : List Cell) → entry_primary_key prefix t i entry ≡ Some key → is_primary_key t key ≡ true
+entry_leads prefix t i entry key is = by_value (length entry.1 == 0) is
   where
     taken : List Cell → Option (List Cell)
     taken cells = cond (is_entry t i cells) (Some (drop (length i.columns) cells)) None
@@ -149,8 +148,8 @@ entry_leads t i entry key is = by_value (length entry.1 == 0) is
     by_cells None said = absurd (cc)
     by_cells (Some cells) said = by_test cells (is_entry t i cells) refl said
 
-    by_value : (b : Bool) → cond b (option_and_then taken (unpack (drop (length (entries_prefix store_prefix i.number)) entry.0))) None ≡ Some key → is_primary_key t key ≡ true
-    by_value true said = by_cells (unpack (drop (length (entries_prefix store_prefix i.number)) entry.0)) said
+    by_value : (b : Bool) → cond b (option_and_then taken (unpack (drop (length (entries_prefix prefix i.number)) entry.0))) None ≡ Some key → is_primary_key t key ≡ true
+    by_value true said = by_cells (unpack (drop (length (entries_prefix prefix i.number)) entry.0)) said
     by_value false said = absurd (cc)
 
 -- ---- the steps of a plan
@@ -161,11 +160,11 @@ pub record IsSuch (store : Store) (Is : IndexDefinition → Type 0) (i : IndexDe
   pub such : Is i
   pub readable : state_of store i.number ≡ state.Readable
 
-module _ (store : Store) (t : TypeDefinition) (n : Node) (Is : IndexDefinition → Type 0) (all : AllByRecursion (IsSuch store Is) (indexes_of n)) where
+module _ (prefix : List ℕ) (store : Store) (t : TypeDefinition) (n : Node) (Is : IndexDefinition → Type 0) (all : AllByRecursion (IsSuch store Is) (indexes_of n)) where
   abbrev May : List ℕ → Type 0
-  May key = MayReadScanning store t.number Is key
+  May key = MayReadScanning prefix store t.number Is key
 
-  path_such : (path : Path) (key : List ℕ) → AlongSuch (IsSuch store Is) path → BeginsWith (path_prefix store_prefix t path) key → May key
+  path_such : (path : Path) (key : List ℕ) → AlongSuch (IsSuch store Is) path → BeginsWith (path_prefix prefix t path) key → May key
   path_such primary key so begins = inl begins
   path_such (along i) key so begins = inr (record { index = i; there = so.there; such = so.such; state = so.readable; of = begins })
 
@@ -174,23 +173,23 @@ module _ (store : Store) (t : TypeDefinition) (n : Node) (Is : IndexDefinition �
       All-contains (λ (one : PathScan). AlongSuch (IsSuch store Is) one.path) (scans_of n) s
       (All-from_recursion (λ (one : PathScan). AlongSuch (IsSuch store Is) one.path) (scans_of n) (node_such (IsSuch store Is) n all)) there
 
-  range_such : (pairs : List Pair) (range : KeyRange) → MayRead store_prefix pairs t (scans_of n) range → (key : List ℕ) → contains range key ≡ true → May key
-  range_such pairs range (inl of) key inside = path_such of.scan.path key (scan_such of.scan of.planned) (path_begins t of.scan key (of.within key inside))
+  range_such : (pairs : List Pair) (range : KeyRange) → MayRead prefix pairs t (scans_of n) range → (key : List ℕ) → contains range key ≡ true → May key
+  range_such pairs range (inl of) key inside = path_such of.scan.path key (scan_such of.scan of.planned) (path_begins prefix t of.scan key (of.within key inside))
   range_such pairs range (inr of) key inside =
-      let at : record_key store_prefix (items_of of.key) ≡ key = point_key (record_key store_prefix (items_of of.key)) key (ap (λ r. contains r key) (sym of.is) ∙ inside) in
-      inl (subst (IsOfRecords t.number) at (key_begins t of.key (entry_leads t of.index of.entry of.key of.leads)))
+      let at : record_key prefix (items_of of.key) ≡ key = point_key (record_key prefix (items_of of.key)) key (ap (λ r. contains r key) (sym of.is) ∙ inside) in
+      inl (subst (IsOfRecords prefix t.number) at (key_begins prefix t of.key (entry_leads prefix t of.index of.entry of.key of.leads)))
 
-  ranges_such : (pairs : List Pair) (ranges : List KeyRange) → AllByRecursion (MayRead store_prefix pairs t (scans_of n)) ranges → AllByRecursion (λ (range : KeyRange). (key : List ℕ) → contains range key ≡ true → May key) ranges
+  ranges_such : (pairs : List Pair) (ranges : List KeyRange) → AllByRecursion (MayRead prefix pairs t (scans_of n)) ranges → AllByRecursion (λ (range : KeyRange). (key : List ℕ) → contains range key ≡ true → May key) ranges
   ranges_such pairs [] each = tt
   ranges_such pairs (range ∷ ranges) each = (range_such pairs range each.0, ranges_such pairs ranges each.1)
 
   pub steps_such : (m : Map) →
-      AllByRecursion (λ (range : KeyRange). (key : List ℕ) → contains range key ≡ true → May key) (asks_of store_prefix (entries m) t n)
-      × AllByRecursion (λ (range : KeyRange). (key : List ℕ) → contains range key ≡ true → May key) (reads_of store_prefix (entries m) t n)
+      AllByRecursion (λ (range : KeyRange). (key : List ℕ) → contains range key ≡ true → May key) (asks_of prefix (entries m) t n)
+      × AllByRecursion (λ (range : KeyRange). (key : List ℕ) → contains range key ≡ true → May key) (reads_of prefix (entries m) t n)
   steps_such m =
-      let law = reads_within store_prefix (entries m) t n in (
-        ranges_such (entries m) (asks_of store_prefix (entries m) t n) (recursion_from_All (MayRead store_prefix (entries m) t (scans_of n)) (asks_of store_prefix (entries m) t n) law.0),
-        ranges_such (entries m) (reads_of store_prefix (entries m) t n) (recursion_from_All (MayRead store_prefix (entries m) t (scans_of n)) (reads_of store_prefix (entries m) t n) law.1),
+      let law = reads_within prefix (entries m) t n in (
+        ranges_such (entries m) (asks_of prefix (entries m) t n) (recursion_from_All (MayRead prefix (entries m) t (scans_of n)) (asks_of prefix (entries m) t n) law.0),
+        ranges_such (entries m) (reads_of prefix (entries m) t n) (recursion_from_All (MayRead prefix (entries m) t (scans_of n)) (reads_of prefix (entries m) t n) law.1),
       )
 
 -- ---- by the command
@@ -203,67 +202,67 @@ ranges_wider May Wide so [] all = tt
 ranges_wider May Wide so (range ∷ ranges) all = (λ key inside. so key (all.0 key inside), ranges_wider May Wide so ranges all.1)
 
 -- what the steps read, asked for and added
-abbrev BothSuch : (List ℕ → Type 0) → Store → Option PlanSteps → Map → Type 0
-BothSuch May store steps m = Ranges May ((steps_reading (opened_as store) steps).asked m) × Ranges May ((steps_reading (opened_as store) steps).added m)
+abbrev BothSuch : (prefix : List ℕ) → (List ℕ → Type 0) → Store → Option PlanSteps → Map → Type 0
+BothSuch prefix May store steps m = Ranges May ((steps_reading (opened_as prefix store) steps).asked m) × Ranges May ((steps_reading (opened_as prefix store) steps).added m)
 
 -- the planner uses indexes of the type that are readable
-used_such : (store : Store) (t : TypeDefinition) (is : List IndexDefinition) → AllByRecursion (MayBeUsed store.schema (index_states (opened_as store)) t) is → AllByRecursion (IsSuch store (IsOfType t.number)) is
-used_such store t [] all = tt
-used_such store t (i ∷ is) all = (record { there = all.0.in_schema; such = all.0.of_type; readable = (scannable store (index_states (opened_as store)) t i (states_told (opened_as store) store (record { schema = refl; states = refl })) all.0).readable }, used_such store t is all.1)
+used_such : (prefix : List ℕ) (store : Store) (t : TypeDefinition) (is : List IndexDefinition) → AllByRecursion (MayBeUsed store.schema (index_states (opened_as prefix store)) t) is → AllByRecursion (IsSuch store (IsOfType t.number)) is
+used_such prefix store t [] all = tt
+used_such prefix store t (i ∷ is) all = (record { there = all.0.in_schema; such = all.0.of_type; readable = (scannable store (index_states (opened_as prefix store)) t i (states_told (opened_as prefix store) store (record { schema = refl; states = refl })) all.0).readable }, used_such prefix store t is all.1)
 
-pub queried_such : (store : Store) (query : asked.Query) (m : Map) → BothSuch (MayReadIn store (Query query)) store (query_steps (opened_as store) query) m
-queried_such store query m = by_refusal (query_refusal store.schema query) (is_served store.schema (index_states (opened_as store)) query)
+pub queried_such : (prefix : List ℕ) (store : Store) (query : asked.Query) (m : Map) → BothSuch prefix (MayReadIn prefix store (Query query)) store (query_steps (opened_as prefix store) query) m
+queried_such prefix store query m = by_refusal (query_refusal store.schema query) (is_served store.schema (index_states (opened_as prefix store)) query)
   where
-    nothing : BothSuch (MayReadIn store (Query query)) store None m
+    nothing : BothSuch prefix (MayReadIn prefix store (Query query)) store None m
     nothing = (tt, tt)
 
-    by_root : (t : TypeDefinition) → find_type store.schema query.record_type ≡ Some t → (o : Option Node) → planned t (usable store.schema (index_states (opened_as store)) t) query ≡ o →
-        BothSuch (MayReadIn store (Query query)) store (option_map (λ root. (t, root)) o) m
+    by_root : (t : TypeDefinition) → find_type store.schema query.record_type ≡ Some t → (o : Option Node) → planned t (usable store.schema (index_states (opened_as prefix store)) t) query ≡ o →
+        BothSuch prefix (MayReadIn prefix store (Query query)) store (option_map (λ root. (t, root)) o) m
     by_root t named None is = nothing
     by_root t named (Some root) is =
-        let uses = used_such store t (indexes_of root) (planned_usable store.schema (index_states (opened_as store)) t query root is) in
-        let both = steps_such store t root (IsOfType t.number) uses m in
-        let so : (key : List ℕ) → MayReadScanning store t.number (IsOfType t.number) key → MayReadIn store (Query query) key = λ key may. (t, named, may) in (
-          ranges_wider (MayReadScanning store t.number (IsOfType t.number)) (MayReadIn store (Query query)) so (asks_of store_prefix (entries m) t root) both.0,
-          ranges_wider (MayReadScanning store t.number (IsOfType t.number)) (MayReadIn store (Query query)) so (reads_of store_prefix (entries m) t root) both.1,
+        let uses = used_such prefix store t (indexes_of root) (planned_usable store.schema (index_states (opened_as prefix store)) t query root is) in
+        let both = steps_such prefix store t root (IsOfType t.number) uses m in
+        let so : (key : List ℕ) → MayReadScanning prefix store t.number (IsOfType t.number) key → MayReadIn prefix store (Query query) key = λ key may. (t, named, may) in (
+          ranges_wider (MayReadScanning prefix store t.number (IsOfType t.number)) (MayReadIn prefix store (Query query)) so (asks_of prefix (entries m) t root) both.0,
+          ranges_wider (MayReadScanning prefix store t.number (IsOfType t.number)) (MayReadIn prefix store (Query query)) so (reads_of prefix (entries m) t root) both.1,
         )
 
-    by_type : (o : Option TypeDefinition) → find_type store.schema query.record_type ≡ o → BothSuch (MayReadIn store (Query query)) store (option_and_then (steps_for (opened_as store) query) o) m
+    by_type : (o : Option TypeDefinition) → find_type store.schema query.record_type ≡ o → BothSuch prefix (MayReadIn prefix store (Query query)) store (option_and_then (steps_for (opened_as prefix store) query) o) m
     by_type None is = nothing
-    by_type (Some t) is = by_root t is (planned t (usable store.schema (index_states (opened_as store)) t) query) refl
+    by_type (Some t) is = by_root t is (planned t (usable store.schema (index_states (opened_as prefix store)) t) query) refl
 
-    by_refusal : (why : Option QueryError) (served : Bool) → BothSuch (MayReadIn store (Query query)) store (unless_refused why served (option_and_then (steps_for (opened_as store) query) (find_type store.schema query.record_type))) m
+    by_refusal : (why : Option QueryError) (served : Bool) → BothSuch prefix (MayReadIn prefix store (Query query)) store (unless_refused why served (option_and_then (steps_for (opened_as prefix store) query) (find_type store.schema query.record_type))) m
     by_refusal (Some error) served = nothing
     by_refusal None false = nothing
     by_refusal None true = by_type (find_type store.schema query.record_type) refl
 
 -- the store may read the indexes of a plan that it accepts
-read_such : (store : Store) (all is : List IndexDefinition) → AllByRecursion (Contains all) is → AllByRecursion (IsReadableAt (opened_as store)) is → AllByRecursion (IsSuch store (Contains all)) is
-read_such store all [] there readable = tt
-read_such store all (i ∷ is) there readable = (record { there = readable.0.there; such = there.0; readable = state_told_there (opened_as store) store i (record { schema = refl; states = refl }) readable.0.there ∙ readable.0.readable }, read_such store all is there.1 readable.1)
+read_such : (prefix : List ℕ) (store : Store) (all is : List IndexDefinition) → AllByRecursion (Contains all) is → AllByRecursion (IsReadableAt (opened_as prefix store)) is → AllByRecursion (IsSuch store (Contains all)) is
+read_such prefix store all [] there readable = tt
+read_such prefix store all (i ∷ is) there readable = (record { there = readable.0.there; such = there.0; readable = state_told_there (opened_as prefix store) store i (record { schema = refl; states = refl }) readable.0.there ∙ readable.0.readable }, read_such prefix store all is there.1 readable.1)
 
-pub executed_such : (store : Store) (plan : AskedPlan) (m : Map) → BothSuch (MayReadIn store (Execute plan)) store (plan_steps (opened_as store) (plan_of plan)) m
-executed_such store plan m = by_type (find_type store.schema plan.definition.name) refl
+pub executed_such : (prefix : List ℕ) (store : Store) (plan : AskedPlan) (m : Map) → BothSuch prefix (MayReadIn prefix store (Execute plan)) store (plan_steps (opened_as prefix store) (plan_of plan)) m
+executed_such prefix store plan m = by_type (find_type store.schema plan.definition.name) refl
   where
     root : Node
     root = (plan_of plan).root
 
-    nothing : BothSuch (MayReadIn store (Execute plan)) store None m
+    nothing : BothSuch prefix (MayReadIn prefix store (Execute plan)) store None m
     nothing = (tt, tt)
 
-    by_test : (t : TypeDefinition) → find_type store.schema plan.definition.name ≡ Some t → (b : Bool) → (extends plan.definition t && list_all (may_read (opened_as store)) (indexes_of root)) ≡ b →
-        BothSuch (MayReadIn store (Execute plan)) store (cond {A = Option PlanSteps} b (Some (t, root)) None) m
+    by_test : (t : TypeDefinition) → find_type store.schema plan.definition.name ≡ Some t → (b : Bool) → (extends plan.definition t && list_all (may_read (opened_as prefix store)) (indexes_of root)) ≡ b →
+        BothSuch prefix (MayReadIn prefix store (Execute plan)) store (cond {A = Option PlanSteps} b (Some (t, root)) None) m
     by_test t named false is = nothing
     by_test t named true is =
-        let both = and_parts (extends plan.definition t) (list_all (may_read (opened_as store)) (indexes_of root)) is in
+        let both = and_parts (extends plan.definition t) (list_all (may_read (opened_as prefix store)) (indexes_of root)) is in
         let there = recursion_from_All (Contains (indexes_of root)) (indexes_of root) (All-contains_itself (indexes_of root)) in
-        let uses = read_such store (indexes_of root) (indexes_of root) there ((all_readable (opened_as store) (indexes_of root)).0 both.1) in
-        let steps = steps_such store t root (Contains (indexes_of root)) uses m in
-        let so : (key : List ℕ) → MayReadScanning store t.number (Contains (indexes_of root)) key → MayReadIn store (Execute plan) key = λ key may. (t, named, may) in (
-          ranges_wider (MayReadScanning store t.number (Contains (indexes_of root))) (MayReadIn store (Execute plan)) so (asks_of store_prefix (entries m) t root) steps.0,
-          ranges_wider (MayReadScanning store t.number (Contains (indexes_of root))) (MayReadIn store (Execute plan)) so (reads_of store_prefix (entries m) t root) steps.1,
+        let uses = read_such prefix store (indexes_of root) (indexes_of root) there ((all_readable (opened_as prefix store) (indexes_of root)).0 both.1) in
+        let steps = steps_such prefix store t root (Contains (indexes_of root)) uses m in
+        let so : (key : List ℕ) → MayReadScanning prefix store t.number (Contains (indexes_of root)) key → MayReadIn prefix store (Execute plan) key = λ key may. (t, named, may) in (
+          ranges_wider (MayReadScanning prefix store t.number (Contains (indexes_of root))) (MayReadIn prefix store (Execute plan)) so (asks_of prefix (entries m) t root) steps.0,
+          ranges_wider (MayReadScanning prefix store t.number (Contains (indexes_of root))) (MayReadIn prefix store (Execute plan)) so (reads_of prefix (entries m) t root) steps.1,
         )
 
-    by_type : (o : Option TypeDefinition) → find_type store.schema plan.definition.name ≡ o → BothSuch (MayReadIn store (Execute plan)) store (option_and_then (steps_with (opened_as store) (plan_of plan)) o) m
+    by_type : (o : Option TypeDefinition) → find_type store.schema plan.definition.name ≡ o → BothSuch prefix (MayReadIn prefix store (Execute plan)) store (option_and_then (steps_with (opened_as prefix store) (plan_of plan)) o) m
     by_type None is = nothing
-    by_type (Some t) is = by_test t is (extends plan.definition t && list_all (may_read (opened_as store)) (indexes_of root)) refl
+    by_type (Some t) is = by_test t is (extends plan.definition t && list_all (may_read (opened_as prefix store)) (indexes_of root)) refl

@@ -13,6 +13,7 @@ use Rattle.record_store.specs.Store.{Store, state_in, state_of}
 use Rattle.record_store.specs.Call.{IsOpenAs, Opened}
 use Rattle.record_store.specs.Calls.{index_states}
 use Rattle.record_store.specs.Opening.{IsOpened}
+use Rattle.record_store.specs.Layout.{store_prefix}
 use Rattle.record_store.proofs.Listed.{all_there, state_told}
 use Rattle.query.specs.declared.error.QueryError.{QueryError}
 use Rattle.query.specs.Checked.{query_refusal}
@@ -28,7 +29,6 @@ use Rattle.schedule.specs.declared.refusal.Refusal.TheVariants.{SortNotServed}
 use Rattle.schedule.specs.declared.step.Command.TheVariants.{Plan}
 use Rattle.schedule.specs.declared.reply.Reply.{Reply}
 use Rattle.schedule.specs.declared.reply.Reply.TheVariants as reply
-use Rattle.schedule.specs.Layout.{store_prefix}
 use Rattle.schedule.specs.Planning.{IsPlanReply, IsPlanned}
 use Rattle.schedule.specs.Query.{Unrefused, states_of}
 use Rattle.schedule.specs.Performed.{IsCommandSound, IsPerformed, TellsOfPairs}
@@ -46,23 +46,23 @@ plan_told schema states query plan none served asked typed is =
     (subst (λ b. Unrefused None b (IsPlanned schema states query) (reply.Planned plan)) (sym served) (record { plan = plan; shown = refl; asked = asked; typed = typed; is = is }))
 
 -- what the reply to a plan tells, whatever is there
-record IsLook (opened : Opened) (query : Query) (answer : Reply) : Type 0 where
+record IsLook (number : ℕ) (opened : Opened) (query : Query) (answer : Reply) : Type 0 where
   looking : tells_change answer ≡ false
-  told : (m : Map) → IsCommandSound (Some opened) (Plan query) answer m → TellsOfPairs (Some opened) (Plan query) answer m
+  told : (m : Map) → IsCommandSound number (Some opened) (Plan query) answer m → TellsOfPairs number (Some opened) (Plan query) answer m
 
-look_refused : (opened : Opened) (query : Query) (refusal : Refusal) (answer : Reply) → answer ≡ reply.Refused refusal → IsLook opened query answer
-look_refused opened query refusal answer is = subst (IsLook opened query) (sym is) (record { looking = refl; told = told_refusal (Some opened) (Plan query) refusal })
+look_refused : (number : ℕ) (opened : Opened) (query : Query) (refusal : Refusal) (answer : Reply) → answer ≡ reply.Refused refusal → IsLook number opened query answer
+look_refused number opened query refusal answer is = subst (IsLook number opened query) (sym is) (record { looking = refl; told = told_refusal number (Some opened) (Plan query) refusal })
 
-look_planned : (opened : Opened) (query : Query) (answer : Reply) → IsPlanned opened.schema (index_states opened) query answer → IsLook opened query answer
-look_planned opened query answer is = subst (IsLook opened query) (sym is.shown) (record { looking = refl; told = λ m sound. told_accepted (Some opened) (Plan query) (reply.Planned is.plan) m refl sound })
+look_planned : (number : ℕ) (opened : Opened) (query : Query) (answer : Reply) → IsPlanned opened.schema (index_states opened) query answer → IsLook number opened query answer
+look_planned number opened query answer is = subst (IsLook number opened query) (sym is.shown) (record { looking = refl; told = λ m sound. told_accepted number (Some opened) (Plan query) (reply.Planned is.plan) m refl sound })
 
-look : (opened : Opened) (query : Query) (answer : Reply) → IsPlanReply opened.schema (index_states opened) query answer → IsLook opened query answer
-look opened query answer is = by_refusal (query_refusal opened.schema query) (is_served opened.schema (index_states opened) query) is
+look : (number : ℕ) (opened : Opened) (query : Query) (answer : Reply) → IsPlanReply opened.schema (index_states opened) query answer → IsLook number opened query answer
+look number opened query answer is = by_refusal (query_refusal opened.schema query) (is_served opened.schema (index_states opened) query) is
   where
-    by_refusal : (why : Option QueryError) (served : Bool) → Unrefused why served (IsPlanned opened.schema (index_states opened) query) answer → IsLook opened query answer
-    by_refusal (Some error) served refused = look_refused opened query (of_query error) answer refused
-    by_refusal None true planned = look_planned opened query answer planned
-    by_refusal None false refused = look_refused opened query SortNotServed answer refused
+    by_refusal : (why : Option QueryError) (served : Bool) → Unrefused why served (IsPlanned opened.schema (index_states opened) query) answer → IsLook number opened query answer
+    by_refusal (Some error) served refused = look_refused number opened query (of_query error) answer refused
+    by_refusal None true planned = look_planned number opened query answer planned
+    by_refusal None false refused = look_refused number opened query SortNotServed answer refused
 
 -- each store that was opened so has the schema and the states that were found
 pub there : (opened : Opened) (store : Store) → IsOpenAs opened store → index_states opened ≡ states_of store
@@ -77,21 +77,21 @@ replies : (opened : Opened) (query : Query) (answer : Reply) (store : Store) →
 replies opened query answer store same is = subst (λ states. IsPlanReply store.schema states query answer) (there opened store same) (subst (λ schema. IsPlanReply schema (index_states opened) query answer) (sym same.schema) is)
 
 -- PLANNED: the reply by the schema and the states that opening found is the one that the plan of the query has
-pub plan_performed : {maps : ℕ → Map} {refuses : KeyRange → ReadError → Type 0} {old new : CommitRequest} (opened : Opened) (query : Query) (answer : Reply) → opened.prefix ≡ store_prefix →
-    IsOpened maps opened old new → IsPlanReply opened.schema (index_states opened) query answer → IsPerformed maps refuses (Plan query) answer old new
-plan_performed opened query answer here is_opened is = looked opened (Plan query) answer here looks is_opened
+pub plan_performed : (number : ℕ) {maps : ℕ → Map} {refuses : KeyRange → ReadError → Type 0} {old new : CommitRequest} (opened : Opened) (query : Query) (answer : Reply) → opened.prefix ≡ store_prefix number →
+    IsOpened maps opened old new → IsPlanReply opened.schema (index_states opened) query answer → IsPerformed number maps refuses (Plan query) answer old new
+plan_performed number opened query answer here is_opened is = looked number opened (Plan query) answer here looks is_opened
   where
-    tells : IsLook (at opened) query answer
-    tells = look (at opened) query answer is
+    tells : IsLook number (at number opened) query answer
+    tells = look number (at number opened) query answer is
 
-    looks : Looks (at opened) (Plan query) answer
+    looks : Looks number (at number opened) (Plan query) answer
     looks = record {
       opens = refl;
       undamaged = λ m. refl;
       reads = refl;
       looking = tells.looking;
       told = tells.told;
-      replies = λ store same. replies (at opened) query answer store same is;
+      replies = λ store same. replies (at number opened) query answer store same is;
       idle = λ m store same. refl;
       leaves = λ store same. refl;
     }

@@ -1,5 +1,5 @@
 -- The headline and what is right of a run, from what is exact of it.
-use Rattle.std.proofs.Common.{◌≡◌, Bool, true, false, List, [], ◌∷◌, Option, Some, None, Result, Ok, Err, zero, suc, refl, subst}
+use Rattle.std.proofs.Common.{◌≡◌, ℕ, Bool, true, false, List, [], ◌∷◌, Option, Some, None, Result, Ok, Err, zero, suc, refl, subst}
 use Rattle.std.specs.List.{AllByRecursion}
 use Rattle.kv_core.specs.Map.{Map}
 use Rattle.kv_core.specs.Range.{KeyRange}
@@ -20,7 +20,8 @@ use Rattle.record_store.specs.declared.error.StoreError.{StoreError}
 use Rattle.record_store.specs.declared.error.StoreError.TheVariants as fault
 use Rattle.record_store.specs.Meaning.{Meaning, by_schema, drop_meaning, index_meaning, index_number, load_meaning, mark_meaning, readable_meaning, remove_meaning, save_meaning, state_meaning}
 use Rattle.record_store.specs.Meaning.{field_meaning, total_meaning, totalled_index, type_meaning, write_only_named}
-use Rattle.record_store.specs.Store.{Serial, Store, built_of, state_of}
+use Rattle.record_store.specs.Layout.{store_prefix}
+use Rattle.record_store.specs.Store.{Serial, Store, built_of, listed_states, state_of}
 use Rattle.online_builder.specs.Stepping.{step_meaning}
 use Rattle.online_builder.specs.declared.progress.Progress.{Progress}
 use Rattle.online_builder.specs.declared.progress.Progress.TheVariants as progress
@@ -34,10 +35,9 @@ use Rattle.schedule.specs.declared.step.Command.TheVariants.{Create, «Type», S
 use Rattle.schedule.specs.declared.reply.Reply.{Reply}
 use Rattle.schedule.specs.declared.reply.Reply.TheVariants.{Rows}
 use Rattle.schedule.specs.declared.reply.Reply.TheVariants as reply
-use Rattle.schedule.specs.Layout.{store_prefix}
 use Rattle.schedule.specs.Holds.{Stands}
 use Rattle.schedule.specs.Refusals.{of_query, reply_of}
-use Rattle.schedule.specs.Query.{opened_as, AreRows, IsQueryReply, IsRowsReply, Unrefused, states_of}
+use Rattle.schedule.specs.Query.{AreRows, IsQueryReply, IsRowsReply, Unrefused, states_of}
 use Rattle.schedule.specs.Planning.{IsPlanned, IsPlanReply}
 use Rattle.schedule.specs.Serve.{IsReply, IsReplyOf, answering, calling, creating, done, reply_to_build, reply_to_load, reply_to_remove, reply_to_save}
 use Rattle.schedule.specs.Past.{Attempt, is_accepted}
@@ -47,19 +47,19 @@ use Rattle.schedule.specs.Headline.{AreRightlyAnswered, HasExactIndexes, IsRight
 
 -- ---- indexes
 
-defined_so : (now : index_state.State) (index : IndexDefinition) (built : List KeyRange) (records : List Record) (m : Map) → HasKept now store_prefix index built records m → now ≡ state.Readable → HasDefined index.kind store_prefix index records m
-defined_so now index built records m kept is = subst (λ s. HasKept s store_prefix index built records m) is kept
+defined_so : (number : ℕ) (now : index_state.State) (index : IndexDefinition) (built : List KeyRange) (records : List Record) (m : Map) → HasKept now (store_prefix number) index built records m → now ≡ state.Readable → HasDefined index.kind (store_prefix number) index records m
+defined_so number now index built records m kept is = subst (λ s. HasKept s (store_prefix number) index built records m) is kept
 
-exact_each : (store : Store) (indexes : List IndexDefinition) (m : Map) →
-    AllByRecursion (λ (index : IndexDefinition). HasKept (state_of store index.number) store_prefix index (built_of store index.number) store.records m) indexes →
-    AllByRecursion (λ (index : IndexDefinition). state_of store index.number ≡ state.Readable → HasDefined index.kind store_prefix index store.records m) indexes
-exact_each store [] m kept = tt
-exact_each store (index ∷ indexes) m kept = (λ is. defined_so (state_of store index.number) index (built_of store index.number) store.records m kept.0 is, exact_each store indexes m kept.1)
+exact_each : (number : ℕ) (store : Store) (indexes : List IndexDefinition) (m : Map) →
+    AllByRecursion (λ (index : IndexDefinition). HasKept (state_of store index.number) (store_prefix number) index (built_of store index.number) store.records m) indexes →
+    AllByRecursion (λ (index : IndexDefinition). state_of store index.number ≡ state.Readable → HasDefined index.kind (store_prefix number) index store.records m) indexes
+exact_each number store [] m kept = tt
+exact_each number store (index ∷ indexes) m kept = (λ is. defined_so number (state_of store index.number) index (built_of store index.number) store.records m kept.0 is, exact_each number store indexes m kept.1)
 
 -- a map that holds what is there has its readable indexes exactly
-pub exact_indexes : (m : Map) (serial : Serial) → Stands m serial → HasExactIndexes m serial
-exact_indexes m None stands = tt
-exact_indexes m (Some store) stands = exact_each store store.schema.indexes m stands.entries
+pub exact_indexes : (number : ℕ) (m : Map) (serial : Serial) → Stands number m serial → HasExactIndexes number m serial
+exact_indexes number m None stands = tt
+exact_indexes number m (Some store) stands = exact_each number store store.schema.indexes m stands.entries
 
 -- ---- rows
 
@@ -165,10 +165,10 @@ rows_there (Some store) (Index request) cells is = absurd (no_call store reply.I
 rows_there (Some store) (Drop name) cells is = absurd (no_call store done drop_meaning (by_schema (index_number (find_index store.schema name))) cells (no_done cells) is)
 rows_there (Some store) (Disable name) cells is = absurd (no_call store done (mark_meaning state.Disabled) (by_schema (index_number (find_index store.schema name))) cells (no_done cells) is)
 rows_there (Some store) (WriteOnly name) cells is = absurd (no_call store done (mark_meaning state.WriteOnly) (by_schema (index_number (find_index store.schema name))) cells (no_done cells) is)
-rows_there (Some store) (Readable name) cells is = absurd (no_call store done (λ (index : IndexDefinition). readable_meaning index.number) (write_only_named store.schema (opened_as store).states name) cells (no_done cells) is)
-rows_there (Some store) (Build name (suc more)) cells is = absurd (no_call store reply_to_build (step_meaning (suc more)) (write_only_named store.schema (opened_as store).states name) cells (no_build cells) is)
+rows_there (Some store) (Readable name) cells is = absurd (no_call store done (λ (index : IndexDefinition). readable_meaning index.number) (write_only_named store.schema (listed_states store) name) cells (no_done cells) is)
+rows_there (Some store) (Build name (suc more)) cells is = absurd (no_call store reply_to_build (step_meaning (suc more)) (write_only_named store.schema (listed_states store) name) cells (no_build cells) is)
 rows_there (Some store) (State name) cells is = absurd (no_call store reply.State state_meaning (by_schema (index_number (find_index store.schema name))) cells (λ a no. cc) is)
-rows_there (Some store) (Aggregate name group) cells is = absurd (no_call store reply.Total (total_meaning group) (totalled_index store.schema (opened_as store).states group (find_index store.schema name)) cells (λ a no. cc) is)
+rows_there (Some store) (Aggregate name group) cells is = absurd (no_call store reply.Total (total_meaning group) (totalled_index store.schema (listed_states store) group (find_index store.schema name)) cells (λ a no. cc) is)
 
 answered : (serial : Serial) (command : Command) (answer : Reply) → (is_accepted answer ≡ true → IsReply serial command answer) → IsRightlyAnswered serial command answer
 answered serial command (Rows cells) is = rows_there serial command cells (is refl)

@@ -12,7 +12,7 @@ use Rattle.schedule.specs.declared.refusal.Refusal.{Refusal}
 use Rattle.schedule.specs.declared.refusal.Refusal.TheVariants.{NoStore}
 use Rattle.metadata.specs.Asked.{schema_asked}
 use Rattle.metadata.specs.Schema.{Schema}
-use Rattle.record_store.specs.Layout.{schema_key}
+use Rattle.record_store.specs.Layout.{schema_key, store_prefix}
 use Rattle.record_store.specs.Call.{Opened, Reading, whole}
 use Rattle.record_store.specs.Call as call
 use Rattle.record_store.specs.Opening.{opening_reach}
@@ -23,7 +23,6 @@ use Rattle.schedule.specs.declared.step.Command.TheVariants as commands
 use Rattle.schedule.specs.declared.step.Command.TheVariants.{Create, «Type», Save, Load, Remove, Query, Plan, Execute, Index, Drop, Disable, WriteOnly, Readable, Build, State, Aggregate}
 use Rattle.schedule.specs.declared.reply.Reply.{Reply}
 use Rattle.schedule.specs.declared.reply.Reply.TheVariants as reply
-use Rattle.schedule.specs.Layout.{store_prefix}
 use Rattle.schedule.specs.Past.{is_accepted}
 use Rattle.schedule.specs.Performed.{HasAdded, HasAddedSo, IsCommandSound, IsMadeOf, IsReadRefusedAs, IsSoundSo, TellsOfPairs}
 use Rattle.schedule.specs.Performed.{is_unread}
@@ -32,15 +31,15 @@ use Rattle.schedule.specs.Reach.{added_by, open_reach, own_damage, own_reading, 
 -- ---- what is asked for
 
 -- the ranges of the opening are asked for first, then the command's own
-pub opening_asked : (opened : Option Opened) (command : Command) (m : Map) → open_reach command ≡ opening_reach store_prefix → (k : List ℕ) → covers (opening_reach store_prefix) k ≡ true → covers (reach opened command m) k ≡ true
-opening_asked opened command m opens k h =
-    list_any-append (λ range. contains range k) (open_reach command) ((own_reading opened command).asked m)
-    ∙ or_left (covers (open_reach command) k) (covers ((own_reading opened command).asked m) k) (ap (λ ranges. covers ranges k) opens ∙ h)
+pub opening_asked : (number : ℕ) (opened : Option Opened) (command : Command) (m : Map) → open_reach number command ≡ opening_reach (store_prefix number) → (k : List ℕ) → covers (opening_reach (store_prefix number)) k ≡ true → covers (reach number opened command m) k ≡ true
+opening_asked number opened command m opens k h =
+    list_any-append (λ range. contains range k) (open_reach number command) ((own_reading opened command).asked m)
+    ∙ or_left (covers (open_reach number command) k) (covers ((own_reading opened command).asked m) k) (ap (λ ranges. covers ranges k) opens ∙ h)
 
-pub own_asked : (opened : Option Opened) (command : Command) (m : Map) (reading : Reading) → own_reading opened command ≡ reading → (k : List ℕ) → covers (reading.asked m) k ≡ true → covers (reach opened command m) k ≡ true
-own_asked opened command m reading is k h =
-    list_any-append (λ range. contains range k) (open_reach command) ((own_reading opened command).asked m)
-    ∙ or_right (covers (open_reach command) k) (covers ((own_reading opened command).asked m) k) (ap (λ (r : Reading). covers (r.asked m) k) is ∙ h)
+pub own_asked : (number : ℕ) (opened : Option Opened) (command : Command) (m : Map) (reading : Reading) → own_reading opened command ≡ reading → (k : List ℕ) → covers (reading.asked m) k ≡ true → covers (reach number opened command m) k ≡ true
+own_asked number opened command m reading is k h =
+    list_any-append (λ range. contains range k) (open_reach number command) ((own_reading opened command).asked m)
+    ∙ or_right (covers (open_reach number command) k) (covers ((own_reading opened command).asked m) k) (ap (λ (r : Reading). covers (r.asked m) k) is ∙ h)
 
 -- a range that is refused behind the first ones is one of those asked for
 later_covers : (n : ℕ) (asked rest : List KeyRange) (range : KeyRange) → drop n asked ≡ range ∷ rest → (k : List ℕ) → contains range k ≡ true → covers asked k ≡ true
@@ -71,71 +70,71 @@ added_begin answer {all = all} {ranges = ranges} has = by_test (is_unread answer
     by_test false is = subst (IsBeginning ranges) is (all_begin ranges)
 
 -- the first ones of an opening's ranges are the first ones of a command's
-pub begin_open : (command : Command) {ranges : List KeyRange} (rest : List KeyRange) → open_reach command ≡ opening_reach store_prefix → IsBeginning ranges (opening_reach store_prefix) → IsBeginning ranges (open_reach command ++ rest)
-begin_open command {ranges = ranges} rest opens begin = subst (λ first. IsBeginning ranges (first ++ rest)) (sym opens) (begin_more rest begin)
+pub begin_open : (number : ℕ) (command : Command) {ranges : List KeyRange} (rest : List KeyRange) → open_reach number command ≡ opening_reach (store_prefix number) → IsBeginning ranges (opening_reach (store_prefix number)) → IsBeginning ranges (open_reach number command ++ rest)
+begin_open number command {ranges = ranges} rest opens begin = subst (λ first. IsBeginning ranges (first ++ rest)) (sym opens) (begin_more rest begin)
 
 -- an opening is all that a command reads that reads nothing of its own
-pub opening_added : (opened : Option Opened) (command : Command) (m : Map) → open_reach command ≡ opening_reach store_prefix → own_reading opened command ≡ whole [] → opening_reach store_prefix ≡ added_by opened command m
-opening_added opened command m opens none = sym (append-nil (opening_reach store_prefix)) ∙ (λ i. sym opens i ++ (sym none i).added m)
+pub opening_added : (number : ℕ) (opened : Option Opened) (command : Command) (m : Map) → open_reach number command ≡ opening_reach (store_prefix number) → own_reading opened command ≡ whole [] → opening_reach (store_prefix number) ≡ added_by number opened command m
+opening_added number opened command m opens none = sym (append-nil (opening_reach (store_prefix number))) ∙ (λ i. sym opens i ++ (sym none i).added m)
 
 -- ---- what a reply tells
 
 -- that all pairs are of the written form
-pub told_refusal : (opened : Option Opened) (command : Command) (refusal : Refusal) (m : Map) → IsCommandSound opened command (reply.Refused refusal) m → TellsOfPairs opened command (reply.Refused refusal) m
-told_refusal opened command refusal m sound = by_test (is_unread (reply.Refused refusal))
+pub told_refusal : (number : ℕ) (opened : Option Opened) (command : Command) (refusal : Refusal) (m : Map) → IsCommandSound number opened command (reply.Refused refusal) m → TellsOfPairs number opened command (reply.Refused refusal) m
+told_refusal number opened command refusal m sound = by_test (is_unread (reply.Refused refusal))
   where
-    by_test : (b : Bool) → IsSoundSo b opened command (reply.Refused refusal) m
+    by_test : (b : Bool) → IsSoundSo number b opened command (reply.Refused refusal) m
     by_test true = tt
     by_test false = sound
 
-pub told_accepted : (opened : Option Opened) (command : Command) (answer : Reply) (m : Map) → is_accepted answer ≡ true → IsCommandSound opened command answer m → TellsOfPairs opened command answer m
-told_accepted opened command (reply.Refused refusal) m is sound = absurd (cc)
-told_accepted opened command (reply.Corrupt key) m is sound = absurd (cc)
-told_accepted opened command reply.Stopped m is sound = absurd (cc)
-told_accepted opened command (reply.Begun version) m is sound = sound
-told_accepted opened command reply.Done m is sound = sound
-told_accepted opened command reply.SavedNew m is sound = sound
-told_accepted opened command (reply.SavedOver cells) m is sound = sound
-told_accepted opened command (reply.Found cells) m is sound = sound
-told_accepted opened command reply.Absent m is sound = sound
-told_accepted opened command reply.Removed m is sound = sound
-told_accepted opened command (reply.Rows rows) m is sound = sound
-told_accepted opened command (reply.Planned plan) m is sound = sound
-told_accepted opened command (reply.Indexed state) m is sound = sound
-told_accepted opened command (reply.State state) m is sound = sound
-told_accepted opened command (reply.Total total) m is sound = sound
-told_accepted opened command (reply.Built records range) m is sound = sound
-told_accepted opened command reply.Finished m is sound = sound
-told_accepted opened command (reply.Submitted version) m is sound = sound
-told_accepted opened command reply.ReadOnly m is sound = sound
-told_accepted opened command reply.Nothing m is sound = sound
-told_accepted opened command (reply.Reported reports) m is sound = sound
+pub told_accepted : (number : ℕ) (opened : Option Opened) (command : Command) (answer : Reply) (m : Map) → is_accepted answer ≡ true → IsCommandSound number opened command answer m → TellsOfPairs number opened command answer m
+told_accepted number opened command (reply.Refused refusal) m is sound = absurd (cc)
+told_accepted number opened command (reply.Corrupt key) m is sound = absurd (cc)
+told_accepted number opened command reply.Stopped m is sound = absurd (cc)
+told_accepted number opened command (reply.Begun version) m is sound = sound
+told_accepted number opened command reply.Done m is sound = sound
+told_accepted number opened command reply.SavedNew m is sound = sound
+told_accepted number opened command (reply.SavedOver cells) m is sound = sound
+told_accepted number opened command (reply.Found cells) m is sound = sound
+told_accepted number opened command reply.Absent m is sound = sound
+told_accepted number opened command reply.Removed m is sound = sound
+told_accepted number opened command (reply.Rows rows) m is sound = sound
+told_accepted number opened command (reply.Planned plan) m is sound = sound
+told_accepted number opened command (reply.Indexed state) m is sound = sound
+told_accepted number opened command (reply.State state) m is sound = sound
+told_accepted number opened command (reply.Total total) m is sound = sound
+told_accepted number opened command (reply.Built records range) m is sound = sound
+told_accepted number opened command reply.Finished m is sound = sound
+told_accepted number opened command (reply.Submitted version) m is sound = sound
+told_accepted number opened command reply.ReadOnly m is sound = sound
+told_accepted number opened command reply.Nothing m is sound = sound
+told_accepted number opened command (reply.Reported reports) m is sound = sound
 
 -- that no schema stands there
-pub sound_none : (command : Command) (m : Map) → get m (schema_key store_prefix) ≡ None → IsCommandSound None command (reply.Refused NoStore) m
-sound_none (Create request) m none = by_schema (schema_asked request)
+pub sound_none : (number : ℕ) (command : Command) (m : Map) → get m (schema_key (store_prefix number)) ≡ None → IsCommandSound number None command (reply.Refused NoStore) m
+sound_none number (Create request) m none = by_schema (schema_asked request)
   where
-    by_schema : (o : Result Schema SchemaRefusal) → IsMadeOf o (reply.Refused NoStore) m
+    by_schema : (o : Result Schema SchemaRefusal) → IsMadeOf number o (reply.Refused NoStore) m
     by_schema (Ok opened) = none
     by_schema (Err refusal) = tt
-sound_none («Type» request) m none = none
-sound_none (commands.Field name field) m none = none
-sound_none (Save name cells) m none = none
-sound_none (Load name cells) m none = none
-sound_none (Remove name cells) m none = none
-sound_none (Query query) m none = none
-sound_none (Plan query) m none = none
-sound_none (Execute plan) m none = none
-sound_none (Index request) m none = none
-sound_none (Drop name) m none = none
-sound_none (Disable name) m none = none
-sound_none (WriteOnly name) m none = none
-sound_none (Readable name) m none = none
-sound_none (Build name Rattle.std.proofs.Common.zero) m none = tt
-sound_none (Build name (Rattle.std.proofs.Common.suc more)) m none = none
-sound_none (State name) m none = none
-sound_none (Aggregate name group) m none = none
+sound_none number («Type» request) m none = none
+sound_none number (commands.Field name field) m none = none
+sound_none number (Save name cells) m none = none
+sound_none number (Load name cells) m none = none
+sound_none number (Remove name cells) m none = none
+sound_none number (Query query) m none = none
+sound_none number (Plan query) m none = none
+sound_none number (Execute plan) m none = none
+sound_none number (Index request) m none = none
+sound_none number (Drop name) m none = none
+sound_none number (Disable name) m none = none
+sound_none number (WriteOnly name) m none = none
+sound_none number (Readable name) m none = none
+sound_none number (Build name Rattle.std.proofs.Common.zero) m none = tt
+sound_none number (Build name (Rattle.std.proofs.Common.suc more)) m none = none
+sound_none number (State name) m none = none
+sound_none number (Aggregate name group) m none = none
 
 -- that all pairs of a reading are, and that there is no damage
-pub sound_by : (opened : Opened) (command : Command) (answer : Reply) (m : Map) (reading : Reading) → own_reading (Some opened) command ≡ reading → own_damage (Some opened) command m ≡ None → call.IsSound opened reading m → IsCommandSound (Some opened) command answer m
-sound_by opened command answer m reading is undamaged good = (subst (λ (r : Reading). call.IsSound opened r m) (sym is) good, undamaged)
+pub sound_by : (number : ℕ) (opened : Opened) (command : Command) (answer : Reply) (m : Map) (reading : Reading) → own_reading (Some opened) command ≡ reading → own_damage (Some opened) command m ≡ None → call.IsSound opened reading m → IsCommandSound number (Some opened) command answer m
+sound_by number opened command answer m reading is undamaged good = (subst (λ (r : Reading). call.IsSound opened r m) (sym is) good, undamaged)

@@ -34,12 +34,12 @@ accepted_grown (first ∷ attempts) command refusal = by_test (is_accepted first
     by_test true rest = ap (λ cs. first.command ∷ cs) rest
     by_test false rest = rest
 
-abbrev by_commands : Open → ℕ × List Command
-by_commands open_now = (open_now.read_version, accepted open_now.attempts)
+abbrev by_commands : Open → ℕ × ℕ × List Command
+by_commands open_now = (open_now.store, open_now.read_version, accepted open_now.attempts)
 
 grown_same : (command : Command) (refusal : Refusal) (before : Option Open) → option_map by_commands (grown (record { command = command; reply = Refused refusal }) before) ≡ option_map by_commands before
 grown_same command refusal None = refl
-grown_same command refusal (Some open_now) = ap (λ cs. Some (open_now.read_version, cs)) (accepted_grown open_now.attempts command refusal)
+grown_same command refusal (Some open_now) = ap (λ cs. Some (open_now.store, open_now.read_version, cs)) (accepted_grown open_now.attempts command refusal)
 
 -- a report isn't a refusal
 not_refused : (reports : List telling.Report) (refusal : Refusal) → Refused refusal ≡ reports_reply reports → ⊥
@@ -47,7 +47,7 @@ not_refused [] refusal is = cc
 not_refused (one ∷ others) refusal is = cc
 
 leaves : (config : Config) (requests : List CommitRequest) (past : Past) (step : Step) (refusal : Refusal) → IsReplyTo (cluster_after config requests past) past step (Refused refusal) → IsLeft config requests past step (Refused refusal)
-leaves config requests past (Begin who) refusal right = record { cluster = refl; submissions = refl; transactions = λ client. refl }
+leaves config requests past (Begin who store) refusal right = record { cluster = refl; submissions = refl; transactions = λ client. refl }
 leaves config requests past (Perform who command) refusal right = record {
   cluster = refl;
   submissions = refl;

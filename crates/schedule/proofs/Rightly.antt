@@ -94,23 +94,23 @@ refusal_among refuses Is Wide answer so is = record {
   refused = record { range = is.refused.range; inside = λ key inside. so key (is.refused.inside key inside); refused = is.refused.refused };
 }
 
-served_right : (m : Map) (before : List Mutation) (seen : Serial) (command : Command) (answer : Reply) → IsServed m before seen command answer → IsMeant seen command answer ⊎ IsOverLimit seen command answer
-served_right m before seen command answer is = by_limit (write_all_refusal before (writes m seen command)) refl is
+served_right : (number : ℕ) (m : Map) (before : List Mutation) (seen : Serial) (command : Command) (answer : Reply) → IsServed number m before seen command answer → IsMeant seen command answer ⊎ IsOverLimit number seen command answer
+served_right number m before seen command answer is = by_limit (write_all_refusal before (writes number m seen command)) refl is
   where
-    by_limit : (limit : Option WriteError) → write_all_refusal before (writes m seen command) ≡ limit → IsLimited limit seen command answer → IsMeant seen command answer ⊎ IsOverLimit seen command answer
+    by_limit : (limit : Option WriteError) → write_all_refusal before (writes number m seen command) ≡ limit → IsLimited limit seen command answer → IsMeant seen command answer ⊎ IsOverLimit number seen command answer
     by_limit None is_limit says = inl (meant seen command answer says)
     by_limit (Some error) is_limit says =
-        let met = limit_met (MayWriteKey seen command) before (writes m seen command) error (reach_writes m seen command) is_limit in
+        let met = limit_met (MayWriteKey number seen command) before (writes number m seen command) error (reach_writes number m seen command) is_limit in
         inr (record { limit = error; told = says; key = met.0; written = met.1; met = met.2 })
 
 reply_right : (c : ClusterState) (commits : List CommitEntry) (open_now : Open) (command : Command) (answer : Reply) → IsExactReply c commits open_now command answer → IsRightReply c commits open_now command answer
 reply_right c commits open_now command answer is = elim is [
-  | inl served ↦ elim (served_right (after_all before base) before seen command answer served) [
+  | inl served ↦ elim (served_right open_now.store (after_all before base) before seen command answer served) [
     | inl says ↦ inl says
     | inr limit ↦ inr (inr limit)
   ]
-  | inr refused ↦ inr (inl (refusal_among (λ range. MayRefuse (tier_of c) range open_now.read_version) (λ key. IsTrue (covers (reach (opened_in seen) command (after_all before base)) key)) (MayReadKey seen command) answer
-      (reach_reads seen command (after_all before base)) refused))
+  | inr refused ↦ inr (inl (refusal_among (λ range. MayRefuse (tier_of c) range open_now.read_version) (λ key. IsTrue (covers (reach open_now.store (opened_in open_now.store seen) command (after_all before base)) key)) (MayReadKey open_now.store seen command) answer
+      (reach_reads open_now.store seen command (after_all before base)) refused))
 ]
   where
     seen : Serial
@@ -120,7 +120,7 @@ reply_right c commits open_now command answer is = elim is [
     base = database_at c open_now.read_version
 
     before : List Mutation
-    before = commands_written base (committed_store commits open_now.read_version) (accepted open_now.attempts)
+    before = commands_written open_now.store base (committed_store open_now.store commits open_now.read_version) (accepted open_now.attempts)
 
 -- ---- replies to steps
 
@@ -136,7 +136,7 @@ abbrev CommitsThen : ClusterState → Past → List CommitEntry
 CommitsThen c past = commits_of c.pipeline (submitted_in past)
 
 step_right : (c : ClusterState) (past : Past) (step : Step) (reply : Reply) → IsReplyBy IsExactReply c past step reply → IsReplyBy IsRightReply c past step reply
-step_right c past (Begin client) reply is = is
+step_right c past (Begin client store) reply is = is
 step_right c past (Perform client command) reply is = (
   λ below. in_transaction (open_of client past) reply (λ open_now. IsExactReply c (CommitsThen c past) open_now command reply) (λ open_now. IsRightReply c (CommitsThen c past) open_now command reply)
       (λ open_now. reply_right c (CommitsThen c past) open_now command reply) (is.0 below),
@@ -183,14 +183,14 @@ serial_right c commits submissions is =
     All-from_recursion Meant (listed c.pipeline submissions) (each (listed c.pipeline submissions) (recursion_from_All Exact (listed c.pipeline submissions) is))
   where
     Exact : Submission → Type 0
-    Exact s = IsSerialBy IsReply (committed_store commits (s.version - 1)) s.transaction.attempts
+    Exact s = IsSerialBy IsReply (committed_store s.transaction.store commits (s.version - 1)) s.transaction.attempts
 
     Meant : Submission → Type 0
-    Meant s = IsSerialBy IsMeant (committed_store commits (s.version - 1)) s.transaction.attempts
+    Meant s = IsSerialBy IsMeant (committed_store s.transaction.store commits (s.version - 1)) s.transaction.attempts
 
     each : (ss : List Submission) → AllByRecursion Exact ss → AllByRecursion Meant ss
     each [] all = tt
-    each (s ∷ ss) all = (serial_meant (committed_store commits (s.version - 1)) s.transaction.attempts all.0, each ss all.1)
+    each (s ∷ ss) all = (serial_meant (committed_store s.transaction.store commits (s.version - 1)) s.transaction.attempts all.0, each ss all.1)
 
 -- ---- requests
 
@@ -199,15 +199,15 @@ begin_covers : (all ranges rest : List KeyRange) (key : List ℕ) → all ≡ ra
 begin_covers all ranges rest key is inside =
     ap (λ rs. covers rs key) is ∙ list_any-append (λ range. contains range key) ranges rest ∙ or_left (covers ranges key) (covers rest key) inside
 
-added_read : (serial : Serial) (m : Map) (attempts : List Attempt) (added : List KeyRange) → HaveAdded m serial attempts added → (key : List ℕ) → covers added key ≡ true → MayHaveRead serial attempts key
-added_read serial m [] added have key inside = absurd (none (ap (λ rs. covers rs key) (sym have) ∙ inside))
+added_read : (number : ℕ) (serial : Serial) (m : Map) (attempts : List Attempt) (added : List KeyRange) → HaveAdded number m serial attempts added → (key : List ℕ) → covers added key ≡ true → MayHaveRead number serial attempts key
+added_read number serial m [] added have key inside = absurd (none (ap (λ rs. covers rs key) (sym have) ∙ inside))
   where
     none : false ≡ true → ⊥
     none bad = cc
-added_read serial m (attempt ∷ attempts) added (first, rest, is, has, have) key inside =
+added_read number serial m (attempt ∷ attempts) added (first, rest, is, has, have) key inside =
     elim (or_cases (covers first key) (covers rest key) (sym (list_any-append (λ range. contains range key) first rest) ∙ ap (λ rs. covers rs key) (sym is) ∙ inside)) [
-      | inl here ↦ let begin = added_begin attempt.reply has in inl (reach_added serial attempt.command m key (begin_covers (added_by (opened_in serial) attempt.command m) first begin.rest key begin.is here))
-      | inr later ↦ inr (added_read (attempted serial attempt) (after_all (attempt_writes m serial attempt) m) attempts rest have key later)
+      | inl here ↦ let begin = added_begin attempt.reply has in inl (reach_added number serial attempt.command m key (begin_covers (added_by number (opened_in number serial) attempt.command m) first begin.rest key begin.is here))
+      | inr later ↦ inr (added_read number (attempted serial attempt) (after_all (attempt_writes number m serial attempt) m) attempts rest have key later)
     ]
 
 -- a range that is kept once is one of those that were added
@@ -235,13 +235,13 @@ kept_covers (range ∷ added) ranges key is = elim (kept_covers added (with_rang
 split_writes : (a b : List Mutation) (key : List ℕ) → covers (write_ranges (a ++ b)) key ≡ true → (covers (write_ranges a) key || covers (write_ranges b) key) ≡ true
 split_writes a b key is = sym (list_any-append (λ range. contains range key) (write_ranges a) (write_ranges b)) ∙ ap (λ rs. covers rs key) (sym (map-append write_range a b)) ∙ is
 
-written_by : (serial : Serial) (m : Map) (attempts : List Attempt) (key : List ℕ) → covers (write_ranges (commands_written m serial (accepted attempts))) key ≡ true → MayHaveWritten serial attempts key
-written_by serial m [] key inside = absurd (cc)
-written_by serial m (attempt ∷ attempts) key inside =
-    by_test (is_accepted attempt.reply) refl (written_by (effect serial attempt.command) (after_all (writes m serial attempt.command) m) attempts key) (written_by serial m attempts key) inside
+pub written_by : (number : ℕ) (serial : Serial) (m : Map) (attempts : List Attempt) (key : List ℕ) → covers (write_ranges (commands_written number m serial (accepted attempts))) key ≡ true → MayHaveWritten number serial attempts key
+written_by number serial m [] key inside = absurd (cc)
+written_by number serial m (attempt ∷ attempts) key inside =
+    by_test (is_accepted attempt.reply) refl (written_by number (effect serial attempt.command) (after_all (writes number m serial attempt.command) m) attempts key) (written_by number serial m attempts key) inside
   where
     own : List Mutation
-    own = writes m serial attempt.command
+    own = writes number m serial attempt.command
 
     after : Serial
     after = effect serial attempt.command
@@ -250,29 +250,29 @@ written_by serial m (attempt ∷ attempts) key inside =
     kept = filter (λ (a : Attempt). is_accepted a.reply) attempts
 
     by_test : (b : Bool) → is_accepted attempt.reply ≡ b →
-        (covers (write_ranges (commands_written (after_all own m) after (accepted attempts))) key ≡ true → MayHaveWritten after attempts key) →
-        (covers (write_ranges (commands_written m serial (accepted attempts))) key ≡ true → MayHaveWritten serial attempts key) →
-        covers (write_ranges (commands_written m serial (map (λ (a : Attempt). a.command) (cond b (attempt ∷ kept) kept)))) key ≡ true → MayHaveWritten serial (attempt ∷ attempts) key
+        (covers (write_ranges (commands_written number (after_all own m) after (accepted attempts))) key ≡ true → MayHaveWritten number after attempts key) →
+        (covers (write_ranges (commands_written number m serial (accepted attempts))) key ≡ true → MayHaveWritten number serial attempts key) →
+        covers (write_ranges (commands_written number m serial (map (λ (a : Attempt). a.command) (cond b (attempt ∷ kept) kept)))) key ≡ true → MayHaveWritten number serial (attempt ∷ attempts) key
     by_test true yes_accepted behind beside says =
-        elim (or_cases (covers (write_ranges own) key) (covers (write_ranges (commands_written (after_all own m) after (accepted attempts))) key) (split_writes own (commands_written (after_all own m) after (accepted attempts)) key says)) [
-          | inl here ↦ inl (yes_accepted, writes_such (MayWriteKey serial attempt.command) own (reach_writes m serial attempt.command) key here)
-          | inr later ↦ inr (subst (λ s. MayHaveWritten s attempts key) (ap (λ b. cond b after serial) (sym yes_accepted)) (behind later))
+        elim (or_cases (covers (write_ranges own) key) (covers (write_ranges (commands_written number (after_all own m) after (accepted attempts))) key) (split_writes own (commands_written number (after_all own m) after (accepted attempts)) key says)) [
+          | inl here ↦ inl (yes_accepted, writes_such (MayWriteKey number serial attempt.command) own (reach_writes number m serial attempt.command) key here)
+          | inr later ↦ inr (subst (λ s. MayHaveWritten number s attempts key) (ap (λ b. cond b after serial) (sym yes_accepted)) (behind later))
         ]
-    by_test false not_accepted behind beside says = inr (subst (λ s. MayHaveWritten s attempts key) (ap (λ b. cond b after serial) (sym not_accepted)) (beside says))
+    by_test false not_accepted behind beside says = inr (subst (λ s. MayHaveWritten number s attempts key) (ap (λ b. cond b after serial) (sym not_accepted)) (beside says))
 
 request_right : (maps : ℕ → Map) (commits : List CommitEntry) (one : Submission) (request : CommitRequest) → IsExactRequest maps commits one request → IsRightRequest commits one request
 request_right maps commits one request is = record {
   read_version = is.read_version;
   reads = λ key inside.
       elim (kept_covers is.reads.added [] key (ap (λ rs. covers rs key) (sym is.reads.are) ∙ inside)) [
-        | inl added ↦ added_read seen base one.transaction.attempts is.reads.added is.reads.each key added
+        | inl added ↦ added_read one.transaction.store seen base one.transaction.attempts is.reads.added is.reads.each key added
         | inr none ↦ absurd (nothing none)
       ];
-  writes = λ key inside. written_by seen base one.transaction.attempts key (ap (λ ms. covers (write_ranges ms) key) (sym is.mutations) ∙ inside);
+  writes = λ key inside. written_by one.transaction.store seen base one.transaction.attempts key (ap (λ ms. covers (write_ranges ms) key) (sym is.mutations) ∙ inside);
 }
   where
     seen : Serial
-    seen = committed_store commits one.transaction.read_version
+    seen = committed_store one.transaction.store commits one.transaction.read_version
 
     base : Map
     base = maps one.transaction.read_version

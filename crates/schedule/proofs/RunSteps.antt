@@ -27,6 +27,7 @@ use Rattle.schedule.specs.Commits.{committed_store}
 use Rattle.schedule.specs.Standing.{cluster_after, cluster_stepped}
 use Rattle.schedule.specs.Running.{AreKept, HasRun, IsFirst, IsStandingAt, IsStillOpen, IsSteppedWith, StandsAfter, Steps, kept}
 use Rattle.schedule.proofs.ClientSteps.{standing_as}
+use Rattle.schedule.proofs.Isolated.{isolated_in}
 use Rattle.schedule.proofs.Composed.{are_requests, holds_all, is_serial, open_served}
 use Rattle.schedule.proofs.Promised.{all_answered, exact_indexes}
 use Rattle.schedule.proofs.Transactions.{opened_next}
@@ -94,15 +95,20 @@ next_run config steps replies step reply old new run next = record {
 abbrev pub RunsWith : Config → List Step → List Reply → Database → List (Option AskedPlan) → Type 0
 RunsWith config steps replies database plans = HasRun config steps replies database × AreKept (past_of [] steps replies) plans
 
+-- so it is after one step more
+pub longer_run : (config : Config) (steps : List Step) (replies : List Reply) (step : Step) (reply : Reply) (old new : Database) (plans kept : List (Option AskedPlan)) →
+    RunsWith config steps replies old plans → IsSteppedWith plans step reply old new → ((past : Past) → AreKept past plans → AreKept ((step, reply) ∷ past) kept) → RunsWith config (steps ++ step ∷ []) (replies ++ reply ∷ []) new kept
+longer_run config steps replies step reply old new plans kept run stepped_so keeps = (
+  next_run config steps replies step reply old new run.0 (stepped_so (past_of [] steps replies) run.0.stands run.1),
+  subst (λ past. AreKept past kept) (sym (one_more_past config steps replies step reply old run.0)) (keeps (past_of [] steps replies) run.1),
+)
+
 -- a turn of the loop over steps
 pub turn : (config : Config) (steps : List Step) (i : ℕ) (step : Step) (before after : List Reply) (reply : Reply) (old new : Database) (plans kept : List (Option AskedPlan)) → i < length steps → step ≡ get_or steps i step → after ≡ before ++ reply ∷ [] →
     RunsWith config (take i steps) before old plans → IsSteppedWith plans step reply old new → ((past : Past) → AreKept past plans → AreKept ((step, reply) ∷ past) kept) → RunsWith config (take (i + 1) steps) after new kept
 turn config steps i step before after reply old new plans kept within is pushed run stepped_so keeps =
     let longer : take (i + 1) steps ≡ take i steps ++ step ∷ [] = take_more steps i step within ∙ ap (λ s. take i steps ++ s ∷ []) (sym is) in
-    subst₂ (λ ss rs. RunsWith config ss rs new kept) (sym longer) (sym pushed) (
-      next_run config (take i steps) before step reply old new run.0 (stepped_so (past_of [] (take i steps) before) run.0.stands run.1),
-      subst (λ past. AreKept past kept) (sym (one_more_past config (take i steps) before step reply old run.0)) (keeps (past_of [] (take i steps) before) run.1),
-    )
+    subst₂ (λ ss rs. RunsWith config ss rs new kept) (sym longer) (sym pushed) (longer_run config (take i steps) before step reply old new plans kept run stepped_so keeps)
 
 -- ---- the end
 
@@ -134,9 +140,9 @@ headline_ends config steps answers database run legal =
     record {
       rows = λ transaction was.
           let still = run.opened transaction was in
-          all_answered (committed_store database.commits.items transaction.read_version) transaction.attempts
-          (subst (λ commits. IsSerialAt (committed_store commits transaction.read_version) transaction.attempts) (sym s.commits) (open_served c.pipeline subs legal s.submitted transaction still.request still.is));
-      indexes = λ version from upto. exact_indexes (database_at c version) (committed_store database.commits.items version) (holds version from upto);
+          all_answered (committed_store transaction.store database.commits.items transaction.read_version) transaction.attempts
+          (subst (λ commits. IsSerialAt (committed_store transaction.store commits transaction.read_version) transaction.attempts) (sym s.commits) (open_served c.pipeline subs legal s.submitted transaction still.request still.is));
+      indexes = λ number lawful version from upto. exact_indexes number (database_at c version) (committed_store number database.commits.items version) ((holds version from upto).each number lawful);
     }
 
 -- RIGHT, but for what follows from what is exact
@@ -163,6 +169,7 @@ run_ends config steps answers database run legal =
         holds = subst (HoldsCommitted c) (sym s.commits) (holds_all c subs legal s.submitted);
         serial = serial_right c database.commits.items subs exact.serial;
         requests = requests_right (database_at c) database.commits.items subs c.pipeline.requests exact.requests;
+        isolated = isolated_in (database_at c) database.commits.items c.pipeline subs s.submitted (requests_right (database_at c) database.commits.items subs c.pipeline.requests exact.requests);
         refusals = refusals_leave config c.pipeline.requests steps answers exact.replies;
       };
     }

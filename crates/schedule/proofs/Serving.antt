@@ -24,6 +24,7 @@ use Rattle.record_store.specs.declared.error.StoreError.TheVariants.{OtherSchema
 use Rattle.record_store.specs.Calls.{field_call, load_call, load_footprint, remove_call, remove_footprint, save_call, save_footprint, type_call, type_footprint}
 use Rattle.record_store.specs.Meaning.{Meaning, by_schema, field_meaning, is_own, load_meaning, remove_meaning, save_meaning, type_meaning}
 use Rattle.record_store.specs.Opening.{opening_reach}
+use Rattle.record_store.specs.Layout.{store_prefix}
 use Rattle.schedule.specs.declared.refusal.Refusal.{Refusal}
 use Rattle.schedule.specs.declared.step.Command.{Command}
 use Rattle.schedule.specs.declared.step.Command.TheVariants as commands
@@ -33,7 +34,6 @@ use Rattle.schedule.specs.declared.reply.Reply.TheVariants as reply
 use Rattle.schedule.specs.Refusals.{of_schema, reply_of}
 use Rattle.schedule.specs.Serve.{calling, done, serial_line, reply_to_load, reply_to_remove, reply_to_save}
 use Rattle.schedule.specs.Past.{is_accepted, tells_change}
-use Rattle.schedule.specs.Layout.{store_prefix}
 use Rattle.schedule.specs.Reach.{footprint_in, footprint_on, open_reach, own_damage}
 use Rattle.schedule.proofs.Outcomes.{Meets, Refuses}
 use Rattle.schedule.proofs.Stops.{at, opened_same}
@@ -43,21 +43,21 @@ abbrev pub IsRefusal : StoreError → Type 0
 IsRefusal error = (refusal : Refusal) × (reply_of error ≡ Some (reply.Refused refusal))
 
 -- MEETS: a command is what its call is where its line and its footprint are those of what the call asks for, which it is refused for only with a refusal, and where what it replies to an answer is accepted, and tells that something was changed where the answer does
-module _ {K A : Type 0} (asked : Schema → List (ℕ × State) → Result K StoreError) (meaning : K → Meaning A) (footprint : Opened → K → Footprint) (told : A → Reply) (opened : Opened) (command : Command) where
-  pub meets : open_reach command ≡ opening_reach store_prefix → ((m : Map) → own_damage (Some (at opened)) command m ≡ None) →
+module _ (number : ℕ) {K A : Type 0} (asked : Schema → List (ℕ × State) → Result K StoreError) (meaning : K → Meaning A) (footprint : Opened → K → Footprint) (told : A → Reply) (opened : Opened) (command : Command) where
+  pub meets : open_reach number command ≡ opening_reach (store_prefix number) → ((m : Map) → own_damage (Some (at number opened)) command m ≡ None) →
       ((store : Store) → serial_line (Some store) command ≡ calling store told meaning (asked store.schema (listed_states store))) → ((o : Opened) → footprint_in o command ≡ footprint_on (footprint o) (asked o.schema o.states)) →
       ((error : StoreError) → asked opened.schema opened.states ≡ Err error → IsRefusal error) → ((answer : A) → is_accepted (told answer) ≡ true) →
       ((value : K) (answer : A) → (meaning value).changes answer ≡ tells_change (told answer)) →
-      Meets (at opened) command (call_on meaning (footprint (at opened)) (asked opened.schema opened.states)) told
+      Meets number (at number opened) command (call_on meaning (footprint (at number opened)) (asked opened.schema opened.states)) told
   meets opens undamaged lines prints own accepted telling = by_outcome (asked opened.schema opened.states) refl
     where
-      lines_so : {o : Result K StoreError} (store : Store) → IsOpenAs (at opened) store → asked opened.schema opened.states ≡ o → serial_line (Some store) command ≡ calling store told meaning o
+      lines_so : {o : Result K StoreError} (store : Store) → IsOpenAs (at number opened) store → asked opened.schema opened.states ≡ o → serial_line (Some store) command ≡ calling store told meaning o
       lines_so store same is = lines store ∙ (λ i. calling store told meaning (asked (same.schema i) (same.states i))) ∙ ap (calling store told meaning) is
 
-      print_so : {o : Result K StoreError} → asked opened.schema opened.states ≡ o → footprint_in (at opened) command ≡ footprint_on (footprint (at opened)) o
-      print_so is = prints (at opened) ∙ ap (footprint_on (footprint (at opened))) is
+      print_so : {o : Result K StoreError} → asked opened.schema opened.states ≡ o → footprint_in (at number opened) command ≡ footprint_on (footprint (at number opened)) o
+      print_so is = prints (at number opened) ∙ ap (footprint_on (footprint (at number opened))) is
 
-      by_outcome : (o : Result K StoreError) → asked opened.schema opened.states ≡ o → Meets (at opened) command (call_on meaning (footprint (at opened)) o) told
+      by_outcome : (o : Result K StoreError) → asked opened.schema opened.states ≡ o → Meets number (at number opened) command (call_on meaning (footprint (at number opened)) o) told
       by_outcome (Ok value) is = record {
         opens = opens;
         reads = ap (λ (f : Footprint). f.reading) (print_so is);
@@ -65,7 +65,7 @@ module _ {K A : Type 0} (asked : Schema → List (ℕ × State) → Result K Sto
         accepted = accepted;
         telling = telling value;
         lines = λ store same. lines_so store same is;
-        prints = λ m store same. ap (λ (o : Opened). (footprint_in o command).writes m store) (sym (opened_same opened store same)) ∙ ap (λ (f : Footprint). f.writes m store) (print_so is);
+        prints = λ m store same. ap (λ (o : Opened). (footprint_in o command).writes m store) (sym (opened_same number opened store same)) ∙ ap (λ (f : Footprint). f.writes m store) (print_so is);
       }
       by_outcome (Err error) is =
           let refused = own error is in record {
@@ -92,9 +92,9 @@ load_tells : (found : Option Record) → false ≡ tells_change (reply_to_load f
 load_tells None = refl
 load_tells (Some r) = refl
 
-pub load_meets : (opened : Opened) (name : List ℕ) (cells : List Cell) → Meets (at opened) (Load name cells) (load_call (at opened) name cells) reply_to_load
-load_meets opened name cells =
-    meets (λ schema states. by_schema (key_of schema name cells)) load_meaning load_footprint reply_to_load opened (Load name cells) refl (λ m. refl) (λ store. refl) (λ o. refl)
+pub load_meets : (number : ℕ) (opened : Opened) (name : List ℕ) (cells : List Cell) → Meets number (at number opened) (Load name cells) (load_call (at number opened) name cells) reply_to_load
+load_meets number opened name cells =
+    meets number (λ schema states. by_schema (key_of schema name cells)) load_meaning load_footprint reply_to_load opened (Load name cells) refl (λ m. refl) (λ store. refl) (λ o. refl)
     (schema_refuses (key_of opened.schema name cells)) load_accepted (λ key. load_tells)
 
 -- ---- remove
@@ -107,9 +107,9 @@ remove_tells : (was_there : Bool) → was_there ≡ tells_change (reply_to_remov
 remove_tells true = refl
 remove_tells false = refl
 
-pub remove_meets : (opened : Opened) (name : List ℕ) (cells : List Cell) → Meets (at opened) (Remove name cells) (remove_call (at opened) name cells) reply_to_remove
-remove_meets opened name cells =
-    meets (λ schema states. by_schema (key_of schema name cells)) remove_meaning remove_footprint reply_to_remove opened (Remove name cells) refl (λ m. refl) (λ store. refl) (λ o. refl)
+pub remove_meets : (number : ℕ) (opened : Opened) (name : List ℕ) (cells : List Cell) → Meets number (at number opened) (Remove name cells) (remove_call (at number opened) name cells) reply_to_remove
+remove_meets number opened name cells =
+    meets number (λ schema states. by_schema (key_of schema name cells)) remove_meaning remove_footprint reply_to_remove opened (Remove name cells) refl (λ m. refl) (λ store. refl) (λ o. refl)
     (schema_refuses (key_of opened.schema name cells)) remove_accepted (λ key. remove_tells)
 
 -- ---- save
@@ -165,30 +165,30 @@ own schema name cells r is =
     ap (λ n. is_own (find_type schema n) r) named ∙ ap (λ o. is_own o r) found ∙ (same_type-Decides r.definition r.definition).1 refl
 
 -- a save is the call on the record that the schema makes of its cells
-save_asked : (opened : Opened) (name : List ℕ) (cells : List Cell) → Meets (at opened) (Save name cells) (call_on save_meaning (save_footprint (at opened)) (by_schema (record_of opened.schema name cells))) reply_to_save
-save_asked opened name cells =
-    meets (λ schema states. by_schema (record_of schema name cells)) save_meaning save_footprint reply_to_save opened (Save name cells) refl (λ m. refl) (λ store. refl) (λ o. refl)
+save_asked : (number : ℕ) (opened : Opened) (name : List ℕ) (cells : List Cell) → Meets number (at number opened) (Save name cells) (call_on save_meaning (save_footprint (at number opened)) (by_schema (record_of opened.schema name cells))) reply_to_save
+save_asked number opened name cells =
+    meets number (λ schema states. by_schema (record_of schema name cells)) save_meaning save_footprint reply_to_save opened (Save name cells) refl (λ m. refl) (λ store. refl) (λ o. refl)
     (schema_refuses (record_of opened.schema name cells)) save_accepted (λ r. save_tells)
 
-pub save_refuses : (opened : Opened) (name : List ℕ) (cells : List Cell) (refusal : SchemaRefusal) → record_of opened.schema name cells ≡ Err refusal → Refuses (at opened) (Save name cells) (Refused refusal)
-save_refuses opened name cells refusal is =
-    subst (λ o. Meets (at opened) (Save name cells) (call_on save_meaning (save_footprint (at opened)) (by_schema o)) reply_to_save) is (save_asked opened name cells)
+pub save_refuses : (number : ℕ) (opened : Opened) (name : List ℕ) (cells : List Cell) (refusal : SchemaRefusal) → record_of opened.schema name cells ≡ Err refusal → Refuses number (at number opened) (Save name cells) (Refused refusal)
+save_refuses number opened name cells refusal is =
+    subst (λ o. Meets number (at number opened) (Save name cells) (call_on save_meaning (save_footprint (at number opened)) (by_schema o)) reply_to_save) is (save_asked number opened name cells)
 
-pub save_meets : (opened : Opened) (name : List ℕ) (cells : List Cell) (r : Record) → record_of opened.schema name cells ≡ Ok r → Meets (at opened) (Save name cells) (save_call (at opened) r) reply_to_save
-save_meets opened name cells r is =
-    subst (λ b. Meets (at opened) (Save name cells) (call_on save_meaning (save_footprint (at opened)) (cond b (Ok r) (Err OtherSchema))) reply_to_save) (sym (own opened.schema name cells r is))
-    (subst (λ o. Meets (at opened) (Save name cells) (call_on save_meaning (save_footprint (at opened)) (by_schema o)) reply_to_save) is (save_asked opened name cells))
+pub save_meets : (number : ℕ) (opened : Opened) (name : List ℕ) (cells : List Cell) (r : Record) → record_of opened.schema name cells ≡ Ok r → Meets number (at number opened) (Save name cells) (save_call (at number opened) r) reply_to_save
+save_meets number opened name cells r is =
+    subst (λ b. Meets number (at number opened) (Save name cells) (call_on save_meaning (save_footprint (at number opened)) (cond b (Ok r) (Err OtherSchema))) reply_to_save) (sym (own opened.schema name cells r is))
+    (subst (λ o. Meets number (at number opened) (Save name cells) (call_on save_meaning (save_footprint (at number opened)) (by_schema o)) reply_to_save) is (save_asked number opened name cells))
 
 -- ---- field
 
-pub field_meets : (opened : Opened) (name : List ℕ) (field : Field) → Meets (at opened) (commands.Field name field) (field_call (at opened) name field) done
-field_meets opened name field =
-    meets (λ schema states. by_schema (add_field schema name field)) field_meaning type_footprint done opened (commands.Field name field) refl (λ m. refl) (λ store. refl) (λ o. refl)
+pub field_meets : (number : ℕ) (opened : Opened) (name : List ℕ) (field : Field) → Meets number (at number opened) (commands.Field name field) (field_call (at number opened) name field) done
+field_meets number opened name field =
+    meets number (λ schema states. by_schema (add_field schema name field)) field_meaning type_footprint done opened (commands.Field name field) refl (λ m. refl) (λ store. refl) (λ o. refl)
     (schema_refuses (add_field opened.schema name field)) (λ schema. refl) (λ schema answer. refl)
 
 -- ---- type
 
-pub type_meets : (opened : Opened) (request : TypeRequest) → Meets (at opened) («Type» request) (type_call (at opened) request) done
-type_meets opened request =
-    meets (λ schema states. by_schema (add_type schema request)) type_meaning type_footprint done opened («Type» request) refl (λ m. refl) (λ store. refl) (λ o. refl)
+pub type_meets : (number : ℕ) (opened : Opened) (request : TypeRequest) → Meets number (at number opened) («Type» request) (type_call (at number opened) request) done
+type_meets number opened request =
+    meets number (λ schema states. by_schema (add_type schema request)) type_meaning type_footprint done opened («Type» request) refl (λ m. refl) (λ store. refl) (λ o. refl)
     (schema_refuses (add_type opened.schema request)) (λ schema. refl) (λ schema answer. refl)

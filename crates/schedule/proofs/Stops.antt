@@ -1,5 +1,5 @@
 -- What is so where a command stops with an error.
-use Rattle.std.proofs.Common.{◌≡◌, ℕ, true, false, not, cond, List, [], ◌⊎◌, inl, refl, sym, ap, subst, Option, Some, None}
+use Rattle.std.proofs.Common.{◌≡◌, ℕ, false, not, cond, List, [], ◌⊎◌, inl, refl, sym, ap, subst, Option, Some, None}
 use Rattle.kv_core.specs.Range.{KeyRange}
 use Rattle.kv_core.specs.Map.{Map}
 use Rattle.kv_core.specs.Limits.{write_all_refusal}
@@ -20,11 +20,11 @@ use Rattle.record_store.specs.Store.{Serial, Store}
 use Rattle.record_store.specs.Call.{IsOpenAs, Opened}
 use Rattle.record_store.specs.Opening.{IsOpened, IsThereAs, opening_reach}
 use Rattle.record_store.specs.Steps.{IsBeginning}
+use Rattle.record_store.specs.Layout.{store_prefix}
 use Rattle.record_store.proofs.Stopping.{all_begin, none_begin}
 use Rattle.schedule.specs.declared.step.Command.{Command}
 use Rattle.schedule.specs.declared.reply.Reply.{Reply}
 use Rattle.schedule.specs.declared.reply.Reply.TheVariants as reply
-use Rattle.schedule.specs.Layout.{store_prefix}
 use Rattle.schedule.specs.Serve.{IsReply, IsReplyOf, effect, serial_line}
 use Rattle.schedule.specs.Serve as serve
 use Rattle.schedule.specs.Past.{is_accepted, tells_change}
@@ -38,8 +38,8 @@ use Rattle.schedule.specs.Calls.{IsCommandRefused}
 use Rattle.schedule.proofs.Reached.{all_added, begin_open, told_refusal}
 
 -- what was opened, at the store's prefix
-abbrev pub at : Opened → Opened
-at opened = record opened { prefix = store_prefix }
+abbrev pub at : ℕ → Opened → Opened
+at number opened = record opened { prefix = store_prefix number }
 
 -- ---- refusals
 
@@ -72,13 +72,13 @@ error_refuses fault.WrongState answer is = refusing WrongState answer is
 error_refuses fault.NotBuilt answer is = refusing NotBuilt answer is
 
 -- what is there, by what was opened
-pub opened_is : (opened : Opened) (serial : Serial) → opened.prefix ≡ store_prefix → IsThereAs opened serial → opened_in serial ≡ Some opened
-opened_is opened None here has = absurd has
-opened_is opened (Some store) here has = λ i. Some (record { prefix = sym here i; schema = has.schema i; states = has.states i })
+pub opened_is : (number : ℕ) (opened : Opened) (serial : Serial) → opened.prefix ≡ store_prefix number → IsThereAs opened serial → opened_in number serial ≡ Some opened
+opened_is number opened None here has = absurd has
+opened_is number opened (Some store) here has = λ i. Some (record { prefix = sym here i; schema = has.schema i; states = has.states i })
 
 -- what was opened is what each store is that was opened so
-pub opened_same : (opened : Opened) (store : Store) → IsOpenAs (at opened) store → at opened ≡ opened_as store
-opened_same opened store same = λ i. record { prefix = store_prefix; schema = sym same.schema i; states = sym same.states i }
+pub opened_same : (number : ℕ) (opened : Opened) (store : Store) → IsOpenAs (at number opened) store → at number opened ≡ opened_as (store_prefix number) store
+opened_same number opened store same = λ i. record { prefix = store_prefix number; schema = sym same.schema i; states = sym same.states i }
 
 -- where a command stopped with an error these ranges were added: the first ones where memory was wanting or a read was refused, and else all
 abbrev pub HasStopped : StoreError → List KeyRange → List KeyRange → Type 0
@@ -131,20 +131,20 @@ stopped_added fault.WrongState answer all ranges is has = all_added answer has
 stopped_added fault.NotBuilt answer all ranges is has = all_added answer has
 
 -- why the reply of an error is right at what is there
-abbrev pub IsRight : (KeyRange → ReadError → Type 0) → Command → List Mutation → StoreError → Map → Serial → Type 0
-IsRight refuses command before error m serial = (answer : Reply) → reply_of error ≡ Some answer → IsServed m before serial command answer ⊎ IsReadRefusal refuses (reach (opened_in serial) command m) answer
+abbrev pub IsRight : ℕ → (KeyRange → ReadError → Type 0) → Command → List Mutation → StoreError → Map → Serial → Type 0
+IsRight number refuses command before error m serial = (answer : Reply) → reply_of error ≡ Some answer → IsServed number m before serial command answer ⊎ IsReadRefusal refuses (reach number (opened_in number serial) command m) answer
 
 -- what is so of a map, and of all that it holds, where a command stopped with an error
-pub record IsStop (refuses : KeyRange → ReadError → Type 0) (opened : Option Opened) (command : Command) (before : List Mutation) (error : StoreError) (ranges : List KeyRange) (m : Map) : Type 0 where
-  pub there : HasOpened opened m
-  pub reads : HasStopped error (added_by opened command m) ranges
-  pub told : (answer : Reply) → reply_of error ≡ Some answer → TellsOfPairs opened command answer m
-  pub held : (serial : Serial) → Stands m serial → IsRight refuses command before error m serial × HasStopped error (added_by (opened_in serial) command m) ranges
+pub record IsStop (number : ℕ) (refuses : KeyRange → ReadError → Type 0) (opened : Option Opened) (command : Command) (before : List Mutation) (error : StoreError) (ranges : List KeyRange) (m : Map) : Type 0 where
+  pub there : HasOpened number opened m
+  pub reads : HasStopped error (added_by number opened command m) ranges
+  pub told : (answer : Reply) → reply_of error ≡ Some answer → TellsOfPairs number opened command answer m
+  pub held : (serial : Serial) → Stands number m serial → IsRight number refuses command before error m serial × HasStopped error (added_by number (opened_in number serial) command m) ranges
 
 -- REFUSED: reads, and then an error that is right at all that may be there
-pub refused_by : {maps : ℕ → Map} {refuses : KeyRange → ℕ → ReadError → Type 0} {old new : CommitRequest} (command : Command) (opened : Option Opened) (error : StoreError) (ranges : List KeyRange) →
-    Ran maps ranges old new [] (IsStop (λ range. refuses range old.read_version) opened command old.mutations error ranges) → IsCommandRefused maps refuses command error old new
-refused_by {refuses = refuses} {old = old} {new = new} command opened error ranges ran = record {
+pub refused_by : (number : ℕ) {maps : ℕ → Map} {refuses : KeyRange → ℕ → ReadError → Type 0} {old new : CommitRequest} (command : Command) (opened : Option Opened) (error : StoreError) (ranges : List KeyRange) →
+    Ran maps ranges old new [] (IsStop number (λ range. refuses range old.read_version) opened command old.mutations error ranges) → IsCommandRefused number maps refuses command error old new
+refused_by number {refuses = refuses} {old = old} {new = new} command opened error ranges ran = record {
   stopped = record {
     opened = opened;
     added = ranges;
@@ -158,76 +158,76 @@ refused_by {refuses = refuses} {old = old} {new = new} command opened error rang
         changes = ap not (sym no_effect.1);
         ran =
             ran_because ran (λ m stop. (
-              record { there = stop.there; reads = stopped_added error answer (added_by opened command m) ranges is stop.reads; told = stop.told answer is },
+              record { there = stop.there; reads = stopped_added error answer (added_by number opened command m) ranges is stop.reads; told = stop.told answer is },
               λ serial stands. record {
                 right = (stop.held serial stands).0 answer is;
-                wrote = ap (λ b. cond b (writes m serial command) []) (sym no_effect.0);
-                holds = subst (λ b. Stands m (cond b (effect serial command) serial)) (sym no_effect.0) stands;
-                reads = stopped_added error answer (added_by (opened_in serial) command m) ranges is (stop.held serial stands).1;
+                wrote = ap (λ b. cond b (writes number m serial command) []) (sym no_effect.0);
+                holds = subst (λ b. Stands number m (cond b (effect serial command) serial)) (sym no_effect.0) stands;
+                reads = stopped_added error answer (added_by number (opened_in number serial) command m) ranges is (stop.held serial stands).1;
               },
             ));
       };
 }
 
 -- MEMORY: want of memory is no reply
-pub stop_memory : (refuses : KeyRange → ReadError → Type 0) (opened : Option Opened) (command : Command) (before : List Mutation) (ranges : List KeyRange) (m : Map) → HasOpened opened m → IsBeginning ranges (added_by opened command m) →
-    ((serial : Serial) → Stands m serial → IsBeginning ranges (added_by (opened_in serial) command m)) → IsStop refuses opened command before Memory ranges m
-stop_memory refuses opened command before ranges m has begin held = record { there = has; reads = begin; told = λ answer is. absurd (cc); held = λ serial stands. (λ answer is. absurd (cc), held serial stands) }
+pub stop_memory : (number : ℕ) (refuses : KeyRange → ReadError → Type 0) (opened : Option Opened) (command : Command) (before : List Mutation) (ranges : List KeyRange) (m : Map) → HasOpened number opened m → IsBeginning ranges (added_by number opened command m) →
+    ((serial : Serial) → Stands number m serial → IsBeginning ranges (added_by number (opened_in number serial) command m)) → IsStop number refuses opened command before Memory ranges m
+stop_memory number refuses opened command before ranges m has begin held = record { there = has; reads = begin; told = λ answer is. absurd (cc); held = λ serial stands. (λ answer is. absurd (cc), held serial stands) }
 
 -- it was wanting before anything was read
-pub refused_memory : {maps : ℕ → Map} {refuses : KeyRange → ℕ → ReadError → Type 0} {old : CommitRequest} (command : Command) → IsCommandRefused maps refuses command Memory old old
-refused_memory {refuses = refuses} {old = old} command =
-    refused_by command None Memory [] (ran_still refl (λ m.
-    stop_memory (λ range. refuses range old.read_version) None command old.mutations [] m tt (none_begin (added_by None command m)) (λ serial stands. none_begin (added_by (opened_in serial) command m))))
+pub refused_memory : (number : ℕ) {maps : ℕ → Map} {refuses : KeyRange → ℕ → ReadError → Type 0} {old : CommitRequest} (command : Command) → IsCommandRefused number maps refuses command Memory old old
+refused_memory number {refuses = refuses} {old = old} command =
+    refused_by number command None Memory [] (ran_still refl (λ m.
+    stop_memory number (λ range. refuses range old.read_version) None command old.mutations [] m tt (none_begin (added_by number None command m)) (λ serial stands. none_begin (added_by number (opened_in number serial) command m))))
 
 -- it was wanting behind the opening
-pub memory_opened : {maps : ℕ → Map} {refuses : KeyRange → ℕ → ReadError → Type 0} {old mid : CommitRequest} (opened : Opened) (command : Command) → open_reach command ≡ opening_reach store_prefix → IsOpened maps (at opened) old mid → IsCommandRefused maps refuses command Memory old mid
-memory_opened {refuses = refuses} {old = old} opened command opens is =
-    refused_by command None Memory (opening_reach store_prefix) (ran_because is.ran (λ m has.
-    stop_memory (λ range. refuses range old.read_version) None command old.mutations (opening_reach store_prefix) m tt
-    (begin_open command ((own_reading None command).added m) opens (all_begin (opening_reach store_prefix)))
-    (λ serial stands. begin_open command (((own_reading (opened_in serial) command).added m)) opens (all_begin (opening_reach store_prefix)))))
+pub memory_opened : (number : ℕ) {maps : ℕ → Map} {refuses : KeyRange → ℕ → ReadError → Type 0} {old mid : CommitRequest} (opened : Opened) (command : Command) → open_reach number command ≡ opening_reach (store_prefix number) → IsOpened maps (at number opened) old mid → IsCommandRefused number maps refuses command Memory old mid
+memory_opened number {refuses = refuses} {old = old} opened command opens is =
+    refused_by number command None Memory (opening_reach (store_prefix number)) (ran_because is.ran (λ m has.
+    stop_memory number (λ range. refuses range old.read_version) None command old.mutations (opening_reach (store_prefix number)) m tt
+    (begin_open number command ((own_reading None command).added m) opens (all_begin (opening_reach (store_prefix number))))
+    (λ serial stands. begin_open number command (((own_reading (opened_in number serial) command).added m)) opens (all_begin (opening_reach (store_prefix number))))))
 
 -- a refused read within the reach
 pub read_right : (refuses : KeyRange → ReadError → Type 0) (within : List KeyRange) (error : ReadError) (answer : Reply) → reply_of (Read error) ≡ Some answer → IsReadRefusedAs refuses within error → IsReadRefusal refuses within answer
 read_right refuses within error answer is says = record { error = error; told = is; refused = says }
 
 -- such a reply tells nothing of what was read
-pub told_read : (opened : Option Opened) (command : Command) (error : ReadError) (answer : Reply) (m : Map) → reply_of (Read error) ≡ Some answer → TellsOfPairs opened command answer m
-told_read opened command read.FutureVersion answer m is = let same : reply.Refused FutureVersion ≡ answer = cc in subst (λ a. TellsOfPairs opened command a m) same tt
-told_read opened command read.TooOld answer m is = let same : reply.Refused TooOld ≡ answer = cc in subst (λ a. TellsOfPairs opened command a m) same tt
-told_read opened command read.Memory answer m is = absurd (cc)
+pub told_read : (number : ℕ) (opened : Option Opened) (command : Command) (error : ReadError) (answer : Reply) (m : Map) → reply_of (Read error) ≡ Some answer → TellsOfPairs number opened command answer m
+told_read number opened command read.FutureVersion answer m is = let same : reply.Refused FutureVersion ≡ answer = cc in subst (λ a. TellsOfPairs number opened command a m) same tt
+told_read number opened command read.TooOld answer m is = let same : reply.Refused TooOld ≡ answer = cc in subst (λ a. TellsOfPairs number opened command a m) same tt
+told_read number opened command read.Memory answer m is = absurd (cc)
 
 -- the reply that a damaged pair is
-pub told_damage : (opened : Option Opened) (command : Command) (key : List ℕ) (answer : Reply) (m : Map) → reply_of (Corrupt key) ≡ Some answer → IsDamaged opened command key m → TellsOfPairs opened command answer m
-told_damage opened command key answer m is damaged = let same : reply.Corrupt key ≡ answer = cc in subst (λ a. TellsOfPairs opened command a m) same damaged
+pub told_damage : (number : ℕ) (opened : Option Opened) (command : Command) (key : List ℕ) (answer : Reply) (m : Map) → reply_of (Corrupt key) ≡ Some answer → IsDamaged number opened command key m → TellsOfPairs number opened command answer m
+told_damage number opened command key answer m is damaged = let same : reply.Corrupt key ≡ answer = cc in subst (λ a. TellsOfPairs number opened command a m) same damaged
 
 -- the reply that a refusal is
-pub told_refused : (opened : Option Opened) (command : Command) (refusal : Refusal) (answer : Reply) (m : Map) → ◌≡◌ {A = Option Reply} (Some (reply.Refused refusal)) (Some answer) → IsCommandSound opened command (reply.Refused refusal) m → TellsOfPairs opened command answer m
-told_refused opened command refusal answer m is sound = let same : reply.Refused refusal ≡ answer = cc in subst (λ a. TellsOfPairs opened command a m) same (told_refusal opened command refusal m sound)
+pub told_refused : (number : ℕ) (opened : Option Opened) (command : Command) (refusal : Refusal) (answer : Reply) (m : Map) → ◌≡◌ {A = Option Reply} (Some (reply.Refused refusal)) (Some answer) → IsCommandSound number opened command (reply.Refused refusal) m → TellsOfPairs number opened command answer m
+told_refused number opened command refusal answer m is sound = let same : reply.Refused refusal ≡ answer = cc in subst (λ a. TellsOfPairs number opened command a m) same (told_refusal number opened command refusal m sound)
 
 -- the reply that a limit is
-pub told_limit : (opened : Option Opened) (command : Command) (error : WriteError) (answer : Reply) (m : Map) → reply_of (Write error) ≡ Some answer → ((refusal : Refusal) → (refusal ≡ AlreadyThere → ⊥) → IsCommandSound opened command (reply.Refused refusal) m) → TellsOfPairs opened command answer m
-told_limit opened command write.KeyOutside answer m is sound = let same : reply.Refused KeyOutside ≡ answer = cc in subst (λ a. TellsOfPairs opened command a m) same (sound KeyOutside (λ none. absurd (cc)))
-told_limit opened command write.KeyTooLarge answer m is sound = let same : reply.Refused KeyTooLarge ≡ answer = cc in subst (λ a. TellsOfPairs opened command a m) same (sound KeyTooLarge (λ none. absurd (cc)))
-told_limit opened command write.ValueTooLarge answer m is sound = let same : reply.Refused ValueTooLarge ≡ answer = cc in subst (λ a. TellsOfPairs opened command a m) same (sound ValueTooLarge (λ none. absurd (cc)))
-told_limit opened command write.TransactionTooLarge answer m is sound = let same : reply.Refused TransactionTooLarge ≡ answer = cc in subst (λ a. TellsOfPairs opened command a m) same (sound TransactionTooLarge (λ none. absurd (cc)))
-told_limit opened command write.Memory answer m is sound = absurd (cc)
+pub told_limit : (number : ℕ) (opened : Option Opened) (command : Command) (error : WriteError) (answer : Reply) (m : Map) → reply_of (Write error) ≡ Some answer → ((refusal : Refusal) → (refusal ≡ AlreadyThere → ⊥) → IsCommandSound number opened command (reply.Refused refusal) m) → TellsOfPairs number opened command answer m
+told_limit number opened command write.KeyOutside answer m is sound = let same : reply.Refused KeyOutside ≡ answer = cc in subst (λ a. TellsOfPairs number opened command a m) same (sound KeyOutside (λ none. absurd (cc)))
+told_limit number opened command write.KeyTooLarge answer m is sound = let same : reply.Refused KeyTooLarge ≡ answer = cc in subst (λ a. TellsOfPairs number opened command a m) same (sound KeyTooLarge (λ none. absurd (cc)))
+told_limit number opened command write.ValueTooLarge answer m is sound = let same : reply.Refused ValueTooLarge ≡ answer = cc in subst (λ a. TellsOfPairs number opened command a m) same (sound ValueTooLarge (λ none. absurd (cc)))
+told_limit number opened command write.TransactionTooLarge answer m is sound = let same : reply.Refused TransactionTooLarge ≡ answer = cc in subst (λ a. TellsOfPairs number opened command a m) same (sound TransactionTooLarge (λ none. absurd (cc)))
+told_limit number opened command write.Memory answer m is sound = absurd (cc)
 
 -- a reply by which the command writes nothing
-pub served_idle : (m : Map) (before : List Mutation) (serial : Serial) (command : Command) (answer : Reply) → writes m serial command ≡ [] → IsReply serial command answer → IsServed m before serial command answer
-served_idle m before serial command answer none is = subst (λ ms. IsLimited (write_all_refusal before ms) serial command answer) (sym none) is
+pub served_idle : (number : ℕ) (m : Map) (before : List Mutation) (serial : Serial) (command : Command) (answer : Reply) → writes number m serial command ≡ [] → IsReply serial command answer → IsServed number m before serial command answer
+served_idle number m before serial command answer none is = subst (λ ms. IsLimited (write_all_refusal before ms) serial command answer) (sym none) is
 
 -- a refusal of the command's own, where it writes nothing
-pub own_right : (refuses : KeyRange → ReadError → Type 0) (command : Command) (before : List Mutation) (error : StoreError) (refusal : Refusal) (m : Map) (serial : Serial) → reply_of error ≡ Some (reply.Refused refusal) → IsReply serial command (reply.Refused refusal) →
-    writes m serial command ≡ [] → IsRight refuses command before error m serial
-own_right refuses command before error refusal m serial replied is none =
-    λ answer same. let that : reply.Refused refusal ≡ answer = cc in inl (subst (IsServed m before serial command) that (served_idle m before serial command (reply.Refused refusal) none is))
+pub own_right : (number : ℕ) (refuses : KeyRange → ReadError → Type 0) (command : Command) (before : List Mutation) (error : StoreError) (refusal : Refusal) (m : Map) (serial : Serial) → reply_of error ≡ Some (reply.Refused refusal) → IsReply serial command (reply.Refused refusal) →
+    writes number m serial command ≡ [] → IsRight number refuses command before error m serial
+own_right number refuses command before error refusal m serial replied is none =
+    λ answer same. let that : reply.Refused refusal ≡ answer = cc in inl (subst (IsServed number m before serial command) that (served_idle number m before serial command (reply.Refused refusal) none is))
 
 -- a refusal of the command by this error
-pub refused_right : (refuses : KeyRange → ReadError → Type 0) (command : Command) (before : List Mutation) (error : StoreError) (m : Map) (serial : Serial) → serial_line serial command ≡ serve.Refuses (reply_of error) → IsRight refuses command before error m serial
-refused_right refuses command before error m serial is =
-    λ answer same. inl (served_idle m before serial command answer (ap (λ l. written_with l (footprint_writes m serial command)) is) (subst (λ l. IsReplyOf l answer) (sym is) same))
+pub refused_right : (number : ℕ) (refuses : KeyRange → ReadError → Type 0) (command : Command) (before : List Mutation) (error : StoreError) (m : Map) (serial : Serial) → serial_line serial command ≡ serve.Refuses (reply_of error) → IsRight number refuses command before error m serial
+refused_right number refuses command before error m serial is =
+    λ answer same. inl (served_idle number m before serial command answer (ap (λ l. written_with l (footprint_writes number m serial command)) is) (subst (λ l. IsReplyOf l answer) (sym is) same))
 
 -- a limit is the reply that it is
 limit_is : (error : WriteError) (answer : Reply) → reply_of (Write error) ≡ Some answer → IsLimit error answer
@@ -238,6 +238,6 @@ limit_is write.TransactionTooLarge answer is = let same : reply.Refused _ ≡ an
 limit_is write.Memory answer is = absurd (cc)
 
 -- a limit that what the command writes meets
-pub limit_right : (refuses : KeyRange → ReadError → Type 0) (command : Command) (before : List Mutation) (error : WriteError) (m : Map) (serial : Serial) → write_all_refusal before (writes m serial command) ≡ Some error →
-    IsRight refuses command before (Write error) m serial
-limit_right refuses command before error m serial meets = λ answer is. inl (subst (λ o. IsLimited o serial command answer) (sym meets) (limit_is error answer is))
+pub limit_right : (number : ℕ) (refuses : KeyRange → ReadError → Type 0) (command : Command) (before : List Mutation) (error : WriteError) (m : Map) (serial : Serial) → write_all_refusal before (writes number m serial command) ≡ Some error →
+    IsRight number refuses command before (Write error) m serial
+limit_right number refuses command before error m serial meets = λ answer is. inl (subst (λ o. IsLimited o serial command answer) (sym meets) (limit_is error answer is))

@@ -15,6 +15,7 @@ use Rattle.cluster_core.proofs.Bridge.{version_at}
 use Rattle.schedule.specs.Past.{Open, Submission}
 use Rattle.schedule.specs.Standing.{is_told, is_listed, commit_entry, commits_of}
 use Rattle.schedule.specs.Contract.{client_of}
+use Rattle.schedule.specs.Isolated.{store_of}
 use Rattle.schedule.specs.Turns.{IsOpenTransaction, IsSubmitted, AreSubmitted}
 use Rattle.schedule.proofs.Turning.{open_elsewhere, open_later}
 
@@ -213,17 +214,23 @@ commits_reported p subs one are from is =
     by_test true t = ap (λ c. map commit_entry (cond c (one ∷ []) [])) t ∙ ap (λ c. cond c (commit_entry one ∷ []) []) (sym t)
     by_test false t = ap (λ c. map commit_entry (cond c (one ∷ []) [])) t ∙ ap (λ c. cond c (commit_entry one ∷ []) []) (sym t)
 
--- whose submission a version is
-pub client_here : (last : ℕ) (subs : List Submission) (i : ℕ) (one : Submission) → AreVersioned last subs → slice_get subs i ≡ Some one → client_of subs (last + i + 1) ≡ one.client
-client_here last [] i one are is = let no : None ≡ Some one = is in absurd (cc)
-client_here last (first ∷ subs) zero one are is =
+-- the submission that has a version, and whose it is
+pub found_here : (last : ℕ) (subs : List Submission) (i : ℕ) (one : Submission) → AreVersioned last subs → slice_get subs i ≡ Some one → find (λ (s : Submission). s.version == last + i + 1) subs ≡ Some one
+found_here last [] i one are is = let no : None ≡ Some one = is in absurd (cc)
+found_here last (first ∷ subs) zero one are is =
     let same : first ≡ one = cc in
     let at : first.version ≡ last + 0 + 1 = are.0 ∙ omega arith in
-    ap (λ b. option_map_or (λ (s : Submission). s.client) (cond b (Some first) (find (λ (s : Submission). s.version == last + 0 + 1) subs)) 0) (yes_same first.version (last + 0 + 1) at) ∙ ap (λ (s : Submission). s.client) same
-client_here last (first ∷ subs) (suc i) one are is =
+    ap (λ b. cond {A = Option Submission} b (Some first) (find (λ (s : Submission). s.version == last + 0 + 1) subs)) (yes_same first.version (last + 0 + 1) at) ∙ ap Some same
+found_here last (first ∷ subs) (suc i) one are is =
     let at : first.version ≡ last + 1 = are.0 in
-    ap (λ b. option_map_or (λ (s : Submission). s.client) (cond b (Some first) (find (λ (s : Submission). s.version == last + suc i + 1) subs)) 0) (not_same first.version (last + suc i + 1) (λ same. omega (arith, at, same)))
-    ∙ subst (λ v. client_of subs v ≡ one.client) e (client_here (last + 1) subs i one are.1 is)
+    ap (λ b. cond {A = Option Submission} b (Some first) (find (λ (s : Submission). s.version == last + suc i + 1) subs)) (not_same first.version (last + suc i + 1) (λ same. omega (arith, at, same)))
+    ∙ subst (λ v. find (λ (s : Submission). s.version == v) subs ≡ Some one) e (found_here (last + 1) subs i one are.1 is)
   where
     e : (last + 1) + i + 1 ≡ last + suc i + 1
     e = omega arith
+
+pub client_here : (last : ℕ) (subs : List Submission) (i : ℕ) (one : Submission) → AreVersioned last subs → slice_get subs i ≡ Some one → client_of subs (last + i + 1) ≡ one.client
+client_here last subs i one are is = ap (λ o. option_map_or (λ (s : Submission). s.client) o 0) (found_here last subs i one are is)
+
+pub store_here : (last : ℕ) (subs : List Submission) (i : ℕ) (one : Submission) → AreVersioned last subs → slice_get subs i ≡ Some one → store_of subs (last + i + 1) ≡ one.transaction.store
+store_here last subs i one are is = ap (λ o. option_map_or (λ (s : Submission). s.transaction.store) o 0) (found_here last subs i one are is)

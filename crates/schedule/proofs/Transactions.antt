@@ -62,7 +62,7 @@ if_later true old new later = later
 if_later false old new later = same_later old
 
 stepped_later : (requests added : List CommitRequest) (step : Step) (reply : Reply) (c : ClusterState) → requests ≡ c.pipeline.requests ++ added → c.pipeline.reported ≤ submitted c.pipeline → IsLater c (cluster_stepped requests step reply c)
-stepped_later requests added (Begin client) reply c is given = same_later c
+stepped_later requests added (Begin client store) reply c is given = same_later c
 stepped_later requests added (Perform client command) reply c is given = same_later c
 stepped_later requests added (Execute client) reply c is given = same_later c
 stepped_later requests added (Abandon client) reply c is given = same_later c

@@ -12,9 +12,9 @@ use Rattle.schedule.specs.Refusals.{reply_of}
 
 -- why a command was refused: it stopped before it wrote anything, and where the error is a reply it was performed with
 -- this reply
-pub record IsCommandRefused (maps : ℕ → Map) (refuses : KeyRange → ℕ → ReadError → Type 0) (command : Command)
-    (error : StoreError) (old new : CommitRequest) : Type 0 where
-  pub stopped : IsCommandStopped maps command old new
+pub record IsCommandRefused (number : ℕ) (maps : ℕ → Map) (refuses : KeyRange → ℕ → ReadError → Type 0)
+    (command : Command) (error : StoreError) (old new : CommitRequest) : Type 0 where
+  pub stopped : IsCommandStopped number maps command old new
   pub replied :
       (answer : Reply) → reply_of error ≡ Some answer →
-      IsPerformed maps (λ range. refuses range old.read_version) command answer old new
+      IsPerformed number maps (λ range. refuses range old.read_version) command answer old new

@@ -4,6 +4,7 @@ use Rattle.std.specs.Prelude.{◌≡◌, ◌≤◌, ℕ, ◌+◌, ◌-◌, Bool,
 use Rattle.std.specs.Prelude.{Option, Some, None, if◌then◌else◌, ◌==◌, length, nat_lt, All}
 use Rattle.std.specs.List.{find, range_with_len}
 use Rattle.std.specs.Option.{option_map, option_map_or}
+use Rattle.kv_core.specs.Map.{Map}
 use Rattle.kv_core.specs.declared.change.CommitRequest.{CommitRequest}
 use Rattle.cluster_core.specs.declared.answers.Config.{Config}
 use Rattle.cluster_core.specs.declared.answers.Reported.{Reported}
@@ -13,7 +14,7 @@ use Rattle.cluster_core.specs.declared.answers.SubmitError.TheVariants as submit
 use Rattle.cluster_core.specs.Cluster.{ClusterState, database_at, may_pull}
 use Rattle.cluster_core.specs.Roles.{PipelineState, may_append, may_report}
 use Rattle.cluster_core.specs.Roles.{may_resolve, outcome, submit_refusal, submitted}
-use Rattle.schedule.specs.declared.refusal.Refusal.TheVariants.{NoSuchClient, NoSuchRole, Busy}
+use Rattle.schedule.specs.declared.refusal.Refusal.TheVariants.{NoSuchClient, NoSuchStore, NoSuchRole, Busy}
 use Rattle.schedule.specs.declared.refusal.Refusal.TheVariants.{NoPlan, NoTransaction, TooOld, VersionsExhausted}
 use Rattle.schedule.specs.declared.step.Command.{Command}
 use Rattle.schedule.specs.declared.step.Command.TheVariants as asks
@@ -27,11 +28,12 @@ use Rattle.schedule.specs.declared.reply.Reply.TheVariants as answers
 use Rattle.schedule.specs.declared.reply.Report as telling
 use Rattle.schedule.specs.declared.reply.Report.TheVariants as tells
 use Rattle.schedule.specs.declared.transcript.CommitEntry.{CommitEntry}
+use Rattle.record_store.specs.Layout.{is_store_number}
 use Rattle.record_store.specs.Store.{Serial}
 use Rattle.schedule.specs.Serve.{effect}
 use Rattle.schedule.specs.Past.{Past, Attempt, Open, Submission, accepted}
 use Rattle.schedule.specs.Past.{is_accepted, is_changed, kept_plan, open_of, submitted_in}
-use Rattle.schedule.specs.Holds.{Stands}
+use Rattle.schedule.specs.Holds.{NothingElse, Stands}
 use Rattle.schedule.specs.Commits.{committed_store}
 use Rattle.schedule.specs.Standing.{cluster_after, commits_of, listed}
 
@@ -53,6 +55,12 @@ past_of past steps replies = past
 abbrev pub OfClient : ℕ → Reply → Type 0 → Type 0
 OfClient client reply IsRight =
     (nat_lt client 16 ≡ true → IsRight) × (nat_lt client 16 ≡ Bool.false → reply ≡ Refused NoSuchClient)
+
+-- a transaction in a store that there isn't is refused
+abbrev pub OfStore : ℕ → Reply → Type 0 → Type 0
+OfStore number reply IsRight =
+    (is_store_number number ≡ true → IsRight)
+    × (is_store_number number ≡ Bool.false → reply ≡ Refused NoSuchStore)
 
 -- a step of a client wants an open transaction
 abbrev pub InTransaction : Option Open → (Open → Type 0) → Reply → Type 0
@@ -127,7 +135,8 @@ CommandRelation = ClusterState → List CommitEntry → Open → Command → Rep
 
 -- the reply is right for a step, where the cluster and what was submitted stand so, and that to a command is as stated
 abbrev pub IsReplyBy : CommandRelation → ClusterState → Past → Step → Reply → Type 0
-IsReplyBy IsOfCommand c past (Begin client) reply = OfClient client reply (reply ≡ begin_reply c (open_of client past))
+IsReplyBy IsOfCommand c past (Begin client store) reply =
+    OfClient client reply (OfStore store reply (reply ≡ begin_reply c (open_of client past)))
 IsReplyBy IsOfCommand c past (Perform client command) reply =
     OfClient client reply (InTransaction (open_of client past)
     (λ open_now. IsOfCommand c (commits_of c.pipeline (submitted_in past)) open_now command reply) reply)
@@ -153,13 +162,17 @@ HasReplies IsOfCommand config requests steps replies =
     EachReply (λ past step reply. IsReplyBy IsOfCommand (cluster_after config requests past) past step reply) [] steps
     replies
 
--- the open transaction of a client, by its read version and its accepted commands
-abbrev pub open_by_commands : ℕ → Past → Option (ℕ × List Command)
+-- the open transaction of a client, by its store, its read version and its accepted commands
+abbrev pub OpenByCommands : Type 0
+OpenByCommands = Option (ℕ × ℕ × List Command)
+
+abbrev pub open_by_commands : ℕ → Past → OpenByCommands
 open_by_commands client past =
-    option_map (λ (open_now : Open). (open_now.read_version, accepted open_now.attempts)) (open_of client past)
+    option_map (λ (open_now : Open). (open_now.store, open_now.read_version, accepted open_now.attempts))
+    (open_of client past)
 
 -- what a refused step leaves of an open transaction: all, but that a refused commit ends it
-abbrev pub left_open : Step → ℕ → Option (ℕ × List Command) → Option (ℕ × List Command)
+abbrev pub left_open : Step → ℕ → OpenByCommands → OpenByCommands
 left_open (Commit who) client before = if who == client then None else before
 left_open step client before = before
 
@@ -179,18 +192,24 @@ LeavesAll config requests past step reply = Unit {0}
 
 -- ---- what is left
 
+-- a map holds of each store what is committed at a version, and nothing else
+pub record HoldsAt (commits : List CommitEntry) (version : ℕ) (m : Map) : Type 0 where
+  pub each :
+      (number : ℕ) → is_store_number number ≡ true → Stands number m (committed_store number commits version)
+  pub nothing_else : NothingElse m
+
 -- HOLDS: at each version from the start to the last reported one the database holds what is committed there
 abbrev pub HoldsCommitted : ClusterState → List CommitEntry → Type 0
 HoldsCommitted c commits =
     (version : ℕ) → c.pipeline.start ≤ version → version ≤ c.pipeline.reported →
-    Stands (database_at c version) (committed_store commits version)
+    HoldsAt commits version (database_at c version)
 
 -- what is there after an attempt at a command
 abbrev pub attempted : Serial → Attempt → Serial
 attempted serial attempt = if is_accepted attempt.reply then effect serial attempt.command else serial
 
--- SERIAL: each accepted command of a listed transaction has just before the transaction's version, after its earlier
--- ones, a reply as stated that is the one it had
+-- SERIAL: each accepted command of a listed transaction has in its store just before the transaction's version, after
+-- its earlier ones, a reply as stated that is the one it had
 abbrev pub IsSerialBy : (Serial → Command → Reply → Type 0) → Serial → List Attempt → Type 0
 IsSerialBy IsOfCommand serial [] = Unit {0}
 IsSerialBy IsOfCommand serial (attempt ∷ attempts) =
@@ -200,8 +219,8 @@ IsSerialBy IsOfCommand serial (attempt ∷ attempts) =
 abbrev pub AreSerialBy :
     (Serial → Command → Reply → Type 0) → ClusterState → List CommitEntry → List Submission → Type 0
 AreSerialBy IsOfCommand c commits submissions =
-    All (λ one. IsSerialBy IsOfCommand (committed_store commits (one.version - 1)) one.transaction.attempts)
-    (listed c.pipeline submissions)
+    All (λ one. IsSerialBy IsOfCommand (committed_store one.transaction.store commits (one.version - 1))
+    one.transaction.attempts) (listed c.pipeline submissions)
 
 -- REQUESTS: there is one for each submission, which is as stated
 abbrev pub EachRequest : (Submission → CommitRequest → Type 0) → List Submission → List CommitRequest → Type 0

@@ -22,24 +22,26 @@ use Rattle.schedule.specs.Performed.{HasAdded, IsReadRefusal, IsServed}
 use Rattle.schedule.specs.Commits.{committed_store, view}
 use Rattle.schedule.specs.Contract.{AreSerialBy, EachRequest, HasReplies, IsReplyBy, IsSerialBy, attempted, past_of}
 
--- what commands write one after another, in a transaction that sees this map at first
-abbrev pub commands_written : Map → Serial → List Command → List Mutation
-commands_written m serial [] = []
-commands_written m serial (command ∷ commands) =
-    writes m serial command
-    ++ commands_written (after_all (writes m serial command) m) (effect serial command) commands
+-- what commands write one after another, in a transaction in the store with a number that sees this map at first
+abbrev pub commands_written : ℕ → Map → Serial → List Command → List Mutation
+commands_written number m serial [] = []
+commands_written number m serial (command ∷ commands) =
+    let written = writes number m serial command in
+    written ++ commands_written number (after_all written m) (effect serial command) commands
 
 -- the reply to a command is the serial store's for what the transaction sees, with the planner's plan, or the very
 -- limit that its writes meet in this transaction; or servers refuse one of the ranges that it asks for
 abbrev pub IsExactReply : ClusterState → List CommitEntry → Open → Command → Reply → Type 0
 IsExactReply c commits open_now command reply =
+    let number = open_now.store in
     let seen = view commits open_now in
     let base = database_at c open_now.read_version in
     let before =
-    commands_written base (committed_store commits open_now.read_version) (accepted open_now.attempts) in
-    IsServed (after_all before base) before seen command reply
+    commands_written number base (committed_store number commits open_now.read_version)
+    (accepted open_now.attempts) in
+    IsServed number (after_all before base) before seen command reply
     ⊎ IsReadRefusal (λ range. MayRefuse (tier_of c) range open_now.read_version)
-    (reach (opened_in seen) command (after_all before base)) reply
+    (reach number (opened_in number seen) command (after_all before base)) reply
 
 -- Private: the reply to a step, with the exact one to a command
 abbrev pub IsReplyTo : ClusterState → Past → Step → Reply → Type 0
@@ -57,21 +59,23 @@ abbrev pub IsSerial : ClusterState → List CommitEntry → List Submission → 
 IsSerial c commits submissions = AreSerialBy IsReply c commits submissions
 
 -- what an attempt at a command writes, in a transaction that sees this map
-abbrev pub attempt_writes : Map → Serial → Attempt → List Mutation
-attempt_writes m serial attempt = if is_accepted attempt.reply then writes m serial attempt.command else []
+abbrev pub attempt_writes : ℕ → Map → Serial → Attempt → List Mutation
+attempt_writes number m serial attempt =
+    if is_accepted attempt.reply then writes number m serial attempt.command else []
 
 -- what attempts add to the ranges read, one after another, in a transaction that sees this map at first
-abbrev pub HaveAdded : Map → Serial → List Attempt → List KeyRange → Type 0
-HaveAdded m serial [] added = added ≡ []
-HaveAdded m serial (attempt ∷ attempts) added =
+abbrev pub HaveAdded : ℕ → Map → Serial → List Attempt → List KeyRange → Type 0
+HaveAdded number m serial [] added = added ≡ []
+HaveAdded number m serial (attempt ∷ attempts) added =
     (first : List KeyRange) × (rest : List KeyRange) × (added ≡ first ++ rest)
-    × HasAdded attempt.reply (added_by (opened_in serial) attempt.command m) first
-    × HaveAdded (after_all (attempt_writes m serial attempt) m) (attempted serial attempt) attempts rest
+    × HasAdded attempt.reply (added_by number (opened_in number serial) attempt.command m) first
+    × HaveAdded number (after_all (attempt_writes number m serial attempt) m) (attempted serial attempt) attempts rest
 
 -- the ranges read are those that attempts added, in their order, each once
-pub record AreReads (m : Map) (serial : Serial) (attempts : List Attempt) (reads : List KeyRange) : Type 0 where
+pub record AreReads (number : ℕ) (m : Map) (serial : Serial) (attempts : List Attempt) (reads : List KeyRange) :
+    Type 0 where
   pub added : List KeyRange
-  pub each : HaveAdded m serial attempts added
+  pub each : HaveAdded number m serial attempts added
   pub are : reads ≡ with_ranges added []
 
 -- REQUESTS: a submission's request has its read version; its reads are what the commands read of the map that the
@@ -80,12 +84,14 @@ pub record IsExactRequest (maps : ℕ → Map) (commits : List CommitEntry) (one
     (request : CommitRequest) : Type 0 where
   pub read_version : request.read_version ≡ one.transaction.read_version
   pub reads :
-      AreReads (maps one.transaction.read_version) (committed_store commits one.transaction.read_version)
-      one.transaction.attempts request.reads
+      AreReads one.transaction.store (maps one.transaction.read_version)
+      (committed_store one.transaction.store commits one.transaction.read_version) one.transaction.attempts
+      request.reads
   pub mutations :
       request.mutations
-      ≡ commands_written (maps one.transaction.read_version)
-      (committed_store commits one.transaction.read_version) (accepted one.transaction.attempts)
+      ≡ commands_written one.transaction.store (maps one.transaction.read_version)
+      (committed_store one.transaction.store commits one.transaction.read_version)
+      (accepted one.transaction.attempts)
 
 -- EXACT: what a run of a schedule is to the last byte
 pub record IsExactRun (config : Config) (steps : List Step) (run : Transcript) : Type 0 where

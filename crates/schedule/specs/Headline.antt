@@ -1,5 +1,5 @@
 -- The headline: what a planned query answers, and what a readable index has.
-use Rattle.std.specs.Prelude.{◌≡◌, ◌≤◌, ◌<◌, ◌⊎◌, ℕ, List, [], ◌∷◌, Option, Some, None}
+use Rattle.std.specs.Prelude.{◌≡◌, ◌≤◌, ◌<◌, ◌⊎◌, ℕ, true, List, [], ◌∷◌, Option, Some, None}
 use Rattle.std.specs.List.{AllByRecursion}
 use Rattle.kv_core.specs.Map.{Map}
 use Rattle.cluster_core.specs.Cluster.{database_at}
@@ -8,6 +8,7 @@ use Rattle.metadata.specs.declared.index.State.TheVariants.{Readable}
 use Rattle.index_maint.specs.Kept.{HasDefined}
 use Rattle.query.specs.Query as asked
 use Rattle.query.specs.View.{query_of}
+use Rattle.record_store.specs.Layout.{is_store_number, store_prefix}
 use Rattle.record_store.specs.Store.{Serial, state_of}
 use Rattle.schedule.specs.declared.step.TheConstants.{CLIENTS}
 use Rattle.schedule.specs.declared.step.Command.{Command}
@@ -21,7 +22,6 @@ use Rattle.schedule.specs.Query.{AreRows}
 use Rattle.schedule.specs.Past.{Attempt, Open, Past, open_of}
 use Rattle.schedule.specs.Commits.{committed_store}
 use Rattle.schedule.specs.Contract.{attempted, past_of}
-use Rattle.schedule.specs.Layout.{store_prefix}
 
 -- the query that a command executes a plan for, if it does: its own, or that of the plan that was kept
 abbrev pub query_executed : Command → Option asked.Query
@@ -45,27 +45,27 @@ AreRightlyAnswered serial [] = Unit {0}
 AreRightlyAnswered serial (attempt ∷ attempts) =
     IsRightlyAnswered serial attempt.command attempt.reply × AreRightlyAnswered (attempted serial attempt) attempts
 
--- of each readable index a map has just the entries or totals that the records there define
-abbrev pub HasExactIndexes : Map → Serial → Type 0
-HasExactIndexes m None = Unit {0}
-HasExactIndexes m (Some store) =
+-- of each readable index of the store with a number a map has just the entries or totals that the records there define
+abbrev pub HasExactIndexes : ℕ → Map → Serial → Type 0
+HasExactIndexes number m None = Unit {0}
+HasExactIndexes number m (Some store) =
     AllByRecursion
     (λ index. state_of store index.number ≡ Readable →
-    HasDefined index.kind store_prefix index store.records m)
+    HasDefined index.kind (store_prefix number) index store.records m)
     store.schema.indexes
 
 -- HEADLINE, by the map at each version from a first to a last one, the transactions that are committed, and those that
 -- there were
 pub record Headline (maps : ℕ → Map) (commits : List CommitEntry) (first last : ℕ) (Was : Open → Type 0) : Type 0 where
-  -- the rows of a planned query are its meaning over the records committed by its transaction's read version, as the
-  -- transaction's own writes change them
+  -- the rows of a planned query are its meaning over the records that are committed in its transaction's own store by
+  -- the transaction's read version, as the transaction's own writes change them
   pub rows :
       (transaction : Open) → Was transaction →
-      AreRightlyAnswered (committed_store commits transaction.read_version) transaction.attempts
-  -- at every version each readable index has just what the committed records define
+      AreRightlyAnswered (committed_store transaction.store commits transaction.read_version) transaction.attempts
+  -- at every version each readable index of each store has just what the records committed in that store define
   pub indexes :
-      (version : ℕ) → first ≤ version → version ≤ last →
-      HasExactIndexes (maps version) (committed_store commits version)
+      (number : ℕ) → is_store_number number ≡ true → (version : ℕ) → first ≤ version → version ≤ last →
+      HasExactIndexes number (maps version) (committed_store number commits version)
 
 -- one of the clients had the transaction open after one of the steps
 abbrev pub WasOpen : Past → Open → Type 0

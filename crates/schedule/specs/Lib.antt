@@ -5,7 +5,6 @@ pub mod Executed
 pub mod Refusals
 pub mod Serve
 pub mod Past
-pub mod Layout
 pub mod Holds
 pub mod Reach
 pub mod Performed
@@ -13,6 +12,7 @@ pub mod Calls
 pub mod Executions
 pub mod Commits
 pub mod Standing
+pub mod Isolated
 pub mod Contract
 pub mod Exact
 pub mod Keys

@@ -22,8 +22,9 @@ pub record Attempt : Type 0 where
   pub command : Command
   pub reply : Reply
 
--- an open transaction: its read version, and the commands performed in it, in order
+-- an open transaction: the number of its store, its read version, and the commands performed in it, in order
 pub record Open : Type 0 where
+  pub store : ℕ
   pub read_version : ℕ
   pub attempts : List Attempt
 
@@ -55,8 +56,7 @@ is_changed attempts = list_any (λ attempt. tells_change attempt.reply) attempts
 -- an open transaction with one more command performed
 abbrev pub grown : Attempt → Option Open → Option Open
 grown attempt before =
-    option_map (λ (open_now : Open).
-    record { read_version = open_now.read_version; attempts = open_now.attempts ++ attempt ∷ [] }) before
+    option_map (λ (open_now : Open). record open_now { attempts = open_now.attempts ++ attempt ∷ [] }) before
 
 -- the plan that a client keeps after one more step: that of its last command that was planned
 abbrev pub kept_after : ℕ → Step → Reply → Option AskedPlan → Option AskedPlan
@@ -78,8 +78,8 @@ resolved past step = step
 
 -- a client's open transaction after one more step
 abbrev pub open_after : ℕ → Step → Reply → Option Open → Option Open
-open_after client (Begin who) (Begun version) before =
-    if who == client then Some (record { read_version = version; attempts = [] }) else before
+open_after client (Begin who store) (Begun version) before =
+    if who == client then Some (record { store = store; read_version = version; attempts = [] }) else before
 open_after client (Perform who command) reply before =
     if who == client then grown (record { command = command; reply = reply }) before else before
 open_after client (Commit who) reply before = if who == client then None else before

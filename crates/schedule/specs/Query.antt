@@ -1,5 +1,5 @@
 -- What the reply to a query is, and that to the execution of a plan. No key of a database occurs.
-use Rattle.std.specs.Prelude.{◌≡◌, ℕ, Bool, true, false, List, Option, Some, None, map}
+use Rattle.std.specs.Prelude.{◌≡◌, ℕ, Bool, true, false, List, [], Option, Some, None, map}
 use Rattle.metadata.specs.declared.cells.Cell.{Cell}
 use Rattle.metadata.specs.declared.definition.TypeDefinition.{TypeDefinition}
 use Rattle.metadata.specs.declared.index.State.{State}
@@ -20,7 +20,6 @@ use Rattle.plan_exec.specs.declared.error.ExecError.TheVariants as execution
 use Rattle.schedule.specs.declared.reply.Reply.{Reply}
 use Rattle.schedule.specs.declared.reply.Reply.TheVariants.{Rows, Refused}
 use Rattle.schedule.specs.declared.refusal.Refusal.TheVariants.{SortNotServed, OtherSchema, IndexNotReadable}
-use Rattle.schedule.specs.Layout.{store_prefix}
 use Rattle.schedule.specs.Refusals.{of_query}
 
 -- the number and the state of each index of a store
@@ -52,17 +51,18 @@ IsQueryReply store query answer =
     Unrefused (query_refusal store.schema query) (is_served store.schema (states_of store) query)
     (IsRowsReply store query) answer
 
--- the store as it is opened
-abbrev pub opened_as : Store → Opened
-opened_as store = record { prefix = store_prefix; schema = store.schema; states = listed_states store }
+-- the store as it is opened under a prefix
+abbrev pub opened_as : List ℕ → Store → Opened
+opened_as prefix store = record { prefix = prefix; schema = store.schema; states = listed_states store }
 
--- EXECUTE: the reply is that the store hasn't the plan's type, or may not read one of its indexes; or it is rows that
--- answer the plan's query
+-- EXECUTE: the reply is that the store hasn't the plan's type, or may not read one of its indexes, for which its prefix
+-- doesn't matter; or it is rows that answer the plan's query
 abbrev pub IsExecuteReply : Store → AskedPlan → Reply → Type 0
 IsExecuteReply store plan (Rows cells) =
-    ((type : TypeDefinition) × Accepts (opened_as store) (plan_of plan) type)
+    ((type : TypeDefinition) × Accepts (opened_as [] store) (plan_of plan) type)
     × AreRows store (query_of plan.query) cells
-IsExecuteReply store plan (Refused OtherSchema) = IsNotAccepted (opened_as store) (plan_of plan) execution.OtherSchema
+IsExecuteReply store plan (Refused OtherSchema) =
+    IsNotAccepted (opened_as [] store) (plan_of plan) execution.OtherSchema
 IsExecuteReply store plan (Refused IndexNotReadable) =
-    IsNotAccepted (opened_as store) (plan_of plan) execution.IndexNotReadable
+    IsNotAccepted (opened_as [] store) (plan_of plan) execution.IndexNotReadable
 IsExecuteReply store plan answer = ⊥

@@ -1,4 +1,4 @@
--- What a command reads, in order, and what it writes.
+-- What a command reads, in order, and what it writes, in the store with a number.
 use Rattle.std.specs.Prelude.{ℕ, zero, suc, List, [], ◌++◌, Option, Some, None, option_map, Result, Ok, Err}
 use Rattle.planner.specs.View.{plan_of}
 use Rattle.kv_core.specs.Range.{KeyRange}
@@ -18,20 +18,20 @@ use Rattle.schedule.specs.declared.step.Command.TheVariants as commands
 use Rattle.record_store.specs.declared.error.StoreError.{StoreError}
 use Rattle.record_store.specs.Store.{Serial}
 use Rattle.record_store.specs.Call.{Footprint, Opened, Reading, reads_only, whole}
+use Rattle.record_store.specs.Layout.{store_prefix}
 use Rattle.record_store.specs.Opening.{opening_reach}
 use Rattle.record_store.specs.Calls.{drop_footprint, index_footprint, load_footprint, mark_footprint}
 use Rattle.record_store.specs.Calls.{readable_footprint, remove_footprint, save_footprint, schema_writes}
 use Rattle.record_store.specs.Calls.{total_footprint, type_footprint}
 use Rattle.record_store.specs.Meaning.{by_schema, index_number, totalled_index, write_only_named}
 use Rattle.online_builder.specs.Stepping.{step_footprint}
-use Rattle.schedule.specs.Layout.{store_prefix}
 use Rattle.schedule.specs.Executed.{plan_steps, query_steps, steps_damage, steps_reading}
 use Rattle.schedule.specs.Query.{opened_as}
 use Rattle.schedule.specs.Serve.{Line, Replies, serial_line}
 
 -- what opening the store finds of what is there
-abbrev pub opened_in : Serial → Option Opened
-opened_in serial = option_map opened_as serial
+abbrev pub opened_in : ℕ → Serial → Option Opened
+opened_in number serial = option_map (opened_as (store_prefix number)) serial
 
 -- the footprint of a call by what it asks for: none where it is refused before
 abbrev pub footprint_on : {K : Type 0} → (K → Footprint) → Result K StoreError → Footprint
@@ -83,33 +83,34 @@ own_damage opened command m = None
 
 -- what a command reads to open the store: nothing where it makes one of types and indexes that are refused, or is to
 -- build no record
-abbrev pub make_reach : Result Schema Refusal → List KeyRange
-make_reach (Ok schema) = opening_reach store_prefix
-make_reach (Err refusal) = []
+abbrev pub make_reach : ℕ → Result Schema Refusal → List KeyRange
+make_reach number (Ok schema) = opening_reach (store_prefix number)
+make_reach number (Err refusal) = []
 
-abbrev pub open_reach : Command → List KeyRange
-open_reach (Create request) = make_reach (schema_asked request)
-open_reach (commands.Build name zero) = []
-open_reach command = opening_reach store_prefix
+abbrev pub open_reach : ℕ → Command → List KeyRange
+open_reach number (Create request) = make_reach number (schema_asked request)
+open_reach number (commands.Build name zero) = []
+open_reach number command = opening_reach (store_prefix number)
 
 -- the ranges that a command asks a map for, in order: those of opening the store, and its own by what was opened
-abbrev pub reach : Option Opened → Command → Map → List KeyRange
-reach opened command m = open_reach command ++ (own_reading opened command).asked m
+abbrev pub reach : ℕ → Option Opened → Command → Map → List KeyRange
+reach number opened command m = open_reach number command ++ (own_reading opened command).asked m
 
 -- the ranges that it then adds to those read, in order
-abbrev pub added_by : Option Opened → Command → Map → List KeyRange
-added_by opened command m = open_reach command ++ (own_reading opened command).added m
+abbrev pub added_by : ℕ → Option Opened → Command → Map → List KeyRange
+added_by number opened command m = open_reach number command ++ (own_reading opened command).added m
 
 -- what making a store writes: the schema
-abbrev pub schema_written : Result Schema Refusal → List Mutation
-schema_written (Ok schema) = schema_writes store_prefix schema
-schema_written (Err refusal) = []
+abbrev pub schema_written : ℕ → Result Schema Refusal → List Mutation
+schema_written number (Ok schema) = schema_writes (store_prefix number) schema
+schema_written number (Err refusal) = []
 
 -- what a command writes by its footprint where it isn't refused
-abbrev pub footprint_writes : Map → Serial → Command → List Mutation
-footprint_writes m None (Create request) = schema_written (schema_asked request)
-footprint_writes m None command = []
-footprint_writes m (Some store) command = (footprint_in (opened_as store) command).writes m store
+abbrev pub footprint_writes : ℕ → Map → Serial → Command → List Mutation
+footprint_writes number m None (Create request) = schema_written number (schema_asked request)
+footprint_writes number m None command = []
+footprint_writes number m (Some store) command =
+    (footprint_in (opened_as (store_prefix number) store) command).writes m store
 
 -- what is written with a line: nothing where it refuses, or looks at what is there
 abbrev pub written_with : Line → List Mutation → List Mutation
@@ -117,5 +118,6 @@ written_with (Replies told after) mutations = mutations
 written_with other mutations = []
 
 -- what a command writes, in order, by the map and what is there
-abbrev pub writes : Map → Serial → Command → List Mutation
-writes m serial command = written_with (serial_line serial command) (footprint_writes m serial command)
+abbrev pub writes : ℕ → Map → Serial → Command → List Mutation
+writes number m serial command =
+    written_with (serial_line serial command) (footprint_writes number m serial command)

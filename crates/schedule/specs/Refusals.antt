@@ -13,7 +13,8 @@ use Rattle.cluster_core.specs.declared.answers.ReadError.TheVariants as read
 use Rattle.schedule.specs.declared.reply.Reply.{Reply}
 use Rattle.schedule.specs.declared.reply.Reply.TheVariants as reply
 use Rattle.schedule.specs.declared.refusal.Refusal.{Refusal}
-use Rattle.schedule.specs.declared.refusal.Refusal.TheVariants.{NoSuchClient, NoSuchRole, Busy, NoTransaction, NoPlan}
+use Rattle.schedule.specs.declared.refusal.Refusal.TheVariants.{NoSuchClient, NoSuchStore, NoSuchRole, Busy}
+use Rattle.schedule.specs.declared.refusal.Refusal.TheVariants.{NoTransaction, NoPlan}
 use Rattle.schedule.specs.declared.refusal.Refusal.TheVariants.{BadLimit, BadName, IndexNotReadable, NotAggregate}
 use Rattle.schedule.specs.declared.refusal.Refusal.TheVariants.{NotBuilt, NotReadable, WrongState}
 use Rattle.schedule.specs.declared.refusal.Refusal.TheVariants.{NameTaken, UnknownType, UnknownIndex, UnknownField}
@@ -77,6 +78,7 @@ of_query query.SortTwice = SortTwice
 -- the name that is printed
 abbrev pub refusal_name : Refusal → List ℕ
 refusal_name NoSuchClient = codes "NoSuchClient"
+refusal_name NoSuchStore = codes "NoSuchStore"
 refusal_name NoSuchRole = codes "NoSuchRole"
 refusal_name Busy = codes "Busy"
 refusal_name NoTransaction = codes "NoTransaction"

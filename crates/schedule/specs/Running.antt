@@ -38,12 +38,14 @@ abbrev pub kept : Submission → Unreported
 kept one =
     record {
       client = one.client;
+      store = one.transaction.store;
       read_version = one.transaction.read_version;
       commands = accepted one.transaction.attempts;
     }
 
--- the transaction is the open one, and has its accepted commands
+-- the transaction is the open one in its store, and has its accepted commands
 pub record IsOpen (maps : ℕ → Map) (reported : ℕ) (open_now : Open) (transaction : OpenTransaction) : Type 0 where
+  pub store : transaction.store ≡ open_now.store
   pub done : IsOpenTransaction maps reported open_now transaction.transaction
   pub commands : transaction.commands.items ≡ accepted open_now.attempts
 
@@ -110,12 +112,13 @@ abbrev pub IsSteppedWith : List (Option AskedPlan) → Step → Reply → Databa
 IsSteppedWith plans step reply old new =
     (past : Past) → StandsAfter past old → AreKept past plans → Steps past step reply old new
 
--- a command was performed in an open transaction, which keeps it where it is accepted
+-- a command was performed in an open transaction, in its store; it is kept where it is accepted
 pub record IsPerformedBy (c : ClusterState) (command : Command) (reply : Reply) (old new : OpenTransaction) :
     Type 0 where
+  pub store : new.store ≡ old.store
   pub performed :
-      IsPerformed (database_at c) (λ range. MayRefuse (tier_of c) range old.transaction.read_version) command reply
-      old.transaction new.transaction
+      IsPerformed old.store (database_at c) (λ range. MayRefuse (tier_of c) range old.transaction.read_version)
+      command reply old.transaction new.transaction
   pub commands : new.commands.items ≡ old.commands.items ++ (if is_accepted reply then command ∷ [] else [])
 
 -- the reply to executing where no plan is kept, whatever stood before: there is no such client, or it has no open
@@ -202,7 +205,13 @@ IsTelling before done after old new =
 -- what is listed of a submission that is committed at a version
 abbrev pub unreported_entry : ℕ → Unreported → CommitEntry
 unreported_entry version next =
-    record { version = version; client = next.client; read_version = next.read_version; commands = next.commands }
+    record {
+      version = version;
+      client = next.client;
+      store = next.store;
+      read_version = next.read_version;
+      commands = next.commands;
+    }
 
 -- a transaction is what its attempts made of a fresh one, by the maps that the cluster has now
 pub record IsStillOpen (c : ClusterState) (transaction : Open) : Type 0 where

@@ -73,6 +73,7 @@ commit_entry one =
     record {
       version = one.version;
       client = one.client;
+      store = one.transaction.store;
       read_version = one.transaction.read_version;
       commands = accepted one.transaction.attempts;
     }

@@ -5,6 +5,7 @@ use Rattle.kv_core.specs.Map.{Map, after_all}
 use Rattle.kv_core.specs.declared.change.CommitRequest.{CommitRequest}
 use Rattle.kv_core.specs.declared.change.Mutation.{Mutation}
 use Rattle.txn.specs.Runs.{Ran}
+use Rattle.record_store.specs.Layout.{is_store_number}
 use Rattle.record_store.specs.Store.{Serial}
 use Rattle.schedule.specs.Serve.{IsReply}
 use Rattle.schedule.specs.Past.{Attempt, Open, Submission, is_accepted, tells_change}
@@ -20,32 +21,34 @@ fresh_request read_version = record { read_version = read_version; reads = []; m
 
 -- what an attempt at a command came to where the map seen before it holds this: the part of `IsPerformedAt` that
 -- doesn't depend on how far the servers were
-pub record DidAt (attempt : Attempt) (written : List Mutation) (added : List KeyRange) (m : Map) (serial : Serial) :
-    Type 0 where
+pub record DidAt (number : ℕ) (attempt : Attempt) (written : List Mutation) (added : List KeyRange) (m : Map)
+    (serial : Serial) : Type 0 where
   pub replied : is_accepted attempt.reply ≡ true → IsReply serial attempt.command attempt.reply
-  pub wrote : written ≡ attempt_writes m serial attempt
-  pub holds : Stands (after_all written m) (attempted serial attempt)
-  pub reads : HasAdded attempt.reply (added_by (opened_in serial) attempt.command m) added
+  pub wrote : written ≡ attempt_writes number m serial attempt
+  pub holds : Stands number (after_all written m) (attempted serial attempt)
+  pub reads : HasAdded attempt.reply (added_by number (opened_in number serial) attempt.command m) added
 
--- an attempt at a command was made, which led from one state of the transaction to another
-pub record DidAttempt (maps : ℕ → Map) (attempt : Attempt) (old new : CommitRequest) : Type 0 where
+-- an attempt at a command was made in a store, which led from one state of the transaction to another
+pub record DidAttempt (number : ℕ) (maps : ℕ → Map) (attempt : Attempt) (old new : CommitRequest) : Type 0 where
   pub added : List KeyRange
   pub written : List Mutation
   pub changes : (length written == 0) ≡ not (tells_change attempt.reply)
   pub ran :
-      Ran maps added old new written (λ m. (serial : Serial) → Stands m serial → DidAt attempt written added m serial)
+      Ran maps added old new written (λ m. (serial : Serial) → Stands number m serial →
+      DidAt number attempt written added m serial)
 
 -- attempts were made in turn
-abbrev pub AreDone : (ℕ → Map) → List Attempt → CommitRequest → CommitRequest → Type 0
-AreDone maps [] old new = old ≡ new
-AreDone maps (attempt ∷ attempts) old new =
-    (mid : CommitRequest) × DidAttempt maps attempt old mid × AreDone maps attempts mid new
+abbrev pub AreDone : ℕ → (ℕ → Map) → List Attempt → CommitRequest → CommitRequest → Type 0
+AreDone number maps [] old new = old ≡ new
+AreDone number maps (attempt ∷ attempts) old new =
+    (mid : CommitRequest) × DidAttempt number maps attempt old mid × AreDone number maps attempts mid new
 
--- the transaction is what its attempts made of a fresh one, which reads at a version that was reported
+-- the transaction is what its attempts made in its store of a fresh one, which reads at a version that was reported
 pub record IsOpenTransaction (maps : ℕ → Map) (reported : ℕ) (open_now : Open) (request : CommitRequest) : Type 0 where
+  pub store : is_store_number open_now.store ≡ true
   pub at : request.read_version ≡ open_now.read_version
   pub seen : open_now.read_version ≤ reported
-  pub done : AreDone maps open_now.attempts (fresh_request open_now.read_version) request
+  pub done : AreDone open_now.store maps open_now.attempts (fresh_request open_now.read_version) request
 
 -- the request was submitted as this submission
 pub record IsSubmitted (maps : ℕ → Map) (reported version : ℕ) (one : Submission) (request : CommitRequest) :

@@ -9,7 +9,7 @@ use crate::commands::open;
 use crate::refusal::Refusal;
 use crate::reply::Reply;
 use online_builder::{Builder, Progress};
-use record_store::{KnownSchema, StoreError};
+use record_store::{KnownSchema, StoreError, StoreNumber};
 use std::alloc::Global;
 use tuple_codec::Text;
 use txn::{Snapshot, Transaction};
@@ -27,6 +27,7 @@ fn build_reply(progress: Progress) -> Reply
 /// Builds a part of the first gap in the write-only index of this name, of at most so many records.
 pub(crate) fn build<S: Snapshot>(
     alloc: Global,
+    number: StoreNumber,
     tx: &mut Transaction,
     db: &S,
     known: &mut KnownSchema,
@@ -34,15 +35,17 @@ pub(crate) fn build<S: Snapshot>(
     limit: u32,
 ) -> Result<Reply, StoreError>
     ensures performed { IfOk result (λ answer.
-        IsPerformed (S.map_at db.now) (λ range. S.may_refuse db.now range tx.old.read_version)
+        IsPerformed number (S.map_at db.now)
+        (λ range. S.may_refuse db.now range tx.old.read_version)
         (Command.Build name.now limit) answer tx.old tx.new) }
     ensures refused { IfErr result (λ error.
-        IsCommandRefused (S.map_at db.now) (S.may_refuse db.now) (Command.Build name.now limit) error tx.old tx.new) }
+        IsCommandRefused number (S.map_at db.now) (S.may_refuse db.now)
+        (Command.Build name.now limit) error tx.old tx.new) }
 {
     if limit == 0 {
         return Ok(Reply::Refused(Refusal::BadLimit));
     }
-    let store = open(alloc, tx, db, known)?;
+    let store = open(alloc, number, tx, db, known)?;
     let builder = Builder::new(name.copy()?, limit);
     let progress = builder.step(&store, tx, db)?;
     Ok(build_reply(progress))

@@ -13,7 +13,7 @@ use crate::starting::laws_of;
 use crate::step::{CLIENTS, Command, Step};
 use crate::transcript::Commands;
 use cluster_core::{Cluster, SubmitError};
-use record_store::KnownSchema;
+use record_store::{KnownSchema, StoreNumber};
 use std::alloc::{AllocError, Global};
 use txn::Transaction;
 
@@ -38,7 +38,8 @@ impl OpenTransaction {
     ) -> Result<Reply, AllocError>
         ensures { IfOk result (λ reply. IsPerformedBy cluster.now command.now reply self.old self.new) }
     {
-        let reply = perform_knowing(alloc, command, &mut self.transaction, cluster, known)?;
+        let transaction = &mut self.transaction;
+        let reply = perform_knowing(alloc, command, self.store, transaction, cluster, known)?;
         if is_accepted(&reply) {
             let command = command.copy()?;
             self.commands.push(command)?;
@@ -48,20 +49,25 @@ impl OpenTransaction {
 }
 
 impl Database {
-    // A client begins a transaction.
-    pub(crate) fn begin(&mut self, alloc: Global, client: u64) -> Reply
-        ensures { IsStepped (Step.Begin client) result self.old self.new }
+    // A client begins a transaction in the store of this number.
+    pub(crate) fn begin(&mut self, alloc: Global, client: u64, number: u64) -> Reply
+        ensures { IsStepped (Step.Begin client number) result self.old self.new }
     {
         if client >= CLIENTS as u64 {
             return Reply::Refused(Refusal::NoSuchClient);
         }
+        let Some(store) = StoreNumber::new(number) else {
+            return Reply::Refused(Refusal::NoSuchStore);
+        };
         if self.transactions[client as usize].is_some() {
             return Reply::Refused(Refusal::Busy);
         }
         let version = self.cluster.read_version();
+        let commands = Vec::new(alloc);
         self.transactions[client as usize] = Some(OpenTransaction {
+            store,
             transaction: Transaction::begin(alloc, version),
-            commands: Vec::new(alloc),
+            commands,
         });
         Reply::Begun(version)
     }
@@ -129,6 +135,7 @@ impl Database {
         ensures { IfOk result (λ reply. IsSubmit client ended reply self.old self.new) }
     {
         let OpenTransaction {
+            store,
             transaction,
             commands,
         } = ended;
@@ -141,6 +148,7 @@ impl Database {
             Ok(ticket) => {
                 self.unreported.push_back(Unreported {
                     client,
+                    store,
                     read_version,
                     commands: Commands::new(commands),
                 })?;

@@ -3,71 +3,77 @@
 ghost use Rattle.std.specs.Prelude.{◌≡◌, Ok, IfOk, IfErr};
 ghost use Rattle.metadata.specs.Answers.{IsRefusedAs};
 ghost use Rattle.metadata.specs.Record.{record_of};
+ghost use Rattle.record_store.specs.Layout.{store_prefix};
 ghost use Rattle.record_store.specs.Opening.{IsOpened, IsUnopened};
 ghost use Rattle.schedule.specs.declared.step.Command.{Command};
-ghost use Rattle.schedule.specs.Layout.{store_prefix};
 ghost use Rattle.schedule.specs.Serve.{reply_to_load, reply_to_remove, reply_to_save};
 ghost use Rattle.schedule.specs.Performed.{IsPerformed};
 ghost use Rattle.schedule.specs.Calls.{IsCommandRefused};
 
 use crate::reply::Reply;
 use metadata::{Cells, Field, MetadataError, Record, Schema, SchemaRequest, TypeRequest};
-use record_store::{KnownSchema, Store, StoreError};
+use record_store::{KnownSchema, Store, StoreError, StoreNumber};
 use std::alloc::Global;
 use tuple_codec::Text;
 use txn::{Snapshot, Transaction};
 
-/// What each key of the store begins with: the pack of (1).
-const PREFIX: [u8; 2] = [0x15, 0x01];
-
-/// Opens the store.
+/// Opens the store of this number.
 pub(crate) fn open<S: Snapshot>(
     alloc: Global,
+    number: StoreNumber,
     tx: &mut Transaction,
     db: &S,
     known: &mut KnownSchema,
 ) -> Result<Store, StoreError>
     ensures opened { IfOk result (λ store. IsOpened (S.map_at db.now) store tx.old tx.new) }
-    ensures prefix { IfOk result (λ store. store.prefix ≡ store_prefix) }
+    ensures prefix { IfOk result (λ store. store.prefix ≡ store_prefix number) }
     ensures refused { IfErr result (λ error.
-        IsUnopened (S.map_at db.now) (S.may_refuse db.now) store_prefix error tx.old tx.new) }
+        IsUnopened (S.map_at db.now) (S.may_refuse db.now) (store_prefix number) error tx.old tx.new) }
 {
-    Store::open_knowing(alloc, &PREFIX, tx, db, known)
+    let prefix = number.prefix(alloc)?;
+    Store::open_knowing(alloc, &prefix, tx, db, known)
 }
 
-/// Makes a store of these types and indexes, where there is none.
+/// Makes the store of this number, of these types and indexes, where there is none.
 pub(crate) fn create<S: Snapshot>(
     alloc: Global,
+    number: StoreNumber,
     tx: &mut Transaction,
     db: &S,
     request: &SchemaRequest,
 ) -> Result<Reply, StoreError>
     ensures performed { IfOk result (λ answer.
-        IsPerformed (S.map_at db.now) (λ range. S.may_refuse db.now range tx.old.read_version)
+        IsPerformed number (S.map_at db.now)
+        (λ range. S.may_refuse db.now range tx.old.read_version)
         (Command.Create request.now) answer tx.old tx.new) }
     ensures refused { IfErr result (λ error.
-        IsCommandRefused (S.map_at db.now) (S.may_refuse db.now) (Command.Create request.now) error tx.old tx.new) }
+        IsCommandRefused number (S.map_at db.now) (S.may_refuse db.now)
+        (Command.Create request.now) error tx.old tx.new) }
 {
     let schema = Schema::of_request(alloc, request)?;
-    let _store = Store::create(alloc, &PREFIX, tx, db, &schema)?;
+    let prefix = number.prefix(alloc)?;
+    let _store = Store::create(alloc, &prefix, tx, db, &schema)?;
     Ok(Reply::Done)
 }
 
 /// Adds a type to the store.
 pub(crate) fn add_type<S: Snapshot>(
     alloc: Global,
+    number: StoreNumber,
     tx: &mut Transaction,
     db: &S,
     known: &mut KnownSchema,
     request: &TypeRequest,
 ) -> Result<Reply, StoreError>
     ensures performed { IfOk result (λ answer.
-        IsPerformed (S.map_at db.now) (λ range. S.may_refuse db.now range tx.old.read_version)
+        IsPerformed number (S.map_at db.now)
+        (λ range. S.may_refuse db.now range tx.old.read_version)
         (Command.«Type» request.now) answer tx.old tx.new) }
     ensures refused { IfErr result (λ error.
-        IsCommandRefused (S.map_at db.now) (S.may_refuse db.now) (Command.«Type» request.now) error tx.old tx.new) }
+        IsCommandRefused number (S.map_at db.now) (S.may_refuse db.now)
+        (Command.«Type» request.now) error tx.old tx.new) }
 {
-    let mut store = open(alloc, tx, db, known)?;
+    let mut store = open(alloc, number, tx, db, known)?;
     store.add_type(tx, request)?;
     Ok(Reply::Done)
 }
@@ -75,6 +81,7 @@ pub(crate) fn add_type<S: Snapshot>(
 /// Appends a field to the type of this name.
 pub(crate) fn add_field<S: Snapshot>(
     alloc: Global,
+    number: StoreNumber,
     tx: &mut Transaction,
     db: &S,
     known: &mut KnownSchema,
@@ -82,13 +89,14 @@ pub(crate) fn add_field<S: Snapshot>(
     field: &Field,
 ) -> Result<Reply, StoreError>
     ensures performed { IfOk result (λ answer.
-        IsPerformed (S.map_at db.now) (λ range. S.may_refuse db.now range tx.old.read_version)
+        IsPerformed number (S.map_at db.now)
+        (λ range. S.may_refuse db.now range tx.old.read_version)
         (Command.Field type_name.now field.now) answer tx.old tx.new) }
     ensures refused { IfErr result (λ error.
-        IsCommandRefused (S.map_at db.now) (S.may_refuse db.now) (Command.Field type_name.now field.now) error
-        tx.old tx.new) }
+        IsCommandRefused number (S.map_at db.now) (S.may_refuse db.now)
+        (Command.Field type_name.now field.now) error tx.old tx.new) }
 {
-    let mut store = open(alloc, tx, db, known)?;
+    let mut store = open(alloc, number, tx, db, known)?;
     store.add_field(tx, type_name, field)?;
     Ok(Reply::Done)
 }
@@ -120,6 +128,7 @@ fn saved_reply(old: Option<Record>) -> Reply
 /// Puts the record of the type of this name with these cells in the place of the one with its primary key.
 pub(crate) fn save<S: Snapshot>(
     alloc: Global,
+    number: StoreNumber,
     tx: &mut Transaction,
     db: &S,
     known: &mut KnownSchema,
@@ -127,13 +136,14 @@ pub(crate) fn save<S: Snapshot>(
     cells: &Cells,
 ) -> Result<Reply, StoreError>
     ensures performed { IfOk result (λ answer.
-        IsPerformed (S.map_at db.now) (λ range. S.may_refuse db.now range tx.old.read_version)
+        IsPerformed number (S.map_at db.now)
+        (λ range. S.may_refuse db.now range tx.old.read_version)
         (Command.Save type_name.now cells.now) answer tx.old tx.new) }
     ensures refused { IfErr result (λ error.
-        IsCommandRefused (S.map_at db.now) (S.may_refuse db.now)
+        IsCommandRefused number (S.map_at db.now) (S.may_refuse db.now)
         (Command.Save type_name.now cells.now) error tx.old tx.new) }
 {
-    let store = open(alloc, tx, db, known)?;
+    let store = open(alloc, number, tx, db, known)?;
     let new = record_asked(alloc, store.schema(), type_name, cells)?;
     let old = store.save(tx, db, &new)?;
     Ok(saved_reply(old))
@@ -152,6 +162,7 @@ fn loaded_reply(found: Option<Record>) -> Reply
 /// Asks for the record of the type of this name with these key cells.
 pub(crate) fn load<S: Snapshot>(
     alloc: Global,
+    number: StoreNumber,
     tx: &mut Transaction,
     db: &S,
     known: &mut KnownSchema,
@@ -159,13 +170,14 @@ pub(crate) fn load<S: Snapshot>(
     cells: &Cells,
 ) -> Result<Reply, StoreError>
     ensures performed { IfOk result (λ answer.
-        IsPerformed (S.map_at db.now) (λ range. S.may_refuse db.now range tx.old.read_version)
+        IsPerformed number (S.map_at db.now)
+        (λ range. S.may_refuse db.now range tx.old.read_version)
         (Command.Load type_name.now cells.now) answer tx.old tx.new) }
     ensures refused { IfErr result (λ error.
-        IsCommandRefused (S.map_at db.now) (S.may_refuse db.now)
+        IsCommandRefused number (S.map_at db.now) (S.may_refuse db.now)
         (Command.Load type_name.now cells.now) error tx.old tx.new) }
 {
-    let store = open(alloc, tx, db, known)?;
+    let store = open(alloc, number, tx, db, known)?;
     let found = store.load(tx, db, type_name, cells)?;
     Ok(loaded_reply(found))
 }
@@ -184,6 +196,7 @@ fn removed_reply(was_there: bool) -> Reply
 /// Takes out the record of the type of this name with these key cells.
 pub(crate) fn remove<S: Snapshot>(
     alloc: Global,
+    number: StoreNumber,
     tx: &mut Transaction,
     db: &S,
     known: &mut KnownSchema,
@@ -191,13 +204,14 @@ pub(crate) fn remove<S: Snapshot>(
     cells: &Cells,
 ) -> Result<Reply, StoreError>
     ensures performed { IfOk result (λ answer.
-        IsPerformed (S.map_at db.now) (λ range. S.may_refuse db.now range tx.old.read_version)
+        IsPerformed number (S.map_at db.now)
+        (λ range. S.may_refuse db.now range tx.old.read_version)
         (Command.Remove type_name.now cells.now) answer tx.old tx.new) }
     ensures refused { IfErr result (λ error.
-        IsCommandRefused (S.map_at db.now) (S.may_refuse db.now)
+        IsCommandRefused number (S.map_at db.now) (S.may_refuse db.now)
         (Command.Remove type_name.now cells.now) error tx.old tx.new) }
 {
-    let store = open(alloc, tx, db, known)?;
+    let store = open(alloc, number, tx, db, known)?;
     let was_there = store.remove(tx, db, type_name, cells)?;
     Ok(removed_reply(was_there))
 }

@@ -6,12 +6,14 @@ ghost use Rattle.schedule.specs.declared.step.TheConstants.{CLIENTS};
 use crate::step::Command;
 use crate::transcript::{Commands, CommitEntry};
 use cluster_core::{Cluster, Reported};
+use record_store::StoreNumber;
 use std::collections::VecDeque;
 use txn::Transaction;
 
-// A client's open transaction, with the commands that it accepted.
+// A client's open transaction in a store, with the commands that it accepted.
 #[derive(Drop)]
 pub(crate) struct OpenTransaction {
+    pub(crate) store: StoreNumber,
     pub(crate) transaction: Transaction,
     pub(crate) commands: Vec<Command>,
 }
@@ -20,6 +22,7 @@ pub(crate) struct OpenTransaction {
 #[derive(Drop)]
 pub(crate) struct Unreported {
     pub(crate) client: u64,
+    pub(crate) store: StoreNumber,
     pub(crate) read_version: u64,
     pub(crate) commands: Commands,
 }

@@ -14,7 +14,7 @@ use metadata::Record;
 use plan_exec::{ExecError, plan_for_store};
 use planner::{Plan, PlanError};
 use query::Query;
-use record_store::{KnownSchema, Records, Store, StoreError};
+use record_store::{KnownSchema, Records, Store, StoreError, StoreNumber};
 use std::alloc::{AllocError, Global};
 use txn::{Snapshot, Transaction};
 
@@ -56,20 +56,23 @@ fn execution<S: Snapshot>(
 /// Executes a plan.
 pub(crate) fn execute<S: Snapshot>(
     alloc: Global,
+    number: StoreNumber,
     tx: &mut Transaction,
     db: &S,
     known: &mut KnownSchema,
     plan: &SharedPlan,
 ) -> Result<Reply, StoreError>
     ensures performed { IfOk result (λ answer.
-        IsPerformed (S.map_at db.now) (λ range. S.may_refuse db.now range tx.old.read_version)
+        IsPerformed number (S.map_at db.now)
+        (λ range. S.may_refuse db.now range tx.old.read_version)
         (Command.Execute plan.now) answer tx.old tx.new) }
     ensures refused { IfErr result (λ error.
-        IsCommandRefused (S.map_at db.now) (S.may_refuse db.now) (Command.Execute plan.now) error tx.old tx.new) }
+        IsCommandRefused number (S.map_at db.now) (S.may_refuse db.now)
+        (Command.Execute plan.now) error tx.old tx.new) }
 {
     let plan = plan.plan();
     plan.query();
-    let store = open(alloc, tx, db, known)?;
+    let store = open(alloc, number, tx, db, known)?;
     let reply = execution(alloc, &store, tx, db, plan)?;
     Ok(reply)
 }
@@ -103,18 +106,21 @@ fn query_reply<S: Snapshot>(
 /// Asks for the answer to a query.
 pub(crate) fn query<S: Snapshot>(
     alloc: Global,
+    number: StoreNumber,
     tx: &mut Transaction,
     db: &S,
     known: &mut KnownSchema,
     asked: &AskedQuery,
 ) -> Result<Reply, StoreError>
     ensures performed { IfOk result (λ answer.
-        IsPerformed (S.map_at db.now) (λ range. S.may_refuse db.now range tx.old.read_version)
+        IsPerformed number (S.map_at db.now)
+        (λ range. S.may_refuse db.now range tx.old.read_version)
         (Command.Query asked.now) answer tx.old tx.new) }
     ensures refused { IfErr result (λ error.
-        IsCommandRefused (S.map_at db.now) (S.may_refuse db.now) (Command.Query asked.now) error tx.old tx.new) }
+        IsCommandRefused number (S.map_at db.now) (S.may_refuse db.now)
+        (Command.Query asked.now) error tx.old tx.new) }
 {
-    let store = open(alloc, tx, db, known)?;
+    let store = open(alloc, number, tx, db, known)?;
     let reply = query_reply(alloc, &store, tx, db, asked.query())?;
     Ok(reply)
 }

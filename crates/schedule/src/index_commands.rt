@@ -7,7 +7,7 @@ ghost use Rattle.schedule.specs.Performed.{IsPerformed};
 use crate::commands::open;
 use crate::reply::Reply;
 use metadata::{Cells, IndexRequest};
-use record_store::{KnownSchema, StoreError};
+use record_store::{KnownSchema, StoreError, StoreNumber};
 use std::alloc::Global;
 use tuple_codec::Text;
 use txn::{Snapshot, Transaction};
@@ -15,18 +15,21 @@ use txn::{Snapshot, Transaction};
 /// Adds an index to the store.
 pub(crate) fn add_index<S: Snapshot>(
     alloc: Global,
+    number: StoreNumber,
     tx: &mut Transaction,
     db: &S,
     known: &mut KnownSchema,
     request: &IndexRequest,
 ) -> Result<Reply, StoreError>
     ensures performed { IfOk result (λ answer.
-        IsPerformed (S.map_at db.now) (λ range. S.may_refuse db.now range tx.old.read_version)
+        IsPerformed number (S.map_at db.now)
+        (λ range. S.may_refuse db.now range tx.old.read_version)
         (Command.Index request.now) answer tx.old tx.new) }
     ensures refused { IfErr result (λ error.
-        IsCommandRefused (S.map_at db.now) (S.may_refuse db.now) (Command.Index request.now) error tx.old tx.new) }
+        IsCommandRefused number (S.map_at db.now) (S.may_refuse db.now)
+        (Command.Index request.now) error tx.old tx.new) }
 {
-    let mut store = open(alloc, tx, db, known)?;
+    let mut store = open(alloc, number, tx, db, known)?;
     let state = store.add_index(tx, db, request)?;
     Ok(Reply::Indexed(state))
 }
@@ -34,18 +37,21 @@ pub(crate) fn add_index<S: Snapshot>(
 /// Drops the index of this name.
 pub(crate) fn drop_index<S: Snapshot>(
     alloc: Global,
+    number: StoreNumber,
     tx: &mut Transaction,
     db: &S,
     known: &mut KnownSchema,
     name: &Text,
 ) -> Result<Reply, StoreError>
     ensures performed { IfOk result (λ answer.
-        IsPerformed (S.map_at db.now) (λ range. S.may_refuse db.now range tx.old.read_version)
+        IsPerformed number (S.map_at db.now)
+        (λ range. S.may_refuse db.now range tx.old.read_version)
         (Command.Drop name.now) answer tx.old tx.new) }
     ensures refused { IfErr result (λ error.
-        IsCommandRefused (S.map_at db.now) (S.may_refuse db.now) (Command.Drop name.now) error tx.old tx.new) }
+        IsCommandRefused number (S.map_at db.now) (S.may_refuse db.now)
+        (Command.Drop name.now) error tx.old tx.new) }
 {
-    let mut store = open(alloc, tx, db, known)?;
+    let mut store = open(alloc, number, tx, db, known)?;
     store.drop_index(tx, name)?;
     Ok(Reply::Done)
 }
@@ -53,18 +59,21 @@ pub(crate) fn drop_index<S: Snapshot>(
 /// Disables the index of this name.
 pub(crate) fn disable_index<S: Snapshot>(
     alloc: Global,
+    number: StoreNumber,
     tx: &mut Transaction,
     db: &S,
     known: &mut KnownSchema,
     name: &Text,
 ) -> Result<Reply, StoreError>
     ensures performed { IfOk result (λ answer.
-        IsPerformed (S.map_at db.now) (λ range. S.may_refuse db.now range tx.old.read_version)
+        IsPerformed number (S.map_at db.now)
+        (λ range. S.may_refuse db.now range tx.old.read_version)
         (Command.Disable name.now) answer tx.old tx.new) }
     ensures refused { IfErr result (λ error.
-        IsCommandRefused (S.map_at db.now) (S.may_refuse db.now) (Command.Disable name.now) error tx.old tx.new) }
+        IsCommandRefused number (S.map_at db.now) (S.may_refuse db.now)
+        (Command.Disable name.now) error tx.old tx.new) }
 {
-    let mut store = open(alloc, tx, db, known)?;
+    let mut store = open(alloc, number, tx, db, known)?;
     store.mark_disabled(tx, name)?;
     Ok(Reply::Done)
 }
@@ -72,18 +81,21 @@ pub(crate) fn disable_index<S: Snapshot>(
 /// Marks the index of this name write-only.
 pub(crate) fn mark_write_only<S: Snapshot>(
     alloc: Global,
+    number: StoreNumber,
     tx: &mut Transaction,
     db: &S,
     known: &mut KnownSchema,
     name: &Text,
 ) -> Result<Reply, StoreError>
     ensures performed { IfOk result (λ answer.
-        IsPerformed (S.map_at db.now) (λ range. S.may_refuse db.now range tx.old.read_version)
+        IsPerformed number (S.map_at db.now)
+        (λ range. S.may_refuse db.now range tx.old.read_version)
         (Command.WriteOnly name.now) answer tx.old tx.new) }
     ensures refused { IfErr result (λ error.
-        IsCommandRefused (S.map_at db.now) (S.may_refuse db.now) (Command.WriteOnly name.now) error tx.old tx.new) }
+        IsCommandRefused number (S.map_at db.now) (S.may_refuse db.now)
+        (Command.WriteOnly name.now) error tx.old tx.new) }
 {
-    let mut store = open(alloc, tx, db, known)?;
+    let mut store = open(alloc, number, tx, db, known)?;
     store.mark_write_only(tx, name)?;
     Ok(Reply::Done)
 }
@@ -91,18 +103,21 @@ pub(crate) fn mark_write_only<S: Snapshot>(
 /// Marks the write-only index of this name readable.
 pub(crate) fn mark_readable<S: Snapshot>(
     alloc: Global,
+    number: StoreNumber,
     tx: &mut Transaction,
     db: &S,
     known: &mut KnownSchema,
     name: &Text,
 ) -> Result<Reply, StoreError>
     ensures performed { IfOk result (λ answer.
-        IsPerformed (S.map_at db.now) (λ range. S.may_refuse db.now range tx.old.read_version)
+        IsPerformed number (S.map_at db.now)
+        (λ range. S.may_refuse db.now range tx.old.read_version)
         (Command.Readable name.now) answer tx.old tx.new) }
     ensures refused { IfErr result (λ error.
-        IsCommandRefused (S.map_at db.now) (S.may_refuse db.now) (Command.Readable name.now) error tx.old tx.new) }
+        IsCommandRefused number (S.map_at db.now) (S.may_refuse db.now)
+        (Command.Readable name.now) error tx.old tx.new) }
 {
-    let mut store = open(alloc, tx, db, known)?;
+    let mut store = open(alloc, number, tx, db, known)?;
     store.mark_readable(tx, db, name)?;
     Ok(Reply::Done)
 }
@@ -110,18 +125,21 @@ pub(crate) fn mark_readable<S: Snapshot>(
 /// Asks for the state of the index of this name.
 pub(crate) fn index_state<S: Snapshot>(
     alloc: Global,
+    number: StoreNumber,
     tx: &mut Transaction,
     db: &S,
     known: &mut KnownSchema,
     name: &Text,
 ) -> Result<Reply, StoreError>
     ensures performed { IfOk result (λ answer.
-        IsPerformed (S.map_at db.now) (λ range. S.may_refuse db.now range tx.old.read_version)
+        IsPerformed number (S.map_at db.now)
+        (λ range. S.may_refuse db.now range tx.old.read_version)
         (Command.State name.now) answer tx.old tx.new) }
     ensures refused { IfErr result (λ error.
-        IsCommandRefused (S.map_at db.now) (S.may_refuse db.now) (Command.State name.now) error tx.old tx.new) }
+        IsCommandRefused number (S.map_at db.now) (S.may_refuse db.now)
+        (Command.State name.now) error tx.old tx.new) }
 {
-    let store = open(alloc, tx, db, known)?;
+    let store = open(alloc, number, tx, db, known)?;
     match store.state(name) {
         Ok(state) => Ok(Reply::State(state)),
         Err(refusal) => Err(StoreError::Refused(refusal)),
@@ -131,6 +149,7 @@ pub(crate) fn index_state<S: Snapshot>(
 /// Asks for the total of the group of these cells.
 pub(crate) fn aggregate<S: Snapshot>(
     alloc: Global,
+    number: StoreNumber,
     tx: &mut Transaction,
     db: &S,
     known: &mut KnownSchema,
@@ -138,13 +157,14 @@ pub(crate) fn aggregate<S: Snapshot>(
     group: &Cells,
 ) -> Result<Reply, StoreError>
     ensures performed { IfOk result (λ answer.
-        IsPerformed (S.map_at db.now) (λ range. S.may_refuse db.now range tx.old.read_version)
+        IsPerformed number (S.map_at db.now)
+        (λ range. S.may_refuse db.now range tx.old.read_version)
         (Command.Aggregate name.now group.now) answer tx.old tx.new) }
     ensures refused { IfErr result (λ error.
-        IsCommandRefused (S.map_at db.now) (S.may_refuse db.now)
+        IsCommandRefused number (S.map_at db.now) (S.may_refuse db.now)
         (Command.Aggregate name.now group.now) error tx.old tx.new) }
 {
-    let store = open(alloc, tx, db, known)?;
+    let store = open(alloc, number, tx, db, known)?;
     let total = store.aggregate(tx, db, name, group)?;
     Ok(Reply::Total(total))
 }

@@ -16,7 +16,7 @@ use crate::reply::Reply;
 use crate::step::Command;
 use cluster_core::ReadError;
 use kv_core::WriteError;
-use record_store::{KnownSchema, StoreError};
+use record_store::{KnownSchema, StoreError, StoreNumber};
 use std::alloc::{AllocError, Global};
 use txn::{Snapshot, Transaction};
 
@@ -71,38 +71,42 @@ fn reply_of(error: StoreError) -> Result<Reply, AllocError>
 fn answer<S: Snapshot>(
     alloc: Global,
     command: &Command,
+    number: StoreNumber,
     tx: &mut Transaction,
     db: &S,
     known: &mut KnownSchema,
 ) -> Result<Reply, StoreError>
     ensures performed { IfOk result (λ answer.
-        IsPerformed (S.map_at db.now) (λ range. S.may_refuse db.now range tx.old.read_version) command.now answer
+        IsPerformed number (S.map_at db.now)
+        (λ range. S.may_refuse db.now range tx.old.read_version) command.now answer
         tx.old tx.new) }
     ensures refused { IfErr result (λ error.
-        IsCommandRefused (S.map_at db.now) (S.may_refuse db.now) command.now error tx.old tx.new) }
+        IsCommandRefused number (S.map_at db.now) (S.may_refuse db.now)
+        command.now error tx.old tx.new) }
 {
     match command {
-        Command::Create(request) => create(alloc, tx, db, request),
-        Command::Type(request) => add_type(alloc, tx, db, known, request),
-        Command::Field(name, field) => add_field(alloc, tx, db, known, name, field),
-        Command::Save(type_name, cells) => save(alloc, tx, db, known, type_name, cells),
-        Command::Load(type_name, cells) => load(alloc, tx, db, known, type_name, cells),
-        Command::Remove(type_name, cells) => remove(alloc, tx, db, known, type_name, cells),
-        Command::Query(asked) => query(alloc, tx, db, known, asked),
-        Command::Plan(asked) => plan(alloc, tx, db, known, asked),
-        Command::Execute(plan) => execute(alloc, tx, db, known, plan),
-        Command::Index(request) => add_index(alloc, tx, db, known, request),
-        Command::Drop(name) => drop_index(alloc, tx, db, known, name),
-        Command::Disable(name) => disable_index(alloc, tx, db, known, name),
-        Command::WriteOnly(name) => mark_write_only(alloc, tx, db, known, name),
-        Command::Readable(name) => mark_readable(alloc, tx, db, known, name),
-        Command::Build(name, limit) => build(alloc, tx, db, known, name, *limit),
-        Command::State(name) => index_state(alloc, tx, db, known, name),
-        Command::Aggregate(name, group) => aggregate(alloc, tx, db, known, name, group),
+        Command::Create(request) => create(alloc, number, tx, db, request),
+        Command::Type(request) => add_type(alloc, number, tx, db, known, request),
+        Command::Field(name, field) => add_field(alloc, number, tx, db, known, name, field),
+        Command::Save(type_name, cells) => save(alloc, number, tx, db, known, type_name, cells),
+        Command::Load(type_name, cells) => load(alloc, number, tx, db, known, type_name, cells),
+        Command::Remove(type_name, cells) => remove(alloc, number, tx, db, known, type_name, cells),
+        Command::Query(asked) => query(alloc, number, tx, db, known, asked),
+        Command::Plan(asked) => plan(alloc, number, tx, db, known, asked),
+        Command::Execute(plan) => execute(alloc, number, tx, db, known, plan),
+        Command::Index(request) => add_index(alloc, number, tx, db, known, request),
+        Command::Drop(name) => drop_index(alloc, number, tx, db, known, name),
+        Command::Disable(name) => disable_index(alloc, number, tx, db, known, name),
+        Command::WriteOnly(name) => mark_write_only(alloc, number, tx, db, known, name),
+        Command::Readable(name) => mark_readable(alloc, number, tx, db, known, name),
+        Command::Build(name, limit) => build(alloc, number, tx, db, known, name, *limit),
+        Command::State(name) => index_state(alloc, number, tx, db, known, name),
+        Command::Aggregate(name, group) => aggregate(alloc, number, tx, db, known, name, group),
     }
 }
 
-/// Performs a command in a transaction, whose reads are answered by the snapshot.
+/// Performs a command on the store of this number in a transaction, whose reads are answered by the
+/// snapshot.
 ///
 /// It adds to the ranges read just those that the command reads, in order. A refusal is a reply: it
 /// keeps the ranges that were read, and writes nothing. `Corrupt` has the key of the first pair
@@ -111,33 +115,39 @@ fn answer<S: Snapshot>(
 pub fn perform<S: Snapshot>(
     alloc: Global,
     command: &Command,
+    number: StoreNumber,
     tx: &mut Transaction,
     db: &S,
 ) -> Result<Reply, AllocError>
     ensures performed { IfOk result (λ answer.
-        IsPerformed (S.map_at db.now) (λ range. S.may_refuse db.now range tx.old.read_version) command.now answer
+        IsPerformed number (S.map_at db.now)
+        (λ range. S.may_refuse db.now range tx.old.read_version) command.now answer
         tx.old tx.new) }
-    ensures stopped { OnErr result (IsCommandStopped (S.map_at db.now) command.now tx.old tx.new) }
+    ensures stopped { OnErr result (
+        IsCommandStopped number (S.map_at db.now) command.now tx.old tx.new) }
 {
     let mut known = KnownSchema::new();
-    perform_knowing(alloc, command, tx, db, &mut known)
+    perform_knowing(alloc, command, number, tx, db, &mut known)
 }
 
-/// The same, where the schema of the store may be known, which needn't be decoded again. It is known
-/// then.
+/// The same, where the schema of the store may be known, which needn't be decoded again. It is
+/// known then. What is known of one store does no harm in another, which has its own bytes.
 pub fn perform_knowing<S: Snapshot>(
     alloc: Global,
     command: &Command,
+    number: StoreNumber,
     tx: &mut Transaction,
     db: &S,
     known: &mut KnownSchema,
 ) -> Result<Reply, AllocError>
     ensures performed { IfOk result (λ answer.
-        IsPerformed (S.map_at db.now) (λ range. S.may_refuse db.now range tx.old.read_version) command.now answer
+        IsPerformed number (S.map_at db.now)
+        (λ range. S.may_refuse db.now range tx.old.read_version) command.now answer
         tx.old tx.new) }
-    ensures stopped { OnErr result (IsCommandStopped (S.map_at db.now) command.now tx.old tx.new) }
+    ensures stopped { OnErr result (
+        IsCommandStopped number (S.map_at db.now) command.now tx.old tx.new) }
 {
-    match answer(alloc, command, tx, db, known) {
+    match answer(alloc, command, number, tx, db, known) {
         Ok(reply) => Ok(reply),
         Err(error) => reply_of(error),
     }

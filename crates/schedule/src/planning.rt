@@ -13,7 +13,7 @@ use crate::reply::Reply;
 use crate::shared_plan::SharedPlan;
 use plan_exec::plan_for_store;
 use planner::PlanError;
-use record_store::{KnownSchema, Store, StoreError};
+use record_store::{KnownSchema, Store, StoreError, StoreNumber};
 use std::alloc::{AllocError, Global};
 use txn::{Snapshot, Transaction};
 
@@ -36,18 +36,21 @@ fn plan_reply(alloc: Global, store: &Store, asked: &AskedQuery) -> Result<Reply,
 /// Asks for the plan of a query.
 pub(crate) fn plan<S: Snapshot>(
     alloc: Global,
+    number: StoreNumber,
     tx: &mut Transaction,
     db: &S,
     known: &mut KnownSchema,
     asked: &AskedQuery,
 ) -> Result<Reply, StoreError>
     ensures performed { IfOk result (λ answer.
-        IsPerformed (S.map_at db.now) (λ range. S.may_refuse db.now range tx.old.read_version)
+        IsPerformed number (S.map_at db.now)
+        (λ range. S.may_refuse db.now range tx.old.read_version)
         (Command.Plan asked.now) answer tx.old tx.new) }
     ensures refused { IfErr result (λ error.
-        IsCommandRefused (S.map_at db.now) (S.may_refuse db.now) (Command.Plan asked.now) error tx.old tx.new) }
+        IsCommandRefused number (S.map_at db.now) (S.may_refuse db.now)
+        (Command.Plan asked.now) error tx.old tx.new) }
 {
-    let store = open(alloc, tx, db, known)?;
+    let store = open(alloc, number, tx, db, known)?;
     let reply = plan_reply(alloc, &store, asked)?;
     Ok(reply)
 }

@@ -12,6 +12,8 @@ use query::QueryError;
 pub enum Refusal {
     /// There is no client of this number.
     NoSuchClient,
+    /// There is no store of this number.
+    NoSuchStore,
     /// There is no role of this number.
     NoSuchRole,
     /// The client has an open transaction.
@@ -123,6 +125,7 @@ impl Refusal {
     {
         match self {
             Refusal::NoSuchClient => "NoSuchClient",
+            Refusal::NoSuchStore => "NoSuchStore",
             Refusal::NoSuchRole => "NoSuchRole",
             Refusal::Busy => "Busy",
             Refusal::NoTransaction => "NoTransaction",

@@ -53,6 +53,7 @@ fn list_commit(
         commits.push(CommitEntry {
             version,
             client: next.client,
+            store: next.store,
             read_version: next.read_version,
             commands: next.commands,
         })?;

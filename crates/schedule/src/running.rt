@@ -28,7 +28,7 @@ impl Database {
         ensures { IfOk result (λ reply. IsSteppedWith kept.now.plans.items step.now reply self.old self.new) }
     {
         match step {
-            Step::Begin(client) => Ok(self.begin(alloc, *client)),
+            Step::Begin(client, number) => Ok(self.begin(alloc, *client, *number)),
             Step::Perform(client, command) => self.perform(alloc, *client, command, known),
             Step::Execute(client) => self.execute(alloc, kept, *client, known),
             Step::Commit(client) => self.commit(*client),

@@ -84,8 +84,9 @@ impl Command {
 /// A step of a schedule: of a client, of which there are `CLIENTS`, or of a role of the database.
 #[derive(Drop)]
 pub enum Step {
-    /// A client begins a transaction, which reads at the last reported version.
-    Begin(u64),
+    /// A client begins a transaction in the store of this number, which reads at the last reported
+    /// version.
+    Begin(u64, u64),
     /// A client performs a command in its open transaction.
     Perform(u64, Command),
     /// A client executes the plan that it keeps, that of its last accepted `Command::Plan`, in its

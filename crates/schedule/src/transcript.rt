@@ -5,6 +5,7 @@ ghost use Rattle.std.specs.Prelude.{◌≡◌};
 use crate::reply::Reply;
 use crate::step::Command;
 use cluster_core::{Cluster, ConfigError};
+use record_store::StoreNumber;
 use std::marker::Model;
 use thiserror::Error;
 
@@ -85,6 +86,8 @@ pub struct CommitEntry {
     pub version: u64,
     /// Whose transaction it was.
     pub client: u64,
+    /// The store that it worked in.
+    pub store: StoreNumber,
     /// The version that it read.
     pub read_version: u64,
     /// Its accepted commands.

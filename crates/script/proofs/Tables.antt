@@ -7,7 +7,9 @@ use Rattle.serde_json.specs.Data.{Data}
 use Rattle.serde_json.specs.Find.{as_str}
 use Rattle.serde_json.specs.View.{view}
 use Rattle.serde_json.specs.declared.value.Value.{Value}
-use Rattle.script.specs.Steps.{command_on, command_with, numbered_step, step_of_number}
+use Rattle.std.specs.Prelude.{option_map}
+use Rattle.schedule.specs.declared.step.Step.TheVariants.{Perform}
+use Rattle.script.specs.Steps.{command_on, command_with, numbered_step, step_of_number, step_with_part}
 
 differs : (word name : List ℕ) → (name ≡ word → ⊥) → bytes_eq word name ≡ false
 differs word name other = by (bytes_eq word name) refl
@@ -36,6 +38,10 @@ no_command_on name owner part n1 n2 n3 n4 n5 n6 = by (as_str owner) refl
     by : (o : Option (List ℕ)) → as_str owner ≡ o → command_on name owner part ≡ None
     by None is = rw (is)
     by (Some t) is = rw (is, differs _ name n1, differs _ name n2, differs _ name n3, differs _ name n4, differs _ name n5, differs _ name n6)
+
+-- a step with one part whose name isn't that of a beginning performs a command
+pub performs_with : (name : List ℕ) (number : ℕ) (part : Data) → (name ≡ codes "begin" → ⊥) → step_with_part name number part ≡ option_map (Perform number) (command_with name part)
+performs_with name number part other = rw (differs (codes "begin") name other) refl
 
 -- no step has three parts behind its number
 three_parts : (name : List ℕ) (number : ℕ) (parts : List Data) → 3 ≤ length parts → numbered_step name number parts ≡ None

@@ -1,6 +1,7 @@
 -- The step that JSON stands for.
 use Rattle.std.specs.Prelude.{ℕ, ◌^◌, nat_lt, if◌then◌else◌, List, [], ◌∷◌, codes, Option, Some, None}
 use Rattle.std.specs.Prelude.{option_map, option_and_then}
+use Rattle.std.specs.Str.{bytes_eq}
 use Rattle.schedule.specs.declared.step.Command.{Command}
 use Rattle.schedule.specs.declared.step.Command.TheVariants as commands
 use Rattle.schedule.specs.declared.step.Step.{Step}
@@ -44,17 +45,24 @@ command_on name owner part =
     ∷ (codes "build", λ d. option_map (commands.Build t) (limit_in d))
     ∷ (codes "field", λ d. option_map (commands.Field t) (json_field d)) ∷ []) name)) (as_str owner)
 
--- the step of this name with just the number of a client or of a role
+-- the step of this name with just the number of a client or of a role; where no store is named it is store 1
 abbrev pub step_of_number : List ℕ → ℕ → Option Step
 step_of_number name number =
-    named ((codes "begin", Begin number) ∷ (codes "execute", Execute number) ∷ (codes "commit", Commit number)
+    named ((codes "begin", Begin number 1) ∷ (codes "execute", Execute number) ∷ (codes "commit", Commit number)
     ∷ (codes "abandon", Abandon number) ∷ (codes "resolve", Resolve number) ∷ (codes "log", Log number)
     ∷ (codes "pull", Pull number) ∷ []) name
+
+-- the step of this name with a client's number and one part: a transaction is begun in the store of a number, or a
+-- command is performed
+abbrev pub step_with_part : List ℕ → ℕ → Data → Option Step
+step_with_part name number part =
+    if bytes_eq (codes "begin") name then option_map (Begin number) (number_in part)
+    else option_map (Perform number) (command_with name part)
 
 -- the step of this name with a number, and what stands behind it
 abbrev pub numbered_step : List ℕ → ℕ → List Data → Option Step
 numbered_step name number [] = step_of_number name number
-numbered_step name number (part ∷ []) = option_map (Perform number) (command_with name part)
+numbered_step name number (part ∷ []) = step_with_part name number part
 numbered_step name number (owner ∷ part ∷ []) = option_map (Perform number) (command_on name owner part)
 numbered_step name number parts = None
 

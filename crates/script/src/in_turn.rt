@@ -9,7 +9,7 @@ ghost use Rattle.script.specs.Script.{IsScript, steps_alone};
 ghost use Rattle.script.specs.Steps.{command_on, numbered_step, step_in, step_with};
 
 use crate::script::{Script, default_config};
-use crate::step_json::{command_of_one, command_on, common_step, step_of_number};
+use crate::step_json::{command_on, common_step, step_of_number, step_with_part};
 use json::{Reader, Scratch, Token};
 use json_forms::{
     MAX_TEXT_BYTES, PartError, next_cells, next_token, next_value, text_from, whole_of,
@@ -66,7 +66,7 @@ fn next_numbered_step(
     }
     let first = next_value(alloc, reader, PART_DEPTH)?;
     if reader.take_end_array() {
-        return Ok(Step::Perform(number, command_of_one(alloc, name, &first)?));
+        return step_with_part(alloc, name, number, &first);
     }
     let command = next_command_on(alloc, reader, name, first)?;
     if reader.take_end_array() {

@@ -3,7 +3,7 @@ ghost use Rattle.std.specs.Prelude.{◌≡◌, Some, None, IfOk, IfErr, map};
 ghost use Rattle.serde_json.specs.View.{view};
 ghost use Rattle.json_forms.specs.QueryJson.{query_in};
 ghost use Rattle.script.specs.Steps.{command_on, command_with, common_step, limit_in};
-ghost use Rattle.script.specs.Steps.{numbered_step, step_in, step_of_number};
+ghost use Rattle.script.specs.Steps.{numbered_step, step_in, step_of_number, step_with_part};
 
 use json_forms::{
     PartError, cells_of, field_of, index_of, list_of, number_of, schema_of, str_of, text_of,
@@ -12,6 +12,9 @@ use json_forms::{
 use schedule::{AskedQuery, Command, Step};
 use serde_json::Value;
 use std::alloc::Global;
+
+// The store of a transaction whose beginning names none.
+const FIRST_STORE: u64 = 1;
 
 // The query of a command.
 fn query_of(alloc: Global, value: &Value) -> Result<AskedQuery, PartError>
@@ -84,7 +87,7 @@ pub(crate) fn step_of_number(name: &str, number: u64) -> Result<Step, PartError>
     ensures err { IfErr result (λ error. error ≡ PartError.BadForm → step_of_number name.now number ≡ None) }
 {
     match name {
-        "begin" => Ok(Step::Begin(number)),
+        "begin" => Ok(Step::Begin(number, FIRST_STORE)),
         "execute" => Ok(Step::Execute(number)),
         "commit" => Ok(Step::Commit(number)),
         "abandon" => Ok(Step::Abandon(number)),
@@ -92,6 +95,24 @@ pub(crate) fn step_of_number(name: &str, number: u64) -> Result<Step, PartError>
         "log" => Ok(Step::Log(number)),
         "pull" => Ok(Step::Pull(number)),
         _ => Err(PartError::BadForm),
+    }
+}
+
+// A step with a client's number and one part: a transaction is begun in the store of a number, or
+// a command is performed.
+pub(crate) fn step_with_part(
+    alloc: Global,
+    name: &str,
+    number: u64,
+    part: &Value,
+) -> Result<Step, PartError>
+    ensures ok { IfOk result (λ step. step_with_part name.now number (view part.now) ≡ Some step) }
+    ensures err { IfErr result (λ error. error ≡ PartError.BadForm
+        → step_with_part name.now number (view part.now) ≡ None) }
+{
+    match name {
+        "begin" => Ok(Step::Begin(number, number_of(part)?)),
+        _ => Ok(Step::Perform(number, command_of_one(alloc, name, part)?)),
     }
 }
 
@@ -103,7 +124,7 @@ fn numbered_step(alloc: Global, name: &str, number: u64, parts: &[Value]) -> Res
 {
     match parts {
         [] => step_of_number(name, number),
-        [part] => Ok(Step::Perform(number, command_of_one(alloc, name, part)?)),
+        [part] => step_with_part(alloc, name, number, part),
         [owner, part] => {
             let command = command_on(alloc, name, owner, part)?;
             Ok(Step::Perform(number, command))

@@ -5,7 +5,7 @@ use record_layer::IndexOf::{Count, Value};
 use record_layer::{Bytes, Error, KeyRange, Kind, Schema, SchemaMaker, place_of};
 use std::alloc::Global;
 
-/// Ranges: their begins and their ends after the prefix of the store, which is the pack of (1).
+/// Ranges: their begins and their ends after the prefix of a store.
 const RANGES: [(&[u8], &[u8]); 20] = [
     // the key (0)
     (&[0x14], &[0x14, 0x00]),
@@ -54,6 +54,16 @@ const RANGES: [(&[u8], &[u8]); 20] = [
     (&[0x03], &[0x04]),
 ];
 
+/// What keys of store 1 begin with, of store 65,535, and of none: the packs of (1), (65535), (0),
+/// (65536), and no pack.
+const PREFIXES: [&[u8]; 5] = [
+    &[0x15, 0x01],
+    &[0x16, 0xff, 0xff],
+    &[0x14],
+    &[0x17, 0x01, 0x00, 0x00],
+    &[0x16, 0x01],
+];
+
 /// Books by their titles, and marks by bytes and numbers; books by their authors, and their number.
 fn shop(alloc: Global) -> Result<Schema, Error> {
     let book = [("title", Kind::Text), ("author", Kind::Text)];
@@ -70,16 +80,22 @@ fn shop(alloc: Global) -> Result<Schema, Error> {
     Ok(asked.into_schema()?)
 }
 
-/// The key after the prefix.
-fn key(alloc: Global, rest: &[u8]) -> Result<Bytes, Error> {
-    let mut bytes = Vec::from_slice(alloc, &[0x15, 0x01])?;
+/// The key after a prefix.
+fn key(alloc: Global, prefix: &[u8], rest: &[u8]) -> Result<Bytes, Error> {
+    let mut bytes = Vec::from_slice(alloc, prefix)?;
     bytes.extend_from_slice(rest)?;
     Ok(Bytes::new(bytes))
 }
 
 /// Where a range stands, in a line.
-fn line(alloc: Global, schema: &Schema, begin: &[u8], end: &[u8]) -> Result<String, Error> {
-    match KeyRange::new(key(alloc, begin)?, key(alloc, end)?) {
+fn line(
+    alloc: Global,
+    schema: &Schema,
+    prefix: &[u8],
+    range: (&[u8], &[u8]),
+) -> Result<String, Error> {
+    let (begin, end) = range;
+    match KeyRange::new(key(alloc, prefix, begin)?, key(alloc, prefix, end)?) {
         Some(range) => {
             let place = place_of(alloc, schema, &range)?;
             Ok(format!(in alloc; "{place}")?)
@@ -90,8 +106,12 @@ fn line(alloc: Global, schema: &Schema, begin: &[u8], end: &[u8]) -> Result<Stri
 
 fn main(rt: HostRuntime) -> Result<(), Error> {
     let schema = shop(rt.alloc())?;
-    for (begin, end) in RANGES {
-        let line = line(rt.alloc(), &schema, begin, end)?;
+    for range in RANGES {
+        let line = line(rt.alloc(), &schema, PREFIXES[0], range)?;
+        rt.println(line)?;
+    }
+    for prefix in PREFIXES {
+        let line = line(rt.alloc(), &schema, prefix, RANGES[2])?;
         rt.println(line)?;
     }
     Ok(())

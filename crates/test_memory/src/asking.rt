@@ -1,4 +1,5 @@
 // A command performed, and once more where memory runs out. Called by `main` and `worked`.
+use record_store::StoreNumber;
 use schedule::{Command, Reply, perform};
 use script::make_line;
 use std::alloc::Global;
@@ -14,11 +15,11 @@ fn reply_of<S: Snapshot>(
     command: &Command,
     asked: &mut String,
 ) -> Result<Reply, Fail> {
-    match perform(alloc, command, tx, db) {
+    match perform(alloc, command, StoreNumber::first(), tx, db) {
         Ok(reply) => Ok(reply),
         Err(_) => {
             asked.push_str("again ")?;
-            let reply = perform(alloc, command, tx, db)?;
+            let reply = perform(alloc, command, StoreNumber::first(), tx, db)?;
             Ok(reply)
         }
     }

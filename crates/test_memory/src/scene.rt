@@ -1,6 +1,7 @@
 // The store that is asked, what the transaction writes before it asks, and the queries; commands of
 // scripts. Called by `main` and `worked`.
 use kv_core::KvMap;
+use record_store::StoreNumber;
 use schedule::{Command, Step, perform};
 use script::script_of;
 use std::alloc::Global;
@@ -61,7 +62,7 @@ pub(crate) fn perform_all(
     script: &str,
 ) -> Result<(), Fail> {
     for command in commands(alloc, script)? {
-        let _reply = perform(alloc, &command, tx, db)?;
+        let _reply = perform(alloc, &command, StoreNumber::first(), tx, db)?;
     }
     Ok(())
 }

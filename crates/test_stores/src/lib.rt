@@ -12,6 +12,8 @@ mod joining;
 #[cfg(test)]
 mod lines;
 #[cfg(test)]
+mod numbers;
+#[cfg(test)]
 mod queries;
 #[cfg(test)]
 mod refused_reads;

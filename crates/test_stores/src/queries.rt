@@ -2,6 +2,7 @@
 use crate::scene::command_of;
 use cluster_core::ReadError;
 use kv_core::KvMap;
+use record_store::StoreNumber;
 use schedule::perform;
 use script::make_line;
 use std::alloc::Global;
@@ -94,7 +95,7 @@ fn answers<S: Snapshot>(
     told: &str,
 ) -> Result<(), Fail> {
     let command = command_of(alloc, step)?;
-    let reply = perform(alloc, &command, tx, db)?;
+    let reply = perform(alloc, &command, StoreNumber::first(), tx, db)?;
     let mut line = String::new(alloc);
     make_line(alloc, &mut line, 1, &reply)?;
     let wanted = format!(in alloc; "1 {told}\n")?;
@@ -110,7 +111,7 @@ fn accepted<S: Snapshot>(
 ) -> Result<(), Fail> {
     for step in steps {
         let command = command_of(alloc, step)?;
-        let _reply = perform(alloc, &command, tx, db)?;
+        let _reply = perform(alloc, &command, StoreNumber::first(), tx, db)?;
     }
     Ok(())
 }

@@ -1,6 +1,7 @@
 // Commands each of whose reads of the database is refused in turn. Run as a test.
 use crate::scene::command_of;
 use cluster_core::ReadError;
+use record_store::StoreNumber;
 use schedule::{Command, perform};
 use script::make_line;
 use std::alloc::Global;
@@ -22,7 +23,7 @@ fn tried(
 ) -> Result<(String, bool), Fail> {
     let tx = session.open.get_mut(client).ok_or("no such client")?;
     let failing = FailAt::new(&session.cluster, at, ReadError::FutureVersion);
-    let reply = perform(alloc, command, tx, &failing)?;
+    let reply = perform(alloc, command, StoreNumber::first(), tx, &failing)?;
     let mut line = String::new(alloc);
     make_line(alloc, &mut line, 1, &reply)?;
     Ok((line, failing.reads() >= at))

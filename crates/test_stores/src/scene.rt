@@ -3,7 +3,7 @@
 use json_forms::rows_text;
 use kv_core::{Bytes, CommitRequest, KvMap, WriteError};
 use metadata::Record;
-use record_store::{Store, StoreError};
+use record_store::{Store, StoreError, StoreNumber};
 use schedule::{Command, Step as Scripted, perform};
 use script::{make_line, script_of};
 use std::alloc::Global;
@@ -61,7 +61,13 @@ pub(crate) struct Scene {
 /// Performs a command, and makes the line of its reply.
 fn performed(scene: &mut Scene, command: &Command) -> Result<String, Fail> {
     let mut line = String::new(scene.alloc);
-    let reply = perform(scene.alloc, command, &mut scene.tx, &scene.db)?;
+    let reply = perform(
+        scene.alloc,
+        command,
+        StoreNumber::first(),
+        &mut scene.tx,
+        &scene.db,
+    )?;
     make_line(scene.alloc, &mut line, 1, &reply)?;
     Ok(line)
 }

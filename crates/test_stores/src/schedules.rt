@@ -78,17 +78,34 @@ const TWO_CLIENTS: &str = r#"{"steps":[
     ["settle"]
 ]}"#;
 
+/// Two stores of one type each, of the same name, whose keys follow one another.
+const TWO_STORES: &str = r#"{"steps":[
+    ["begin",0,256],
+    ["create",0,{"types":[{"name":"t","fields":[["k","int"]],"key":["k"]}]}],
+    ["save",0,"t",[1]],
+    ["begin",1,255],
+    ["create",1,{"types":[{"name":"t","fields":[["k","int"]],"key":["k"]}]}],
+    ["save",1,"t",[2]],
+    ["commit",0],
+    ["commit",1],
+    ["settle"]
+]}"#;
+
 /// A script, and what is listed of it: how many requests there are, and of each committed transaction its version, its
-/// client, the version that it read and the number of its commands.
-static LISTED: [(&str, &str); 3] = [
-    (THREE_SAVES, "1 requests: 1 by 0 from 0 with 4,"),
+/// client, its store, the version that it read and the number of its commands.
+static LISTED: [(&str, &str); 4] = [
+    (THREE_SAVES, "1 requests: 1 by 0 in 1 from 0 with 4,"),
     (
         DISABLED,
-        "3 requests: 1 by 0 from 0 with 4, 2 by 0 from 1 with 3, 3 by 0 from 2 with 2,",
+        "3 requests: 1 by 0 in 1 from 0 with 4, 2 by 0 in 1 from 1 with 3, 3 by 0 in 1 from 2 with 2,",
     ),
     (
         TWO_CLIENTS,
-        "3 requests: 1 by 0 from 0 with 1, 2 by 2 from 1 with 2,",
+        "3 requests: 1 by 0 in 1 from 0 with 1, 2 by 2 in 1 from 1 with 2,",
+    ),
+    (
+        TWO_STORES,
+        "2 requests: 1 by 0 in 256 from 0 with 2, 2 by 1 in 255 from 0 with 2,",
     ),
 ];
 
@@ -96,7 +113,7 @@ type Row = (&'static str, &'static str, u64, usize, bool, &'static str);
 
 /// A script, a range of the cluster that it leaves, a version, a limit, reverse or not, and the pairs there. Disabled
 /// and dropped indexes have none. What steps of a builder have built is one range.
-static ENTRIES: [Row; 12] = [
+static ENTRIES: [Row; 17] = [
     (
         THREE_SAVES,
         "150115021501-150115021501ff",
@@ -123,6 +140,39 @@ static ENTRIES: [Row; 12] = [
     (BUILT, RANGES, 2, 10, false, "1501150615010100=150300"),
     (BUILT, RANGES, 4, 10, false, "1501150615010100=150600"),
     (BUILT, RANGES, 5, 10, false, "1501150615010100=ff"),
+    (
+        TWO_STORES,
+        "160100-160101",
+        1,
+        1,
+        true,
+        "160100150115011501=1501",
+    ),
+    (TWO_STORES, "15ff-15ffff", 1, 1, true, ""),
+    (
+        TWO_STORES,
+        "15ff-15ffff",
+        2,
+        1,
+        true,
+        "15ff150115011502=1502",
+    ),
+    (
+        TWO_STORES,
+        "15ff15-16010014",
+        2,
+        10,
+        false,
+        "15ff150115011502=1502",
+    ),
+    (
+        TWO_STORES,
+        "16010015-17",
+        2,
+        10,
+        false,
+        "160100150115011501=1501",
+    ),
 ];
 
 fn run(alloc: Global, text: &str) -> Result<Transcript, Fail> {
@@ -135,8 +185,11 @@ fn listed(alloc: Global, transcript: &Transcript) -> Result<String, Fail> {
     let mut told = format!(in alloc; "{requests} requests:")?;
     for commit in transcript.commits.as_slice() {
         let (version, client, from) = (commit.version, commit.client, commit.read_version);
-        let count = commit.commands.as_slice().len();
-        write!(told, " {version} by {client} from {from} with {count},")?;
+        let (store, count) = (commit.store.get(), commit.commands.as_slice().len());
+        write!(
+            told,
+            " {version} by {client} in {store} from {from} with {count},"
+        )?;
     }
     Ok(told)
 }

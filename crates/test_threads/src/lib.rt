@@ -14,4 +14,6 @@ mod refusing;
 #[cfg(test)]
 mod rounds;
 #[cfg(test)]
+mod stores;
+#[cfg(test)]
 mod transactions;

@@ -6,7 +6,9 @@ KINDS = ("int", "text", "bytes")
 TEXTS = ("", "a", "ab", "b", "B\u00e4r", "\u20ac", "\U0001f41f", "a\x00b", 'say "so"', "z" * 40)
 NUMBERS = (0, 1, 2, -1, 255, 256, -300, 2**53 + 1, 2**63 - 1, -(2**63))
 COMPARED = ("=", "!=", "<", "<=", ">", ">=")
-SPLITS = ("15011501", "15011502", "150115021501", "1501150215020203", "15011506")
+SPLITS = ("15011501", "15011502", "150115021501", "1501150215020203", "15011506", "1502", "16")
+# what stands behind a beginning: nothing, or the number of a store, or of none
+STORES = ((), (), (), (1,), (2,), (2,), (65535,), (0,), (65536,))
 # of each kind of step how often it is made, beside the others
 WEIGHTS = {"begin": 8, "save": 14, "load": 4, "remove": 3, "query": 5, "plan": 4, "execute": 4, "commit": 8,
            "abandon": 1, "settle": 5, "resolve": 3, "log": 3, "report": 3, "pull": 3, "lost": 1, "index": 2,
@@ -129,6 +131,8 @@ class Maker:
             self.open.add(client)
         elif name in ("commit", "abandon"):
             self.open.discard(client)
+        if name == "begin":
+            return [name, client, *self.dice.choice(STORES)]
         return [name, client] if name in ALONE else self.command(name, client)
 
     def client(self, is_new):
@@ -152,6 +156,7 @@ class Maker:
         schema = {"types": [self.new_type(), self.new_type()]}
         schema["indexes"] = [self.new_index() for _ in range(self.dice.randint(0, 3))]
         made = [["begin", 0], ["create", 0, schema], ["commit", 0], ["settle"]]
+        made += [["begin", 1, 2], ["create", 1, schema], ["commit", 1], ["settle"]]
         made += [self.step() for _ in range(steps)]
         script = {"steps": [*made, ["settle"]]}
         if self.dice.random() < 0.7:

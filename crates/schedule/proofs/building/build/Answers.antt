@@ -11,12 +11,12 @@ use Rattle.schedule.proofs.Looking.{looked_memory}
 use Rattle.schedule.proofs.building.build.Goals as goal
 
 pub returns-then-limit-eq0-clause-performed : goal.returns-then-limit-eq0-clause-performed
-returns-then-limit-eq0-clause-performed g c = refused_limit c.args.name.now c.args.limit c.if-limit-eq0.true refl
+returns-then-limit-eq0-clause-performed g c = refused_limit c.args.number c.args.name.now c.args.limit c.if-limit-eq0.true refl
 
 pub returns-in_err-store-clause-refused : goal.returns-in_err-store-clause-refused
 returns-in_err-store-clause-refused g c =
     exit_with c.from_residual.result c.in_err-store.field-0.0 _ c.from_residual.ensures
-    (refused_unopened (Build c.args.name.now c.args.limit) c.in_err-store.field-0.0 (build_opens c.args.name.now c.args.limit some) (build_unopened c.args.name.now c.args.limit some).0 (build_unopened c.args.name.now c.args.limit some).1 c.in_err-store.ensures.refused)
+    (refused_unopened c.args.number (Build c.args.name.now c.args.limit) c.in_err-store.field-0.0 (build_opens c.args.number c.args.name.now c.args.limit some) (build_unopened c.args.number c.args.name.now c.args.limit some).0 (build_unopened c.args.number c.args.name.now c.args.limit some).1 c.in_err-store.ensures.refused)
   where
     some : c.args.limit ≡ 0 → ⊥
     some is = omega (arith, is, c.if-limit-eq0.false)
@@ -24,7 +24,7 @@ returns-in_err-store-clause-refused g c =
 pub returns-in_err-copy-clause-refused : goal.returns-in_err-copy-clause-refused
 returns-in_err-copy-clause-refused g c =
     exit_with c.from_residual-in_err-copy.result no_memory _ c.from_residual-in_err-copy.ensures
-    (looked_memory c.in_ok-store.store (Build c.args.name.now c.args.limit) c.in_ok-store.ensures.prefix (build_opens c.args.name.now c.args.limit some) c.in_ok-store.ensures.opened)
+    (looked_memory c.args.number c.in_ok-store.store (Build c.args.name.now c.args.limit) c.in_ok-store.ensures.prefix (build_opens c.args.number c.args.name.now c.args.limit some) c.in_ok-store.ensures.opened)
   where
     some : c.args.limit ≡ 0 → ⊥
     some is = omega (arith, is, c.if-limit-eq0.false)
@@ -32,8 +32,8 @@ returns-in_err-copy-clause-refused g c =
 pub returns-in_err-progress-clause-refused : goal.returns-in_err-progress-clause-refused
 returns-in_err-progress-clause-refused g c =
     exit_with c.from_residual-in_err-progress.result c.in_err-progress.field-0.0 _ c.from_residual-in_err-progress.ensures
-    (refused c.in_ok-store.store (Build c.args.name.now c.args.limit) (λ opened. step_call opened (record { name = c.args.name.now; limit = c.args.limit })) reply_to_build c.in_err-progress.field-0.0 (build_opens c.args.name.now c.args.limit some) c.in_ok-store.ensures.prefix
-    (build_meets c.in_ok-store.store c.args.name.now c.args.limit some) c.in_ok-store.ensures.opened
+    (refused c.args.number c.in_ok-store.store (Build c.args.name.now c.args.limit) (λ opened. step_call opened (record { name = c.args.name.now; limit = c.args.limit })) reply_to_build c.in_err-progress.field-0.0 (build_opens c.args.number c.args.name.now c.args.limit some) c.in_ok-store.ensures.prefix
+    (build_meets c.args.number c.in_ok-store.store c.args.name.now c.args.limit some) c.in_ok-store.ensures.opened
     (subst (λ (p : BuildTask). IsRefused (g.S.Snapshot.map_at c.args.db.now) (g.S.Snapshot.may_refuse c.args.db.now) c.in_ok-store.store (step_call c.in_ok-store.store p) c.in_err-progress.field-0.0 c.open.new.tx c.step.new.tx) plan_is c.in_err-progress.ensures.refused))
   where
     some : c.args.limit ≡ 0 → ⊥
@@ -44,8 +44,8 @@ returns-in_err-progress-clause-refused g c =
 
 pub returns-clause-performed : goal.returns-clause-performed
 returns-clause-performed g c =
-    answered_as c.build_reply.ensures
-    (performed c.in_ok-store.store (Build c.args.name.now c.args.limit) (λ opened. step_call opened (record { name = c.args.name.now; limit = c.args.limit })) reply_to_build c.in_ok-progress.progress c.in_ok-store.ensures.prefix (build_meets c.in_ok-store.store c.args.name.now c.args.limit some) c.in_ok-store.ensures.opened
+    answered_as c.args.number c.build_reply.ensures
+    (performed c.args.number c.in_ok-store.store (Build c.args.name.now c.args.limit) (λ opened. step_call opened (record { name = c.args.name.now; limit = c.args.limit })) reply_to_build c.in_ok-progress.progress c.in_ok-store.ensures.prefix (build_meets c.args.number c.in_ok-store.store c.args.name.now c.args.limit some) c.in_ok-store.ensures.opened
     (subst (λ (p : BuildTask). IsAnswered (g.S.Snapshot.map_at c.args.db.now) c.in_ok-store.store (step_call c.in_ok-store.store p) c.in_ok-progress.progress c.open.new.tx c.step.new.tx) plan_is c.in_ok-progress.ensures.stepped))
   where
     some : c.args.limit ≡ 0 → ⊥

@@ -11,15 +11,15 @@ use Rattle.schedule.proofs.commands.add_type.Goals as goal
 pub returns-in_err-store-clause-refused : goal.returns-in_err-store-clause-refused
 returns-in_err-store-clause-refused g c =
     exit_with c.from_residual.result c.in_err-store.field-0.0 _ c.from_residual.ensures
-    (refused_unopened («Type» c.args.request.now) c.in_err-store.field-0.0 refl refl (λ m. refl) c.in_err-store.ensures.refused)
+    (refused_unopened c.args.number («Type» c.args.request.now) c.in_err-store.field-0.0 refl refl (λ m. refl) c.in_err-store.ensures.refused)
 
 pub returns-in_err-add_type-clause-refused : goal.returns-in_err-add_type-clause-refused
 returns-in_err-add_type-clause-refused g c =
     exit_with c.from_residual-in_err-add_type.result c.in_err-add_type.field-0.0 _ c.from_residual-in_err-add_type.ensures
-    (refused c.in_ok-store.store («Type» c.args.request.now) (λ opened. type_call opened c.args.request.now) done c.in_err-add_type.field-0.0 refl c.in_ok-store.ensures.prefix
-    (type_meets c.in_ok-store.store c.args.request.now) c.in_ok-store.ensures.opened (refused_anyway _ _ _ _ _ _ _ (c.in_err-add_type.ensures.refused _)))
+    (refused c.args.number c.in_ok-store.store («Type» c.args.request.now) (λ opened. type_call opened c.args.request.now) done c.in_err-add_type.field-0.0 refl c.in_ok-store.ensures.prefix
+    (type_meets c.args.number c.in_ok-store.store c.args.request.now) c.in_ok-store.ensures.opened (refused_anyway _ _ _ _ _ _ _ (c.in_err-add_type.ensures.refused _)))
 
 pub returns-clause-performed : goal.returns-clause-performed
 returns-clause-performed g c =
-    performed c.in_ok-store.store («Type» c.args.request.now) (λ opened. type_call opened c.args.request.now) done c.add_type.new.self.schema c.in_ok-store.ensures.prefix
-    (type_meets c.in_ok-store.store c.args.request.now) c.in_ok-store.ensures.opened (c.in_ok-add_type.ensures.added _)
+    performed c.args.number c.in_ok-store.store («Type» c.args.request.now) (λ opened. type_call opened c.args.request.now) done c.add_type.new.self.schema c.in_ok-store.ensures.prefix
+    (type_meets c.args.number c.in_ok-store.store c.args.request.now) c.in_ok-store.ensures.opened (c.in_ok-add_type.ensures.added _)

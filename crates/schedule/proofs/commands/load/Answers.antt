@@ -10,16 +10,16 @@ use Rattle.schedule.proofs.commands.load.Goals as goal
 pub returns-in_err-store-clause-refused : goal.returns-in_err-store-clause-refused
 returns-in_err-store-clause-refused g c =
     exit_with c.from_residual.result c.in_err-store.field-0.0 _ c.from_residual.ensures
-    (refused_unopened (Load c.args.type_name.now c.args.cells.now) c.in_err-store.field-0.0 refl refl (λ m. refl) c.in_err-store.ensures.refused)
+    (refused_unopened c.args.number (Load c.args.type_name.now c.args.cells.now) c.in_err-store.field-0.0 refl refl (λ m. refl) c.in_err-store.ensures.refused)
 
 pub returns-in_err-found-clause-refused : goal.returns-in_err-found-clause-refused
 returns-in_err-found-clause-refused g c =
     exit_with c.from_residual-in_err-found.result c.in_err-found.field-0.0 _ c.from_residual-in_err-found.ensures
-    (refused c.in_ok-store.store (Load c.args.type_name.now c.args.cells.now) (λ opened. load_call opened c.args.type_name.now c.args.cells.now) reply_to_load c.in_err-found.field-0.0 refl c.in_ok-store.ensures.prefix
-    (load_meets c.in_ok-store.store c.args.type_name.now c.args.cells.now) c.in_ok-store.ensures.opened c.in_err-found.ensures.refused)
+    (refused c.args.number c.in_ok-store.store (Load c.args.type_name.now c.args.cells.now) (λ opened. load_call opened c.args.type_name.now c.args.cells.now) reply_to_load c.in_err-found.field-0.0 refl c.in_ok-store.ensures.prefix
+    (load_meets c.args.number c.in_ok-store.store c.args.type_name.now c.args.cells.now) c.in_ok-store.ensures.opened c.in_err-found.ensures.refused)
 
 pub returns-clause-performed : goal.returns-clause-performed
 returns-clause-performed g c =
-    answered_as c.loaded_reply.ensures
-    (performed c.in_ok-store.store (Load c.args.type_name.now c.args.cells.now) (λ opened. load_call opened c.args.type_name.now c.args.cells.now) reply_to_load c.in_ok-found.found c.in_ok-store.ensures.prefix
-    (load_meets c.in_ok-store.store c.args.type_name.now c.args.cells.now) c.in_ok-store.ensures.opened c.in_ok-found.ensures.found)
+    answered_as c.args.number c.loaded_reply.ensures
+    (performed c.args.number c.in_ok-store.store (Load c.args.type_name.now c.args.cells.now) (λ opened. load_call opened c.args.type_name.now c.args.cells.now) reply_to_load c.in_ok-found.found c.in_ok-store.ensures.prefix
+    (load_meets c.args.number c.in_ok-store.store c.args.type_name.now c.args.cells.now) c.in_ok-store.ensures.opened c.in_ok-found.ensures.found)

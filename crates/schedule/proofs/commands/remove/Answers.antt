@@ -10,16 +10,16 @@ use Rattle.schedule.proofs.commands.remove.Goals as goal
 pub returns-in_err-store-clause-refused : goal.returns-in_err-store-clause-refused
 returns-in_err-store-clause-refused g c =
     exit_with c.from_residual.result c.in_err-store.field-0.0 _ c.from_residual.ensures
-    (refused_unopened (Remove c.args.type_name.now c.args.cells.now) c.in_err-store.field-0.0 refl refl (λ m. refl) c.in_err-store.ensures.refused)
+    (refused_unopened c.args.number (Remove c.args.type_name.now c.args.cells.now) c.in_err-store.field-0.0 refl refl (λ m. refl) c.in_err-store.ensures.refused)
 
 pub returns-in_err-was_there-clause-refused : goal.returns-in_err-was_there-clause-refused
 returns-in_err-was_there-clause-refused g c =
     exit_with c.from_residual-in_err-was_there.result c.in_err-was_there.field-0.0 _ c.from_residual-in_err-was_there.ensures
-    (refused c.in_ok-store.store (Remove c.args.type_name.now c.args.cells.now) (λ opened. remove_call opened c.args.type_name.now c.args.cells.now) reply_to_remove c.in_err-was_there.field-0.0 refl c.in_ok-store.ensures.prefix
-    (remove_meets c.in_ok-store.store c.args.type_name.now c.args.cells.now) c.in_ok-store.ensures.opened c.in_err-was_there.ensures.refused)
+    (refused c.args.number c.in_ok-store.store (Remove c.args.type_name.now c.args.cells.now) (λ opened. remove_call opened c.args.type_name.now c.args.cells.now) reply_to_remove c.in_err-was_there.field-0.0 refl c.in_ok-store.ensures.prefix
+    (remove_meets c.args.number c.in_ok-store.store c.args.type_name.now c.args.cells.now) c.in_ok-store.ensures.opened c.in_err-was_there.ensures.refused)
 
 pub returns-clause-performed : goal.returns-clause-performed
 returns-clause-performed g c =
-    answered_as c.removed_reply.ensures
-    (performed c.in_ok-store.store (Remove c.args.type_name.now c.args.cells.now) (λ opened. remove_call opened c.args.type_name.now c.args.cells.now) reply_to_remove c.in_ok-was_there.was_there c.in_ok-store.ensures.prefix
-    (remove_meets c.in_ok-store.store c.args.type_name.now c.args.cells.now) c.in_ok-store.ensures.opened c.in_ok-was_there.ensures.removed)
+    answered_as c.args.number c.removed_reply.ensures
+    (performed c.args.number c.in_ok-store.store (Remove c.args.type_name.now c.args.cells.now) (λ opened. remove_call opened c.args.type_name.now c.args.cells.now) reply_to_remove c.in_ok-was_there.was_there c.in_ok-store.ensures.prefix
+    (remove_meets c.args.number c.in_ok-store.store c.args.type_name.now c.args.cells.now) c.in_ok-store.ensures.opened c.in_ok-was_there.ensures.removed)

@@ -12,25 +12,25 @@ use Rattle.schedule.proofs.commands.save.Goals as goal
 pub returns-in_err-store-clause-refused : goal.returns-in_err-store-clause-refused
 returns-in_err-store-clause-refused g c =
     exit_with c.from_residual.result c.in_err-store.field-0.0 _ c.from_residual.ensures
-    (refused_unopened (Save c.args.type_name.now c.args.cells.now) c.in_err-store.field-0.0 refl refl (λ m. refl) c.in_err-store.ensures.refused)
+    (refused_unopened c.args.number (Save c.args.type_name.now c.args.cells.now) c.in_err-store.field-0.0 refl refl (λ m. refl) c.in_err-store.ensures.refused)
 
 pub returns-in_err-new-clause-refused : goal.returns-in_err-new-clause-refused
 returns-in_err-new-clause-refused g c =
     exit_with c.from_residual-in_err-new.result (of_metadata c.in_err-new.field-0.0) _ c.from_residual-in_err-new.ensures
-    (refused_asked c.in_ok-store.store (Save c.args.type_name.now c.args.cells.now) (record_of c.schema.result.now c.args.type_name.now c.args.cells.now) c.in_err-new.field-0.0 refl c.in_ok-store.ensures.prefix
-    (λ refusal is. save_refuses c.in_ok-store.store c.args.type_name.now c.args.cells.now refusal (ap (λ s. record_of s c.args.type_name.now c.args.cells.now) (sym c.schema.ensures) ∙ is))
+    (refused_asked c.args.number c.in_ok-store.store (Save c.args.type_name.now c.args.cells.now) (record_of c.schema.result.now c.args.type_name.now c.args.cells.now) c.in_err-new.field-0.0 refl c.in_ok-store.ensures.prefix
+    (λ refusal is. save_refuses c.args.number c.in_ok-store.store c.args.type_name.now c.args.cells.now refusal (ap (λ s. record_of s c.args.type_name.now c.args.cells.now) (sym c.schema.ensures) ∙ is))
     c.in_ok-store.ensures.opened c.in_err-new.ensures.refused)
 
 pub returns-in_err-old-clause-refused : goal.returns-in_err-old-clause-refused
 returns-in_err-old-clause-refused g c =
     exit_with c.from_residual-in_err-old.result c.in_err-old.field-0.0 _ c.from_residual-in_err-old.ensures
-    (refused c.in_ok-store.store (Save c.args.type_name.now c.args.cells.now) (λ opened. save_call opened c.in_ok-new.new) reply_to_save c.in_err-old.field-0.0 refl c.in_ok-store.ensures.prefix
-    (save_meets c.in_ok-store.store c.args.type_name.now c.args.cells.now c.in_ok-new.new (ap (λ s. record_of s c.args.type_name.now c.args.cells.now) (sym c.schema.ensures) ∙ c.in_ok-new.ensures.made))
+    (refused c.args.number c.in_ok-store.store (Save c.args.type_name.now c.args.cells.now) (λ opened. save_call opened c.in_ok-new.new) reply_to_save c.in_err-old.field-0.0 refl c.in_ok-store.ensures.prefix
+    (save_meets c.args.number c.in_ok-store.store c.args.type_name.now c.args.cells.now c.in_ok-new.new (ap (λ s. record_of s c.args.type_name.now c.args.cells.now) (sym c.schema.ensures) ∙ c.in_ok-new.ensures.made))
     c.in_ok-store.ensures.opened c.in_err-old.ensures.refused)
 
 pub returns-clause-performed : goal.returns-clause-performed
 returns-clause-performed g c =
-    answered_as c.saved_reply.ensures
-    (performed c.in_ok-store.store (Save c.args.type_name.now c.args.cells.now) (λ opened. save_call opened c.in_ok-new.new) reply_to_save c.in_ok-old.old c.in_ok-store.ensures.prefix
-    (save_meets c.in_ok-store.store c.args.type_name.now c.args.cells.now c.in_ok-new.new (ap (λ s. record_of s c.args.type_name.now c.args.cells.now) (sym c.schema.ensures) ∙ c.in_ok-new.ensures.made))
+    answered_as c.args.number c.saved_reply.ensures
+    (performed c.args.number c.in_ok-store.store (Save c.args.type_name.now c.args.cells.now) (λ opened. save_call opened c.in_ok-new.new) reply_to_save c.in_ok-old.old c.in_ok-store.ensures.prefix
+    (save_meets c.args.number c.in_ok-store.store c.args.type_name.now c.args.cells.now c.in_ok-new.new (ap (λ s. record_of s c.args.type_name.now c.args.cells.now) (sym c.schema.ensures) ∙ c.in_ok-new.ensures.made))
     c.in_ok-store.ensures.opened c.in_ok-old.ensures.saved)

@@ -10,15 +10,15 @@ use Rattle.schedule.proofs.executing.query.Goals as goal
 pub returns-in_err-store-clause-refused : goal.returns-in_err-store-clause-refused
 returns-in_err-store-clause-refused g c =
     exit_with c.from_residual.result c.in_err-store.field-0.0 _ c.from_residual.ensures
-    (refused_unopened (Query c.args.asked.now) c.in_err-store.field-0.0 refl refl (λ m. refl) c.in_err-store.ensures.refused)
+    (refused_unopened c.args.number (Query c.args.asked.now) c.in_err-store.field-0.0 refl refl (λ m. refl) c.in_err-store.ensures.refused)
 
 pub returns-in_err-reply-clause-refused : goal.returns-in_err-reply-clause-refused
 returns-in_err-reply-clause-refused g c =
     exit_with c.from_residual-in_err-reply.result c.in_err-reply.field-0.0 _ c.from_residual-in_err-reply.ensures
-    (subst (λ q. IsCommandRefused (g.S.Snapshot.map_at c.args.db.now) (g.S.Snapshot.may_refuse c.args.db.now) (Query q) c.in_err-reply.field-0.0 c.args.tx.now c.query_reply.new.tx) c.query.ensures
-    (query_refused c.in_ok-store.store c.query.result.now c.in_err-reply.field-0.0 c.in_ok-store.ensures.prefix c.in_ok-store.ensures.opened c.in_err-reply.ensures.refused))
+    (subst (λ q. IsCommandRefused c.args.number (g.S.Snapshot.map_at c.args.db.now) (g.S.Snapshot.may_refuse c.args.db.now) (Query q) c.in_err-reply.field-0.0 c.args.tx.now c.query_reply.new.tx) c.query.ensures
+    (query_refused c.args.number c.in_ok-store.store c.query.result.now c.in_err-reply.field-0.0 c.in_ok-store.ensures.prefix c.in_ok-store.ensures.opened c.in_err-reply.ensures.refused))
 
 pub returns-clause-performed : goal.returns-clause-performed
 returns-clause-performed g c =
-    subst (λ q. IsPerformed (g.S.Snapshot.map_at c.args.db.now) (λ range. g.S.Snapshot.may_refuse c.args.db.now range c.args.tx.now.read_version) (Query q) c.in_ok-reply.reply c.args.tx.now c.query_reply.new.tx) c.query.ensures
-    (query_performed c.in_ok-store.store c.query.result.now c.in_ok-reply.reply c.in_ok-store.ensures.prefix c.in_ok-store.ensures.opened c.in_ok-reply.ensures.queried)
+    subst (λ q. IsPerformed c.args.number (g.S.Snapshot.map_at c.args.db.now) (λ range. g.S.Snapshot.may_refuse c.args.db.now range c.args.tx.now.read_version) (Query q) c.in_ok-reply.reply c.args.tx.now c.query_reply.new.tx) c.query.ensures
+    (query_performed c.args.number c.in_ok-store.store c.query.result.now c.in_ok-reply.reply c.in_ok-store.ensures.prefix c.in_ok-store.ensures.opened c.in_ok-reply.ensures.queried)

@@ -13,19 +13,19 @@ use Rattle.schedule.proofs.index_commands.aggregate.Goals as goal
 pub returns-in_err-store-clause-refused : goal.returns-in_err-store-clause-refused
 returns-in_err-store-clause-refused g c =
     exit_with c.from_residual.result c.in_err-store.field-0.0 _ c.from_residual.ensures
-    (refused_unopened (Aggregate c.args.name.now c.args.group.now) c.in_err-store.field-0.0 refl refl (λ m. refl) c.in_err-store.ensures.refused)
+    (refused_unopened c.args.number (Aggregate c.args.name.now c.args.group.now) c.in_err-store.field-0.0 refl refl (λ m. refl) c.in_err-store.ensures.refused)
 
 pub returns-in_err-total-clause-refused : goal.returns-in_err-total-clause-refused
 returns-in_err-total-clause-refused g c =
     exit_with c.from_residual-in_err-total.result c.in_err-total.field-0.0 _ c.from_residual-in_err-total.ensures
-    (refused c.in_ok-store.store (Aggregate c.args.name.now c.args.group.now) (λ opened. aggregate_call opened c.args.name.now c.args.group.now) Total c.in_err-total.field-0.0 refl c.in_ok-store.ensures.prefix
-    (aggregate_meets c.in_ok-store.store c.args.name.now c.args.group.now) c.in_ok-store.ensures.opened c.in_err-total.ensures.refused)
+    (refused c.args.number c.in_ok-store.store (Aggregate c.args.name.now c.args.group.now) (λ opened. aggregate_call opened c.args.name.now c.args.group.now) Total c.in_err-total.field-0.0 refl c.in_ok-store.ensures.prefix
+    (aggregate_meets c.args.number c.in_ok-store.store c.args.name.now c.args.group.now) c.in_ok-store.ensures.opened c.in_err-total.ensures.refused)
 
 pub returns-clause-performed : goal.returns-clause-performed
 returns-clause-performed g c =
-    answered_as (ap (λ total. Total total) (to_z-of_z w64 c.in_ok-total.total fits))
-    (performed c.in_ok-store.store (Aggregate c.args.name.now c.args.group.now) (λ opened. aggregate_call opened c.args.name.now c.args.group.now) Total c.in_ok-total.total c.in_ok-store.ensures.prefix
-    (aggregate_meets c.in_ok-store.store c.args.name.now c.args.group.now) c.in_ok-store.ensures.opened c.in_ok-total.ensures.found)
+    answered_as c.args.number (ap (λ total. Total total) (to_z-of_z w64 c.in_ok-total.total fits))
+    (performed c.args.number c.in_ok-store.store (Aggregate c.args.name.now c.args.group.now) (λ opened. aggregate_call opened c.args.name.now c.args.group.now) Total c.in_ok-total.total c.in_ok-store.ensures.prefix
+    (aggregate_meets c.args.number c.in_ok-store.store c.args.name.now c.args.group.now) c.in_ok-store.ensures.opened c.in_ok-total.ensures.found)
   where
     fits : SFits w64 c.in_ok-total.total
     fits = search rules

@@ -11,15 +11,15 @@ use Rattle.schedule.proofs.index_commands.disable_index.Goals as goal
 pub returns-in_err-store-clause-refused : goal.returns-in_err-store-clause-refused
 returns-in_err-store-clause-refused g c =
     exit_with c.from_residual.result c.in_err-store.field-0.0 _ c.from_residual.ensures
-    (refused_unopened (Disable c.args.name.now) c.in_err-store.field-0.0 refl refl (λ m. refl) c.in_err-store.ensures.refused)
+    (refused_unopened c.args.number (Disable c.args.name.now) c.in_err-store.field-0.0 refl refl (λ m. refl) c.in_err-store.ensures.refused)
 
 pub returns-in_err-mark_disabled-clause-refused : goal.returns-in_err-mark_disabled-clause-refused
 returns-in_err-mark_disabled-clause-refused g c =
     exit_with c.from_residual-in_err-mark_disabled.result c.in_err-mark_disabled.field-0.0 _ c.from_residual-in_err-mark_disabled.ensures
-    (refused c.in_ok-store.store (Disable c.args.name.now) (λ opened. disable_call opened c.args.name.now) done c.in_err-mark_disabled.field-0.0 refl c.in_ok-store.ensures.prefix
-    (disable_meets c.in_ok-store.store c.args.name.now) c.in_ok-store.ensures.opened (refused_anyway _ _ _ _ _ _ _ (c.in_err-mark_disabled.ensures.refused _)))
+    (refused c.args.number c.in_ok-store.store (Disable c.args.name.now) (λ opened. disable_call opened c.args.name.now) done c.in_err-mark_disabled.field-0.0 refl c.in_ok-store.ensures.prefix
+    (disable_meets c.args.number c.in_ok-store.store c.args.name.now) c.in_ok-store.ensures.opened (refused_anyway _ _ _ _ _ _ _ (c.in_err-mark_disabled.ensures.refused _)))
 
 pub returns-clause-performed : goal.returns-clause-performed
 returns-clause-performed g c =
-    performed c.in_ok-store.store (Disable c.args.name.now) (λ opened. disable_call opened c.args.name.now) done c.mark_disabled.new.self.states c.in_ok-store.ensures.prefix
-    (disable_meets c.in_ok-store.store c.args.name.now) c.in_ok-store.ensures.opened (c.in_ok-mark_disabled.ensures.disabled _)
+    performed c.args.number c.in_ok-store.store (Disable c.args.name.now) (λ opened. disable_call opened c.args.name.now) done c.mark_disabled.new.self.states c.in_ok-store.ensures.prefix
+    (disable_meets c.args.number c.in_ok-store.store c.args.name.now) c.in_ok-store.ensures.opened (c.in_ok-mark_disabled.ensures.disabled _)

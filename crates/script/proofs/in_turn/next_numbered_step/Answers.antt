@@ -24,7 +24,7 @@ returns-then-take_end_array-2-clause-ok c =
     let read : value_read 124 ts ≡ Some (first, r) = rw (← going.1) c.in_ok-first.ensures.ok in
     let shorter : length r < length ts = rw (← going.1) c.in_ok-first.ensures.shorter in
     let over : after_end_array r ≡ Some rest = grind arith in
-    (first ∷ [], rest_more 124 ts r first [] rest going.0 read shorter (rest_over 124 r rest over), ap (option_map (Perform c.args.number)) c.in_ok-command_of_one.ensures.ok)
+    IfOk-weaker c.step_with_part.result _ _ (λ step e. (first ∷ [], rest_more 124 ts r first [] rest going.0 read shorter (rest_over 124 r rest over), e)) c.step_with_part.ensures.ok
 
 pub returns-then-take_end_array-3-clause-ok : goal.returns-then-take_end_array-3-clause-ok
 returns-then-take_end_array-3-clause-ok c =

@@ -1,4 +1,4 @@
-use Rattle.record_layer.proofs.Attempts.{continues_trans}
+use Rattle.record_layer.proofs.RunAttempts.{continues_trans}
 use Rattle.example_threads.proofs.clerks.FillBody.attempt.Goals as goal
 
 pub returns-clause-continues : goal.returns-clause-continues

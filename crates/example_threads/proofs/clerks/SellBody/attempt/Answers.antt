@@ -1,4 +1,4 @@
-use Rattle.record_layer.proofs.Attempts.{continues_trans}
+use Rattle.record_layer.proofs.RunAttempts.{continues_trans}
 use Rattle.example_threads.proofs.clerks.SellBody.attempt.Goals as goal
 
 pub returns-in_err-save_copies-clause-continues : goal.returns-in_err-save_copies-clause-continues

@@ -1,7 +1,7 @@
 use Rattle.std.proofs.Common.{List, ◌∙◌, subst, sym}
 use Rattle.cluster_core.proofs.Places.{drop_item}
 use Rattle.schedule.specs.declared.step.Command.{Command}
-use Rattle.runtime.proofs.Attempts.{continues_trans}
+use Rattle.runtime.proofs.RunAttempts.{continues_trans}
 use Rattle.race.specs.Runs.{CallsEach}
 use Rattle.race.proofs.commands.InTurnBody.attempt.Goals as goal
 

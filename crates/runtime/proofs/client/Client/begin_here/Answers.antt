@@ -11,7 +11,7 @@ use Rattle.runtime.proofs.client.Client.begin_here.Goals as goal
 
 -- a transaction that is open over a log, which the client has seen
 begun_over : (prefix : Prefix) (w : OpenTransaction) → w.prefix ≡ prefix
-    → IsOpenOver prefix.name.config prefix.log w.transaction w.trace.attempts
+    → IsOpenOver prefix.name.config prefix.log w.transaction w.trace
     → w.transaction.read_version ≡ version_of prefix.name.config prefix.log → IsBegun prefix (Some w)
 begun_over prefix w is over at = rw is (refl, ([], append-nil prefix.log), over, at)
 

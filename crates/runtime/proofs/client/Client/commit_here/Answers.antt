@@ -28,7 +28,7 @@ critical_section-told-requires-clause-over g c =
     let begun : c.self.inside.begun ≡ Some o = sym (sym c.in-Some.is ∙ c.take.ensures.value) in
     let over : IsBegun c.self.inside.me (Some o) = subst (IsBegun c.self.inside.me) begun c.self.invariant.4 in
     let own : c.into_request-request.result ≡ o.transaction = search rules in
-    subst (λ (q : CommitRequest). IsOpenOver o.prefix.name.config o.prefix.log q o.trace.attempts) (sym own) over.2
+    subst (λ (q : CommitRequest). IsOpenOver o.prefix.name.config o.prefix.log q o.trace) (sym own) over.2
 
 pub returns-clause-answer : goal.returns-clause-answer
 returns-clause-answer g c w is =
@@ -55,7 +55,7 @@ returns-clause-read_only g c w is none =
     let own : c.into_request-request.result ≡ c.in-Some.field-0.transaction = search rules in
     let r : c.into_request-request.result ≡ w.transaction = own ∙ ap (λ (v : OpenTransaction). v.transaction) same in
     let over : IsBegun c.self.inside.me (Some w) = subst (IsBegun c.self.inside.me) (begun ∙ is) c.self.invariant.4 in
-    let empty : c.into_request-request.result.mutations ≡ [] = ap (λ (q : CommitRequest). q.mutations) r ∙ nothing_written w.prefix.name.config w.prefix.log w.transaction w.trace.attempts over.2 none in
+    let empty : c.into_request-request.result.mutations ≡ [] = ap (λ (q : CommitRequest). q.mutations) r ∙ nothing_written w.prefix.name.config w.prefix.log w.transaction w.trace over.2 none in
     absurd (true≢false (sym (c.if-is_empty.ensures.1 empty)))
 
 pub returns-then-is_empty-clause-log : goal.returns-then-is_empty-clause-log

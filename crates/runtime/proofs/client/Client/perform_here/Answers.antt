@@ -43,7 +43,7 @@ returns-clause-refused g c w is =
     let same : c.in-Some.open_tx ≡ w = cc (some) in
     let after : OpenTransaction = record { prefix = c.in-Some.open_tx.prefix; transaction = c.perform_at-reader.new.tx; trace = c.perform_at-reader.new.trace } in
     subst (λ (v : OpenTransaction). IfErr c.perform_at-reader.result.1 (λ error. (x : OpenTransaction) × (Some after ≡ Some x) × IsSameTransaction v x × IsUnanswered v.prefix c.longer.result.log error c.args.command.now v.transaction v.trace x.transaction x.trace)) same
-    (refused_on c.in-Some.open_tx after c.perform_at-reader.result.2.log c.longer.result.log c.perform_at-reader.result.1 c.args.command.now (λ old. c.longer.ensures.that) (record { over = refl; version = c.perform_at-reader.ensures.version }) c.perform_at-reader.ensures.refused)
+    (refused_on c.in-Some.open_tx after c.perform_at-reader.result.2.log c.longer.result.log c.perform_at-reader.result.1 c.args.command.now (λ old. c.longer.ensures.that) (record { over = refl; version = c.perform_at-reader.ensures.version; store = c.perform_at-reader.ensures.store }) c.perform_at-reader.ensures.refused)
 
 pub returns-clause-log : goal.returns-clause-log
 returns-clause-log g c = subst (λ log. IsPrefix log c.longer.result.log) (ap (λ (k : Knowledge). k.log) c.self.view_is) c.longer.ensures.this

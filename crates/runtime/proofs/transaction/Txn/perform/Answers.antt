@@ -1,4 +1,4 @@
-use Rattle.runtime.proofs.Attempts.{continues_by}
+use Rattle.runtime.proofs.RunAttempts.{continues_by}
 use Rattle.runtime.proofs.transaction.Txn.perform.Goals as goal
 
 pub returns-clause-performed : goal.returns-clause-performed

@@ -1,5 +1,5 @@
 use Rattle.std.proofs.Common.{◌∙◌}
-use Rattle.runtime.proofs.Attempts.{continues_trans}
+use Rattle.runtime.proofs.RunAttempts.{continues_trans}
 use Rattle.test_threads.proofs.refusing.SaveAllBody.attempt.Goals as goal
 
 pub returns-in_err-save-clause-continues : goal.returns-in_err-save-clause-continues

@@ -26,13 +26,13 @@ use denote.Triple.Spec.{Meets, triple_of}
 use denote.Triple.Table.{entered}
 use denote.Triple.Walked.{says, Stays, stay_dropped, walk_of, ends_at, walk_Meets, Goes-dropped}
 use Rattle.runtime.proofs.Walks.{none, none_made}
-use Rattle.runtime.specs.contracts.trace.Trace as Trace
+use Rattle.runtime.specs.contracts.performed.Attempts as Attempts
 use Rattle.schedule.specs.contracts.step.Command as Command
 use Rattle.schedule.specs.contracts.reply.Reply as Reply
-use Rattle.runtime.specs.contracts.trace.Trace.then as F
-use Rattle.runtime.specs.contracts.trace.Trace.then.Key.{name as #self}
-use Rattle.runtime.proofs.trace.Trace.then.Statement as stated
-use Rattle.runtime.proofs.trace.Trace.then.Code as code
+use Rattle.runtime.specs.contracts.performed.Attempts.then as F
+use Rattle.runtime.specs.contracts.performed.Attempts.then.Key.{name as #self}
+use Rattle.runtime.proofs.performed.Attempts.then.Statement as stated
+use Rattle.runtime.proofs.performed.Attempts.then.Code as code
 
 abbrev function : Fn
 function = code.function
@@ -63,7 +63,7 @@ module _ {M : Type 1} {𝓤 : Ura M} (𝓛 : Logic 𝓤) (at_mem : Memory → SP
         let u : Val = vptr a.0.ref_ptr.0 a.0.ref_ptr.1 in
         let v : Val = vptr a.1.0.ref_ptr.0 a.1.0.ref_ptr.1 in
         let w : Val = vptr a.1.1.0.ref_ptr.0 a.1.1.0.ref_ptr.1 in
-        let log : (Trace.the_row).Denot = record { attempts = a.0.now.attempts ++ (record { command = a.1.0.now; reply = a.1.1.0.now }) ∷ [] } in
+        let log : (Attempts.the_row).Denot = record { list = a.0.now.list ++ (record { command = a.1.0.now; reply = a.1.1.0.now }) ∷ [] } in
         qed 𝓛 ((raw toks ⊛ ‵ (owns (types_at ended.signature.params z.0.0) a vss)) ∷ raw ((commit_view z.0.0 a).requires z.1) ∷ []) ∵
         keep ! (0 ∷ []) $ split ! $ move ! (1 ∷ []) $ fsplit ! $ fsplit ! $ feq_l ! (λ is₀. drop ! $ fsplit ! $ fsplit ! $ feq_l ! (λ is₁. drop ! $ fsplit ! $ fsplit ! $ feq_l ! (λ is₂. drop ! $ drop ! $
         regoal ! (λ (us : List Val). prop (WpFn 𝓤 H C Λ function (us ++ (vss.1.0 ++ (vss.1.1.0 ++ []))) Post)) is₀ refl $
@@ -78,7 +78,7 @@ module _ {M : Type 1} {𝓤 : Ura M} (𝓛 : Logic 𝓤) (at_mem : Memory → SP
 
   meets : (𝓣 : Tables 𝓤 H) → Meets 𝓛 ended.signature (WpFn 𝓤 H 𝓣.C 𝓣.Λ function) (closing 𝓛 ended commit_view)
   meets 𝓣 =
-      walk_Meets 𝓛 ended stayed (Goes-dropped 𝓛 3 (RefOf (0 ∷ []) tt (plain (λ _. Trace.the_row)) (λ _. tt)) yes (λ κs x f. refl), (Goes-dropped 𝓛 3 (RefOf (1 ∷ []) tt (plain (λ _. Command.the_row)) (λ _. tt)) yes (λ κs x f. refl), (Goes-dropped 𝓛 3 (RefOf (2 ∷ []) tt (plain (λ _. Reply.the_row)) (λ _. tt)) yes (λ κs x f. refl), tt))) commit_view
+      walk_Meets 𝓛 ended stayed (Goes-dropped 𝓛 3 (RefOf (0 ∷ []) tt (plain (λ _. Attempts.the_row)) (λ _. tt)) yes (λ κs x f. refl), (Goes-dropped 𝓛 3 (RefOf (1 ∷ []) tt (plain (λ _. Command.the_row)) (λ _. tt)) yes (λ κs x f. refl), (Goes-dropped 𝓛 3 (RefOf (2 ∷ []) tt (plain (λ _. Reply.the_row)) (λ _. tt)) yes (λ κs x f. refl), tt))) commit_view
       (WpFn 𝓤 H 𝓣.C 𝓣.Λ function) (WpFn-mono 𝓤 H 𝓛.laws 𝓣 function) (walks 𝓣.C 𝓣.Λ)
 
 pub then_spec : {M : Type 1} → stated.statement M
