@@ -58,7 +58,8 @@ def options_of(words):
     parser.add_argument("--jobs", type=int, default=len(os.sched_getaffinity(0)), help="checks at a time")
     parser.add_argument("--from-nothing", action="store_true", help="take nothing from what earlier checks kept")
     parser.add_argument("--over-ci", action="store_true",
-                        help="read what `rt ci` prints here, and try edits over the libraries that it proves")
+                        help="read what `rt ci` prints here, and try edits over the libraries that it proves; once it "
+                        "has ended, as many at a time as there are processors")
     parser.add_argument("--work", help="an existing folder for the copies, for what is left to be looked at")
     parser.add_argument("--recorded", action="store_true", help="pass over what is fresh, and nine of ten aged ones")
     parser.add_argument("--aged", action="store_true", help="pass over what is fresh alone")

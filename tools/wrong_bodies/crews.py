@@ -8,6 +8,8 @@ from records import Grade
 from trials import Workshop, below
 from verdicts import Verdict
 
+PROCESSORS = len(os.sched_getaffinity(0))
+
 
 def spent(checks):
     """What checks took, in words."""
@@ -92,12 +94,12 @@ class Crew:
     def run(self):
         """Does the tasks, as many at a time as there are to be checks, each once what it waits for is proved."""
         running = set()
-        with ThreadPoolExecutor(self.options.jobs) as pool:
+        with ThreadPoolExecutor(max(self.options.jobs, PROCESSORS)) as pool:
             while self.tasks or running:
                 is_all_told = self.told is None or self.told.is_all()
                 proved = self.proved | (self.told.crates() if self.told else set())
                 ready = [it for it in self.tasks if proved.issuperset(it.waits)]
-                for task in sorted(ready, key=lambda it: -it.weight)[:self.options.jobs - len(running)]:
+                for task in sorted(ready, key=lambda it: -it.weight)[:max(0, self.places() - len(running))]:
                     self.tasks.remove(task)
                     running.add(pool.submit(task.work))
                 if not running and not ready and is_all_told:
@@ -110,6 +112,11 @@ class Crew:
         for task in self.tasks:
             for edit in self.edits.get(task.name, []):
                 self.judge(task.name, edit.name, Verdict.UNTRIED, "")
+
+    def places(self):
+        """How many checks are made at a time: as many as are asked for, or one a processor once `rt ci` has ended."""
+        is_alone = self.told is not None and self.told.is_all()
+        return max(self.options.jobs, PROCESSORS) if is_alone else self.options.jobs
 
     def pause(self):
         """Waits for word of further crates that are proved."""

@@ -1,5 +1,5 @@
 // Clients in two stores of one database, whose types and indexes have the same names. Run as a test.
-use crate::transactions::{over, two_clients};
+use crate::transactions::{joined, over, two_clients};
 use metadata::{Cell, Cells};
 use record_store::StoreNumber;
 use runtime::{
@@ -45,6 +45,33 @@ const TOLD: &str = "0 ok\n1 saved new\ncommitted 1
 0 found [1,2,2]
 0 disabled\n1 ok\ncommitted 3
 ";
+
+/// What is asked in a store.
+enum Ask {
+    /// These commands, in a transaction of their own.
+    Commands(&'static str),
+    /// The record 1, in a run.
+    Record,
+}
+
+/// The number of a store, and what is asked there.
+type Asked = (u64, Ask);
+
+/// Both stores are made, one after the other.
+static ASKED: [Asked; 7] = [
+    (2, Ask::Commands(SECOND)),
+    (2, Ask::Record),
+    (1, Ask::Record),
+    (1, Ask::Commands(FIRST)),
+    (1, Ask::Record),
+    (2, Ask::Record),
+    (2, Ask::Commands(UNBUILT)),
+];
+
+/// The totals of both, once the index of store 2 is built.
+static BUILT: [Asked; 2] = [(1, Ask::Commands(TOTAL)), (2, Ask::Commands(TOTAL))];
+
+const TOTALS: &str = "0 total 2\nread only\n0 total 1\nread only\n";
 
 /// Loads the record 1.
 #[derive(Drop)]
@@ -120,29 +147,33 @@ fn found_in<E: End, R: Wait>(
     }
 }
 
-/// Writes lines after the others.
-fn push(lines: &mut String, more: Option<String>) -> Option<()> {
-    lines.push_str(more?.as_str()).ok()?;
-    Some(())
-}
-
-/// What a client is told that makes both stores, one after the other.
-fn told_of_both<E: End, R: Wait>(
+/// What a client is told that asks this in the store of this number.
+fn told<E: End, R: Wait>(
     rt: &R,
     alloc: Global,
     client: &mut Client<E>,
-    second: StoreNumber,
+    asked: &Asked,
 ) -> Option<String> {
-    let first = StoreNumber::first();
-    let mut lines = String::new(alloc);
-    push(&mut lines, told_in(rt, alloc, client, second, SECOND))?;
-    push(&mut lines, found_in(rt, alloc, client, second))?;
-    push(&mut lines, found_in(rt, alloc, client, first))?;
-    push(&mut lines, told_in(rt, alloc, client, first, FIRST))?;
-    push(&mut lines, found_in(rt, alloc, client, first))?;
-    push(&mut lines, found_in(rt, alloc, client, second))?;
-    push(&mut lines, told_in(rt, alloc, client, second, UNBUILT))?;
-    Some(lines)
+    let (number, ask) = asked;
+    let store = StoreNumber::new(*number)?;
+    match ask {
+        Ask::Commands(script) => told_in(rt, alloc, client, store, script),
+        Ask::Record => found_in(rt, alloc, client, store),
+    }
+}
+
+/// What it is told of all that it asks, one after another.
+fn told_each<E: End, R: Wait>(
+    rt: &R,
+    alloc: Global,
+    client: &mut Client<E>,
+    asked: &[Asked],
+) -> Option<String> {
+    let mut lines = Some(String::new(alloc));
+    for asked in asked {
+        lines = joined(lines, told(rt, alloc, client, asked));
+    }
+    lines
 }
 
 /// What a worker builds in this store.
@@ -167,29 +198,13 @@ fn is_refused_there<E: End, R: Wait>(rt: &R, alloc: Global, client: &mut Client<
     }
 }
 
-/// The totals of both stores.
-fn totals<E: End, R: Wait>(
-    rt: &R,
-    alloc: Global,
-    client: &mut Client<E>,
-    second: StoreNumber,
-) -> Option<String> {
-    let mut lines = String::new(alloc);
-    push(
-        &mut lines,
-        told_in(rt, alloc, client, StoreNumber::first(), TOTAL),
-    )?;
-    push(&mut lines, told_in(rt, alloc, client, second, TOTAL))?;
-    Some(lines)
-}
-
 #[test]
 fn two_stores_have_the_same_names(rt: HostRuntime) -> Result<(), Fail> {
     let alloc = rt.alloc();
     let (mut one, _other) = two_clients(&rt, alloc).ok_or("there are no clients")?;
     let second = StoreNumber::new(2).ok_or("there is no store 2")?;
-    let lines = told_of_both(&rt, alloc, &mut one, second);
-    assert_eq!(&rt; lines.as_deref(), Some(TOLD));
+    let told = told_each(&rt, alloc, &mut one, &ASKED);
+    assert_eq!(&rt; told.as_deref(), Some(TOLD));
     assert!(&rt; is_refused_there(&rt, alloc, &mut one));
     let built = built_in(&rt, alloc, &mut one, second);
     assert_eq!(&rt;
@@ -199,10 +214,7 @@ fn two_stores_have_the_same_names(rt: HostRuntime) -> Result<(), Fail> {
             steps: 1
         })
     );
-    let totals = totals(&rt, alloc, &mut one, second);
-    assert_eq!(&rt;
-        totals.as_deref(),
-        Some("0 total 2\nread only\n0 total 1\nread only\n")
-    );
+    let totals = told_each(&rt, alloc, &mut one, &BUILT);
+    assert_eq!(&rt; totals.as_deref(), Some(TOTALS));
     Ok(())
 }
