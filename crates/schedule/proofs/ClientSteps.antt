@@ -55,22 +55,22 @@ pub record IsSet (old new : Database) (client : ℕ) (value : Option OpenTransac
   pub cluster : new.cluster ≡ old.cluster
   pub transactions : new.transactions.items ≡ slice_set old.transactions.items client value
   pub unreported : new.unreported.items ≡ old.unreported.items
-  pub commits : new.commits.items ≡ old.commits.items
+  pub commits : new.commits ≡ old.commits
 
 pub standing_as : (opens : ℕ → Option Open) (submissions : List Submission) (d : Database) (c : ClusterState) (transactions : List (Option OpenTransaction)) (waiting : List Unreported) (entries : List CommitEntry) →
-    d.cluster ≡ c → d.transactions.items ≡ transactions → d.unreported.items ≡ waiting → d.commits.items ≡ entries →
+    d.cluster ≡ c → d.transactions.items ≡ transactions → d.unreported.items ≡ waiting → d.commits ≡ entries →
     IsStandingAt c opens submissions transactions waiting entries → IsStanding opens submissions d
 standing_as opens submissions d c transactions waiting entries is_c is_ts is_ws is_es stands =
-    subst (λ x. IsStandingAt x opens submissions d.transactions.items d.unreported.items d.commits.items) (sym is_c)
-    (subst (λ x. IsStandingAt c opens submissions x d.unreported.items d.commits.items) (sym is_ts)
-    (subst (λ x. IsStandingAt c opens submissions transactions x d.commits.items) (sym is_ws)
+    subst (λ x. IsStandingAt x opens submissions d.transactions.items d.unreported.items d.commits) (sym is_c)
+    (subst (λ x. IsStandingAt c opens submissions x d.unreported.items d.commits) (sym is_ts)
+    (subst (λ x. IsStandingAt c opens submissions transactions x d.commits) (sym is_ws)
     (subst (λ x. IsStandingAt c opens submissions transactions waiting x) (sym is_es) stands)))
 
 pub after_set : (old new : Database) (client : ℕ) (value : Option OpenTransaction) (change : Option Open → Option Open) (opens : ℕ → Option Open) (submissions : List Submission) →
     client < CLIENTS → IsSet old new client value → IsStanding opens submissions old → IsPlace (database_at old.cluster) old.cluster.pipeline.reported (change (opens client)) value →
     IsStanding (changed_at client change opens) submissions new
 after_set old new client value change opens submissions there set s placed =
-    standing_as (changed_at client change opens) submissions new old.cluster (slice_set old.transactions.items client value) old.unreported.items old.commits.items set.cluster set.transactions set.unreported set.commits
+    standing_as (changed_at client change opens) submissions new old.cluster (slice_set old.transactions.items client value) old.unreported.items old.commits set.cluster set.transactions set.unreported set.commits
     (other_places (changed_at client change opens) (slice_set old.transactions.items client value) s
     (places_set (database_at old.cluster) old.cluster.pipeline.reported client change opens old.transactions.items value (within_places old client there) placed s.places))
 
@@ -193,7 +193,7 @@ abandon_none old new client found there is closed set past s =
       added = [];
       grown = same_requests old new set.cluster;
       after =
-          standing_as (λ who. open_of who past) (submitted_in past) new old.cluster (slice_set old.transactions.items client None) old.unreported.items old.commits.items set.cluster set.transactions set.unreported set.commits
+          standing_as (λ who. open_of who past) (submitted_in past) new old.cluster (slice_set old.transactions.items client None) old.unreported.items old.commits set.cluster set.transactions set.unreported set.commits
           (other_places (λ who. open_of who past) (slice_set old.transactions.items client None) s
           (places_same maps reported client (λ who. open_of who past) old.transactions.items (within_places old client there) (place_found old.transactions.items client found (within_places old client there) is ∙ closed) s.places));
     }

@@ -34,3 +34,4 @@ pub mod ReachReads
 pub mod Rightly
 pub mod Within
 pub mod Isolated
+mod Walks

@@ -142,7 +142,7 @@ standing_reported opens submissions c transactions waiting left entries next one
 pub report_told : (opens : ℕ → Option Open) (submissions : List Submission) (old new : Database) (result : Reported) (version : ℕ) (next : Unreported) → IsStanding opens submissions old → AreInOrder new.cluster.pipeline →
     result ≡ cond (may_report old.cluster.pipeline) (outcome old.cluster.pipeline (old.cluster.pipeline.reported + 1)) NothingToDo →
     new.cluster ≡ cond (may_report old.cluster.pipeline) (with_pipeline (report old.cluster.pipeline) old.cluster) old.cluster → (result ≡ NothingToDo → ⊥) → version ≡ new.cluster.pipeline.reported →
-    new.transactions.items ≡ old.transactions.items → old.unreported.items ≡ next ∷ new.unreported.items → new.commits.items ≡ old.commits.items ++ cond (is_told result) (unreported_entry version next ∷ []) [] →
+    new.transactions.items ≡ old.transactions.items → old.unreported.items ≡ next ∷ new.unreported.items → new.commits ≡ old.commits ++ cond (is_told result) (unreported_entry version next ∷ []) [] →
     IsTold opens submissions (record { client = next.client; reported = result }) old new
 report_told opens submissions old new result version next s ordered is moved something at transactions popped entries =
     let p = old.cluster.pipeline in
@@ -165,9 +165,9 @@ report_told opens submissions old new result version next s ordered is moved som
       something = something;
       cluster = cluster;
       after = standing_as opens submissions new (with_pipeline (report p) old.cluster) old.transactions.items new.unreported.items
-          (old.commits.items ++ cond (is_told (outcome p (p.reported + 1))) (unreported_entry (p.reported + 1) next ∷ []) []) cluster transactions refl
-          (entries ∙ (λ i. old.commits.items ++ cond (is_told (told_so i)) (unreported_entry (is_version i) next ∷ []) []))
-          (standing_reported opens submissions old.cluster old.transactions.items old.unreported.items new.unreported.items old.commits.items next one s given here first others);
+          (old.commits ++ cond (is_told (outcome p (p.reported + 1))) (unreported_entry (p.reported + 1) next ∷ []) []) cluster transactions refl
+          (entries ∙ (λ i. old.commits ++ cond (is_told (told_so i)) (unreported_entry (is_version i) next ∷ []) []))
+          (standing_reported opens submissions old.cluster old.transactions.items old.unreported.items new.unreported.items old.commits next one s given here first others);
     }
 
 -- ---- what is told of it

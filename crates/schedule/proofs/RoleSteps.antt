@@ -67,11 +67,11 @@ pulled_given c s ordered may within =
 pub record OnlyCluster (old new : Database) : Type 0 where
   pub transactions : new.transactions.items ≡ old.transactions.items
   pub unreported : new.unreported.items ≡ old.unreported.items
-  pub commits : new.commits.items ≡ old.commits.items
+  pub commits : new.commits ≡ old.commits
 
 pub standing_moved : (opens : ℕ → Option Open) (submissions : List Submission) (old new : Database) (c : ClusterState) → new.cluster ≡ c → OnlyCluster old new →
-    IsStandingAt c opens submissions old.transactions.items old.unreported.items old.commits.items → IsStanding opens submissions new
-standing_moved opens submissions old new c cluster only stands = standing_as opens submissions new c old.transactions.items old.unreported.items old.commits.items cluster only.transactions only.unreported only.commits stands
+    IsStandingAt c opens submissions old.transactions.items old.unreported.items old.commits → IsStanding opens submissions new
+standing_moved opens submissions old new c cluster only stands = standing_as opens submissions new c old.transactions.items old.unreported.items old.commits cluster only.transactions only.unreported only.commits stands
 
 -- ---- steps
 

@@ -103,6 +103,15 @@ longer_run config steps replies step reply old new plans kept run stepped_so kee
   subst (λ past. AreKept past kept) (sym (one_more_past config steps replies step reply old run.0)) (keeps (past_of [] steps replies) run.1),
 )
 
+-- the same, whatever steps were done
+abbrev pub AnyRunWith : Database → List (Option AskedPlan) → Type 0
+AnyRunWith database plans = (config : Config) × (steps : List Step) × (replies : List Reply) × RunsWith config steps replies database plans
+
+pub one_longer : (step : Step) (reply : Reply) (old new : Database) (plans kept : List (Option AskedPlan)) → IsSteppedWith plans step reply old new → ((past : Past) → AreKept past plans → AreKept ((step, reply) ∷ past) kept)
+    → AnyRunWith old plans → AnyRunWith new kept
+one_longer step reply old new plans kept stepped_so keeps (config, steps, replies, run) =
+    (config, steps ++ step ∷ [], replies ++ reply ∷ [], longer_run config steps replies step reply old new plans kept run stepped_so keeps)
+
 -- a turn of the loop over steps
 pub turn : (config : Config) (steps : List Step) (i : ℕ) (step : Step) (before after : List Reply) (reply : Reply) (old new : Database) (plans kept : List (Option AskedPlan)) → i < length steps → step ≡ get_or steps i step → after ≡ before ++ reply ∷ [] →
     RunsWith config (take i steps) before old plans → IsSteppedWith plans step reply old new → ((past : Past) → AreKept past plans → AreKept ((step, reply) ∷ past) kept) → RunsWith config (take (i + 1) steps) after new kept
@@ -118,7 +127,7 @@ handed_out answers entries c = record { replies = answers; commits = entries; cl
 
 -- EXACT
 exact_ends : (config : Config) (steps : List Step) (answers : List Reply) (database : Database) → HasRun config steps answers database → IsLegal (history database.cluster.pipeline) →
-    IsExactRun config steps (handed_out answers database.commits.items database.cluster)
+    IsExactRun config steps (handed_out answers database.commits database.cluster)
 exact_ends config steps answers database run legal =
     let c = database.cluster in
     let subs = submitted_in (past_of [] steps answers) in
@@ -131,7 +140,7 @@ exact_ends config steps answers database run legal =
 
 -- HEADLINE
 headline_ends : (config : Config) (steps : List Step) (answers : List Reply) (database : Database) → HasRun config steps answers database → IsLegal (history database.cluster.pipeline) →
-    IsHeadline steps (handed_out answers database.commits.items database.cluster)
+    IsHeadline steps (handed_out answers database.commits database.cluster)
 headline_ends config steps answers database run legal =
     let c = database.cluster in
     let subs = submitted_in (past_of [] steps answers) in
@@ -140,9 +149,9 @@ headline_ends config steps answers database run legal =
     record {
       rows = λ transaction was.
           let still = run.opened transaction was in
-          all_answered (committed_store transaction.store database.commits.items transaction.read_version) transaction.attempts
+          all_answered (committed_store transaction.store database.commits transaction.read_version) transaction.attempts
           (subst (λ commits. IsSerialAt (committed_store transaction.store commits transaction.read_version) transaction.attempts) (sym s.commits) (open_served c.pipeline subs legal s.submitted transaction still.request still.is));
-      indexes = λ number lawful version from upto. exact_indexes number (database_at c version) (committed_store number database.commits.items version) ((holds version from upto).each number lawful);
+      indexes = λ number lawful version from upto. exact_indexes number (database_at c version) (committed_store number database.commits version) ((holds version from upto).each number lawful);
     }
 
 -- RIGHT, but for what follows from what is exact
@@ -152,7 +161,7 @@ pub record IsEnded (config : Config) (steps : List Step) (run : Transcript) : Ty
   pub right : IsRightRun config steps run
 
 pub run_ends : (config : Config) (steps : List Step) (answers : List Reply) (database : Database) → HasRun config steps answers database → IsLegal (history database.cluster.pipeline) →
-    IsEnded config steps (handed_out answers database.commits.items database.cluster)
+    IsEnded config steps (handed_out answers database.commits database.cluster)
 run_ends config steps answers database run legal =
     let c = database.cluster in
     let subs = submitted_in (past_of [] steps answers) in
@@ -167,15 +176,15 @@ run_ends config steps answers database run legal =
         commits = s.commits;
         legal = legal;
         holds = subst (HoldsCommitted c) (sym s.commits) (holds_all c subs legal s.submitted);
-        serial = serial_right c database.commits.items subs exact.serial;
-        requests = requests_right (database_at c) database.commits.items subs c.pipeline.requests exact.requests;
-        isolated = isolated_in (database_at c) database.commits.items c.pipeline subs s.submitted (requests_right (database_at c) database.commits.items subs c.pipeline.requests exact.requests);
+        serial = serial_right c database.commits subs exact.serial;
+        requests = requests_right (database_at c) database.commits subs c.pipeline.requests exact.requests;
+        isolated = isolated_in (database_at c) database.commits c.pipeline subs s.submitted (requests_right (database_at c) database.commits subs c.pipeline.requests exact.requests);
         refusals = refusals_leave config c.pipeline.requests steps answers exact.replies;
       };
     }
 
 -- the same, with the replies and the commits as they are handed out
-pub ended : (config : Config) (steps : List Step) (given answers : List Reply) (handed : List CommitEntry) (database : Database) → answers ≡ given → handed ≡ database.commits.items → HasRun config steps given database →
+pub ended : (config : Config) (steps : List Step) (given answers : List Reply) (handed : List CommitEntry) (database : Database) → answers ≡ given → handed ≡ database.commits → HasRun config steps given database →
     IsLegal (history database.cluster.pipeline) → IsEnded config steps (handed_out answers handed database.cluster)
 ended config steps given answers handed database is_answers is_handed run legal =
     subst₂ (λ rs es. IsEnded config steps (handed_out rs es database.cluster)) (sym is_answers) (sym is_handed) (run_ends config steps given database run legal)

@@ -76,14 +76,14 @@ refusal_is o error known not_memory is (inr refused) = refused ∙ ap Some is
 pub refused_submission : (opens : ℕ → Option Open) (submissions : List Submission) (client : ℕ) (ended : Open) (transaction : OpenTransaction) (error : SubmitError) (old new : Database) → IsStanding opens submissions old →
     IsOpen (database_at old.cluster) old.cluster.pipeline.reported ended transaction → (transaction.transaction.mutations ≡ [] → ⊥) →
     submit_refusal old.cluster.pipeline transaction.transaction.read_version ≡ Some error → new.cluster ≡ old.cluster →
-    new.transactions.items ≡ old.transactions.items → new.unreported.items ≡ old.unreported.items → new.commits.items ≡ old.commits.items →
+    new.transactions.items ≡ old.transactions.items → new.unreported.items ≡ old.unreported.items → new.commits ≡ old.commits →
     Submits opens submissions client ended (Refused (submit_refused error)) old new
 refused_submission opens submissions client ended transaction error old new s is some refused cluster transactions waiting entries = record {
   right = sym (same_refusal old.cluster.pipeline error) ∙ changing old.cluster ended transaction (Some error) is some refused;
   moved = λ more. sym cluster;
   added = [];
   grown = same_requests old new cluster;
-  after = standing_as opens submissions new old.cluster old.transactions.items old.unreported.items old.commits.items cluster transactions waiting entries s;
+  after = standing_as opens submissions new old.cluster old.transactions.items old.unreported.items old.commits cluster transactions waiting entries s;
 }
 
 -- ---- a submission
@@ -133,7 +133,7 @@ pub one_submitted : (opens : ℕ → Option Open) (submissions : List Submission
     IsOpen (database_at old.cluster) old.cluster.pipeline.reported ended transaction → (transaction.transaction.mutations ≡ [] → ⊥) →
     submit_refusal old.cluster.pipeline transaction.transaction.read_version ≡ None → new.cluster ≡ with_pipeline (submit transaction.transaction old.cluster.pipeline) old.cluster → version ≡ submitted new.cluster.pipeline →
     new.transactions.items ≡ old.transactions.items → new.unreported.items ≡ old.unreported.items ++ (record { client = client; store = transaction.store; read_version = transaction.transaction.read_version; commands = transaction.commands.items }) ∷ [] →
-    new.commits.items ≡ old.commits.items → Submits opens submissions client ended (Submitted version) old new
+    new.commits ≡ old.commits → Submits opens submissions client ended (Submitted version) old new
 one_submitted opens submissions client version ended transaction old new s is some allowed cluster at transactions waiting entries =
     let p = old.cluster.pipeline in
     let request = transaction.transaction in
@@ -144,6 +144,6 @@ one_submitted opens submissions client version ended transaction old new s is so
       added = request ∷ [];
       grown = ap (λ (c : ClusterState). c.pipeline.requests) cluster;
       after = standing_as opens (submitted_by client ended (Submitted version) submissions) new (with_pipeline (submit request p) old.cluster) old.transactions.items
-          (old.unreported.items ++ (record { client = client; store = transaction.store; read_version = request.read_version; commands = transaction.commands.items }) ∷ []) old.commits.items cluster transactions waiting entries
-          (standing_submitted old.cluster opens submissions old.transactions.items old.unreported.items old.commits.items client version ended transaction s is is_next);
+          (old.unreported.items ++ (record { client = client; store = transaction.store; read_version = request.read_version; commands = transaction.commands.items }) ∷ []) old.commits cluster transactions waiting entries
+          (standing_submitted old.cluster opens submissions old.transactions.items old.unreported.items old.commits client version ended transaction s is is_next);
     }

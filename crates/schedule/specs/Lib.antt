@@ -20,4 +20,5 @@ pub mod Right
 pub mod Headline
 pub mod Turns
 pub mod Running
+pub mod Stepwise
 pub mod Settling

@@ -1,4 +1,4 @@
--- Private: what the database of a schedule has, by the steps and replies so far.
+-- What the database of a schedule has, by the steps and replies so far.
 use Rattle.std.specs.Prelude.{◌≡◌, ◌≤◌, ◌<◌, ℕ, ◌+◌, ◌-◌, List, [], ◌∷◌, ◌++◌, Option, Some, None}
 use Rattle.std.specs.Prelude.{if◌then◌else◌, All, drop, get_or, map, replicate, true, false, Bool}
 use Rattle.kv_core.specs.Map.{Map}
@@ -76,20 +76,20 @@ pub record IsStandingAt (c : ClusterState) (opens : ℕ → Option Open) (submis
 abbrev pub IsStanding : (ℕ → Option Open) → List Submission → Database → Type 0
 IsStanding opens submissions database =
     IsStandingAt database.cluster opens submissions database.transactions.items database.unreported.items
-    database.commits.items
+    database.commits
 
 -- the database is what the steps and replies so far have made
 abbrev pub StandsAfter : Past → Database → Type 0
 StandsAfter past database = IsStanding (λ client. open_of client past) (submitted_in past) database
 
--- the database at the start
+-- Private: the database at the start
 pub record IsFirst (config : Config) (database : Database) : Type 0 where
   pub cluster : database.cluster ≡ first_cluster config
   pub places : database.transactions.items ≡ replicate CLIENTS None
   pub unreported : database.unreported.items ≡ []
-  pub commits : database.commits.items ≡ []
+  pub commits : database.commits ≡ []
 
--- a step replied rightly, moved the cluster as its reply says, and left the database of the longer past
+-- Private: a step replied rightly, moved the cluster as its reply says, and left the database of the longer past
 pub record Steps (past : Past) (step : Step) (reply : Reply) (old new : Database) : Type 0 where
   pub right : IsReplyTo old.cluster past step reply
   pub moved :
@@ -99,7 +99,7 @@ pub record Steps (past : Past) (step : Step) (reply : Reply) (old new : Database
   pub grown : new.cluster.pipeline.requests ≡ old.cluster.pipeline.requests ++ added
   pub after : StandsAfter ((step, reply) ∷ past) new
 
--- a step was done, whatever steps it had done before
+-- Private: a step was done, whatever steps it had done before
 abbrev pub IsStepped : Step → Reply → Database → Database → Type 0
 IsStepped step reply old new = (past : Past) → StandsAfter past old → Steps past step reply old new
 
@@ -107,12 +107,12 @@ IsStepped step reply old new = (past : Past) → StandsAfter past old → Steps 
 abbrev pub AreKept : Past → List (Option AskedPlan) → Type 0
 AreKept past plans = (client : ℕ) → client < CLIENTS → get_or plans client None ≡ kept_plan client past
 
--- so a step was done, where the clients kept these plans
+-- Private: so a step was done, where the clients kept these plans
 abbrev pub IsSteppedWith : List (Option AskedPlan) → Step → Reply → Database → Database → Type 0
 IsSteppedWith plans step reply old new =
     (past : Past) → StandsAfter past old → AreKept past plans → Steps past step reply old new
 
--- a command was performed in an open transaction, in its store; it is kept where it is accepted
+-- Private: a command was performed in an open transaction, in its store; it is kept where it is accepted
 pub record IsPerformedBy (c : ClusterState) (command : Command) (reply : Reply) (old new : OpenTransaction) :
     Type 0 where
   pub store : new.store ≡ old.store
@@ -121,20 +121,20 @@ pub record IsPerformedBy (c : ClusterState) (command : Command) (reply : Reply) 
       command reply old.transaction new.transaction
   pub commands : new.commands.items ≡ old.commands.items ++ (if is_accepted reply then command ∷ [] else [])
 
--- the reply to executing where no plan is kept, whatever stood before: there is no such client, or it has no open
--- transaction, or no plan
+-- Private: the reply to executing where no plan is kept, whatever stood before: there is no such client, or it has no
+-- open transaction, or no plan
 abbrev pub IsUnplanned : ℕ → Reply → Database → Type 0
 IsUnplanned client reply database =
     (past : Past) → StandsAfter past database →
     OfClient client reply (InTransaction (open_of client past) (λ open_now. reply ≡ Refused NoPlan) reply)
 
--- what was submitted, after a commit with this reply
+-- Private: what was submitted, after a commit with this reply
 abbrev pub submitted_by : ℕ → Open → Reply → List Submission → List Submission
 submitted_by client ended (Submitted version) submissions =
     submissions ++ record { version = version; client = client; transaction = ended } ∷ []
 submitted_by client ended reply submissions = submissions
 
--- an ended transaction was submitted, or the reply says why it wasn't
+-- Private: an ended transaction was submitted, or the reply says why it wasn't
 pub record Submits (opens : ℕ → Option Open) (submissions : List Submission) (client : ℕ) (ended : Open) (reply : Reply)
     (old new : Database) : Type 0 where
   pub right : reply ≡ commit_reply old.cluster ended
@@ -146,19 +146,19 @@ pub record Submits (opens : ℕ → Option Open) (submissions : List Submission)
   pub grown : new.cluster.pipeline.requests ≡ old.cluster.pipeline.requests ++ added
   pub after : IsStanding opens (submitted_by client ended reply submissions) new
 
--- a submission was tried, whatever stood before
+-- Private: a submission was tried, whatever stood before
 abbrev pub IsSubmit : ℕ → OpenTransaction → Reply → Database → Database → Type 0
 IsSubmit client transaction reply old new =
     (opens : ℕ → Option Open) (submissions : List Submission) (ended : Open) → IsStanding opens submissions old →
     IsOpen (database_at old.cluster) old.cluster.pipeline.reported ended transaction →
     Submits opens submissions client ended reply old new
 
--- the reply to a step of a role that there is
+-- Private: the reply to a step of a role that there is
 abbrev pub work_reply : Work → Reply
 work_reply works.Done = Done
 work_reply works.NothingToDo = Nothing
 
--- the next version was reported: whose it was, and what is told of it
+-- Private: the next version was reported: whose it was, and what is told of it
 pub record IsTold (opens : ℕ → Option Open) (submissions : List Submission) (told : Told) (old new : Database) :
     Type 0 where
   pub may : may_report old.cluster.pipeline ≡ true
@@ -168,24 +168,24 @@ pub record IsTold (opens : ℕ → Option Open) (submissions : List Submission) 
   pub cluster : new.cluster ≡ with_pipeline (report old.cluster.pipeline) old.cluster
   pub after : IsStanding opens submissions new
 
--- there was no next version
+-- Private: there was no next version
 pub record IsIdle (opens : ℕ → Option Open) (submissions : List Submission) (old new : Database) : Type 0 where
   pub may : may_report old.cluster.pipeline ≡ false
   pub cluster : new.cluster ≡ old.cluster
   pub after : IsStanding opens submissions new
 
--- the next version was reported, where it might
+-- Private: the next version was reported, where it might
 abbrev pub IsReportedAs : (ℕ → Option Open) → List Submission → Option Told → Database → Database → Type 0
 IsReportedAs opens submissions None old new = IsIdle opens submissions old new
 IsReportedAs opens submissions (Some told) old new = IsTold opens submissions told old new
 
--- so it was done, whatever stood before
+-- Private: so it was done, whatever stood before
 abbrev pub IsReported : Option Told → Database → Database → Type 0
 IsReported told old new =
     (opens : ℕ → Option Open) (submissions : List Submission) → IsStanding opens submissions old →
     IsReportedAs opens submissions told old new
 
--- the next version was reported to its client
+-- Private: the next version was reported to its client
 pub record Tells (opens : ℕ → Option Open) (submissions : List Submission) (before : List Report) (done : Bool)
     (after : List Report) (old new : Database) : Type 0 where
   pub may : done ≡ may_report old.cluster.pipeline
@@ -196,13 +196,13 @@ pub record Tells (opens : ℕ → Option Open) (submissions : List Submission) (
   pub cluster : new.cluster ≡ (if done then with_pipeline (report old.cluster.pipeline) old.cluster else old.cluster)
   pub standing : IsStanding opens submissions new
 
--- the same, whatever stood before
+-- Private: the same, whatever stood before
 abbrev pub IsTelling : List Report → Bool → List Report → Database → Database → Type 0
 IsTelling before done after old new =
     (opens : ℕ → Option Open) (submissions : List Submission) → IsStanding opens submissions old →
     Tells opens submissions before done after old new
 
--- what is listed of a submission that is committed at a version
+-- Private: what is listed of a submission that is committed at a version
 abbrev pub unreported_entry : ℕ → Unreported → CommitEntry
 unreported_entry version next =
     record {

@@ -3,8 +3,9 @@
 ghost use Rattle.std.specs.Prelude.{◌≡◌, vec_len};
 ghost use Rattle.schedule.specs.declared.step.TheConstants.{CLIENTS};
 
+use crate::commit_log::CommitLog;
 use crate::step::Command;
-use crate::transcript::{Commands, CommitEntry};
+use crate::transcript::Commands;
 use cluster_core::{Cluster, Reported};
 use record_store::StoreNumber;
 use std::collections::VecDeque;
@@ -43,6 +44,6 @@ pub(crate) struct Database {
     // What was submitted and isn't reported yet, in version order.
     pub(crate) unreported: VecDeque<Unreported>,
     // What was reported as committed, in version order.
-    pub(crate) commits: Vec<CommitEntry>,
+    pub(crate) commits: CommitLog,
     ghost place_each: { vec_len transactions ≡ CLIENTS },
 }

@@ -12,6 +12,7 @@ mod asked_query;
 mod building;
 mod clients;
 mod commands;
+mod commit_log;
 mod database;
 mod executing;
 mod index_commands;
@@ -27,6 +28,7 @@ mod settle;
 mod shared_plan;
 mod starting;
 mod step;
+mod stepwise;
 mod transcript;
 
 pub use asked_query::AskedQuery;
@@ -39,6 +41,7 @@ pub use shared_plan::SharedPlan;
 use starting::laws_of;
 use std::alloc::{AllocError, Global};
 pub use step::{CLIENTS, Command, Step};
+pub use stepwise::Schedule;
 pub use transcript::{Commands, CommitEntry, Commits, Replies, ScheduleError, Transcript};
 
 /// Runs a schedule over an empty database, one step at a time.
@@ -64,9 +67,12 @@ pub fn run_schedule(
         Err(AllocError) => return Err(ScheduleError::Memory),
     };
     laws_of(&database.cluster);
-    Ok(Transcript {
-        replies: Replies::new(replies),
-        commits: Commits::new(database.commits),
-        cluster: database.cluster,
-    })
+    match database.commits.into_commits() {
+        Some(commits) => Ok(Transcript {
+            replies: Replies::new(replies),
+            commits,
+            cluster: database.cluster,
+        }),
+        None => Err(ScheduleError::Memory),
+    }
 }

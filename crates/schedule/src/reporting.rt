@@ -4,6 +4,7 @@ ghost use Rattle.schedule.specs.Contract.{report_to, reports_reply};
 ghost use Rattle.schedule.specs.Running.{IsReported, IsStepped, IsTelling, unreported_entry};
 ghost use Rattle.schedule.specs.Standing.{is_told};
 
+use crate::commit_log::CommitLog;
 use crate::database::{Database, Told, Unreported};
 use crate::reply::{Reply, Report, Reports};
 use crate::step::Step;
@@ -40,13 +41,13 @@ fn push_report(reports: &mut Vec<Report>, told: Told) -> Result<(), AllocError>
 
 // Lists what was reported next, where it is committed at this version.
 fn list_commit(
-    commits: &mut Vec<CommitEntry>,
+    commits: &mut CommitLog,
     version: u64,
     next: Unreported,
     reported: &Reported,
 ) -> Result<(), AllocError>
-    ensures { OnOk result (commits.new.items
-        ≡ commits.old.items ++ (if is_told reported.now then unreported_entry version next ∷ []
+    ensures { OnOk result (commits.new
+        ≡ commits.old ++ (if is_told reported.now then unreported_entry version next ∷ []
         else [])) }
 {
     if let Reported::Committed(_) = reported {

@@ -1,4 +1,5 @@
-// The loop over the steps of a schedule. Called by `run_schedule` in `lib`.
+// The steps of a schedule, one and one after another. Called by `run_schedule` in `lib` and by
+// `stepwise`.
 ghost use Rattle.std.specs.Prelude.{◌≡◌, ◌⊎◌, Some, IfOk, IfErr, OnOk, IsNone};
 ghost use Rattle.cluster_core.specs.Configuration.{config_refusal};
 ghost use Rattle.cluster_core.specs.declared.answers.Config.{Config as Configuration};
@@ -17,7 +18,7 @@ use std::alloc::{AllocError, Global};
 
 impl Database {
     // Does one step.
-    fn step(
+    pub(crate) fn step(
         &mut self,
         alloc: Global,
         kept: &KeptPlans,

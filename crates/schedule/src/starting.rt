@@ -6,6 +6,7 @@ ghost use Rattle.cluster_core.specs.History.{IsLegal};
 ghost use Rattle.cluster_core.specs.Roles.{AreInOrder, history};
 ghost use Rattle.schedule.specs.Running.{IsFirst};
 
+use crate::commit_log::CommitLog;
 use crate::database::Database;
 use crate::step::CLIENTS;
 use cluster_core::{Cluster, Config, ConfigError};
@@ -46,7 +47,7 @@ impl Database {
             cluster,
             transactions,
             unreported: VecDeque::new(alloc),
-            commits: Vec::new(alloc),
+            commits: CommitLog::new(alloc),
         })
     }
 }

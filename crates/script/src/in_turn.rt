@@ -164,7 +164,11 @@ fn steps_alone(alloc: Global, reader: &mut Reader<'_>) -> Result<Vec<Step>, Part
 /// The script of a text of JSON that has the key `steps` alone and no numbers but whole ones. Each
 /// step is made as it is read, and nothing else of the text is kept. `BadForm` of another text, and
 /// where a step is bad: `script_of` then reads the text as a whole.
-pub(crate) fn script_in_turn(alloc: Global, bytes: &[u8]) -> Result<Script, PartError>
+pub(crate) fn script_in_turn(
+    alloc: Global,
+    scratch: &mut Scratch,
+    bytes: &[u8],
+) -> Result<Script, PartError>
     ensures { IfOk result (λ script. IsScript bytes.now script.config script.steps.items) }
 {
     if bytes.len() > MAX_TEXT_BYTES {
@@ -173,8 +177,7 @@ pub(crate) fn script_in_turn(alloc: Global, bytes: &[u8]) -> Result<Script, Part
     let Ok(text) = simdutf8::compat::from_utf8(bytes) else {
         return Err(PartError::BadForm);
     };
-    let mut scratch = Scratch::new(alloc);
-    let mut reader = Reader::new(text, &mut scratch)?;
+    let mut reader = Reader::new(text, scratch)?;
     let steps = steps_alone(alloc, &mut reader)?;
     let config = default_config(alloc)?;
     Ok(Script { config, steps })

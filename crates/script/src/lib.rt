@@ -10,6 +10,6 @@ mod script;
 mod step_json;
 
 pub use error::ScriptError;
-pub use print::{make_line, push_reply};
+pub use print::{make_line, push_reply, push_report};
 pub use race::{Race, Racers, race_of};
-pub use script::{Script, script_of};
+pub use script::{Script, script_of, script_with};

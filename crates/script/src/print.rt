@@ -45,7 +45,8 @@ fn push_conflict(
     write!(line, "client {client} conflict {seen} {begin}..{end}")
 }
 
-fn push_report(alloc: Global, line: &mut String, report: &Report) -> Result<(), AllocError> {
+/// Writes what became of a transaction behind what the line holds.
+pub fn push_report(alloc: Global, line: &mut String, report: &Report) -> Result<(), AllocError> {
     match report {
         Report::Committed { client, version } => {
             write!(line, "client {client} committed {version}")

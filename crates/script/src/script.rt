@@ -12,6 +12,7 @@ use crate::error::ScriptError;
 use crate::in_turn::script_in_turn;
 use crate::step_json::step_of;
 use cluster_core::Config;
+use json::Scratch;
 use json_forms::{PartError, config_of, has_only, list_of, member, value_of};
 use schedule::Step;
 use serde_json::{Map, Value};
@@ -100,7 +101,21 @@ pub fn script_of(alloc: Global, bytes: &[u8]) -> Result<Script, ScriptError>
     ensures ok { IfOk result (λ script. IsScript bytes.now script.config script.steps.items) }
     ensures err { IfErr result (explains_script bytes.now) }
 {
-    match script_in_turn(alloc, bytes) {
+    let mut scratch = Scratch::new(alloc);
+    script_with(alloc, &mut scratch, bytes)
+}
+
+/// The same with room that is kept from one text to the next: it takes a short text longer to be
+/// given room than to be read.
+pub fn script_with(
+    alloc: Global,
+    scratch: &mut Scratch,
+    bytes: &[u8],
+) -> Result<Script, ScriptError>
+    ensures ok { IfOk result (λ script. IsScript bytes.now script.config script.steps.items) }
+    ensures err { IfErr result (explains_script bytes.now) }
+{
+    match script_in_turn(alloc, scratch, bytes) {
         Ok(script) => Ok(script),
         Err(PartError::OutOfMemory) => Err(ScriptError::OutOfMemory),
         Err(PartError::BadForm) => whole_script_of(alloc, bytes),

@@ -1,0 +1,21 @@
+use Rattle.std.proofs.Common.{subst}
+use Rattle.cluster_core.specs.History.{IsLegal}
+use Rattle.cluster_core.specs.Roles.{history}
+use Rattle.schedule.specs.Stepwise.{StepwiseState}
+use Rattle.schedule.proofs.RunSteps.{run_ends}
+use Rattle.schedule.proofs.stepwise.Schedule.cluster.Goals as goal
+
+pub returns-clause-right : goal.returns-clause-right
+returns-clause-right c config steps replies done =
+    let legal = subst (λ (s : StepwiseState). IsLegal (history s.database.cluster.pipeline)) c.self.view_is c.laws_of.ensures.legal in
+    (run_ends config steps replies c.args.self.now.database done.0 legal).right
+
+pub returns-clause-exact : goal.returns-clause-exact
+returns-clause-exact c config steps replies done =
+    let legal = subst (λ (s : StepwiseState). IsLegal (history s.database.cluster.pipeline)) c.self.view_is c.laws_of.ensures.legal in
+    (run_ends config steps replies c.args.self.now.database done.0 legal).exact
+
+pub returns-clause-headline : goal.returns-clause-headline
+returns-clause-headline c config steps replies done =
+    let legal = subst (λ (s : StepwiseState). IsLegal (history s.database.cluster.pipeline)) c.self.view_is c.laws_of.ensures.legal in
+    (run_ends config steps replies c.args.self.now.database done.0 legal).headline

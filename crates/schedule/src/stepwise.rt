@@ -1,0 +1,111 @@
+//! A schedule that is made a step at a time, for who has no list of steps: a person at a shell.
+ghost use Rattle.std.specs.Prelude.{◌≡◌, ◌⊎◌, [], Some, IfOk, IfErr, OnOk, IsNone};
+ghost use Rattle.cluster_core.specs.Configuration.{config_refusal};
+ghost use Rattle.cluster_core.specs.declared.answers.ConfigError.{ConfigError as ConfigRefusal};
+ghost use Rattle.schedule.specs.Exact.{IsExactRun};
+ghost use Rattle.schedule.specs.Headline.{IsHeadline};
+ghost use Rattle.schedule.specs.Right.{IsRightRun};
+ghost use Rattle.schedule.specs.Stepwise.{DoesNext, HasDone, IsSoFar};
+
+use crate::database::Database;
+use crate::kept_plans::KeptPlans;
+use crate::reply::Reply;
+use crate::running::start;
+use crate::starting::laws_of;
+use crate::step::Step;
+use crate::transcript::ScheduleError;
+use cluster_core::{Cluster, Config};
+use record_store::KnownSchema;
+use std::alloc::{AllocError, Global};
+use std::marker::Model;
+
+/// A schedule after the steps that were done so far. It keeps no list of committed transactions, so
+/// that its memory is that of the database and of what is open.
+#[derive(Drop)]
+pub struct Schedule {
+    database: Database,
+    kept: KeptPlans,
+    known: KnownSchema,
+}
+
+impl Model for Schedule {
+    ghost use Rattle.std.specs.Prelude.{List};
+    ghost use Rattle.cluster_core.specs.declared.answers.Config.{Config as Configuration};
+    ghost use Rattle.schedule.specs.declared.step.Step.{Step as Asked};
+    ghost use Rattle.schedule.specs.declared.reply.Reply.{Reply as Answer};
+    ghost use Rattle.schedule.specs.Stepwise.{HasDone, StepwiseState};
+    ghost use Rattle.schedule.specs.contracts.step.Command as command;
+    ghost use Rattle.schedule.specs.contracts.shared_plan.SharedPlan as plan;
+    ghost use Rattle.std.specs.Coded.{codes};
+
+    ghost Value = { StepwiseState };
+
+    ghost coded = { Prim.hlevel (codes, command.the_row.coded, plan.the_row.coded) };
+
+    ghost view = { λ s. record { database = s.database; plans = s.kept.plans.items } };
+
+    ghost invariant = { λ s. (config : Configuration) × (steps : List Asked) × (replies : List Answer)
+        × HasDone config steps replies (record { database = s.database; plans = s.kept.plans.items }) };
+}
+
+impl Database {
+    // Lets go the transactions that are listed: whoever has steps one by one isn't given the list.
+    fn let_go(&mut self)
+        ensures { self.new ≡ self.old }
+    {
+        self.commits.let_go();
+    }
+}
+
+impl Schedule {
+    /// A schedule of no steps, over an empty database. Refused as `run_schedule` is.
+    pub fn new(alloc: Global, config: &Config) -> Result<Schedule, ScheduleError>
+        ensures begun { IfOk result (HasDone config.now [] []) }
+        ensures allowed { OnOk result (IsNone (config_refusal config.now)) }
+        ensures refused { IfErr result (λ error. (error ≡ ScheduleError.Memory)
+            ⊎ ((why : ConfigRefusal) × (error ≡ ScheduleError.Config why) × (config_refusal config.now ≡ Some why))) }
+    {
+        let database = start(alloc, config)?;
+        let kept = match KeptPlans::new(alloc) {
+            Ok(kept) => kept,
+            Err(AllocError) => return Err(ScheduleError::Memory),
+        };
+        Ok(Schedule {
+            database,
+            kept,
+            known: KnownSchema::new(),
+        })
+    }
+
+    /// Does one step more, and answers its reply. Where memory runs out the schedule has ended.
+    pub fn step(self, alloc: Global, step: &Step) -> Result<(Schedule, Reply), AllocError>
+        ensures { IfOk result (λ done. DoesNext step.now done.1 self done.0) }
+    {
+        let Schedule {
+            mut database,
+            mut kept,
+            mut known,
+        } = self;
+        let reply = database.step(alloc, &kept, &mut known, step)?;
+        kept.keep(step, &reply)?;
+        database.let_go();
+        let longer = Schedule {
+            database,
+            kept,
+            known,
+        };
+        Ok((longer, reply))
+    }
+
+    /// The cluster after the steps so far. Whatever steps those were and whatever they replied: the
+    /// transcript of them is one that `run_schedule` may answer.
+    pub fn cluster(&self) -> &Cluster
+        ensures now { result.now ≡ self.now.database.cluster }
+        ensures right { IsSoFar IsRightRun self.now }
+        ensures exact { IsSoFar IsExactRun self.now }
+        ensures headline { IsSoFar (λ _. IsHeadline) self.now }
+    {
+        laws_of(&self.database.cluster);
+        &self.database.cluster
+    }
+}
