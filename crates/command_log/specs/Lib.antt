@@ -1,0 +1,5 @@
+pub mod Form
+pub mod Answers
+pub mod Reading
+pub mod Depth
+pub mod Laws

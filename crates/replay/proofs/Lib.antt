@@ -1,0 +1,6 @@
+pub mod Accepting
+pub mod Performing
+pub mod Stores
+pub mod Logs
+pub mod Replays
+pub mod Histories

@@ -1,0 +1,6 @@
+pub mod Commands
+pub mod Logged
+pub mod Replaying
+pub mod ImageCode
+pub mod Laws
+pub mod Histories

@@ -1,0 +1,132 @@
+// A device that fails in each call of a run, with what it writes there torn. Run as tests.
+use crate::parts::holds;
+use crate::run::{COUNT, databases, is_after, request};
+use durable::{CommitError, Durable, Unopened, open};
+use journal::{Device, Fuse, Memory};
+use kv_core::Bytes;
+use std::alloc::Global;
+use std::test::Fail;
+
+/// How much of the failing call's write stands: nothing, a part of a head, a part of an entry, all.
+static TORN: [usize; 4] = [0, 20, 60, 1000];
+
+/// How many calls of the device a run makes.
+const CALLS: usize = 4 * COUNT + 7;
+
+/// Commits the run's transactions from this place on, and tells how many are acknowledged.
+fn committed<D: Device>(alloc: Global, db: &mut Durable<D>, from: usize) -> Result<usize, Fail> {
+    for place in from..COUNT {
+        if let Err(error) = db.commit(alloc, request(alloc, place)?) {
+            holds(matches!(error, CommitError::Unknown), "a failed commit")?;
+            let next = db.commit(alloc, request(alloc, place)?);
+            holds(matches!(next, Err(CommitError::Closed)), "a closed one")?;
+            holds(db.image().is_none(), "what is read of a closed one")?;
+            return Ok(place);
+        }
+    }
+    Ok(COUNT)
+}
+
+/// A run over a device that fails once: how many transactions are acknowledged, and what file is
+/// left.
+fn left(alloc: Global, device: Fuse<Memory>) -> Result<(usize, Vec<u8>), Fail> {
+    match open(alloc, device) {
+        Ok(mut db) => {
+            let count = committed(alloc, &mut db, 0)?;
+            let file = db.into_device().into_inner();
+            Ok((count, file.bytes().to_vec(alloc)?))
+        }
+        Err(Unopened { device, error: _ }) => {
+            Ok((0, device.into_inner().bytes().to_vec(alloc)?))
+        }
+    }
+}
+
+/// Opens a file anew: its database is that after all acknowledged transactions, or after one more.
+/// It is told after how many.
+fn opened_anew(
+    alloc: Global,
+    wanted: &[Vec<(Bytes, Bytes)>],
+    count: usize,
+    file: Vec<u8>,
+) -> Result<Durable<Memory>, Fail> {
+    match open(alloc, Memory::new(alloc, file)) {
+        Ok(db) => {
+            let found = match db.image() {
+                Some(image) => is_after(alloc, wanted, image)?,
+                None => return Err(Fail::new(format_args!("a closed one"))),
+            };
+            holds(found.wrapping_sub(count) <= 1, "transactions")?;
+            Ok(db)
+        }
+        Err(Unopened { device: _, error }) => Err(Fail::new(format_args!("{error}"))),
+    }
+}
+
+/// After a failure the file has all acknowledged transactions, and the next one whole or not at
+/// all, and takes the rest of the run.
+fn is_whole(
+    alloc: Global,
+    wanted: &[Vec<(Bytes, Bytes)>],
+    calls: usize,
+    torn: usize,
+) -> Result<usize, Fail> {
+    let memory = Memory::new(alloc, Vec::new(alloc));
+    let (count, file) = left(alloc, Fuse::new(memory, calls, torn))?;
+    let mut db = opened_anew(alloc, wanted, count, file)?;
+    if calls / 4 % 5 == 3 {
+        let found = match db.image() {
+            Some(image) => image.version() as usize,
+            None => count,
+        };
+        holds(committed(alloc, &mut db, found)? == COUNT, "the rest")?;
+        let file = db.into_device().bytes().to_vec(alloc)?;
+        let _last = opened_anew(alloc, wanted, COUNT, file)?;
+    }
+    Ok(count)
+}
+
+/// Every fourth call of the run fails in turn, from this one on.
+fn outlive(alloc: Global, first: usize) -> Result<(), Fail> {
+    let wanted = databases(alloc)?;
+    for round in 0..COUNT + 2 {
+        let torn = TORN.get(round % 4).ok_or("a part")?;
+        let call = round.wrapping_mul(4).wrapping_add(first);
+        is_whole(alloc, &wanted, call, *torn)?;
+    }
+    Ok(())
+}
+
+#[test]
+fn failed_first_syncs_are_outlived(rt: HostRuntime) -> Result<(), Fail> {
+    outlive(rt.alloc(), 0)
+}
+
+#[test]
+fn failed_gates_are_outlived(rt: HostRuntime) -> Result<(), Fail> {
+    outlive(rt.alloc(), 1)
+}
+
+#[test]
+fn failed_last_syncs_are_outlived(rt: HostRuntime) -> Result<(), Fail> {
+    outlive(rt.alloc(), 2)
+}
+
+#[test]
+fn failed_bodies_are_outlived(rt: HostRuntime) -> Result<(), Fail> {
+    outlive(rt.alloc(), 3)
+}
+
+/// The run makes so many calls.
+#[test]
+fn all_calls_were_tried(rt: HostRuntime) -> Result<(), Fail> {
+    let wanted = databases(rt.alloc())?;
+    holds(
+        is_whole(rt.alloc(), &wanted, CALLS - 1, 0)? == COUNT - 1,
+        "the last call fails",
+    )?;
+    holds(
+        is_whole(rt.alloc(), &wanted, CALLS, 0)? == COUNT,
+        "no call fails",
+    )
+}
