@@ -1,0 +1,8 @@
+use Rattle.shell.proofs.Further.{further_one}
+use Rattle.shell.proofs.import.Import.save_here.Goals as goal
+
+pub returns : goal.returns
+returns c = further_one _ _ _ _ c.in_ok-schedule.ensures
+
+pub returns-then-is_too_much : goal.returns-then-is_too_much
+returns-then-is_too_much c = further_one _ _ _ _ c.in_ok-schedule.ensures
