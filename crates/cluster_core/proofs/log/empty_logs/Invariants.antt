@@ -1,5 +1,5 @@
 use Rattle.std.proofs.Common.{◌≡◌, [], replicate}
-use Rattle.cluster_core.proofs.pipeline.empty_logs.Given as goal
+use Rattle.cluster_core.proofs.log.empty_logs.Given as goal
 
 -- so many logs are made
 abbrev pub invariant-loop : goal.invariant-loop
