@@ -204,6 +204,14 @@ impl Cluster {
         Ok(())
     }
 
+    /// Whether a read of the range at a version is refused, as `Tier::check` says.
+    pub fn check(&self, range: &KeyRange, version: u64) -> Result<(), ReadError>
+        ensures allowed { OnOk result (IsNone (refusal (tier_of self.now) range.now version)) }
+        ensures refused { IfErr result (λ error. refusal (tier_of self.now) range.now version ≡ Some error) }
+    {
+        self.tier.check(range, version)
+    }
+
     /// The pairs of the range in the database at a version: the first ones in the order of their
     /// keys, or with `reverse` the last ones with the last one first, as many as there are up to
     /// the limit. It is refused as `Tier::read` is.

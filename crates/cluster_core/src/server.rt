@@ -218,10 +218,10 @@ impl Server {
         ensures { result ≡ (if has_keys (cut (owner_of self.now) range.now)
             then refusal_of window (server_state self.now) version else None) }
     {
-        if self.part.meets(range) {
-            self.refusal_at(window, version)
-        } else {
-            None
+        // The version comes first, since it is there for most reads, and the range isn't compared then.
+        match self.refusal_at(window, version) {
+            Some(error) if self.part.meets(range) => Some(error),
+            _ => None,
         }
     }
 

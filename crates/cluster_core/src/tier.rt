@@ -136,6 +136,18 @@ impl Tier {
         Ok(())
     }
 
+    /// Whether a read of the range at a version is refused, which takes no memory. It is refused as
+    /// `read` is, apart from memory.
+    pub fn check(&self, range: &KeyRange, version: u64) -> Result<(), ReadError>
+        ensures allowed { OnOk result (IsNone (refusal self.now range.now version)) }
+        ensures refused { IfErr result (λ error. refusal self.now range.now version ≡ Some error) }
+    {
+        match refusal_among(self.servers.as_slice(), self.window, range, version) {
+            Some(error) => Err(error),
+            None => Ok(()),
+        }
+    }
+
     /// The pairs of the range at a version: the first ones in the order of their keys, or with
     /// `reverse` the last ones with the last one first, as many as there are up to the limit.
     ///

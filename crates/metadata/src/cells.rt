@@ -1,22 +1,23 @@
 // Cells, which are typed nullable values, with their kinds and packs. Used by most modules here and
 // by most crates above.
-ghost use Rattle.std.specs.Prelude.{◌≡◌, ◌++◌, List, All, IfOk, IfSome, MatchOption, OnOk};
+ghost use Rattle.std.specs.Prelude.{◌≡◌, ◌++◌, ◌<◌, ℕ, List, All, IfOk, IfSome, MatchOption, OnOk, length};
 ghost use Rattle.std.specs.Option.{IfNone};
 ghost use Rattle.std.specs.List.{list_any};
-ghost use Rattle.tuple_codec.specs.Item.{AreBytes, IsTuple, nesting};
+ghost use Rattle.tuple_codec.specs.Item.{AreBytes, IsTuple, int, nesting};
 ghost use Rattle.tuple_codec.specs.Elements.{item_in, items_in};
 ghost use Rattle.tuple_codec.specs.Spelling.{item_spelling, outer, spelling};
 ghost use Rattle.tuple_codec.specs.Subspace.{BeginsWith};
 ghost use Rattle.metadata.specs.Cell.{IsCell, all_fit, cell_at, cell_of, cells_at};
 ghost use Rattle.metadata.specs.Cell.{cells_of, fits, is_null, item_of, items_of};
-ghost use Rattle.metadata.specs.Stored.{AreStoredAs, IsOfNoCells};
+ghost use Rattle.metadata.specs.declared.cells.Cell.{Cell as CellValue};
+ghost use Rattle.metadata.specs.Stored.{AreStoredAs, BeginsWithCell, IsOfNoCells};
 
 use crate::definition::Places;
 use std::alloc::{AllocError, Global};
 use std::marker::Model;
 use tuple_codec::{
     ByteString, Element, Text, Tuple, TupleInt, pack_bytes, pack_int, pack_null, pack_text,
-    strip_bytes, strip_int, strip_null, strip_text, unpack_first,
+    strip_bytes, strip_int, strip_null, strip_text, unpack_first, unpack_int,
 };
 
 /// What a field holds.
@@ -158,6 +159,14 @@ pub(crate) fn flat_tuple(elements: Vec<Element>) -> Tuple
     }
 }
 
+// The cell that a whole number of a tuple is, if it has 64 bits.
+#[inline(always)]
+fn int_cell(value: TupleInt) -> Option<Cell>
+    ensures { result ≡ cell_of (int value) }
+{
+    i64::try_from(value.get()).ok().map(Cell::Int)
+}
+
 // The cell that an element of a tuple is, if it is one.
 #[inline(always)]
 fn cell_in(element: Element) -> Option<Cell>
@@ -165,10 +174,34 @@ fn cell_in(element: Element) -> Option<Cell>
 {
     match element {
         Element::Null => Some(Cell::Null),
-        Element::Int(value) => i64::try_from(value.get()).ok().map(Cell::Int),
+        Element::Int(value) => int_cell(value),
         Element::Text(value) => Some(Cell::Text(value)),
         Element::Bytes(value) => Some(Cell::Bytes(value)),
         _ => None,
+    }
+}
+
+// The cell that the bytes begin with, and the bytes behind it. None where they begin with none.
+#[inline(always)]
+fn unpack_cell(alloc: Global, bytes: &[u8]) -> Result<Option<(Cell, &[u8])>, AllocError>
+    ensures first { IfOk result (λ found. IfSome found (λ x. BeginsWithCell x.0 x.1.now bytes.now)) }
+    ensures none { IfOk result (λ found. IfNone found
+        ((cell : CellValue) (rest : List ℕ) → BeginsWithCell cell rest bytes.now → ⊥)) }
+    ensures shorter { IfOk result (λ found. IfSome found (λ x. length x.1.now < length bytes.now)) }
+{
+    // Whole numbers, of which there are many, are read without making an element.
+    if let Some((value, behind)) = unpack_int(bytes) {
+        return match int_cell(value) {
+            Some(cell) => Ok(Some((cell, behind))),
+            None => Ok(None),
+        };
+    }
+    let Some((element, behind)) = unpack_first(alloc, bytes)? else {
+        return Ok(None);
+    };
+    match cell_in(element) {
+        Some(cell) => Ok(Some((cell, behind))),
+        None => Ok(None),
     }
 }
 
@@ -329,6 +362,31 @@ impl Cells {
         Ok(())
     }
 
+    // Appends the pack of the cell at this place, null past the end.
+    fn push_cell_at(&self, place: usize, out: &mut Vec<u8>) -> Result<(), AllocError>
+        ensures packed { OnOk result (out.new.items
+            ≡ out.old.items ++ item_spelling outer (item_of (cell_at self.now place))) }
+        ensures cell { OnOk result (IsCell (cell_at self.now place)) }
+    {
+        match self.cells.get(place) {
+            Some(cell) => cell.push_pack(out),
+            None => pack_null(out),
+        }
+    }
+
+    /// Appends the pack of the tuple of the cells at these places, null past the end, without copying
+    /// a cell. Where memory is wanting some of its bytes may stand there.
+    pub fn push_pack_at(&self, places: &Places, out: &mut Vec<u8>) -> Result<(), AllocError>
+        ensures packed { OnOk result (out.new.items
+            ≡ out.old.items ++ spelling (items_of (cells_at self.now places.now))) }
+        ensures cells { OnOk result (All IsCell (cells_at self.now places.now)) }
+    {
+        for place in places.as_slice() {
+            self.push_cell_at(*place, out)?;
+        }
+        Ok(())
+    }
+
     /// The tuple of the cells, in order.
     pub fn tuple(&self, alloc: Global) -> Result<Tuple, AllocError>
         ensures tuple { IfOk result (λ tuple. tuple ≡ items_of self.now) }
@@ -360,10 +418,7 @@ impl Cells {
         let mut found = Vec::with_capacity(alloc, count)?;
         let mut rest = bytes;
         while !rest.is_empty() {
-            let Some((element, behind)) = unpack_first(alloc, rest)? else {
-                return Ok(None);
-            };
-            let Some(cell) = cell_in(element) else {
+            let Some((cell, behind)) = unpack_cell(alloc, rest)? else {
                 return Ok(None);
             };
             found.push(cell)?;

@@ -57,7 +57,8 @@ impl Store {
         let mut mutations = Vec::new(alloc);
         mutations.push(Mutation::Set { key, value })?;
         let number = new.definition().number;
-        self.push_index_changes(number, position, found, old, Some(new), &mut mutations)?;
+        let (old, new) = (old.map(Record::lend), new.lend());
+        self.push_index_changes(number, position, found, old.as_ref(), Some(&new), &mut mutations)?;
         Ok(mutations)
     }
 

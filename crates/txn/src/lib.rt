@@ -6,6 +6,7 @@ mod compared;
 mod cursor;
 mod fail_at;
 mod finishing;
+mod latest;
 mod laws;
 mod merge;
 mod own;
