@@ -1,4 +1,3 @@
-pub mod Crashes
 pub mod Logging
 pub mod Several
 pub mod Openings

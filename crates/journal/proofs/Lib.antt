@@ -2,7 +2,7 @@ mod Headers
 mod Firsts
 mod Heads
 mod Readings
-mod Moments
+pub mod Moments
 mod Gates
 mod Batches
 mod Contents
