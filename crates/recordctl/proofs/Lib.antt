@@ -1,1 +1,2 @@
 pub mod KnownInput
+pub mod Told

@@ -2,7 +2,7 @@ use Rattle.std.proofs.Common.{◌≡◌, ◌⊎◌, IfSome, inr, rules}
 use Rattle.recordctl.specs.declared.fault.Fault.TheVariants.{CannotRead}
 use Rattle.recordctl.specs.Run.{explains_run}
 use Rattle.recordctl.proofs.KnownInput.{explained_of_front, transcript_of_front}
-use Rattle.recordctl.proofs.run.transcript_of.Goals as goal
+use Rattle.recordctl.proofs.run.shown_of.Goals as goal
 
 pub returns-in_err-transcript-clause-err : goal.returns-in_err-transcript-clause-err
 returns-in_err-transcript-clause-err g c =

@@ -1,0 +1,66 @@
+// The command `shell`. Called by `main`.
+ghost use Rattle.std.specs.Prelude.{◌≤◌};
+ghost use Rattle.std.specs.Process.{exit_status};
+
+use crate::fault::Fault;
+use crate::run::refuse;
+use command_line::ShellWords;
+use shell::{RowForm, ShellError, Telling, Watch, run_shell};
+use std::io::{Read, Write};
+use std::process::ExitCode;
+use std::rt::Files;
+
+/// Whether a person reads what is printed, whether one types, and whether one sees faults.
+#[derive(Clone, Copy, Debug, PartialEq, Eq, Drop)]
+pub struct Terminals {
+    pub is_read: bool,
+    pub is_typed: bool,
+    pub is_watched: bool,
+}
+
+// Which long work is told of where faults are seen: all of it but where the replies are seen, too.
+fn watch_of(terminals: Terminals) -> Watch {
+    match (terminals.is_watched, terminals.is_read) {
+        (true, true) => Watch::Imports,
+        (true, false) => Watch::All,
+        (false, _) => Watch::Nothing,
+    }
+}
+
+// How steps are told.
+fn telling_of(words: ShellWords, terminals: Terminals) -> Telling {
+    let rows = if words.is_json {
+        RowForm::Json
+    } else if terminals.is_read {
+        RowForm::Table
+    } else {
+        RowForm::Line
+    };
+    Telling {
+        rows,
+        is_echo: words.is_echo,
+        is_prompting: terminals.is_read && terminals.is_typed,
+        watch: watch_of(terminals),
+    }
+}
+
+/// Does the steps that are typed, each as it comes, and tells what it replies. Answers the exit
+/// status: 0 at the end of the input, or 1 with a line on `errors` where it can't be read or memory
+/// is wanting, and 1 without one where `output` can't be written.
+pub fn run_typed<H: Files + AllocGlobal, R: Read, W: Write, E: Write>(
+    rt: &H,
+    words: ShellWords,
+    terminals: Terminals,
+    input: &mut R,
+    output: &mut W,
+    errors: &mut E,
+) -> ExitCode
+    ensures { exit_status result ≤ 1 }
+{
+    match run_shell(rt, telling_of(words, terminals), input, output, errors) {
+        Ok(_) => ExitCode::SUCCESS,
+        Err(ShellError::OutOfMemory) => refuse(errors, Fault::OutOfMemory),
+        Err(ShellError::CannotRead) => refuse(errors, Fault::CannotRead),
+        Err(ShellError::CannotWrite) => ExitCode::FAILURE,
+    }
+}

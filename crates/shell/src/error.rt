@@ -1,0 +1,39 @@
+// Why a shell ends. Used by every module here; `recordctl` prints it.
+use schedule::ScheduleError;
+use std::alloc::{AllocError, AllocFailed};
+use std::io;
+
+/// Why a shell ends before its input does.
+#[derive(Debug, Drop)]
+pub enum ShellError {
+    /// There isn't memory enough.
+    OutOfMemory,
+    /// What is told can't be written.
+    CannotWrite,
+    /// The input can't be read.
+    CannotRead,
+}
+
+impl From<AllocError> for ShellError {
+    fn from(_error: AllocError) -> ShellError {
+        ShellError::OutOfMemory
+    }
+}
+
+impl<T: Drop> From<AllocFailed<T>> for ShellError {
+    fn from(_error: AllocFailed<T>) -> ShellError {
+        ShellError::OutOfMemory
+    }
+}
+
+impl From<io::Error> for ShellError {
+    fn from(_error: io::Error) -> ShellError {
+        ShellError::CannotWrite
+    }
+}
+
+impl From<ScheduleError> for ShellError {
+    fn from(_error: ScheduleError) -> ShellError {
+        ShellError::OutOfMemory
+    }
+}
