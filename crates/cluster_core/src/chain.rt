@@ -1,5 +1,5 @@
 // The version chain of one key, for multi-version reads. Used by `chains`.
-ghost use Rattle.std.specs.Prelude.{◌≡◌, ◌∷◌, [], OnOk, OnErr, if◌then◌else◌, slice_get, take};
+ghost use Rattle.std.specs.Prelude.{◌≡◌, ◌∷◌, [], OnOk, OnErr, if◌then◌else◌, length, slice_get, take};
 ghost use Rattle.std.specs.Option.{option_copied};
 ghost use Rattle.cluster_core.specs.Chains.{IsFalling, later, links_of, needed, put};
 ghost use Rattle.cluster_core.specs.Chains.{value_at, without};
@@ -79,6 +79,13 @@ impl Chain {
             newest: Link { version, value },
             older: VecDeque::new(alloc),
         }
+    }
+
+    /// How many links there are.
+    pub(crate) fn len(&self) -> usize
+        ensures { result ≡ length (links_of self.now) }
+    {
+        self.older.len() + 1
     }
 
     /// The value at a version, or None where there is none.

@@ -1,6 +1,6 @@
 // The multi-version map of a storage server. Used by `server`.
 ghost use Rattle.std.specs.Prelude.{◌≡◌, ◌∷◌, [], List, ℕ, IfOk, OnOk, OnErr, MatchOption};
-ghost use Rattle.std.specs.Prelude.{if◌then◌else◌, false};
+ghost use Rattle.std.specs.Prelude.{if◌then◌else◌, false, length};
 ghost use Rattle.std.specs.FinMap.{get};
 ghost use Rattle.std.specs.Map.{keys_of};
 ghost use Rattle.std.specs.Option.{option_copied};
@@ -304,6 +304,16 @@ impl Chains {
                 pairs.push((key.copy()?, value.copy()?))?;
                 Ok(pairs)
             }
+        }
+    }
+
+    /// How many links a key has.
+    pub(crate) fn depth(&self, key: &Bytes) -> usize
+        ensures { result ≡ length (links_at self.now.chains key.now) }
+    {
+        match self.chains.get(key) {
+            Some(chain) => chain.len(),
+            None => 0,
         }
     }
 

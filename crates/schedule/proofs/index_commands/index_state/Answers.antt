@@ -17,3 +17,9 @@ returns-clause-refused g c =
 pub returns-in-Ok-clause-performed : goal.returns-in-Ok-clause-performed
 returns-in-Ok-clause-performed g c =
     state_performed c.args.number c.in_ok-store.store c.args.name.now c.in-Ok.state c.in_ok-store.ensures.prefix c.in_ok-store.ensures.opened c.in-Ok.ensures.found
+
+pub returns-in-Ok-clause-known : goal.returns-in-Ok-clause-known
+returns-in-Ok-clause-known g c = λ sees. (c.in_ok-store.ensures.prefix, c.in_ok-store.ensures.there sees)
+
+pub returns-clause-known : goal.returns-clause-known
+returns-clause-known g c = λ sees. (c.in_ok-store.ensures.prefix, c.in_ok-store.ensures.there sees)
