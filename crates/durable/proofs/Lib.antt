@@ -1,3 +1,4 @@
+pub mod Crashes
 pub mod Logging
 pub mod Several
 pub mod Openings

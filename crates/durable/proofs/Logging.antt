@@ -1,5 +1,5 @@
 -- What a transaction makes of a log, and what a crash leaves of it.
-use Rattle.std.proofs.Common.{◌≡◌, ℕ, ◌+◌, true, inl, inr, List, [], ◌∷◌, ◌++◌, sym, ap, subst, subst₂, arith}
+use Rattle.std.proofs.Common.{◌≡◌, ℕ, ◌+◌, true, inl, inr, List, [], ◌∷◌, ◌++◌, sym, ap, subst, arith}
 use Rattle.kv_core.specs.Map.{after_all}
 use Rattle.kv_core.specs.declared.change.Mutation.{Mutation}
 use Rattle.record_store.specs.Layout.{is_store_number}
@@ -7,28 +7,19 @@ use Rattle.schedule.specs.declared.reply.Reply.{Reply}
 use Rattle.journal.specs.Block.{Contents, StandsFor}
 use Rattle.journal.specs.Device.{LeavesOnly, Only}
 use Rattle.journal.specs.Journal.{IsBeforeOrAfter, entries_read}
-use Rattle.journal.proofs.Moments.{started, weaker}
+use Rattle.durable.proofs.Crashes.{started, weaker}
 use Rattle.command_log.specs.declared.entry.Entry.{Entry}
 use Rattle.command_log.specs.Answers.{IsWrittenAs}
 use Rattle.replay.specs.Commands.{commands_of}
 use Rattle.replay.specs.Logged.{AreServed, log_database}
 use Rattle.replay.specs.Replaying.{AllDone, Image}
 use Rattle.replay.proofs.Replays.{logged_more, step_done, written_append}
-use Rattle.durable.specs.declared.error.CommitError.{CommitError}
-use Rattle.durable.specs.declared.error.CommitError.TheVariants.{Memory, Refused, Full, Exhausted, Closed, Unknown, Starved, Unseen}
 use Rattle.durable.specs.declared.request.Request.{Request}
-use Rattle.durable.specs.Refusals.{IsOfAppend}
-use Rattle.durable.specs.Keeping.{HasLogOf, HasOnDisk, HasOneOrNone, KeepsLog, entry_at}
+use Rattle.durable.specs.Keeping.{HasLogOf, HasOneOrNone, KeepsLog, entry_at}
 
 -- the byte strings that a file stands for are those that are read of it
 are_read : (file : List ℕ) (log : List (List ℕ)) → StandsFor file log → entries_read file ≡ log
 are_read file log stands = ap (λ (c : Contents). c.entries) stands
-
--- the bytes of the entry that is made of a request
-pub is_entry : (bytes : List ℕ) (request : Request) (version number next : ℕ) → version ≡ next → number ≡ request.store →
-    IsWrittenAs bytes (record { version = version; client = request.client; number = request.number; store = number; changes = request.changes }) → IsWrittenAs bytes (entry_at next request)
-is_entry bytes request version number next at store is =
-    subst₂ (λ v s. IsWrittenAs bytes (record { version = v; client = request.client; number = request.number; store = s; changes = request.changes })) at store is
 
 -- a file that stands for one more
 pub log_more : (file longer : List ℕ) (entries : List Entry) (bytes : List ℕ) (entry : Entry) → HasLogOf file entries → IsWrittenAs bytes entry → StandsFor longer (entries_read file ++ bytes ∷ []) → HasLogOf longer (entries ++ entry ∷ [])
@@ -53,11 +44,6 @@ module _ {D : Type 0} (seen : D → List ℕ) (may_leave : D → List ℕ → Ty
   leaves_append entries entry bytes old new image keeps is run =
       weaker moment left_since old new (IsBeforeOrAfter (entries_read (seen old)) (bytes ∷ [])) (HasOneOrNone entries entry) (one_or_none (seen old) entries bytes entry keeps.file is) run
 
-  -- an append that is done
-  pub appended : (entries : List Entry) (entry : Entry) (bytes : List ℕ) (old new : D) (image : Image) → KeepsLog seen may_leave entries old image → IsWrittenAs bytes entry →
-      StandsFor (seen new) (entries_read (seen old) ++ bytes ∷ []) → Only (seen new) (may_leave new) → HasOnDisk seen may_leave (entries ++ entry ∷ []) new
-  appended entries entry bytes old new image keeps is stands durable = record { file = log_more (seen old) (seen new) entries bytes entry keeps.file is stands; durable = durable }
-
   -- a transaction that is performed, appended and accepted
   pub keeps_more : (entries : List Entry) (request : Request) (bytes : List ℕ) (answers : List Reply) (mutations : List Mutation) (old new : D) (before after : Image) →
       KeepsLog seen may_leave entries old before → IsWrittenAs bytes (entry_at (before.version + 1) request) → is_store_number request.store ≡ true → AllDone request.store before.map (commands_of request.changes) answers mutations →
@@ -78,14 +64,3 @@ served_log seen may_leave entries request answers mutations device image keeps l
     let number = request.store in
     let d = log_database entries in
     subst (λ m. AreServed number m [] (d.stores number) (commands_of request.changes) answers) keeps.logged.map (done (d.stores number) (keeps.logged.holds.each number lawful)).served
-
--- an append doesn't answer that what it added can't be read
-pub no_append_unseen : (error : CommitError) → IsOfAppend error → error ≡ Unseen → ⊥
-no_append_unseen Memory of is = absurd (cc)
-no_append_unseen (Refused error) of is = absurd of
-no_append_unseen Full of is = absurd (cc)
-no_append_unseen Exhausted of is = absurd of
-no_append_unseen Closed of is = absurd of
-no_append_unseen Unknown of is = absurd (cc)
-no_append_unseen Starved of is = absurd (cc)
-no_append_unseen Unseen of is = absurd of

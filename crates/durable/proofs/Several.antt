@@ -1,24 +1,19 @@
 -- Transactions that are committed one after another.
-use Rattle.std.proofs.Common.{◌≡◌, ℕ, suc, ◌+◌, ◌<◌, ◌≤◌, ◌^◌, true, false, inl, inr, List, [], ◌∷◌, ◌++◌, length, take, refl, sym, ap, subst, subst₂, ◌∙◌, append-nil, append_assoc, arith}
-use Rattle.std.proofs.lemmas.Bool.{cases_lt, true≢false}
+use Rattle.std.proofs.Common.{◌≡◌, ℕ, suc, ◌+◌, inl, inr, List, [], ◌∷◌, ◌++◌, length, take, refl, sym, ap, subst, subst₂, ◌∙◌, append-nil, append_assoc, arith}
 use Rattle.std.proofs.lemmas.List.{length-append, take_at}
-use Rattle.journal.specs.Form.{blocks}
 use Rattle.journal.specs.Device.{LeavesOnly}
-use Rattle.journal.proofs.Moments.{joined, started, weaker}
+use Rattle.durable.proofs.Crashes.{joined, started, weaker}
 use Rattle.journal.specs.declared.device.Device.{Ghosts}
 use Rattle.command_log.specs.declared.entry.Entry.{Entry}
-use Rattle.command_log.specs.Form.{bytes_of_entry}
-use Rattle.replay.specs.Commands.{commands_of}
-use Rattle.replay.specs.Replaying.{AreUndone, Image}
+use Rattle.replay.specs.Replaying.{Image}
 use Rattle.durable.specs.declared.database.Durable.{Durable}
 use Rattle.durable.specs.declared.error.CommitError.{CommitError}
-use Rattle.durable.specs.declared.error.CommitError.TheVariants.{Memory, Refused, Full, Exhausted, Closed, Unknown, Starved, Unseen}
+use Rattle.durable.specs.declared.error.CommitError.TheVariants.{Memory, Refused, Full, Exhausted, Closed, Unknown}
 use Rattle.durable.specs.declared.request.Request.{Request}
 use Rattle.durable.specs.declared.request.Committed.{Committed}
-use Rattle.durable.specs.Keeping.{HasFirst, HasLogOf, HasOnDisk, HasOneOrNone, IsCommitted, KeepsLog, entries_after, entry_at}
-use Rattle.durable.specs.Stopping.{IsStoppedBehind, StopsAt}
+use Rattle.durable.specs.Keeping.{HasFirst, HasLogOf, HasOneOrNone, IsCommitted, StopsAt, KeepsLog, entries_after, entry_at}
 use Rattle.durable.specs.Refusals.{IsUncommitted}
-use Rattle.durable.specs.Standing.{IsUnchanged, image_of, log_device, takes_commits}
+use Rattle.durable.specs.Standing.{IsUnchanged, image_of, log_device}
 
 -- ---- entries of requests
 
@@ -122,67 +117,29 @@ module _ {D : Type 0} (seen : D → List ℕ) (may_leave : D → List ℕ → Ty
 
 -- ---- the end
 
--- a file has no room for the request's entry
-abbrev HasNoRoom : List ℕ → ℕ → Request → Type 0
-HasNoRoom file version request = 2 ^ 63 ≤ length file + length (blocks (bytes_of_entry (entry_at (version + 1) request) ∷ []))
-
 module _ {D : Type 0} {G : Ghosts D} (seen : D → List ℕ) (may_leave : D → List ℕ → Type 0) (moment : D → ℕ) (left_since : D → ℕ → List ℕ → Type 0) where
-  still : (entries : List Entry) (old new : Durable D G) → IsUnchanged old new → KeepsLog seen may_leave entries (log_device old) (image_of old) → KeepsLog seen may_leave entries (log_device new) (image_of new)
-  still entries old new same keeps = subst₂ (λ d i. KeepsLog seen may_leave entries d i) (sym same.device) (sym same.image) keeps
-
-  why_stopped : (entries : List Entry) (request : Request) (error : CommitError) (old new : Durable D G) → KeepsLog seen may_leave entries (log_device old) (image_of old) → IsUncommitted error request old new →
-      (error ≡ Full → HasNoRoom (seen (log_device old)) (image_of old).version request) → (error ≡ Unseen → HasOnDisk seen may_leave (entries ++ entry_at ((image_of old).version + 1) request ∷ []) (log_device new)) →
-      IsStoppedBehind seen may_leave entries (image_of old).version request error (log_device new) (image_of new)
-  why_stopped entries request Memory old new keeps is full unseen = still entries old new is keeps
-  why_stopped entries request (Refused error) old new keeps is full unseen =
-      (still entries old new is.0 keeps, subst (λ m. AreUndone request.store m (commands_of request.changes) error) keeps.logged.map is.1)
-  why_stopped entries request Full old new keeps is full unseen = (still entries old new is keeps, subst (λ d. HasNoRoom (seen d) (image_of old).version request) (sym is.device) (full refl))
-  why_stopped entries request Exhausted old new keeps is full unseen = (still entries old new is.0 keeps, is.1)
-  why_stopped entries request Closed old new keeps is full unseen = still entries old new is.0 keeps
-  why_stopped entries request Unknown old new keeps is full unseen = tt
-  why_stopped entries request Starved old new keeps is full unseen = tt
-  why_stopped entries request Unseen old new keeps is full unseen = unseen refl
+  unchanged : (error : CommitError) (request : Request) (old new : Durable D G) → (error ≡ Unknown → ⊥) → IsUncommitted error request old new → IsUnchanged old new
+  unchanged Memory request old new other is = is
+  unchanged (Refused error) request old new other is = is.0
+  unchanged Full request old new other is = is
+  unchanged Exhausted request old new other is = is.0
+  unchanged Closed request old new other is = is.0
+  unchanged Unknown request old new other is = absurd (other refl)
 
   -- the next one isn't committed
   pub stopped_there : (first_db now new : Durable D G) (all rest : List Request) (place : ℕ) (request : Request) (error : CommitError) →
       HasCommitted seen may_leave moment left_since (log_device first_db) (image_of first_db) all (request ∷ rest) place (log_device now) (image_of now) → IsUncommitted error request now new →
-      (error ≡ Full → HasNoRoom (seen (log_device now)) (image_of now).version request) →
-      (error ≡ Unseen → (entries : List Entry) → KeepsLog seen may_leave entries (log_device now) (image_of now) → HasOnDisk seen may_leave (entries ++ entry_at ((image_of now).version + 1) request ∷ []) (log_device new)) →
       (entries : List Entry) → KeepsLog seen may_leave entries (log_device first_db) (image_of first_db) →
       StopsAt seen may_leave entries (image_of first_db).version all (record { place = place; error = error }) (log_device new) (image_of new)
-  stopped_there first_db now new all rest place request error so_far is full unseen entries keeps =
+  stopped_there first_db now new all rest place request error so_far is entries keeps =
       let first = so_far.first in
       let version = (image_of first_db).version in
-      let longer = entries ++ entries_after version first in
-      let here = so_far.keeps entries keeps in
+      let longer : length all ≡ length first + suc (length rest) = ap length (sym so_far.split) ∙ length-append first (request ∷ rest) in
+      let are : take place (entries_after version all) ≡ entries_after version first = ap (λ n. take n (entries_after version all)) so_far.at ∙ ap (λ rs. take (length first) (entries_after version rs)) (sym so_far.split) ∙ first_entries version first (request ∷ rest) in
       record {
-        first = first;
-        request = request;
-        others = rest;
-        split = sym so_far.split;
-        at = sym so_far.at;
-        stopped =
-            subst (λ v. IsStoppedBehind seen may_leave longer v request error (log_device new) (image_of new)) so_far.version
-            (why_stopped longer request error now new here is full (λ hidden. unseen hidden longer here));
+        within = omega (arith, so_far.at, longer);
+        before = λ other.
+            let same = unchanged error request now new other is in
+            subst (λ es. KeepsLog seen may_leave (entries ++ es) (log_device new) (image_of new)) (sym are)
+            (subst₂ (λ d i. KeepsLog seen may_leave (entries ++ entries_after version first) d i) (sym same.device) (sym same.image) (so_far.keeps entries keeps));
       }
-
-  was_closed : (request : Request) (error : CommitError) (old new : Durable D G) → error ≡ Closed → IsUncommitted error request old new → takes_commits old ≡ false
-  was_closed request Memory old new is uncommitted = absurd (cc)
-  was_closed request (Refused error) old new is uncommitted = absurd (cc)
-  was_closed request Full old new is uncommitted = absurd (cc)
-  was_closed request Exhausted old new is uncommitted = absurd (cc)
-  was_closed request Closed old new is uncommitted = uncommitted.1
-  was_closed request Unknown old new is uncommitted = absurd (cc)
-  was_closed request Starved old new is uncommitted = absurd (cc)
-  was_closed request Unseen old new is uncommitted = absurd (cc)
-
-  -- a database that was open stays so while transactions are committed
-  pub closed_at_first : (first_db now new : Durable D G) (place : ℕ) (request : Request) (error : CommitError) → (0 < place → takes_commits now ≡ true) → (place ≡ 0 → takes_commits now ≡ takes_commits first_db) →
-      IsUncommitted error request now new → error ≡ Closed → (place ≡ 0) × (takes_commits first_db ≡ false)
-  closed_at_first first_db now new place request error open_since same_first uncommitted is = elim (cases_lt 0 place) [
-    | inl some ↦ absurd (true≢false (sym (open_since some) ∙ was_closed request error now new is uncommitted))
-    | inr none ↦ at_first (omega (arith, none))
-  ]
-    where
-      at_first : place ≡ 0 → (place ≡ 0) × (takes_commits first_db ≡ false)
-      at_first none = (none, sym (same_first none) ∙ was_closed request error now new is uncommitted)

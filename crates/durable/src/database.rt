@@ -5,7 +5,7 @@ ghost use Rattle.journal.specs.Standing.{is_open as takes_entries};
 use crate::error::{CommitError, Uncommitted};
 use crate::request::{Committed, Request};
 use command_log::{Entry, bytes_of};
-use journal::{AppendError, Device, DeviceError, Journal};
+use journal::{AppendError, Device, Journal};
 use kv_core::Mutations;
 use replay::Image;
 use std::alloc::Global;
@@ -22,7 +22,7 @@ pub struct Durable<D: Device> {
 }
 
 impl<D: Device> Durable<D> {
-    ghost use Rattle.std.specs.Prelude.{◌+◌, ◌<◌, ◌≤◌, ◌^◌, ◌++◌, [], ◌∷◌, List, ℕ, length};
+    ghost use Rattle.std.specs.Prelude.{◌+◌, ◌≤◌, ◌^◌, ◌++◌, [], ◌∷◌, List, ℕ, length};
     ghost use Rattle.std.specs.Prelude.{false, IfOk, IfErr, OnOk, OnErr, IsErrOf};
     ghost use Rattle.std.specs.Option.{option_copied};
     ghost use Rattle.kv_core.specs.Map.{after_all};
@@ -32,9 +32,8 @@ impl<D: Device> Durable<D> {
     ghost use Rattle.journal.specs.Journal.{IsBeforeOrAfter, entries_read};
     ghost use Rattle.command_log.specs.declared.entry.Entry.{Entry as EntryValue};
     ghost use Rattle.command_log.specs.Form.{bytes_of_entry};
-    ghost use Rattle.durable.specs.Keeping.{HasFirst, HasOnDisk, HasOneOrNone, IsCommitted};
+    ghost use Rattle.durable.specs.Keeping.{HasFirst, HasOneOrNone, IsCommitted, StopsAt};
     ghost use Rattle.durable.specs.Keeping.{KeepsLog, entries_after, entry_at};
-    ghost use Rattle.durable.specs.Stopping.{StopsAt};
     ghost use Rattle.durable.specs.Standing.{IsUnchanged, image_of, log_device, read_image};
     ghost use Rattle.durable.specs.Standing.{takes_commits};
     ghost use Rattle.durable.specs.Refusals.{IsOfAppend, IsUncommitted};
@@ -101,11 +100,7 @@ impl<D: Device> Durable<D> {
         ensures full { IsErrOf result CommitError.Full → IsUnchanged self.old self.new }
         ensures no_room { IsErrOf result CommitError.Full
             → 2 ^ 63 ≤ length (D.seen (log_device self.old)) + length (blocks (bytes.items ∷ [])) }
-        ensures unknown { IsErrOf result CommitError.Unknown → (takes_commits self.new ≡ false)
-            × (D.faults (log_device self.old) < D.faults (log_device self.new)) }
-        ensures starved { IsErrOf result CommitError.Starved → (takes_commits self.new ≡ false)
-            × (D.wants_memory ≡ true) }
-        ensures later { D.faults (log_device self.old) ≤ D.faults (log_device self.new) }
+        ensures unknown { IsErrOf result CommitError.Unknown → takes_commits self.new ≡ false }
         ensures others { IfErr result IsOfAppend }
     {
         self.is_open = false;
@@ -122,9 +117,7 @@ impl<D: Device> Durable<D> {
                 self.is_open = true;
                 Err(CommitError::Full)
             }
-            Err(AppendError::Broken) => unreachable!(),
-            Err(AppendError::Device(DeviceError::Memory)) => Err(CommitError::Starved),
-            Err(AppendError::Device(DeviceError::Failed)) => Err(CommitError::Unknown),
+            Err(AppendError::Broken | AppendError::Device(_)) => Err(CommitError::Unknown),
         }
     }
 
@@ -143,7 +136,7 @@ impl<D: Device> Durable<D> {
         }) }
         ensures ok { OnOk result (takes_commits self.new ≡ true) }
         ensures err { OnErr result (takes_commits self.new ≡ false) }
-        ensures unseen { IfErr result (λ error. error ≡ CommitError.Unseen) }
+        ensures unknown { IfErr result (λ error. error ≡ CommitError.Unknown) }
     {
         self.is_open = false;
         let before = mem::replace(&mut self.image, Image::new(alloc));
@@ -153,14 +146,13 @@ impl<D: Device> Durable<D> {
                 self.is_open = true;
                 Ok(())
             }
-            Err(_) => Err(CommitError::Unseen),
+            Err(_) => Err(CommitError::Unknown),
         }
     }
 
     /// Performs changes in one transaction, all or none, and answers once its entry is on the disk.
     ///
-    /// After `Unknown` and `Starved` the database is closed, and the log has the entry or not.
-    /// After `Unseen` it is closed, and the log has the entry.
+    /// After `Unknown` the database is closed, and the log has the entry or not.
     pub fn commit(&mut self, alloc: Global, request: Request) -> Result<Committed, CommitError>
         ensures committed { IfOk result (λ done. (entries : List EntryValue)
             → KeepsLog D.seen D.may_leave entries (log_device self.old) (image_of self.old)
@@ -180,25 +172,10 @@ impl<D: Device> Durable<D> {
         ensures refused { IfErr result (λ error.
             IsUncommitted error request self.old self.new) }
         ensures closed { takes_commits self.old ≡ false → IsErrOf result CommitError.Closed }
-        ensures full { IfErr result (λ error. error ≡ CommitError.Full
+        ensures full { IsErrOf result CommitError.Full
             → let entry = entry_at ((image_of self.old).version + 1) request in
             2 ^ 63 ≤ length (D.seen (log_device self.old))
-            + length (blocks (bytes_of_entry entry ∷ []))) }
-
-        // It isn't known what became of it only where the device has failed, or wants memory.
-        ensures unknown { IfErr result (λ error. error ≡ CommitError.Unknown
-            → D.faults (log_device self.old) < D.faults (log_device self.new)) }
-        ensures starved { IfErr result (λ error. error ≡ CommitError.Starved
-            → D.wants_memory ≡ true) }
-        ensures later { D.faults (log_device self.old) ≤ D.faults (log_device self.new) }
-
-        // One that can't be read is in the log, on the disk.
-        ensures unseen { IfErr result (λ error. error ≡ CommitError.Unseen
-            → (entries : List EntryValue)
-            → KeepsLog D.seen D.may_leave entries (log_device self.old) (image_of self.old)
-            → HasOnDisk D.seen D.may_leave
-            (entries ++ entry_at ((image_of self.old).version + 1) request ∷ [])
-            (log_device self.new)) }
+            + length (blocks (bytes_of_entry entry ∷ [])) }
     {
         if !self.is_open {
             return Err(CommitError::Closed);
@@ -242,15 +219,6 @@ impl<D: Device> Durable<D> {
             → KeepsLog D.seen D.may_leave entries (log_device self.old) (image_of self.old)
             → StopsAt D.seen D.may_leave entries (image_of self.old).version requests.items why
             (log_device self.new) (image_of self.new)) }
-
-        // Only the first one finds the database closed, where it was. It isn't known what became of
-        // one only where the device has failed, or wants memory.
-        ensures closed { IfErr result (λ why. why.error ≡ CommitError.Closed
-            → (why.place ≡ 0) × (takes_commits self.old ≡ false)) }
-        ensures unknown { IfErr result (λ why. why.error ≡ CommitError.Unknown
-            → D.faults (log_device self.old) < D.faults (log_device self.new)) }
-        ensures starved { IfErr result (λ why. why.error ≡ CommitError.Starved
-            → D.wants_memory ≡ true) }
     {
         let mut place = 0;
         for request in requests {

@@ -77,18 +77,9 @@ pub enum CommitError {
     /// anew. Nothing has changed.
     #[error("the database is closed")]
     Closed,
-    /// The device failed: the log has the transaction or not, and the database has to be opened
-    /// anew.
-    #[error("the device failed: the transaction may be committed or not")]
+    /// The log has the transaction or not, and the database has to be opened anew.
+    #[error("the transaction may be committed or not")]
     Unknown,
-    /// Memory ran out in the device, as it does in none that is a file: the log has the transaction
-    /// or not, and the database has to be opened anew.
-    #[error("out of memory in the device: the transaction may be committed or not")]
-    Starved,
-    /// It is committed, and the log has it. Memory ran out before it could be read, so that the
-    /// database has to be opened anew.
-    #[error("the transaction is committed, and out of memory to read it")]
-    Unseen,
 }
 
 impl From<AllocError> for CommitError {

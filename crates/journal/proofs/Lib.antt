@@ -2,7 +2,7 @@ mod Headers
 mod Firsts
 mod Heads
 mod Readings
-pub mod Moments
+mod Moments
 mod Gates
 mod Batches
 mod Contents

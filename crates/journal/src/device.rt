@@ -1,6 +1,5 @@
 // A file as the journal sees it: what a read returns, and what a crash may leave.
 ghost use Rattle.std.specs.Prelude.{◌≡◌, ◌<◌, ◌≤◌, ◌^◌, List, ℕ, length, take, drop, IfOk, OnOk};
-ghost use Rattle.std.specs.Prelude.{Bool, true, IsErrOf};
 ghost use Rattle.journal.specs.declared.device.DeviceError.TheVariants.{Memory};
 ghost use Rattle.journal.specs.Device.{Only, LeftBy, Torn, Cut, HasWritten, Elapses, HasCause};
 
@@ -50,9 +49,6 @@ pub trait Device {
     /// How often the device has failed.
     ghost faults: { Self → ℕ };
 
-    /// Whether a write, a cut or a sync may want memory. A file's don't.
-    ghost wants_memory: { Bool };
-
     /// How many bytes there are.
     fn len(&mut self) -> Result<usize, DeviceError>
         ensures len { IfOk result (λ len. len ≡ length (seen self.old)) }
@@ -81,8 +77,7 @@ pub trait Device {
             (may_leave self.new) }
         ensures time { Elapses (moment self.old) (moment self.new)
             (left_since self.old) (left_since self.new) (may_leave self.new) }
-        ensures cause { HasCause (faults self.old) (faults self.new) result }
-        ensures fed { IsErrOf result Memory → wants_memory ≡ true };
+        ensures cause { HasCause (faults self.old) (faults self.new) result };
 
     /// Cuts the file to a length.
     fn cut(&mut self, len: usize) -> Result<(), DeviceError>
@@ -91,8 +86,7 @@ pub trait Device {
         ensures crash { LeftBy (Cut len) (may_leave self.old) (may_leave self.new) }
         ensures time { Elapses (moment self.old) (moment self.new)
             (left_since self.old) (left_since self.new) (may_leave self.new) }
-        ensures cause { HasCause (faults self.old) (faults self.new) result }
-        ensures fed { IsErrOf result Memory → wants_memory ≡ true };
+        ensures cause { HasCause (faults self.old) (faults self.new) result };
 
     /// After it, a crash leaves what a read returns.
     fn sync(&mut self) -> Result<(), DeviceError>
@@ -101,8 +95,7 @@ pub trait Device {
         ensures crash { (c : List ℕ) → may_leave self.new c → may_leave self.old c }
         ensures time { Elapses (moment self.old) (moment self.new)
             (left_since self.old) (left_since self.new) (may_leave self.new) }
-        ensures cause { HasCause (faults self.old) (faults self.new) result }
-        ensures fed { IsErrOf result Memory → wants_memory ≡ true };
+        ensures cause { HasCause (faults self.old) (faults self.new) result };
 
     /// This moment is one of those since an earlier one.
     ghost counts_now: { (file : Self) (t : ℕ) (c : List ℕ) → t ≤ moment file → may_leave file c

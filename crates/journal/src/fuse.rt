@@ -71,8 +71,6 @@ impl<D: Device> Device for Fuse<D> {
 
     ghost faults = { λ f. D.faults f.device + (if f.is_blown then 1 else 0) };
 
-    ghost wants_memory = { D.wants_memory };
-
     ghost counts_now = { λ f t c le now. D.counts_now f.device t c le now };
 
     ghost only_now = { λ f c left. D.only_now f.device c left };

@@ -31,7 +31,6 @@ fn add<D: Device>(device: &mut D, gate: usize, body: &[u8]) -> Result<(), Device
     ensures any_moment { LeavesOnly D.moment D.left_since device.old device.new
         (IsFrontOrAll (take gate (D.seen device.old)) body.now) }
     ensures cause { HasCause (D.faults device.old) (D.faults device.new) result }
-    ensures fed { IsErrOf result DeviceError.Memory → D.wants_memory ≡ true }
 {
     device.write_at(gate + 1, body)?;
     device.sync()?; // What stands behind the gate is on the disk before it is opened,
@@ -108,9 +107,6 @@ impl<D: Device> Journal<D> {
             → is_open self.new ≡ false }
         ensures failed { IsErrOf result (AppendError.Device DeviceError.Failed)
             → D.faults (device_of self.old) < D.faults (device_of self.new) }
-        ensures fed { IsErrOf result (AppendError.Device DeviceError.Memory)
-            → D.wants_memory ≡ true }
-        ensures later { D.faults (device_of self.old) ≤ D.faults (device_of self.new) }
         ensures nothing { entries.now ≡ [] → self.new ≡ self.old }
     {
         if !self.is_open {

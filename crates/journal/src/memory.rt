@@ -1,6 +1,6 @@
 // A file in memory. Each call is done at once, so a crash leaves what is there. It keeps each past
 // content.
-ghost use Rattle.std.specs.Prelude.{◌≡◌, ◌⊎◌, [], ◌∷◌, ◌++◌, length, drop, true, OnOk, OnErr};
+ghost use Rattle.std.specs.Prelude.{◌≡◌, ◌⊎◌, [], ◌∷◌, ◌++◌, length, drop, OnOk, OnErr};
 ghost use Rattle.std.proofs.Common.{inl};
 ghost use Rattle.journal.specs.Past.{HadBeen, only_contents};
 
@@ -65,8 +65,6 @@ impl Device for Memory {
     ghost left_since = { λ m t c. (c ≡ m.bytes.items) ⊎ HadBeen (drop t m.past.items) c };
 
     ghost faults = { λ m. 0 };
-
-    ghost wants_memory = { true };
 
     ghost counts_now = { λ m t c le now. inl now };
 

@@ -1,5 +1,5 @@
 // Each call on the device is one of the system, and is then noted with its answer.
-ghost use Rattle.std.specs.Prelude.{◌≡◌, ◌<◌, ◌^◌, false, length};
+ghost use Rattle.std.specs.Prelude.{◌≡◌, ◌<◌, ◌^◌, length};
 ghost use Rattle.std.specs.Option.{ForSome};
 ghost use Rattle.journal_file.specs.Files.{seen_after, may_leave, left_since, faults_in};
 ghost use Rattle.journal_file.specs.Files.{counts_now, only_now};
@@ -53,8 +53,6 @@ impl Device for FileDevice {
     ghost left_since = { λ f t c. left_since f.history.first f.history.calls t c };
 
     ghost faults = { λ f. faults_in f.history.calls };
-
-    ghost wants_memory = { false };
 
     ghost counts_now = { λ f t c le now. counts_now f.history.first f.history.calls t c le now };
 
