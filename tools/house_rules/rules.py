@@ -35,7 +35,7 @@ KNOWN = "tools/house_rules/known.txt"
 SHOWING = (README, "docs/guide/TOUR.md", "docs/guide/EMBEDDING.md")
 CODE = re.compile(r"^```(\w+)\n(.*?)^```$", re.M | re.S)
 SHOWN = {"rust": (RATTLE,), "antt": (SPECS, PROOFS), "json": ("examples/*.json",),
-         "text": ("examples/*.out", "examples/*.talk", "crates/*/stdout")}
+         "text": ("examples/*.out", "crates/*/stdout")}
 
 # what the formatter says of a file, and why
 NOT_LAID_OUT = re.compile(r"(.+?)(?: is (not in the layout)|: (it does not parse: .*))")

@@ -1,12 +1,10 @@
 """Asks built programs `recordctl` and a model of a record store for the replies to random scripts, and compares them.
 
-    model [PROGRAM..] [--count N] [--seed S]      that many scripts, and as many of the programs' own
+    model [PROGRAM..] [--count N] [--seed S]      that many scripts
     model [PROGRAM] --self-test [--count N]       mistakes are put into the model; each must be found
     model [PROGRAM] --mistake NAME                scripts with one of these in the model, to see how it is found
     model [PROGRAM] --show NUMBER                 a script, with the replies of both
     model --script FILE                           the model's replies to a script
-
-After random scripts of its own it asks for the replies to as many that the programs make (`recordctl simulate`).
 
 The model keeps what is committed at each version as values, and decides replies, conflicts and rows from these alone.
 Where the two differ, the script is made as short as may be, and printed with the replies of both to each step. The last
@@ -20,7 +18,7 @@ import time
 from collections import Counter
 from contextlib import nullcontext
 
-from comparing import Program, difference, differs, model_replies, shown, shrunk, simulated_fault
+from comparing import Program, difference, differs, model_replies, shown, shrunk
 from mistakes import MISTAKES, made
 from scripts import script_of
 
@@ -77,16 +75,6 @@ def compare(programs, seed, count):
     return passed, failed
 
 
-def compare_simulated(programs, count):
-    """Compares so many scripts that the programs make, and prints which of them have a fault."""
-    begun = time.monotonic()
-    faults = {seed: fault for seed in range(count) if (fault := simulated_fault(programs, seed))}
-    for seed, fault in list(faults.items())[:MOST_SHOWN]:
-        print(f"simulate --seed {seed}: {fault}")
-    print(f"{count:,} scripts of the programs themselves; {time.monotonic() - begun:.0f} s")
-    return count - len(faults), len(faults)
-
-
 def first_found(scripts, replies):
     """The number of the first script in which the model differs from these replies, or None."""
     pairs = enumerate(zip(scripts, replies))
@@ -114,13 +102,9 @@ def main():
     if options.show is not None:
         print(shown(options.programs[0], script_of(options.seed, options.show)))
         return 0
-    simulated = (0, 0)
-    if not (options.self_test or options.mistake):
-        simulated = compare_simulated(options.programs, options.count)
     mistakes = [made(it) for it in MISTAKES if it.name == options.mistake]
     with mistakes[0] if mistakes else nullcontext():
         passed, failed = (self_test if options.self_test else compare)(options.programs, options.seed, options.count)
-    passed, failed = passed + simulated[0], failed + simulated[1]
     print(f"{passed} passed, {failed} failed")
     return 1 if failed or not passed else 0
 

@@ -33,31 +33,6 @@ class Program:
             return [f"status {done.returncode}: {done.stderr.decode(errors='replace').strip()}"]
         return [line.removeprefix(f"{number} ") for number, line in enumerate(lines, 1)]
 
-    def simulated(self, seed, *words):
-        """What it prints of the random script of a seed, of one client to four and of 40 steps to 120."""
-        size = ["--clients", str(1 + seed % 4), "--steps", str(40 * (1 + seed % 3))]
-        done = subprocess.run([self.path, "simulate", "--seed", str(seed), *size, *words], capture_output=True,
-                              timeout=SECONDS, check=False)
-        return done.stdout.decode() if (done.returncode, done.stderr) == (0, b"") else f"status {done.returncode}"
-
-
-def ran(text, replies):
-    """What a run of a script prints whose steps stand on lines of their own: each step, and its reply."""
-    steps = [it.removesuffix(",") for it in text.split("\n")[2:-2]]
-    pairs = enumerate(zip(steps, replies, strict=True), 1)
-    return "".join(f"{step}\n{number} {reply}\n" for number, (step, reply) in pairs)
-
-
-def simulated_fault(programs, seed):
-    """What is wrong with the script that programs make of a seed, or with the replies of one to it; or None."""
-    text = programs[0].simulated(seed)
-    if any(it.simulated(seed) != text for it in programs):
-        return "two programs print different scripts"
-    if not text.startswith("{"):
-        return text
-    wanted = ran(text, model_replies(json.loads(text)))
-    return next((f"{it.path} differs from the model" for it in programs if it.simulated(seed, "--run") != wanted), None)
-
 
 def model_replies(script):
     """The model's replies; where its own laws don't hold, the words of that."""

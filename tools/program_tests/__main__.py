@@ -10,13 +10,8 @@ import resource
 import subprocess
 import sys
 import tempfile
-from agreement import agreement_faults
 from cases import cases_in, example_cases
-from drawings import drawing_faults
-from edges import MANY_STEPS, MEMORY_LIMITS, SETTLE, byte_cases, command_line_cases, echo_cases, long_cases, long_line
-from manuals import manual_faults
-from shells import shell_cases
-from terminals import terminal_faults
+from edges import MANY_STEPS, MEMORY_LIMITS, SETTLE, byte_cases, command_line_cases, long_cases, long_line
 
 SECONDS = 60
 # how often each race is run again
@@ -97,20 +92,15 @@ def archive_fault():
 
 def faults(program, folder):
     """What each case shows, and what is wrong with it, or None."""
-    cases = [*cases_in("cases"), *example_cases("examples"), *long_cases(), *byte_cases(), *echo_cases(),
-             *shell_cases(folder), *command_line_cases(folder)]
+    cases = [*cases_in("cases"), *example_cases("examples"), *long_cases(), *byte_cases(), *command_line_cases(folder)]
     for case in cases:
         yield case.shows, fault_of(program, case)
     for case in cases:
         if "race" in case.words[:1] and case.status == 0:
             yield f"{RACES} runs: {case.shows}", race_fault(program, case, RACES)
-    yield from agreement_faults(program, cases)
-    yield from drawing_faults(program, cases)
-    yield from terminal_faults(program, folder)
-    yield from manual_faults(program)
     race = next(case for case in cases if "race" in case.words[:1] and case.status == 0)
     for words, given in ([["run"], SETTLE.encode()], [["pack", "[1]"], b""], [["unpack", "14"], b""],
-                         [["race"], race.given], [["shell"], b"settle\n"]):
+                         [["race"], race.given]):
         yield f"output that can't be written: {words[0]}", closed_output_fault(program, words, given)
     yield "an archive tells its commit", archive_fault()
     yield "want of memory for a script", memory_fault(program, *MANY_STEPS, False)

@@ -2,8 +2,7 @@
 
 A file NAME.steps has scripts. A line '# TEXT' begins one and says what it shows; 'config JSON' gives its configuration;
 each other line is 'STEP => REPLY', the JSON of a step and what is printed for it behind its number. A line 'define NAME
-JSON' at the head of a file names a text that is put in place of '$NAME' in its steps. A file NAME.named is such a one
-for `run --names`.
+JSON' at the head of a file names a text that is put in place of '$NAME' in its steps.
 
 A file NAME.plans has queries. A line 'schema JSON' gives the schema and 'states JSON' the states of indexes from there
 on; each other line is 'QUERY => PLAN', what `explain` prints of the query, or behind '! ' the line of a fault. A file
@@ -13,11 +12,7 @@ A file NAME.words has lines 'KIND `TEXT` => LINE'. The text is given to the prog
 `pack` and `unpack`), as a script (`script`), as the second step of one (`step`) or as its configuration (`config`), or
 as a race (`race`), as what it says of the index and the clients (`raced`) or as its configuration (`race_config`). The
 line is what must be printed, alone, or the lines between which ' / ' stands; behind '! ' it is the line of a fault,
-with status 1 and nothing printed. A text of the kind `check`, in which '⏎' stands for a line's end, or one of those
-steps of the kind `check_step`, is given to `check`; nothing is printed where nothing is wrong.
-
-A file NAME.lines has what is typed at the shell. A line '# TEXT' begins a session and says what it shows; each other
-line is 'LINE => LINES', what is typed and the lines that it tells, between which ' / ' stands.
+with status 1 and nothing printed.
 
 The folder scripts/ has whole scripts, each beside its output, as examples/ has.
 """
@@ -35,8 +30,6 @@ FRAMES = {
     "script": "%s",
     "step": '{"steps":[["begin",0],%s,[]]}',
     "config": '{"config":%s,"steps":[["settle"]]}',
-    "check": "%s",
-    "check_step": '{"steps":[["begin",0],%s,["settle"]]}',
     "race": "%s",
     "raced": RACE % '"before":[[1,7,0],[2,null,5]],%s',
     "race_config": RACE % f'"before":[],"index":{COUNT},"limit":1,"clients":[[],[]],"config":%s',
@@ -55,15 +48,15 @@ class Case:
     errors: bytes
 
 
-def script_case(shows, words, config, steps):
-    """The case of a script that is given by these words, by its configuration and by pairs of a step and its reply."""
+def script_case(shows, config, steps):
+    """The case of a script by its configuration and by pairs of a step and its reply."""
     front = f'"config":{config},' if config else ""
     script = "{" + front + '"steps":[' + ",".join(step for step, _ in steps) + "]}"
     lines = "".join(f"{number} {reply}\n" for number, (_, reply) in enumerate(steps, 1))
-    return Case(shows, words, script.encode(), 0, lines.encode(), b"")
+    return Case(shows, ["run"], script.encode(), 0, lines.encode(), b"")
 
 
-def script_cases(name, text, words):
+def script_cases(name, text):
     """The cases of a file of scripts."""
     names, cases, shows, config, steps = {}, [], None, None, []
     for line in [*text.split("\n"), "# "]:
@@ -71,7 +64,7 @@ def script_cases(name, text, words):
             _, short, names[short] = line.split(" ", 2)
         elif line.startswith("# "):
             if shows is not None:
-                cases.append(script_case(f"{name}: {shows}", words, config, steps))
+                cases.append(script_case(f"{name}: {shows}", config, steps))
             shows, config, steps = line[2:], None, []
         elif line.startswith("config "):
             config = line.removeprefix("config ")
@@ -108,43 +101,12 @@ def told_case(shows, words, given, wanted):
     return Case(shows, words, given, 0, (wanted + "\n").encode(), b"")
 
 
-def check_case(shows, given, wanted):
-    """The case of a text, and of the lines that `check` says of it; none where nothing is wrong."""
-    lines = "".join(f"stdin:{it}\n" for it in wanted.split(" / ") if it)
-    return Case(shows, ["check"], given.replace("⏎", "\n").encode(), 1 if lines else 0, lines.encode(), b"")
-
-
-def typed_case(shows, lines):
-    """The case of a session by pairs of what is typed and what it tells."""
-    given = "".join(f"{typed}\n" for typed, _ in lines)
-    told = "".join(f"{it}\n" for _, told in lines for it in told.split(" / "))
-    return Case(shows, ["shell"], given.encode(), 0, told.encode(), b"")
-
-
-def typed_cases(name, text):
-    """The cases of a file of sessions."""
-    cases, shows, lines = [], None, []
-    for line in [*text.split("\n"), "# "]:
-        if line.startswith("# "):
-            if shows is not None:
-                cases.append(typed_case(f"{name}: {shows}", lines))
-            shows, lines = line[2:], []
-        elif line:
-            typed, arrow, told = line.partition(" => ")
-            if not arrow:
-                raise ValueError(f"{name}: a line tells nothing: {line}")
-            lines.append((typed, told))
-    return cases
-
-
 def word_case(name, line):
     """The case of a line of a file of words."""
     found = WORD.fullmatch(line)
     if not found:
         raise ValueError(f"{name}: a line is no case: {line}")
     kind, text, wanted = found[1], found[2], (found[3] or "") + (found[4] or "")
-    if kind.startswith("check"):
-        return check_case(f"{name}: {line}", FRAMES[kind] % text, wanted)
     command = "race" if kind.startswith("race") else "run"
     words, given = ([kind, text], b"") if kind in ("pack", "unpack") else ([command], (FRAMES[kind] % text).encode())
     return told_case(f"{name}: {line}", words, given, wanted.replace(" / ", "\n"))
@@ -157,31 +119,23 @@ def cases_in(folder):
         with open(os.path.join(folder, name), encoding="utf-8") as file:
             text = file.read()
         if name.endswith(".steps"):
-            cases += script_cases(name, text, ["run"])
-        elif name.endswith(".named"):
-            cases += script_cases(name, text, ["run", "--names"])
+            cases += script_cases(name, text)
         elif name.endswith(".plans"):
             cases += plan_cases(name, text, ["explain"])
         elif name.endswith(".trees"):
             cases += plan_cases(name, text, ["explain", "--tree"], " / ")
-        elif name.endswith(".lines"):
-            cases += typed_cases(name, text)
         elif name.endswith(".words"):
             cases += [word_case(name, it) for it in text.split("\n") if it and not it.startswith("# ")]
         else:
-            raise ValueError(f"{name}: a case file is named .steps, .named, .plans, .trees, .lines or .words")
+            raise ValueError(f"{name}: a case file is named .steps, .plans, .trees or .words")
     return cases
 
 
 def example_cases(folder):
     """A case for each script and race of a folder beside which its output stands, and each query beside its plan."""
-    cases = []
-    commands = {".out": ["run"], ".plan": ["explain"], ".tree": ["explain", "--tree"], ".svg": ["run", "--svg"],
-                ".plan.svg": ["explain", "--svg"]}
+    cases, commands = [], {".out": ["run"], ".plan": ["explain"], ".tree": ["explain", "--tree"]}
     for name in sorted(os.listdir(folder)):
         stem, ending = os.path.splitext(os.path.abspath(os.path.join(folder, name)))
-        if ending == ".svg" and stem.endswith(".plan"):
-            stem, ending = stem.removesuffix(".plan"), ".plan.svg"
         if ending in commands:
             words = ["race"] if os.path.basename(stem).startswith("race") else commands[ending]
             with open(os.path.join(folder, name), "rb") as lines:

@@ -127,40 +127,6 @@ def byte_cases():
     ]
 
 
-# steps on several lines, the same each on one, and what they reply
-LAID_OUT = b"""{ "steps": [
-  ["begin", 0] ,
-  ["create", 0, {
-    "types": [{"name":"t", "fields":[["k","int"],["s","text"]], "key":["k"]}]
-  }], ["save",0,"t",[1,"a  b, "]],["load",0,
-\t"t",[ 1 ]
-\r
-] ]}
-"""
-ECHOED = b"""["begin", 0]
-1 begun 0
-["create", 0, { "types": [{"name":"t", "fields":[["k","int"],["s","text"]], "key":["k"]}] }]
-2 ok
-["save",0,"t",[1,"a  b, "]]
-3 saved new
-["load",0, "t",[ 1 ] ]
-4 found [1,"a  b, "]
-"""
-
-
-def echo_cases():
-    """Scripts whose steps are printed before their replies."""
-    return [
-        Case("steps on several lines, echoed", ["run", "--echo"], LAID_OUT, 0, ECHOED, b""),
-        Case("no steps, echoed", ["run", "--echo"], b'{"steps":[]}', 0, b"", b""),
-        Case("the last of two keys is echoed", ["run", "--echo"],
-             b'{"steps":[["begin",0]],"steps":[["lost"],["log",0]]}', 0,
-             b'["lost"]\n1 nothing\n["log",0]\n2 nothing\n', b""),
-        Case("a bad script, echoed", ["run", "--echo"], b'{"steps":[["settle"],["settl"]]}', 1, b"",
-             b"bad script at step 2\n"),
-    ]
-
-
 def command_line_cases(folder):
     """What the words of the command line are taken for: FILE or standard input, or nothing, with status 2."""
     script = f"{folder}/script.json"
@@ -170,25 +136,13 @@ def command_line_cases(folder):
             file.write(text)
     refused = [[], ["walk"], ["pack"], ["unpack"], ["pack", "[]", "[]"], ["run", script, script], ["--frobnicate"],
                ["race", script, script], ["explain", "--tree", "--tree"], ["explain", "--tree=yes"],
-               ["run", "--tree", script], ["run", "--echo", "--echo"], ["race", "--echo", script],
-               ["explain", "--svg", "--tree", plan], ["explain", "--line", "--svg", plan], ["run", "--svg", "--echo"],
-               ["run", "--svg", "--names"], ["simulate", "--svg", "--run"], ["simulate", "7"],
-               ["simulate", "--clients", "17"],
-               ["simulate", "--clients", "0"], ["simulate", "--seed", "-1"], ["simulate", "--steps", "20001"],
-               ["simulate", "--seed", "18446744073709551616"], ["shell", script], ["shell", "--json=1"]]
+               ["run", "--tree", script]]
     return [
         Case("a script in a file", ["run", script], b"not this", 0, b"1 nothing\n", b""),
-        Case("a script in a file, echoed", ["run", script, "--echo"], b"not this", 0, b'["settle"]\n1 nothing\n', b""),
         Case("no such file", ["run", f"{folder}/absent.json"], SETTLE.encode(), 1, b"", b"cannot read input\n"),
         Case("a folder for a file", ["run", folder], SETTLE.encode(), 1, b"", b"cannot read input\n"),
         Case("the tree of a plan in a file", ["explain", plan, "--tree"], b"not this", 0, TREE, b""),
         Case("the tree of a plan", ["explain", "--tree"], PLAN.encode(), 0, TREE, b""),
-        Case("the line of a plan", ["explain", "--line", plan], b"", 0, b"Scan(t,..ff)\n", b""),
-        Case("names and steps", ["run", "--names", "--echo", script], b"", 0, b'["settle"]\n1 nothing\n', b""),
-        Case("names of a bad script", ["run", "--names"], b'{"steps":[["settl"]]}', 1, b"", b"bad script at step 1\n"),
-        Case("names over a bad config", ["run", "--names"], b'{"config":{"logs":0},"steps":[]}', 1, b"",
-             b"bad config BadCount\n"),
-        Case("a drawing of a bad script", ["run", "--svg"], b"[]", 1, b"", b"bad script at step 0\n"),
         Case("no such plan", ["explain", "--tree", f"{folder}/absent.json"], b"", 1, b"", b"cannot read input\n"),
         Case("no such race", ["race", f"{folder}/absent.json"], b"", 1, b"", b"cannot read input\n"),
         *[Case(f"a command line that isn't taken: {it}", it, b"", 2, b"", None) for it in refused],

@@ -151,7 +151,7 @@ def trials_of(program):
     if not os.path.basename(program).startswith("recordctl"):
         return [Trial(program)]
     with open(os.path.join("cases", SCRIPTS), encoding="utf-8") as file:
-        cases = script_cases(SCRIPTS, file.read(), ["run"])
+        cases = script_cases(SCRIPTS, file.read())
     return [Trial(program, tuple(it.words), it.given.decode(), it.output.decode(), it.shows) for it in cases]
 
 

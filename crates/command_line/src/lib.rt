@@ -4,7 +4,5 @@
 mod request;
 mod version;
 
-pub use request::{
-    CommandLineError, PlanForm, Request, RunWords, ShellWords, SimulationWords, request_of,
-};
+pub use request::{CommandLineError, PlanForm, Request, request_of};
 pub use version::version_line;

@@ -1,12 +1,11 @@
 -- What is read of an input whose bytes are known.
-use Rattle.std.specs.Prelude.{MatchOption, OnOk}
-use Rattle.std.proofs.Common.{◌≡◌, subst, ◌⊎◌, inl, inr, ℕ, ◌≤◌, ◌+◌, Bool, true, false, nat_le, refl, ap, List, [], ◌++◌, length, take, Option, Some, None, option_map, IfSome, IfOk, IfErr, Result, Ok, Err, String, string_bytes, Global, ◌∙◌, sym, arith}
+use Rattle.std.specs.Prelude.{OnOk}
+use Rattle.std.proofs.Common.{◌≡◌, ◌⊎◌, inl, inr, ℕ, ◌≤◌, ◌+◌, Bool, true, false, nat_le, refl, ap, List, [], ◌++◌, length, take, Option, Some, None, option_map, IfSome, IfOk, IfErr, Result, Ok, Err, String, string_bytes, Global, ◌∙◌, sym, arith}
 use Rattle.std.proofs.lemmas.Bool.Decides.{nat_tests}
 use Rattle.std.proofs.lemmas.List.{length-take, take_all}
 use Rattle.cluster_core.specs.declared.answers.Config.{Config}
 use Rattle.schedule.specs.declared.step.Step.{Step}
 use Rattle.schedule.specs.declared.transcript.Transcript.{Transcript}
-use Rattle.recordctl.specs.declared.in_turn.Begun.{Begun}
 use Rattle.recordctl.specs.declared.fault.Fault.{Fault}
 use Rattle.recordctl.specs.declared.fault.Fault.TheVariants.{OutOfMemory, CannotRead, BadScript, BadConfig, BadArgument, Refused, RefusedSchema, RefusedQuery, SortNotServed, GaveUp, RefusedCommand, Corrupt}
 use Rattle.json_forms.specs.Json.{value_in}
@@ -16,11 +15,7 @@ use Rattle.explain.specs.Planning.{IsPlanAskedBy}
 use Rattle.command_line.specs.declared.request.PlanForm.{PlanForm}
 use Rattle.recordctl.specs.PlanLines.{IsShownPlan, explains_plan}
 use Rattle.recordctl.specs.Racing.{IsRaced, explains_raced}
-use Rattle.recordctl.specs.Run.{IsBegunOf, IsTranscriptOf, explains_run}
-use Rattle.serde_json.specs.Data.{Data}
-use Rattle.script_check.specs.Good.{IsGood, file_form_in, is_good_as}
-use Rattle.script_check.specs.declared.file_form.FileForm.{FileForm}
-use Rattle.script_check.specs.declared.file_form.FileForm.TheVariants as forms
+use Rattle.recordctl.specs.Run.{IsTranscriptOf, explains_run}
 
 -- no more than so many bytes are read
 pub front_is_read : (known : Option (List ℕ)) (most : ℕ) (before after : List ℕ) → before ≡ []
@@ -64,11 +59,6 @@ pub transcript_of_front : (known : Option (List ℕ)) (bytes : List ℕ) (transc
 transcript_of_front None bytes transcript h is = tt
 transcript_of_front (Some text) bytes transcript h is =
     record { config = is.config; steps = is.steps; script = script_moved bytes text (ap value_in h ∙ value_of_front text) is.config is.steps is.script; right = is.right; allowed = is.allowed }
-
-pub begun_of_front : (known : Option (List ℕ)) (bytes : List ℕ) (begun : Begun) → IfSome known (λ text. bytes ≡ take 4000001 text) → IsBegunOf bytes begun → IfSome known (λ text. IsBegunOf text begun)
-begun_of_front None bytes begun h is = tt
-begun_of_front (Some text) bytes begun h is =
-    record { config = is.config; script = script_moved bytes text (ap value_in h ∙ value_of_front text) is.config begun.steps.items is.script; done = is.done; allowed = is.allowed }
 
 pub explained_of_front : (known : Option (List ℕ)) (bytes : List ℕ) (fault : Fault) → IfSome known (λ text. bytes ≡ take 4000001 text) → explains_run bytes fault → IfSome known (λ text. explains_run text fault)
 explained_of_front None bytes fault h is = tt
@@ -128,20 +118,3 @@ pub unread : (known : Option (List ℕ)) (fault : Fault) → (fault ≡ CannotRe
 unread known fault (inl e) = inl e
 unread None fault (inr e) = inr tt
 unread (Some text) fault (inr e) = inr (rw e tt)
-
-good_as_moved : (a b : List ℕ) → value_in a ≡ value_in b → (form : FileForm) → is_good_as a form → is_good_as b form
-good_as_moved a b e forms.Script is = record { config = is.config; steps = is.steps; script = script_moved a b e is.config is.steps is.script; allowed = is.allowed }
-good_as_moved a b e forms.Race is = record { race = is.race; read = rw e at is.read; places = is.places; allowed = is.allowed }
-good_as_moved a b e forms.Plan is = rw e at is
-
-good_moved : (a b : List ℕ) → value_in a ≡ value_in b → IsGood a → IsGood b
-good_moved a b e is = subst (λ value. MatchOption value ⊥ (λ d. is_good_as b (file_form_in d))) e (by (value_in a) is)
-  where
-    by : (value : Option Data) → MatchOption value ⊥ (λ d. is_good_as a (file_form_in d)) → MatchOption value ⊥ (λ d. is_good_as b (file_form_in d))
-    by None h = h
-    by (Some d) h = good_as_moved a b e (file_form_in d) h
-
--- nothing is wrong with the whole input where nothing is with what is read
-pub good_of_front : (known : Option (List ℕ)) (bytes : List ℕ) → IfSome known (λ text. bytes ≡ take 4000001 text) → IsGood bytes → IfSome known IsGood
-good_of_front None bytes h is = tt
-good_of_front (Some text) bytes h is = good_moved bytes text (ap value_in h ∙ value_of_front text) is

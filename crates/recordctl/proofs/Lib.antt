@@ -1,2 +1,1 @@
 pub mod KnownInput
-pub mod Told

@@ -5,7 +5,7 @@ use Rattle.planner.specs.Asked.{AskedPlan}
 use Rattle.planner.specs.Plan.{Plan}
 use Rattle.planner.specs.View.{plan_of}
 use Rattle.command_line.specs.declared.request.PlanForm.{PlanForm}
-use Rattle.command_line.specs.declared.request.PlanForm.TheVariants.{Line, Tree, Drawing}
+use Rattle.command_line.specs.declared.request.PlanForm.TheVariants.{Line, Tree}
 use Rattle.explain.specs.PlanText.{plan_text}
 use Rattle.explain.specs.Planning.{IsPlanAskedBy, text_refusal}
 use Rattle.explain.specs.Tree.{plan_tree}
@@ -16,17 +16,16 @@ use Rattle.recordctl.specs.declared.fault.Fault.{Fault}
 use Rattle.recordctl.specs.declared.fault.Fault.TheVariants.{OutOfMemory, BadScript, RefusedSchema, RefusedQuery}
 use Rattle.recordctl.specs.declared.fault.Fault.TheVariants.{SortNotServed}
 
--- what `explain` prints of a plan: the line of its text, or its tree; nothing is said of a drawing
-abbrev pub IsShownAs : PlanForm → Plan → List ℕ → Type 0
-IsShownAs Line plan printed = printed ≡ line_of (plan_text plan)
-IsShownAs Tree plan printed = printed ≡ plan_tree plan
-IsShownAs Drawing plan printed = Unit {0}
+-- what `explain` prints of a plan: the line of its text, or its tree
+abbrev pub plan_shown : PlanForm → Plan → List ℕ
+plan_shown Line plan = line_of (plan_text plan)
+plan_shown Tree plan = plan_tree plan
 
 -- what `explain` prints of a text: the plan that it asks for
 pub record IsShownPlan (form : PlanForm) (text printed : List ℕ) : Type 0 where
   pub plan : AskedPlan
   pub asked : IsPlanAskedBy text plan
-  pub is : IsShownAs form (plan_of plan) printed
+  pub is : printed ≡ plan_shown form (plan_of plan)
 
 -- Private: the fault by which it is told why there is no plan
 abbrev pub fault_of : ExplainError → Fault

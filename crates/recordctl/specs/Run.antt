@@ -1,14 +1,12 @@
 -- What a run of a script is.
-use Rattle.std.specs.Prelude.{◌≡◌, ℕ, List, [], Some, IsNone}
+use Rattle.std.specs.Prelude.{◌≡◌, ℕ, List, Some, IsNone}
 use Rattle.cluster_core.specs.Configuration.{config_refusal}
 use Rattle.cluster_core.specs.declared.answers.Config.{Config}
 use Rattle.schedule.specs.Right.{IsRightRun}
-use Rattle.schedule.specs.Stepwise.{HasDone}
 use Rattle.schedule.specs.declared.step.Step.{Step}
 use Rattle.schedule.specs.declared.transcript.Transcript.{Transcript}
 use Rattle.script.specs.Script.{IsScript, explains_script}
 use Rattle.script.specs.declared.error.ScriptError.TheVariants as errors
-use Rattle.recordctl.specs.declared.in_turn.Begun.{Begun}
 use Rattle.recordctl.specs.declared.fault.Fault.{Fault}
 use Rattle.recordctl.specs.declared.fault.Fault.TheVariants.{OutOfMemory, BadScript, BadConfig}
 use Rattle.recordctl.specs.declared.fault.Fault.TheVariants.{CannotRead, BadArgument, Refused}
@@ -41,9 +39,9 @@ pub record IsTranscriptOf (text : List ℕ) (transcript : Transcript) : Type 0 w
   pub right : IsRightRun config steps transcript
   pub allowed : IsNone (config_refusal config)
 
--- Private: a script that is begun is that of a text, before its first step
-pub record IsBegunOf (text : List ℕ) (begun : Begun) : Type 0 where
+-- a text is a script that can be run: there is a database of its configuration
+pub record IsRunnable (text : List ℕ) : Type 0 where
   pub config : Config
-  pub script : IsScript text config begun.steps.items
-  pub done : HasDone config [] [] begun.schedule
+  pub steps : List Step
+  pub script : IsScript text config steps
   pub allowed : IsNone (config_refusal config)

@@ -2,37 +2,27 @@
 //! and packs and unpacks tuples.
 #![tactic(auto)]
 
-ghost use Rattle.std.specs.Prelude.{◌≡◌, ◌≤◌, IfSome};
+ghost use Rattle.std.specs.Prelude.{◌≡◌, ◌≤◌};
 ghost use Rattle.std.specs.Process.{exit_status};
 ghost use Rattle.recordctl.specs.Status.{refused_status};
 
-mod checks;
-mod drawing;
-mod echo;
 mod fault;
-mod in_turn;
 mod input;
 mod plans;
 mod printing;
 mod racing;
 mod run;
-mod shelling;
-mod simulating;
 mod tuples;
 
-use checks::{check_files, check_input};
-use command_line::{CommandLineError, PlanForm, Request, RunWords, request_of, version_line};
+use command_line::{CommandLineError, PlanForm, Request, request_of, version_line};
 use fault::Fault;
-use in_turn::{draw_run, run_in_turn};
 use plans::print_plan;
 use printing::print_line;
 use racing::run_race;
 use run::{refuse, run};
-use shelling::{Terminals, run_typed};
-use simulating::simulate;
 use std::alloc::Global;
 use std::fs::File;
-use std::io::{IsTerminal, Read, Write};
+use std::io::{Read, Write};
 use std::process::ExitCode;
 use std::rt::Files;
 use std::sync::Wait;
@@ -56,53 +46,18 @@ fn refuse_command_line<E: Write>(errors: &mut E, error: &CommandLineError) -> Ex
     }
 }
 
-// Runs the script that the input stands for, and prints what is asked for. Where names are asked for,
-// or somebody watches how far it is, each reply is printed as its step is done.
-fn run_as<R: Read, W: Write, E: Write>(
-    alloc: Global,
-    words: RunWords,
-    is_watched: bool,
-    input: &mut R,
-    output: &mut W,
-    errors: &mut E,
-) -> ExitCode
-    ensures { exit_status result ≤ 1 }
-{
-    if words.is_drawn {
-        draw_run(alloc, input, output, errors)
-    } else if words.is_named || is_watched {
-        run_in_turn(alloc, words, is_watched, input, output, errors)
-    } else {
-        run(alloc, words, input, output, errors)
-    }
-}
-
 // Runs the script in a file.
 fn run_file<H: Files + AllocGlobal, W: Write, E: Write>(
     rt: &H,
-    words: RunWords,
-    terminals: Terminals,
     path: &str,
     output: &mut W,
     errors: &mut E,
 ) -> ExitCode
     ensures { exit_status result ≤ 1 }
 {
-    let is_watched = terminals.is_watched && !terminals.is_read;
     match File::open(rt, path) {
-        Ok(mut file) => run_as(rt.alloc(), words, is_watched, &mut file, output, errors),
+        Ok(mut file) => run(rt.alloc(), &mut file, output, errors),
         Err(_) => refuse(errors, Fault::CannotRead),
-    }
-}
-
-// The form in which a plan is printed: where the words don't say, a tree on a terminal, else a line.
-fn plan_form(form: Option<PlanForm>, terminals: Terminals) -> PlanForm
-    ensures { IfSome form (λ asked. result ≡ asked) }
-{
-    match form {
-        Some(form) => form,
-        None if terminals.is_read => PlanForm::Tree,
-        None => PlanForm::Line,
     }
 }
 
@@ -151,7 +106,6 @@ fn print_version<W: Write, E: Write>(alloc: Global, output: &mut W, errors: &mut
 fn perform<H: Files + AllocGlobal + Threads + Wait + Sync, R: Read, W: Write, E: Write>(
     rt: &H,
     words: &[String],
-    terminals: Terminals,
     input: &mut R,
     output: &mut W,
     errors: &mut E,
@@ -160,36 +114,18 @@ fn perform<H: Files + AllocGlobal + Threads + Wait + Sync, R: Read, W: Write, E:
 {
     let alloc = rt.alloc();
     match request_of(alloc, words) {
-        Ok(Request::Run(words, Some(path))) => {
-            run_file(rt, words, terminals, path.as_str(), output, errors)
-        }
-        Ok(Request::Run(words, None)) => run_as(alloc, words, false, input, output, errors),
-        Ok(Request::Check(paths)) if paths.is_empty() => check_input(alloc, input, output, errors),
-        Ok(Request::Check(paths)) => check_files(rt, paths.as_slice(), output, errors),
+        Ok(Request::Run(Some(path))) => run_file(rt, path.as_str(), output, errors),
+        Ok(Request::Run(None)) => run(alloc, input, output, errors),
         Ok(Request::Explain(form, Some(path))) => {
-            let form = plan_form(form, terminals);
             explain_file(rt, form, path.as_str(), output, errors)
         }
-        Ok(Request::Explain(form, None)) => {
-            print_plan(alloc, plan_form(form, terminals), input, output, errors)
-        }
+        Ok(Request::Explain(form, None)) => print_plan(alloc, form, input, output, errors),
         Ok(Request::Pack(word)) => pack(alloc, word.as_str(), output, errors),
         Ok(Request::Unpack(word)) => unpack(alloc, word.as_str(), output, errors),
         Ok(Request::Race(Some(path))) => race_file(rt, path.as_str(), output, errors),
         Ok(Request::Race(None)) => run_race(rt, alloc, input, output, errors),
         Ok(Request::Version) => print_version(alloc, output, errors),
-        Ok(Request::Simulate(words)) => simulate(alloc, words, output, errors),
-        Ok(Request::Shell(words)) => run_typed(rt, words, terminals, input, output, errors),
         Err(error) => refuse_command_line(errors, &error),
-    }
-}
-
-// Whether people are at the terminals.
-fn terminals_of(rt: &HostRuntime) -> Terminals {
-    Terminals {
-        is_read: rt.stdout().is_terminal(),
-        is_typed: rt.stdin().is_terminal(),
-        is_watched: rt.stderr().is_terminal(),
     }
 }
 
@@ -204,7 +140,6 @@ fn main(rt: HostRuntime) -> ExitCode {
         Ok(words) => perform(
             &rt,
             words.as_slice(),
-            terminals_of(&rt),
             &mut rt.stdin(),
             &mut rt.stdout(),
             &mut rt.stderr(),

@@ -3,13 +3,12 @@ ghost use Rattle.std.specs.Prelude.{◌≡◌, ◌≤◌, ◌⊎◌, List, ℕ, 
 ghost use Rattle.std.specs.Io.KnownBytes.{Appends};
 ghost use Rattle.std.specs.Process.{exit_status};
 ghost use Rattle.planner.specs.View.{plan_of};
-ghost use Rattle.recordctl.specs.PlanLines.{IsShownAs, IsShownPlan, explains_plan, fault_of};
+ghost use Rattle.recordctl.specs.PlanLines.{IsShownPlan, explains_plan, fault_of, plan_shown};
 
 use crate::fault::Fault;
 use crate::input::read_input;
 use crate::printing::print_line;
 use command_line::PlanForm;
-use drawings::tree_svg;
 use explain::{ExplainError, plan_asked};
 use metadata::Refusal;
 use planner::Plan;
@@ -34,7 +33,7 @@ fn fault_of(error: ExplainError) -> Fault
 
 // The text of a plan in this form, each line with its end.
 fn shown(alloc: Global, form: PlanForm, plan: &Plan) -> Result<String, AllocError>
-    ensures { IfOk result (λ text. IsShownAs form (plan_of plan.now) (string_bytes text)) }
+    ensures { IfOk result (λ text. string_bytes text ≡ plan_shown form (plan_of plan.now)) }
 {
     match form {
         PlanForm::Line => {
@@ -43,10 +42,6 @@ fn shown(alloc: Global, form: PlanForm, plan: &Plan) -> Result<String, AllocErro
             Ok(line)
         }
         PlanForm::Tree => explain::tree(alloc, plan),
-        PlanForm::Drawing => {
-            let tree = explain::tree(alloc, plan)?;
-            tree_svg(alloc, tree.as_str())
-        }
     }
 }
 

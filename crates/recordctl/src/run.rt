@@ -1,16 +1,13 @@
-// The command `run`. Called by `main`; what prints a fault also by `printing`, the fault of a
-// configuration by `racing` and `in_turn`, and what prints a step by `in_turn`.
+// The command `run`. Called by `main`; what prints a fault also by `printing`, and the fault of a
+// configuration by `racing`.
 ghost use Rattle.std.specs.Prelude.{◌≡◌, ◌≢◌, ◌≤◌, ◌⊎◌, IfOk, IfErr, IfSome};
 ghost use Rattle.std.specs.Process.{exit_status};
-ghost use Rattle.script_check.specs.Good.{IsRunnable};
-ghost use Rattle.recordctl.specs.Run.{IsTranscriptOf, explains_run};
+ghost use Rattle.recordctl.specs.Run.{IsRunnable, IsTranscriptOf, explains_run};
 ghost use Rattle.recordctl.specs.declared.run.PrintError.TheVariants.{CannotWrite, OutOfMemory};
 
-use crate::echo::steps_shown;
 use crate::fault::Fault;
 use crate::input::read_input;
 use cluster_core::ConfigError;
-use command_line::RunWords;
 use schedule::{Replies, ScheduleError, Transcript, run_schedule};
 use script::{ScriptError, make_line, script_of};
 use std::alloc::{AllocError, Global};
@@ -18,12 +15,10 @@ use std::io::{BufWriter, Read, Write};
 use std::process::ExitCode;
 use std::{io, mem};
 
-/// Why not every reply is printed.
+// Why not every reply is printed.
 #[derive(Drop)]
-pub enum PrintError {
-    /// Memory is wanting.
+enum PrintError {
     OutOfMemory,
-    /// The output can't be written.
     CannotWrite,
 }
 
@@ -74,43 +69,25 @@ fn run_script(alloc: Global, text: &[u8]) -> Result<Transcript, Fault>
     }
 }
 
-// What the steps of a script reply, and the lines of the steps that are shown.
-#[derive(Drop)]
-struct Shown {
-    steps: Vec<Vec<u8>>,
-    transcript: Transcript,
-}
-
-// What the steps of the script that is read reply, and of them what is shown.
-fn shown_of<R: Read>(alloc: Global, words: RunWords, input: &mut R) -> Result<Shown, Fault>
-    ensures ok { IfOk result (λ shown. IfSome (R.remaining input.old) (λ text. IsTranscriptOf text shown.transcript)) }
+// What the steps of the script that is read reply.
+fn transcript_of<R: Read>(alloc: Global, input: &mut R) -> Result<Transcript, Fault>
+    ensures ok { IfOk result (λ transcript. IfSome (R.remaining input.old) (λ text. IsTranscriptOf text transcript)) }
     ensures err { IfErr result (λ fault.
         (fault ≡ Fault.CannotRead) ⊎ IfSome (R.remaining input.old) (λ text. explains_run text fault)) }
 {
     let text = read_input(alloc, input)?;
     let transcript = run_script(alloc, text.as_slice())?;
-    let steps = steps_shown(alloc, words, text.as_slice())?;
-    Ok(Shown { steps, transcript })
+    Ok(transcript)
 }
 
-/// Prints the line of the step at a place, where there is one.
-pub fn write_step<W: Write>(output: &mut W, steps: &[Vec<u8>], index: usize) -> io::Result<()> {
-    match steps.get(index) {
-        Some(step) => output.write_all(step.as_slice()),
-        None => Ok(()),
-    }
-}
-
-// Prints a line for each reply, in order, after that of its step where that is shown.
+// Prints a line for each reply, in order.
 fn write_lines<W: Write>(
     alloc: Global,
     output: &mut W,
-    steps: &[Vec<u8>],
     replies: &Replies,
 ) -> Result<(), PrintError> {
     let mut line = String::new(alloc);
     for (index, reply) in replies.as_slice().iter().enumerate() {
-        write_step(output, steps, index)?;
         make_line(alloc, &mut line, index + 1, reply)?;
         output.write_all(line.as_bytes())?;
     }
@@ -119,12 +96,13 @@ fn write_lines<W: Write>(
 }
 
 // The same, through a buffer.
-fn print_replies<W: Write>(alloc: Global, output: &mut W, shown: &Shown) -> Result<(), PrintError> {
+fn print_replies<W: Write>(
+    alloc: Global,
+    output: &mut W,
+    replies: &Replies,
+) -> Result<(), PrintError> {
     match BufWriter::new(alloc, output) {
-        Ok(mut buffered) => {
-            let steps = shown.steps.as_slice();
-            write_lines(alloc, &mut buffered, steps, &shown.transcript.replies)
-        }
+        Ok(mut buffered) => write_lines(alloc, &mut buffered, replies),
         Err(_) => Err(PrintError::OutOfMemory),
     }
 }
@@ -139,12 +117,10 @@ pub fn refuse<E: Write>(errors: &mut E, fault: Fault) -> ExitCode
 
 /// Reads a script, runs its steps over an empty database and prints a line for each on `output`. A
 /// script is read and checked whole before its first step runs; where that fails a line on `errors`
-/// says why, and nothing is printed on `output`. Where steps are shown each line stands after that
-/// of its step. Answers the exit status: 0, or 1 for such a fault, for want of memory and where
-/// `output` can't be written.
+/// says why, and nothing is printed on `output`. Answers the exit status: 0, or 1 for such a fault,
+/// for want of memory and where `output` can't be written.
 pub fn run<R: Read, W: Write, E: Write>(
     alloc: Global,
-    words: RunWords,
     input: &mut R,
     output: &mut W,
     errors: &mut E,
@@ -153,13 +129,13 @@ pub fn run<R: Read, W: Write, E: Write>(
     ensures script { exit_status result ≡ 0 → IfSome (R.remaining input.old) IsRunnable }
     ensures quiet { exit_status result ≡ 0 → E.contents errors.new ≡ E.contents errors.old }
 {
-    let shown = match shown_of(alloc, words, input) {
-        Ok(shown) => shown,
+    let transcript = match transcript_of(alloc, input) {
+        Ok(transcript) => transcript,
         Err(fault) => return refuse(errors, fault),
     };
-    let printed = print_replies(alloc, output, &shown);
+    let printed = print_replies(alloc, output, &transcript.replies);
     // The process ends next, and takes all that was made with it faster than piece by piece.
-    mem::forget(shown);
+    mem::forget(transcript);
     match printed {
         Ok(()) => ExitCode::SUCCESS,
         Err(PrintError::OutOfMemory) => refuse(errors, Fault::OutOfMemory),

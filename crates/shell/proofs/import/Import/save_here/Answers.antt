@@ -1,5 +1,0 @@
-use Rattle.shell.proofs.Further.{further_one}
-use Rattle.shell.proofs.import.Import.save_here.Goals as goal
-
-pub returns : goal.returns
-returns c = further_one _ _ _ _ c.in_ok-schedule.ensures
