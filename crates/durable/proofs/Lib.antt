@@ -1,3 +1,11 @@
 pub mod Logging
 pub mod Several
 pub mod Openings
+pub mod HeadsRead
+pub mod Loading
+pub mod Histories
+pub mod Making
+pub mod Choices
+pub mod Examples
+pub mod Exchanges
+pub mod Reopened

@@ -1,13 +1,11 @@
 -- Transactions that are committed one after another.
-use Rattle.std.proofs.Common.{◌≡◌, ℕ, suc, ◌+◌, ◌<◌, ◌≤◌, ◌^◌, true, false, inl, inr, List, [], ◌∷◌, ◌++◌, length, take, refl, sym, ap, subst, subst₂, ◌∙◌, append-nil, append_assoc, arith}
+use Rattle.std.proofs.Common.{◌≡◌, ℕ, suc, ◌+◌, ◌<◌, true, false, inl, inr, List, [], ◌∷◌, ◌++◌, length, take, refl, sym, ap, subst, subst₂, ◌∙◌, append-nil, append_assoc, arith}
 use Rattle.std.proofs.lemmas.Bool.{cases_lt, true≢false}
 use Rattle.std.proofs.lemmas.List.{length-append, take_at}
-use Rattle.journal.specs.Form.{blocks}
 use Rattle.journal.specs.Device.{LeavesOnly}
 use Rattle.journal.proofs.Moments.{joined, started, weaker}
 use Rattle.journal.specs.declared.device.Device.{Ghosts}
 use Rattle.command_log.specs.declared.entry.Entry.{Entry}
-use Rattle.command_log.specs.Form.{bytes_of_entry}
 use Rattle.replay.specs.Commands.{commands_of}
 use Rattle.replay.specs.Replaying.{AreUndone, Image}
 use Rattle.durable.specs.declared.database.Durable.{Durable}
@@ -15,7 +13,7 @@ use Rattle.durable.specs.declared.error.CommitError.{CommitError}
 use Rattle.durable.specs.declared.error.CommitError.TheVariants.{Memory, Refused, Full, Exhausted, Closed, Unknown, Starved, Unseen}
 use Rattle.durable.specs.declared.request.Request.{Request}
 use Rattle.durable.specs.declared.request.Committed.{Committed}
-use Rattle.durable.specs.Keeping.{HasFirst, HasLogOf, HasOnDisk, HasOneOrNone, IsCommitted, KeepsLog, entries_after, entry_at}
+use Rattle.durable.specs.Keeping.{Base, HasNoRoom, HasFirst, HasLogOf, HasOnDisk, HasOneOrNone, IsCommitted, KeepsLog, entries_after, entry_at}
 use Rattle.durable.specs.Stopping.{IsStoppedBehind, StopsAt}
 use Rattle.durable.specs.Refusals.{IsUncommitted}
 use Rattle.durable.specs.Standing.{IsUnchanged, image_of, log_device, takes_commits}
@@ -49,8 +47,8 @@ module _ {D : Type 0} (seen : D → List ℕ) (may_leave : D → List ℕ → Ty
     pub split : first ++ rest ≡ all
     pub at : place ≡ length first
     pub version : image.version ≡ before.version + length first
-    pub keeps : (entries : List Entry) → KeepsLog seen may_leave entries old before → KeepsLog seen may_leave (entries ++ entries_after before.version first) now image
-    pub leaves : (entries : List Entry) → KeepsLog seen may_leave entries old before → LeavesOnly moment left_since old now (HasFirst entries (entries_after before.version all))
+    pub keeps : (base : Base) (entries : List Entry) → KeepsLog seen may_leave base entries old before → KeepsLog seen may_leave base (entries ++ entries_after before.version first) now image
+    pub leaves : (base : Base) (entries : List Entry) → KeepsLog seen may_leave base entries old before → LeavesOnly moment left_since old now (HasFirst base entries (entries_after before.version all))
 
   pub none_yet : (only_now : (file : D) (c : List ℕ) → left_since file (moment file) c → may_leave file c) (old : D) (before : Image) (all : List Request) → HasCommitted old before all all 0 old before
   none_yet only_now old before all = record {
@@ -58,47 +56,47 @@ module _ {D : Type 0} (seen : D → List ℕ) (may_leave : D → List ℕ → Ty
     split = refl;
     at = refl;
     version = omega arith;
-    keeps = λ entries keeps. subst (λ es. KeepsLog seen may_leave es old before) (sym (append-nil entries)) keeps;
-    leaves = λ entries keeps.
-        started moment left_since old (HasFirst entries (entries_after before.version all))
-        (λ c left. (0, omega arith, subst₂ HasLogOf (sym (keeps.durable c (only_now old c left))) (sym (append-nil entries)) keeps.file));
+    keeps = λ base entries keeps. subst (λ es. KeepsLog seen may_leave base es old before) (sym (append-nil entries)) keeps;
+    leaves = λ base entries keeps.
+        started moment left_since old (HasFirst base entries (entries_after before.version all))
+        (λ c left. (0, omega arith, subst₂ (HasLogOf base) (sym (keeps.durable c (only_now old c left))) (sym (append-nil entries)) keeps.file));
   }
 
   -- with one more or without it the file has the first ones
-  has_first : (version : ℕ) (entries : List Entry) (first : List Request) (request : Request) (rest all : List Request) → first ++ request ∷ rest ≡ all → (c : List ℕ) →
-      HasOneOrNone (entries ++ entries_after version first) (entry_at (version + length first + 1) request) c → HasFirst entries (entries_after version all) c
-  has_first version entries first request rest all split c (inl before) =
+  has_first : (base : Base) (version : ℕ) (entries : List Entry) (first : List Request) (request : Request) (rest all : List Request) → first ++ request ∷ rest ≡ all → (c : List ℕ) →
+      HasOneOrNone base (entries ++ entries_after version first) (entry_at (version + length first + 1) request) c → HasFirst base entries (entries_after version all) c
+  has_first base version entries first request rest all split c (inl before) =
       let count = length first in
       let total : length (entries_after version all) ≡ length all = length_entries version all in
       let longer : length all ≡ length first + suc (length rest) = ap length (sym split) ∙ length-append first (request ∷ rest) in
       let are : take count (entries_after version all) ≡ entries_after version first = ap (λ rs. take count (entries_after version rs)) (sym split) ∙ first_entries version first (request ∷ rest) in
-      (count, omega (arith, total, longer), subst (λ es. HasLogOf c (entries ++ es)) (sym are) before)
-  has_first version entries first request rest all split c (inr after) =
+      (count, omega (arith, total, longer), subst (λ es. HasLogOf base c (entries ++ es)) (sym are) before)
+  has_first base version entries first request rest all split c (inr after) =
       let longer_first = first ++ request ∷ [] in
       let again : longer_first ++ rest ≡ all = append_assoc first (request ∷ []) rest ∙ split in
       let count = length longer_first in
       let total : length (entries_after version all) ≡ length all = length_entries version all in
       let longer : length all ≡ length longer_first + length rest = ap length (sym again) ∙ length-append longer_first rest in
       let are : take count (entries_after version all) ≡ entries_after version longer_first = ap (λ rs. take count (entries_after version rs)) (sym again) ∙ first_entries version longer_first rest in
-      (count, omega (arith, total, longer), subst (λ es. HasLogOf c (entries ++ es)) (sym are) (subst (HasLogOf c) (one_more version entries first request) after))
+      (count, omega (arith, total, longer), subst (λ es. HasLogOf base c (entries ++ es)) (sym are) (subst (HasLogOf base c) (one_more version entries first request) after))
 
   -- a crash leaves the first ones, also while the next one is committed
   pub leaves_more : (old now new : D) (before image : Image) (all rest : List Request) (place : ℕ) (request : Request) → HasCommitted old before all (request ∷ rest) place now image →
-      ((entries : List Entry) → KeepsLog seen may_leave entries now image → LeavesOnly moment left_since now new (HasOneOrNone entries (entry_at (image.version + 1) request))) →
-      (entries : List Entry) → KeepsLog seen may_leave entries old before → LeavesOnly moment left_since old new (HasFirst entries (entries_after before.version all))
-  leaves_more old now new before image all rest place request so_far any_moment entries keeps =
+      ((base : Base) (entries : List Entry) → KeepsLog seen may_leave base entries now image → LeavesOnly moment left_since now new (HasOneOrNone base entries (entry_at (image.version + 1) request))) →
+      (base : Base) (entries : List Entry) → KeepsLog seen may_leave base entries old before → LeavesOnly moment left_since old new (HasFirst base entries (entries_after before.version all))
+  leaves_more old now new before image all rest place request so_far any_moment base entries keeps =
       let first = so_far.first in
-      let P = HasFirst entries (entries_after before.version all) in
-      let here = any_moment (entries ++ entries_after before.version first) (so_far.keeps entries keeps) in
-      let named = subst (λ v. LeavesOnly moment left_since now new (HasOneOrNone (entries ++ entries_after before.version first) (entry_at (v + 1) request))) so_far.version here in
-      joined moment left_since old now new P (so_far.leaves entries keeps)
-      (weaker moment left_since now new (HasOneOrNone (entries ++ entries_after before.version first) (entry_at (before.version + length first + 1) request)) P
-      (has_first before.version entries first request rest all so_far.split) named)
+      let P = HasFirst base entries (entries_after before.version all) in
+      let here = any_moment base (entries ++ entries_after before.version first) (so_far.keeps base entries keeps) in
+      let named = subst (λ v. LeavesOnly moment left_since now new (HasOneOrNone base (entries ++ entries_after before.version first) (entry_at (v + 1) request))) so_far.version here in
+      joined moment left_since old now new P (so_far.leaves base entries keeps)
+      (weaker moment left_since now new (HasOneOrNone base (entries ++ entries_after before.version first) (entry_at (before.version + length first + 1) request)) P
+      (has_first base before.version entries first request rest all so_far.split) named)
 
   -- one more is committed
   pub committed_more : (old now new : D) (before image next : Image) (all rest : List Request) (place : ℕ) (request : Request) (done : Committed) → HasCommitted old before all (request ∷ rest) place now image →
-      ((entries : List Entry) → KeepsLog seen may_leave entries now image → IsCommitted seen may_leave entries image.version request done new next) →
-      ((entries : List Entry) → KeepsLog seen may_leave entries now image → LeavesOnly moment left_since now new (HasOneOrNone entries (entry_at (image.version + 1) request))) →
+      ((base : Base) (entries : List Entry) → KeepsLog seen may_leave base entries now image → IsCommitted seen may_leave base entries image.version request done new next) →
+      ((base : Base) (entries : List Entry) → KeepsLog seen may_leave base entries now image → LeavesOnly moment left_since now new (HasOneOrNone base entries (entry_at (image.version + 1) request))) →
       done.version ≡ image.version + 1 → next.version ≡ done.version → HasCommitted old before all rest (place + 1) new next
   committed_more old now new before image next all rest place request done so_far committed any_moment given version =
       let first = so_far.first in
@@ -107,54 +105,50 @@ module _ {D : Type 0} (seen : D → List ℕ) (may_leave : D → List ℕ → Ty
         split = append_assoc first (request ∷ []) rest ∙ so_far.split;
         at = let more : length (first ++ request ∷ []) ≡ length first + 1 = length-append first (request ∷ []) in omega (arith, more, so_far.at);
         version = let more : length (first ++ request ∷ []) ≡ length first + 1 = length-append first (request ∷ []) in omega (arith, more, version, given, so_far.version);
-        keeps = λ entries keeps.
-            let kept = (committed (entries ++ entries_after before.version first) (so_far.keeps entries keeps)).keeps in
-            subst (λ es. KeepsLog seen may_leave es new next) (one_more before.version entries first request)
-            (subst (λ v. KeepsLog seen may_leave ((entries ++ entries_after before.version first) ++ entry_at (v + 1) request ∷ []) new next) so_far.version kept);
+        keeps = λ base entries keeps.
+            let kept = (committed base (entries ++ entries_after before.version first) (so_far.keeps base entries keeps)).keeps in
+            subst (λ es. KeepsLog seen may_leave base es new next) (one_more before.version entries first request)
+            (subst (λ v. KeepsLog seen may_leave base ((entries ++ entries_after before.version first) ++ entry_at (v + 1) request ∷ []) new next) so_far.version kept);
         leaves = leaves_more old now new before image all rest place request so_far any_moment;
       }
 
   -- all are committed
-  pub all_committed : (old now : D) (before image : Image) (all : List Request) (place : ℕ) → HasCommitted old before all [] place now image → (entries : List Entry) → KeepsLog seen may_leave entries old before →
-      KeepsLog seen may_leave (entries ++ entries_after before.version all) now image
-  all_committed old now before image all place so_far entries keeps =
-      subst (λ rs. KeepsLog seen may_leave (entries ++ entries_after before.version rs) now image) (sym (append-nil so_far.first) ∙ so_far.split) (so_far.keeps entries keeps)
+  pub all_committed : (old now : D) (before image : Image) (all : List Request) (place : ℕ) → HasCommitted old before all [] place now image → (base : Base) (entries : List Entry) → KeepsLog seen may_leave base entries old before →
+      KeepsLog seen may_leave base (entries ++ entries_after before.version all) now image
+  all_committed old now before image all place so_far base entries keeps =
+      subst (λ rs. KeepsLog seen may_leave base (entries ++ entries_after before.version rs) now image) (sym (append-nil so_far.first) ∙ so_far.split) (so_far.keeps base entries keeps)
 
 -- ---- the end
 
--- a file has no room for the request's entry
-abbrev HasNoRoom : List ℕ → ℕ → Request → Type 0
-HasNoRoom file version request = 2 ^ 63 ≤ length file + length (blocks (bytes_of_entry (entry_at (version + 1) request) ∷ []))
-
 module _ {D : Type 0} {G : Ghosts D} (seen : D → List ℕ) (may_leave : D → List ℕ → Type 0) (moment : D → ℕ) (left_since : D → ℕ → List ℕ → Type 0) where
-  still : (entries : List Entry) (old new : Durable D G) → IsUnchanged old new → KeepsLog seen may_leave entries (log_device old) (image_of old) → KeepsLog seen may_leave entries (log_device new) (image_of new)
-  still entries old new same keeps = subst₂ (λ d i. KeepsLog seen may_leave entries d i) (sym same.device) (sym same.image) keeps
+  still : (base : Base) (entries : List Entry) (old new : Durable D G) → IsUnchanged old new → KeepsLog seen may_leave base entries (log_device old) (image_of old) → KeepsLog seen may_leave base entries (log_device new) (image_of new)
+  still base entries old new same keeps = subst₂ (λ d i. KeepsLog seen may_leave base entries d i) (sym same.device) (sym same.image) keeps
 
-  why_stopped : (entries : List Entry) (request : Request) (error : CommitError) (old new : Durable D G) → KeepsLog seen may_leave entries (log_device old) (image_of old) → IsUncommitted error request old new →
-      (error ≡ Full → HasNoRoom (seen (log_device old)) (image_of old).version request) → (error ≡ Unseen → HasOnDisk seen may_leave (entries ++ entry_at ((image_of old).version + 1) request ∷ []) (log_device new)) →
-      IsStoppedBehind seen may_leave entries (image_of old).version request error (log_device new) (image_of new)
-  why_stopped entries request Memory old new keeps is full unseen = still entries old new is keeps
-  why_stopped entries request (Refused error) old new keeps is full unseen =
-      (still entries old new is.0 keeps, subst (λ m. AreUndone request.store m (commands_of request.changes) error) keeps.logged.map is.1)
-  why_stopped entries request Full old new keeps is full unseen = (still entries old new is keeps, subst (λ d. HasNoRoom (seen d) (image_of old).version request) (sym is.device) (full refl))
-  why_stopped entries request Exhausted old new keeps is full unseen = (still entries old new is.0 keeps, is.1)
-  why_stopped entries request Closed old new keeps is full unseen = still entries old new is.0 keeps
-  why_stopped entries request Unknown old new keeps is full unseen = tt
-  why_stopped entries request Starved old new keeps is full unseen = tt
-  why_stopped entries request Unseen old new keeps is full unseen = unseen refl
+  why_stopped : (base : Base) (entries : List Entry) (request : Request) (error : CommitError) (old new : Durable D G) → KeepsLog seen may_leave base entries (log_device old) (image_of old) → IsUncommitted error request old new →
+      (error ≡ Full → HasNoRoom (seen (log_device old)) (image_of old).version request) → (error ≡ Unseen → HasOnDisk seen may_leave base (entries ++ entry_at ((image_of old).version + 1) request ∷ []) (log_device new)) →
+      IsStoppedBehind seen may_leave base entries (image_of old).version request error (log_device new) (image_of new)
+  why_stopped base entries request Memory old new keeps is full unseen = still base entries old new is keeps
+  why_stopped base entries request (Refused error) old new keeps is full unseen =
+      (still base entries old new is.0 keeps, subst (λ m. AreUndone request.store m (commands_of request.changes) error) keeps.logged.map is.1)
+  why_stopped base entries request Full old new keeps is full unseen = (still base entries old new is keeps, subst (λ d. HasNoRoom (seen d) (image_of old).version request) (sym is.device) (full refl))
+  why_stopped base entries request Exhausted old new keeps is full unseen = (still base entries old new is.0 keeps, is.1)
+  why_stopped base entries request Closed old new keeps is full unseen = still base entries old new is.0 keeps
+  why_stopped base entries request Unknown old new keeps is full unseen = tt
+  why_stopped base entries request Starved old new keeps is full unseen = tt
+  why_stopped base entries request Unseen old new keeps is full unseen = unseen refl
 
   -- the next one isn't committed
   pub stopped_there : (first_db now new : Durable D G) (all rest : List Request) (place : ℕ) (request : Request) (error : CommitError) →
       HasCommitted seen may_leave moment left_since (log_device first_db) (image_of first_db) all (request ∷ rest) place (log_device now) (image_of now) → IsUncommitted error request now new →
       (error ≡ Full → HasNoRoom (seen (log_device now)) (image_of now).version request) →
-      (error ≡ Unseen → (entries : List Entry) → KeepsLog seen may_leave entries (log_device now) (image_of now) → HasOnDisk seen may_leave (entries ++ entry_at ((image_of now).version + 1) request ∷ []) (log_device new)) →
-      (entries : List Entry) → KeepsLog seen may_leave entries (log_device first_db) (image_of first_db) →
-      StopsAt seen may_leave entries (image_of first_db).version all (record { place = place; error = error }) (log_device new) (image_of new)
-  stopped_there first_db now new all rest place request error so_far is full unseen entries keeps =
+      (error ≡ Unseen → (base : Base) (entries : List Entry) → KeepsLog seen may_leave base entries (log_device now) (image_of now) → HasOnDisk seen may_leave base (entries ++ entry_at ((image_of now).version + 1) request ∷ []) (log_device new)) →
+      (base : Base) (entries : List Entry) → KeepsLog seen may_leave base entries (log_device first_db) (image_of first_db) →
+      StopsAt seen may_leave base entries (image_of first_db).version all (record { place = place; error = error }) (log_device new) (image_of new)
+  stopped_there first_db now new all rest place request error so_far is full unseen base entries keeps =
       let first = so_far.first in
       let version = (image_of first_db).version in
       let longer = entries ++ entries_after version first in
-      let here = so_far.keeps entries keeps in
+      let here = so_far.keeps base entries keeps in
       record {
         first = first;
         request = request;
@@ -162,8 +156,8 @@ module _ {D : Type 0} {G : Ghosts D} (seen : D → List ℕ) (may_leave : D → 
         split = sym so_far.split;
         at = sym so_far.at;
         stopped =
-            subst (λ v. IsStoppedBehind seen may_leave longer v request error (log_device new) (image_of new)) so_far.version
-            (why_stopped longer request error now new here is full (λ hidden. unseen hidden longer here));
+            subst (λ v. IsStoppedBehind seen may_leave base longer v request error (log_device new) (image_of new)) so_far.version
+            (why_stopped base longer request error now new here is full (λ hidden. unseen hidden base longer here));
       }
 
   was_closed : (request : Request) (error : CommitError) (old new : Durable D G) → error ≡ Closed → IsUncommitted error request old new → takes_commits old ≡ false

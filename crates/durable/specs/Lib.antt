@@ -4,3 +4,9 @@ pub mod Stopping
 pub mod Standing
 pub mod Refusals
 pub mod Opening
+pub mod Heads
+pub mod Checkpoints
+pub mod Twofold
+pub mod Exchanging
+pub mod Reopening
+pub mod Choosing

@@ -8,6 +8,8 @@ use Rattle.replay.specs.declared.error.ReplayError.{ReplayError}
 use Rattle.replay.specs.declared.error.ReplayError.TheVariants as replays
 use Rattle.durable.specs.declared.error.OpenError.{OpenError}
 use Rattle.durable.specs.declared.error.OpenError.TheVariants as opens
+use Rattle.durable.specs.declared.error.ReopenError.{ReopenError}
+use Rattle.durable.specs.declared.error.ReopenError.TheVariants as reopens
 use Rattle.durable.specs.declared.error.CommitError.{CommitError}
 use Rattle.durable.specs.declared.error.CommitError.TheVariants as commits
 
@@ -24,3 +26,7 @@ unreplayed_error error = opens.Unreplayed error
 abbrev pub commit_error : PerformError → CommitError
 commit_error performs.Memory = commits.Memory
 commit_error error = commits.Refused error
+
+abbrev pub reopen_error : ReplayError → ReopenError
+reopen_error replays.Memory = reopens.Memory
+reopen_error error = reopens.Unreplayed error

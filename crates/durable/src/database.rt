@@ -15,9 +15,9 @@ use std::mem;
 /// on the disk.
 #[derive(Drop)]
 pub struct Durable<D: Device> {
-    image: Image,
-    journal: Journal<D>,
-    is_open: bool,
+    pub(crate) image: Image,
+    pub(crate) journal: Journal<D>,
+    pub(crate) is_open: bool,
     ghost journal_open: { is_open ≡ true → takes_entries journal ≡ true },
 }
 
@@ -32,7 +32,7 @@ impl<D: Device> Durable<D> {
     ghost use Rattle.journal.specs.Journal.{IsBeforeOrAfter, entries_read};
     ghost use Rattle.command_log.specs.declared.entry.Entry.{Entry as EntryValue};
     ghost use Rattle.command_log.specs.Form.{bytes_of_entry};
-    ghost use Rattle.durable.specs.Keeping.{HasFirst, HasOnDisk, HasOneOrNone, IsCommitted};
+    ghost use Rattle.durable.specs.Keeping.{Base, HasFirst, HasOnDisk, HasOneOrNone, IsCommitted};
     ghost use Rattle.durable.specs.Keeping.{KeepsLog, entries_after, entry_at};
     ghost use Rattle.durable.specs.Stopping.{StopsAt};
     ghost use Rattle.durable.specs.Standing.{IsUnchanged, image_of, log_device, read_image};
@@ -162,21 +162,22 @@ impl<D: Device> Durable<D> {
     /// After `Unknown` and `Starved` the database is closed, and the log has the entry or not.
     /// After `Unseen` it is closed, and the log has the entry.
     pub fn commit(&mut self, alloc: Global, request: Request) -> Result<Committed, CommitError>
-        ensures committed { IfOk result (λ done. (entries : List EntryValue)
-            → KeepsLog D.seen D.may_leave entries (log_device self.old) (image_of self.old)
-            → IsCommitted D.seen D.may_leave entries (image_of self.old).version request done
+        ensures committed { IfOk result (λ done. (base : Base) (entries : List EntryValue)
+            → KeepsLog D.seen D.may_leave base entries (log_device self.old) (image_of self.old)
+            → IsCommitted D.seen D.may_leave base entries (image_of self.old).version request done
             (log_device self.new) (image_of self.new)) }
 
         // A crash at any moment of the call leaves the log from before it, with the transaction or
         // without.
-        ensures any_moment { (entries : List EntryValue)
-            → KeepsLog D.seen D.may_leave entries (log_device self.old) (image_of self.old)
+        ensures any_moment { (base : Base) (entries : List EntryValue)
+            → KeepsLog D.seen D.may_leave base entries (log_device self.old) (image_of self.old)
             → LeavesOnly D.moment D.left_since (log_device self.old) (log_device self.new)
-            (HasOneOrNone entries (entry_at ((image_of self.old).version + 1) request)) }
+            (HasOneOrNone base entries (entry_at ((image_of self.old).version + 1) request)) }
 
         ensures given { IfOk result (λ done. (done.version ≡ (image_of self.old).version + 1)
             × ((image_of self.new).version ≡ done.version)) }
         ensures ok { OnOk result (takes_commits self.new ≡ true) }
+        ensures no_reopening { takes_commits self.new ≡ true → takes_commits self.old ≡ true }
         ensures refused { IfErr result (λ error.
             IsUncommitted error request self.old self.new) }
         ensures closed { takes_commits self.old ≡ false → IsErrOf result CommitError.Closed }
@@ -194,9 +195,9 @@ impl<D: Device> Durable<D> {
 
         // One that can't be read is in the log, on the disk.
         ensures unseen { IfErr result (λ error. error ≡ CommitError.Unseen
-            → (entries : List EntryValue)
-            → KeepsLog D.seen D.may_leave entries (log_device self.old) (image_of self.old)
-            → HasOnDisk D.seen D.may_leave
+            → (base : Base) (entries : List EntryValue)
+            → KeepsLog D.seen D.may_leave base entries (log_device self.old) (image_of self.old)
+            → HasOnDisk D.seen D.may_leave base
             (entries ++ entry_at ((image_of self.old).version + 1) request ∷ [])
             (log_device self.new)) }
     {
@@ -225,22 +226,22 @@ impl<D: Device> Durable<D> {
 
     /// Commits transactions, one after another, up to the first that isn't.
     pub fn commit_each(&mut self, alloc: Global, requests: Vec<Request>) -> Result<(), Uncommitted>
-        ensures committed { OnOk result ((entries : List EntryValue)
-            → KeepsLog D.seen D.may_leave entries (log_device self.old) (image_of self.old)
-            → KeepsLog D.seen D.may_leave
+        ensures committed { OnOk result ((base : Base) (entries : List EntryValue)
+            → KeepsLog D.seen D.may_leave base entries (log_device self.old) (image_of self.old)
+            → KeepsLog D.seen D.may_leave base
             (entries ++ entries_after (image_of self.old).version requests.items)
             (log_device self.new) (image_of self.new)) }
 
         // A crash at any moment leaves the log from before the call, with the first of the
         // transactions, none of them skipped and none in part.
-        ensures any_moment { (entries : List EntryValue)
-            → KeepsLog D.seen D.may_leave entries (log_device self.old) (image_of self.old)
+        ensures any_moment { (base : Base) (entries : List EntryValue)
+            → KeepsLog D.seen D.may_leave base entries (log_device self.old) (image_of self.old)
             → LeavesOnly D.moment D.left_since (log_device self.old) (log_device self.new)
-            (HasFirst entries (entries_after (image_of self.old).version requests.items)) }
+            (HasFirst base entries (entries_after (image_of self.old).version requests.items)) }
 
-        ensures stopped { IfErr result (λ why. (entries : List EntryValue)
-            → KeepsLog D.seen D.may_leave entries (log_device self.old) (image_of self.old)
-            → StopsAt D.seen D.may_leave entries (image_of self.old).version requests.items why
+        ensures stopped { IfErr result (λ why. (base : Base) (entries : List EntryValue)
+            → KeepsLog D.seen D.may_leave base entries (log_device self.old) (image_of self.old)
+            → StopsAt D.seen D.may_leave base entries (image_of self.old).version requests.items why
             (log_device self.new) (image_of self.new)) }
 
         // Only the first one finds the database closed, where it was. It isn't known what became of

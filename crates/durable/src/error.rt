@@ -1,7 +1,9 @@
 // Why a database isn't opened, and why a transaction isn't committed.
 ghost use Rattle.std.specs.Prelude.{◌≡◌};
+ghost use Rattle.durable.specs.declared.error.CheckpointError.TheVariants as checkpoints;
 ghost use Rattle.durable.specs.declared.error.CommitError.TheVariants as commits;
-ghost use Rattle.durable.specs.Told.{commit_error, open_error, unreplayed_error};
+ghost use Rattle.durable.specs.declared.error.ReopenError.TheVariants as reopens;
+ghost use Rattle.durable.specs.Told.{commit_error, open_error, reopen_error, unreplayed_error};
 
 use journal::RecoverError;
 use replay::{PerformError, ReplayError};
@@ -119,4 +121,107 @@ pub struct Uncommitted {
     /// How many before it are committed.
     pub place: usize,
     pub error: CommitError,
+}
+
+/// Why no checkpoint is made. What is committed stays so.
+#[derive(Debug, Drop, Error)]
+pub enum CheckpointError {
+    /// Memory ran out. The database goes on as before.
+    #[error("out of memory")]
+    Memory,
+    /// The state is longer than a file may be. The database goes on as before.
+    #[error("the state is longer than a file may be")]
+    Full,
+    /// The last generation was given. The database goes on as before.
+    #[error("no generation is left")]
+    Exhausted,
+    /// The database is closed, and has to be opened anew.
+    #[error("the database is closed")]
+    Closed,
+    /// The device that isn't in use failed, so that the database has to be opened anew.
+    #[error("the device failed")]
+    Failed,
+    /// Memory ran out in the device that isn't in use, so that the database has to be opened anew.
+    #[error("out of memory in the device")]
+    Starved,
+}
+
+impl From<AllocError> for CheckpointError {
+    ghost from_gives = { λ _ error. error ≡ checkpoints.Memory };
+
+    fn from(_error: AllocError) -> CheckpointError {
+        CheckpointError::Memory
+    }
+}
+
+/// Why a database over two devices isn't opened.
+#[derive(Debug, Drop, Error)]
+pub enum ReopenError {
+    /// Memory ran out.
+    #[error("out of memory")]
+    Memory,
+    /// The file of the first device isn't recovered.
+    #[error("the first file: {0}")]
+    First(OpenError),
+    /// The file of the second device isn't recovered.
+    #[error("the second file: {0}")]
+    Second(OpenError),
+    /// What stands after the head of the newer file aren't the pairs that it counts.
+    #[error("the checkpoint isn't one of a database")]
+    NotACheckpoint,
+    /// What is logged in the newer file isn't what a database logs.
+    #[error("{0}")]
+    Unreplayed(ReplayError),
+    /// Both files are of this generation.
+    #[error("both files are of generation {0}")]
+    SameGeneration(u64),
+}
+
+impl From<AllocError> for ReopenError {
+    ghost from_gives = { λ _ error. error ≡ reopens.Memory };
+
+    fn from(_error: AllocError) -> ReopenError {
+        ReopenError::Memory
+    }
+}
+
+impl From<ReplayError> for ReopenError {
+    ghost from_gives = { λ error made. made ≡ reopen_error error };
+
+    fn from(error: ReplayError) -> ReopenError {
+        match error {
+            ReplayError::Memory => ReopenError::Memory,
+            ReplayError::NotAnEntry(_, _)
+            | ReplayError::OutOfOrder(_)
+            | ReplayError::NoSuchStore(_)
+            | ReplayError::Refused(_, _) => ReopenError::Unreplayed(error),
+        }
+    }
+}
+
+/// Two devices whose database wasn't opened.
+#[derive(Drop)]
+pub struct UnopenedTwo<D> {
+    pub first: D,
+    pub second: D,
+    pub error: ReopenError,
+}
+
+impl<D> UnopenedTwo<D> {
+    // The same of the two devices in the other order.
+    pub(crate) fn swapped(self) -> UnopenedTwo<D>
+        ensures { result
+            ≡ record { first = self.second; second = self.first; error = self.error } }
+    {
+        let UnopenedTwo {
+            first,
+            second,
+            error,
+        } = self;
+        UnopenedTwo {
+            first: second,
+            second: first,
+            error,
+        }
+    }
 }

@@ -2,12 +2,19 @@
 //! before it is acknowledged, and the log is performed again where the database is opened.
 #![tactic(auto)]
 
+mod checkpointing;
 mod database;
 mod error;
+mod heads;
 mod opening;
+mod reopening;
 mod request;
 
+pub use checkpointing::Checkpointed;
 pub use database::Durable;
-pub use error::{CommitError, OpenError, Uncommitted, Unopened};
+pub use error::{
+    CheckpointError, CommitError, OpenError, ReopenError, Uncommitted, Unopened, UnopenedTwo,
+};
 pub use opening::open;
+pub use reopening::open_two;
 pub use request::{Committed, Request};

@@ -11,3 +11,4 @@ mod Replays
 mod Splits
 pub mod Parts
 mod Recoveries
+mod Clearing

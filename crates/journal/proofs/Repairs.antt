@@ -16,7 +16,7 @@ fits_none : length_fits [] ≡ true
 unfolding length_fits
 fits_none = refl
 
-short_is_end : (bytes : List ℕ) → length bytes ≤ 1 → IsEnd bytes
+pub short_is_end : (bytes : List ℕ) → length bytes ≤ 1 → IsEnd bytes
 short_is_end [] few = none
 short_is_end (gate ∷ []) few = elim (cases_eq gate 1) [
   | inl is_open ↦ subst (λ (g : ℕ). IsEnd (g ∷ [])) (sym is_open) (short [] fits_none (omega arith))

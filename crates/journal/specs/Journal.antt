@@ -24,6 +24,10 @@ pub record IsKeptAtRest {D : Type 0} (seen : D → List ℕ) (may_leave : D → 
 abbrev pub IsBeforeOrAfter : List (List ℕ) → List (List ℕ) → List ℕ → Type 0
 IsBeforeOrAfter entries batch file = StandsFor file entries ⊎ StandsFor file (entries ++ batch)
 
+-- the file stands for these entries, or for none
+abbrev pub IsBeforeOrNone : List (List ℕ) → List ℕ → Type 0
+IsBeforeOrNone entries file = StandsFor file entries ⊎ StandsFor file []
+
 -- Private: the file is closed by its last byte, which stands at this place, and is on the disk
 pub record IsClosedAt {D : Type 0} (seen : D → List ℕ) (may_leave : D → List ℕ → Type 0)
     (device : D) (gate : ℕ) : Type 0 where

@@ -2,9 +2,11 @@
 ghost use Rattle.std.specs.Prelude.{◌≡◌, ◌<◌, ◌≤◌, ◌+◌, ◌^◌, ◌++◌, [], ◌∷◌, List, ℕ, length, take};
 ghost use Rattle.std.specs.Prelude.{true, OnOk, IsErrOf};
 ghost use Rattle.journal.specs.Device.{Only, LeavesOnly, HasCause};
+ghost use Rattle.journal.specs.Form.{at_rest};
 ghost use Rattle.journal.specs.Journal.{IsKeptAtRest, IsClosedAt, IsFrontOrAll};
+ghost use Rattle.journal.specs.Journal.{IsBeforeOrNone, entries_read};
 
-use crate::block::{OPEN, bytes_at_rest};
+use crate::block::{CLOSED, OPEN, bytes_at_rest};
 use crate::{AppendError, Device, DeviceError};
 use std::alloc::Global;
 
@@ -40,13 +42,31 @@ fn add<D: Device>(device: &mut D, gate: usize, body: &[u8]) -> Result<(), Device
     Ok(())
 }
 
+// Shuts the file's first gate, so that it stands for no entry, and then cuts off what follows.
+fn empty<D: Device>(device: &mut D, end: usize) -> Result<(), DeviceError>
+    requires { IsKeptAtRest D.seen D.may_leave device.old end }
+    ensures emptied { OnOk result (D.seen device.new ≡ at_rest []) }
+    ensures durable { OnOk result (Only (D.seen device.new) (D.may_leave device.new)) }
+    ensures any_moment { LeavesOnly D.moment D.left_since device.old device.new
+        (IsBeforeOrNone (entries_read (D.seen device.old))) }
+    ensures cause { HasCause (D.faults device.old) (D.faults device.new) result }
+    ensures fed { IsErrOf result DeviceError.Memory → D.wants_memory ≡ true }
+{
+    device.write_at(0, &[CLOSED])?;
+    device.sync()?; // The gate is shut on the disk before the blocks after it are cut off,
+    device.cut(1)?;
+    device.sync()?; // and they are gone before that is acknowledged.
+    Ok(())
+}
+
 impl<D: Device> Journal<D> {
-    ghost use Rattle.std.specs.Prelude.{false};
+    ghost use Rattle.std.specs.Prelude.{false, IfErr};
     ghost use Rattle.journal.specs.Form.{blocks};
     ghost use Rattle.journal.specs.Block.{StandsFor};
     ghost use Rattle.journal.specs.Words.{bytes_of_each};
-    ghost use Rattle.journal.specs.Journal.{entries_read, IsBeforeOrAfter};
+    ghost use Rattle.journal.specs.Journal.{IsBeforeOrAfter};
     ghost use Rattle.journal.specs.Standing.{device_of, is_open};
+    ghost use Rattle.journal.specs.Told.{IsOfClear};
 
     // The journal of a file that is at rest.
     pub(crate) fn at_rest(device: D, end: usize) -> Self
@@ -128,6 +148,41 @@ impl<D: Device> Journal<D> {
             return Err(AppendError::Device(error));
         }
         self.end += bytes.len() - 1;
+        self.is_open = true;
+        Ok(())
+    }
+
+    /// Drops all entries. At `Ok` each crash leaves a file that has none.
+    pub fn clear(&mut self) -> Result<(), AppendError>
+        ensures cleared { OnOk result (StandsFor (D.seen (device_of self.new)) []) }
+        ensures durable { OnOk result
+            (Only (D.seen (device_of self.new)) (D.may_leave (device_of self.new))) }
+
+        // A crash at any moment of the call leaves all entries from before it or none.
+        ensures any_moment { is_open self.old ≡ true
+            → LeavesOnly D.moment D.left_since (device_of self.old) (device_of self.new)
+            (IsBeforeOrNone (entries_read (D.seen (device_of self.old)))) }
+
+        ensures ok { OnOk result (is_open self.new ≡ true) }
+        ensures broken { IsErrOf result AppendError.Broken → self.new ≡ self.old }
+        ensures was_open { is_open self.old ≡ true → IsErrOf result AppendError.Broken → ⊥ }
+        ensures others { IfErr result IsOfClear }
+        ensures breaks { (e : _) → IsErrOf result (AppendError.Device e)
+            → is_open self.new ≡ false }
+        ensures failed { IsErrOf result (AppendError.Device DeviceError.Failed)
+            → D.faults (device_of self.old) < D.faults (device_of self.new) }
+        ensures fed { IsErrOf result (AppendError.Device DeviceError.Memory)
+            → D.wants_memory ≡ true }
+        ensures later { D.faults (device_of self.old) ≤ D.faults (device_of self.new) }
+    {
+        if !self.is_open {
+            return Err(AppendError::Broken);
+        }
+        self.is_open = false;
+        if let Err(fault) = empty(&mut self.device, self.end) {
+            return Err(AppendError::Device(fault));
+        }
+        self.end = 0;
         self.is_open = true;
         Ok(())
     }

@@ -4,3 +4,5 @@ pub mod Stores
 pub mod Logs
 pub mod Replays
 pub mod Histories
+pub mod Wholes
+pub mod Whys

@@ -1,5 +1,6 @@
 -- The entries of a log, performed again one after another.
-use Rattle.std.proofs.Common.{◌≡◌, ℕ, suc, ◌+◌, ◌<◌, true, List, Vec, Global, [], ◌∷◌, ◌++◌, length, take, drop, get_or, refl, sym, ap, subst, ◌∙◌, fold}
+use Rattle.std.proofs.Common.{◌≡◌, ℕ, suc, ◌+◌, ◌<◌, true, List, Vec, Global, [], ◌∷◌, ◌++◌, length, take, drop, get_or, refl, sym, ap, subst, ◌∙◌, fold, append-nil, append_assoc}
+use Rattle.std.specs.Prelude.{Result, Ok, Err, IfOk, IfErr}
 use Rattle.std.specs.FinMap.{empty}
 use Rattle.std.proofs.Math.Seq.{split_at}
 use Rattle.std.proofs.lemmas.List.{get_or-map, length-map, take_more}
@@ -17,7 +18,7 @@ use Rattle.command_log.specs.Answers.{IsWrittenAs}
 use Rattle.command_log.proofs.Bytes.{one_entry}
 use Rattle.replay.specs.Commands.{commands_of}
 use Rattle.replay.specs.Logged.{AreAccepted, ComeInOrder, AreReplayable, AreServed, Database, HoldsAll, IsPerformable, after_entry, empty_database, last_version, log_database}
-use Rattle.replay.specs.Replaying.{AllDone, AreUndone, AreWrittenAs, Has, Image, IsLogged, IsNoLog, IsNoStep, IsReplay, IsStep, IsNoneRead, IsUnreplayed, log_bytes, told_at}
+use Rattle.replay.specs.Replaying.{AllDone, AreUndone, AreWrittenAs, Has, Image, IsLogged, IsNoLogOn, IsNoStep, IsReplay, IsReplayOn, IsStep, IsNoneRead, IsUnreplayed, IsUnreplayedOn, log_bytes, told_at}
 use Rattle.replay.specs.declared.error.PerformError.{PerformError}
 use Rattle.replay.specs.declared.error.PerformError.TheVariants as performs
 use Rattle.replay.specs.declared.error.ReplayError.{ReplayError}
@@ -72,26 +73,38 @@ pub bytes_at : (log : List (Vec ℕ Global)) (i : ℕ) (vec : Vec ℕ Global) (b
 bytes_at log i vec bytes within is same = same ∙ ap (λ (v : Vec ℕ Global). v.items) is ∙ sym (get_or-map (λ (v : Vec ℕ Global). v.items) log i vec bytes within)
 
 -- a database without pairs is what no entries come to
-pub replay_none : (image : Image) → image ≡ record { map = empty; version = 0 } → IsReplay [] image
-replay_none image is = subst (IsReplay []) (sym is) (record {
-  entries = [];
-  written = tt;
-  logged = record {
-    lawful = record { in_order = tt; replayable = tt };
-    map = refl;
-    holds = holds_nothing;
-    version = refl;
-  };
+pub new_logged : (image : Image) → image ≡ record { map = empty; version = 0 } → IsLogged [] image
+new_logged image is = subst (IsLogged []) (sym is) (record {
+  lawful = record { in_order = tt; replayable = tt };
+  map = refl;
+  holds = holds_nothing;
+  version = refl;
 })
 
-pub replay_turn : (log : List (List ℕ)) (i : ℕ) (bytes : List ℕ) (entry : Entry) (image next : Image) → i < length log → bytes ≡ get_or log i bytes → IsReplay (take i log) image → IsWrittenAs bytes entry → IsStep image entry next → IsReplay (take (i + 1) log) next
-replay_turn log i bytes entry image next within is so_far written step =
+pub replay_none : (before : List Entry) (image : Image) → IsLogged before image → IsReplayOn before [] image
+replay_none before image is = record { entries = []; written = tt; logged = subst (λ es. IsLogged es image) (sym (append-nil before)) is }
+
+pub replay_turn : (before : List Entry) (log : List (List ℕ)) (i : ℕ) (bytes : List ℕ) (entry : Entry) (image next : Image) → i < length log → bytes ≡ get_or log i bytes → IsReplayOn before (take i log) image → IsWrittenAs bytes entry → IsStep image entry next →
+    IsReplayOn before (take (i + 1) log) next
+replay_turn before log i bytes entry image next within is so_far written step =
     let longer : take (i + 1) log ≡ take i log ++ bytes ∷ [] = take_more log i bytes within ∙ ap (λ b. take i log ++ b ∷ []) (sym is) in
-    subst (λ l. IsReplay l next) (sym longer) (record {
+    let logged = logged_more (before ++ so_far.entries) entry image next so_far.logged step in
+    subst (λ l. IsReplayOn before l next) (sym longer) (record {
       entries = so_far.entries ++ entry ∷ [];
       written = written_append (take i log) so_far.entries bytes entry so_far.written written;
-      logged = logged_more so_far.entries entry image next so_far.logged step;
+      logged = subst (λ es. IsLogged es next) (append_assoc before so_far.entries (entry ∷ [])) logged;
     })
+
+-- over a database without pairs
+pub new_replayed : (log : List (List ℕ)) (image : Image) (result : Result Image ReplayError) → image ≡ record { map = empty; version = 0 } →
+    IfOk result (λ next. (before : List Entry) → IsLogged before image → IsReplayOn before log next) → IfOk result (IsReplay log)
+new_replayed log image (Ok next) is so = so [] (new_logged image is)
+new_replayed log image (Err error) is so = so
+
+pub new_unreplayed : (log : List (List ℕ)) (image : Image) (result : Result Image ReplayError) → image ≡ record { map = empty; version = 0 } →
+    IfErr result (λ error. (before : List Entry) → IsLogged before image → IsUnreplayedOn before log error) → IfErr result (IsUnreplayed log)
+new_unreplayed log image (Ok next) is so = so
+new_unreplayed log image (Err error) is so = so [] (new_logged image is)
 
 -- ---- what isn't replayed is no lawful log
 
@@ -125,38 +138,40 @@ accepted_next d (first ∷ entries) entry others (one, rest) = accepted_next (af
 whole_log : (log : List (List ℕ)) (i : ℕ) (bytes : List ℕ) (all : List Entry) → i < length log → bytes ≡ get_or log i bytes → AreWrittenAs log all → AreWrittenAs (take i log ++ bytes ∷ drop (suc i) log) all
 whole_log log i bytes all within is are = subst (λ l. AreWrittenAs l all) (split_at log i bytes within ∙ ap (λ b. take i log ++ b ∷ drop (suc i) log) (sym is)) are
 
-no_entry : (log : List (List ℕ)) (i : ℕ) (bytes : List ℕ) (image : Image) → i < length log → bytes ≡ get_or log i bytes → IsReplay (take i log) image → ((entry : Entry) → IsWrittenAs bytes entry → ⊥) → IsNoLog log
-no_entry log i bytes image within is so_far none all are lawful =
+no_entry : (before : List Entry) (log : List (List ℕ)) (i : ℕ) (bytes : List ℕ) (image : Image) → i < length log → bytes ≡ get_or log i bytes → IsReplayOn before (take i log) image → ((entry : Entry) → IsWrittenAs bytes entry → ⊥) → IsNoLogOn before log
+no_entry before log i bytes image within is so_far none all are lawful =
     let found = split_written (take i log) bytes (drop (suc i) log) so_far.entries all so_far.written (whole_log log i bytes all within is are) in
     none found.entry found.written
 
-pub unread : (log : List (List ℕ)) (i : ℕ) (bytes : List ℕ) (image : Image) (error : ReplayError) → i < length log → bytes ≡ get_or log i bytes → IsReplay (take i log) image → IsNoneRead bytes error → IsUnreplayed log error
-unread log i bytes image replays.Memory within is so_far none = tt
-unread log i bytes image (replays.NotAnEntry place error) within is so_far none = no_entry log i bytes image within is so_far none
-unread log i bytes image (replays.OutOfOrder place) within is so_far none = no_entry log i bytes image within is so_far none
-unread log i bytes image (replays.NoSuchStore place) within is so_far none = no_entry log i bytes image within is so_far none
-unread log i bytes image (replays.Refused place error) within is so_far none = no_entry log i bytes image within is so_far none
+pub unread : (before : List Entry) (log : List (List ℕ)) (i : ℕ) (bytes : List ℕ) (image : Image) (error : ReplayError) → i < length log → bytes ≡ get_or log i bytes → IsReplayOn before (take i log) image → IsNoneRead bytes error → IsUnreplayedOn before log error
+unread before log i bytes image replays.Memory within is so_far none = tt
+unread before log i bytes image (replays.NotAnEntry place error) within is so_far none = no_entry before log i bytes image within is so_far none
+unread before log i bytes image (replays.OutOfOrder place) within is so_far none = no_entry before log i bytes image within is so_far none
+unread before log i bytes image (replays.NoSuchStore place) within is so_far none = no_entry before log i bytes image within is so_far none
+unread before log i bytes image (replays.Refused place error) within is so_far none = no_entry before log i bytes image within is so_far none
 
 abbrev NeverNext : Image → Entry → Type 0
 NeverNext image entry = (d : Database) → Has d image.map → image.version < entry.version → is_store_number entry.store ≡ true → IsPerformable d entry → ⊥
 
-no_next : (log : List (List ℕ)) (i : ℕ) (bytes : List ℕ) (entry : Entry) (image : Image) → i < length log → bytes ≡ get_or log i bytes → IsReplay (take i log) image → IsWrittenAs bytes entry → NeverNext image entry → IsNoLog log
-no_next log i bytes entry image within is so_far written never all are lawful =
-    let entries = so_far.entries in
-    let found = split_written (take i log) bytes (drop (suc i) log) entries all so_far.written (whole_log log i bytes all within is are) in
+no_next : (before : List Entry) (log : List (List ℕ)) (i : ℕ) (bytes : List ℕ) (entry : Entry) (image : Image) → i < length log → bytes ≡ get_or log i bytes → IsReplayOn before (take i log) image → IsWrittenAs bytes entry → NeverNext image entry → IsNoLogOn before log
+no_next before log i bytes entry image within is so_far written never all are lawful =
+    let entries = before ++ so_far.entries in
+    let found = split_written (take i log) bytes (drop (suc i) log) so_far.entries all so_far.written (whole_log log i bytes all within is are) in
+    let whole : before ++ all ≡ entries ++ found.entry ∷ found.others = ap (λ es. before ++ es) found.split ∙ sym (append_assoc before so_far.entries (found.entry ∷ found.others)) in
     let same : found.entry ≡ entry = one_entry bytes found.entry entry found.written written in
-    let next = comes_next 0 entries found.entry found.others (subst (ComeInOrder 0) found.split lawful.in_order) in
-    let accepted = accepted_next empty_database entries found.entry found.others (subst (AreReplayable empty_database) found.split lawful.replayable) in
+    let next = comes_next 0 entries found.entry found.others (subst (ComeInOrder 0) whole lawful.in_order) in
+    let accepted = accepted_next empty_database entries found.entry found.others (subst (AreReplayable empty_database) whole lawful.replayable) in
     never (log_database entries) (has_logged entries image so_far.logged)
     (subst (λ (e : Entry). image.version < e.version) same (subst (λ v. v < found.entry.version) (sym so_far.logged.version) next.0))
     (subst (λ (e : Entry). is_store_number e.store ≡ true) same next.1) (subst (λ (e : Entry). IsPerformable (log_database entries) e) same accepted)
 
-pub unstepped : (log : List (List ℕ)) (i : ℕ) (bytes : List ℕ) (entry : Entry) (image : Image) (error : ReplayError) → i < length log → bytes ≡ get_or log i bytes → IsReplay (take i log) image → IsWrittenAs bytes entry → IsNoStep image entry error → IsUnreplayed log error
-unstepped log i bytes entry image replays.Memory within is so_far written never = tt
-unstepped log i bytes entry image (replays.NotAnEntry place error) within is so_far written never = no_next log i bytes entry image within is so_far written never
-unstepped log i bytes entry image (replays.OutOfOrder place) within is so_far written never = no_next log i bytes entry image within is so_far written never
-unstepped log i bytes entry image (replays.NoSuchStore place) within is so_far written never = no_next log i bytes entry image within is so_far written never
-unstepped log i bytes entry image (replays.Refused place error) within is so_far written never = no_next log i bytes entry image within is so_far written never
+pub unstepped : (before : List Entry) (log : List (List ℕ)) (i : ℕ) (bytes : List ℕ) (entry : Entry) (image : Image) (error : ReplayError) → i < length log → bytes ≡ get_or log i bytes → IsReplayOn before (take i log) image → IsWrittenAs bytes entry → IsNoStep image entry error →
+    IsUnreplayedOn before log error
+unstepped before log i bytes entry image replays.Memory within is so_far written never = tt
+unstepped before log i bytes entry image (replays.NotAnEntry place error) within is so_far written never = no_next before log i bytes entry image within is so_far written never
+unstepped before log i bytes entry image (replays.OutOfOrder place) within is so_far written never = no_next before log i bytes entry image within is so_far written never
+unstepped before log i bytes entry image (replays.NoSuchStore place) within is so_far written never = no_next before log i bytes entry image within is so_far written never
+unstepped before log i bytes entry image (replays.Refused place error) within is so_far written never = no_next before log i bytes entry image within is so_far written never
 
 -- ---- one step
 

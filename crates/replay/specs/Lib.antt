@@ -4,3 +4,4 @@ pub mod Replaying
 pub mod ImageCode
 pub mod Laws
 pub mod Histories
+pub mod Pairs

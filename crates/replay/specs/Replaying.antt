@@ -1,5 +1,5 @@
 -- What performing changes, and replaying entries, comes to.
-use Rattle.std.specs.Prelude.{◌≡◌, ◌<◌, ℕ, true, false, List, [], ◌∷◌, ◌++◌, length, map, Vec, ⊤}
+use Rattle.std.specs.Prelude.{◌≡◌, ◌<◌, ◌≤◌, ℕ, true, false, List, [], ◌∷◌, ◌++◌, length, map, take, get_or, Vec, ⊤}
 use Rattle.std.specs.declared.alloc.Global.{Global}
 use Rattle.kv_core.specs.Map.{Map, after_all}
 use Rattle.kv_core.specs.declared.change.Mutation.{Mutation}
@@ -14,9 +14,10 @@ use Rattle.schedule.specs.Performed.{IsServed}
 use Rattle.schedule.specs.Exact.{commands_written}
 use Rattle.schedule.specs.Holds.{Stands}
 use Rattle.command_log.specs.declared.entry.Entry.{Entry}
-use Rattle.command_log.specs.Answers.{IsWrittenAs}
+use Rattle.command_log.specs.Answers.{IsNoWrittenEntry, IsWrittenAs}
 use Rattle.replay.specs.Logged.{AreAccepted, AreServed, Database, HoldsAll, IsPerformable, IsLawfulLog, after_entry}
 use Rattle.replay.specs.Logged.{last_version, log_database}
+use Rattle.replay.specs.Commands.{commands_of}
 use Rattle.replay.specs.declared.error.PerformError.{PerformError}
 use Rattle.replay.specs.declared.error.PerformError.TheVariants as performs
 use Rattle.replay.specs.declared.error.ReplayError.{ReplayError}
@@ -89,22 +90,79 @@ pub record IsLogged (entries : List Entry) (image : Image) : Type 0 where
   pub holds : HoldsAll image.map (log_database entries).stores
   pub version : image.version ≡ last_version 0 entries
 
--- REPLAYED: it is what the entries come to whose bytes these are
-pub record IsReplay (log : List (List ℕ)) (image : Image) : Type 0 where
+-- after the entries before it is what those come to whose bytes these are
+pub record IsReplayOn (before : List Entry) (log : List (List ℕ)) (image : Image) : Type 0 where
   pub entries : List Entry
   pub written : AreWrittenAs log entries
-  pub logged : IsLogged entries image
+  pub logged : IsLogged (before ++ entries) image
 
--- these are the bytes of no lawful log
+-- REPLAYED: it is what the entries come to whose bytes these are
+abbrev pub IsReplay : List (List ℕ) → Image → Type 0
+IsReplay log image = IsReplayOn [] log image
+
+-- after the entries before these are the bytes of none that make a lawful log
+abbrev pub IsNoLogOn : List Entry → List (List ℕ) → Type 0
+IsNoLogOn before log = (entries : List Entry) → AreWrittenAs log entries → IsLawfulLog (before ++ entries) → ⊥
+
+-- Private: these are the bytes of no lawful log
 abbrev pub IsNoLog : List (List ℕ) → Type 0
-IsNoLog log = (entries : List Entry) → AreWrittenAs log entries → IsLawfulLog entries → ⊥
+IsNoLog log = IsNoLogOn [] log
+
+-- why a log isn't replayed after other entries
+abbrev pub IsUnreplayedOn : List Entry → List (List ℕ) → ReplayError → Type 0
+IsUnreplayedOn before log replays.Memory = ⊤
+IsUnreplayedOn before log error = IsNoLogOn before log
 
 -- why a log isn't replayed
 abbrev pub IsUnreplayed : List (List ℕ) → ReplayError → Type 0
-IsUnreplayed log replays.Memory = ⊤
-IsUnreplayed log error = IsNoLog log
+IsUnreplayed log error = IsUnreplayedOn [] log error
+
+-- the entries at the places before this one go on the log after those before, and for this reason what is there
+-- doesn't
+pub record IsStoppedAt (before : List Entry) (log : List (List ℕ)) (place : ℕ) (Why : List Entry → List ℕ → Type 0) :
+    Type 0 where
+  pub first : List Entry
+  pub written : AreWrittenAs (take place log) first
+  pub lawful : IsLawfulLog (before ++ first)
+  pub within : place < length log
+  pub bytes : List ℕ
+  pub at : bytes ≡ get_or log place bytes
+  pub why : Why (before ++ first) bytes
+
+-- the bytes are those of an entry of which this is so
+abbrev pub HasEntry : (Entry → Type 0) → List ℕ → Type 0
+HasEntry Is bytes = (entry : Entry) × IsWrittenAs bytes entry × Is entry
+
+-- at which place a log isn't replayed, and why: the bytes there are no entry's, the version isn't above the last one,
+-- the store has the number of none, or a change is refused
+abbrev pub IsWhyOn : List Entry → List (List ℕ) → ReplayError → Type 0
+IsWhyOn before log replays.Memory = ⊤
+IsWhyOn before log (replays.NotAnEntry place error) =
+    IsStoppedAt before log place (λ entries bytes. IsNoWrittenEntry bytes error)
+IsWhyOn before log (replays.OutOfOrder place) =
+    IsStoppedAt before log place (λ entries. HasEntry (λ entry. entry.version ≤ last_version 0 entries))
+IsWhyOn before log (replays.NoSuchStore place) =
+    IsStoppedAt before log place (λ entries. HasEntry (λ entry. is_store_number entry.store ≡ false))
+IsWhyOn before log (replays.Refused place error) =
+    IsStoppedAt before log place (λ entries. HasEntry (λ entry.
+    let d = log_database entries in AreUndone entry.store d.map (commands_of entry.changes) error))
 
 -- ---- one entry
+
+-- Private: why the bytes at a place are no entry
+abbrev pub IsUnreadAt : ℕ → List ℕ → ReplayError → Type 0
+IsUnreadAt place bytes replays.Memory = ⊤
+IsUnreadAt place bytes (replays.NotAnEntry at error) = (at ≡ place) × IsNoWrittenEntry bytes error
+IsUnreadAt place bytes error = ⊥
+
+-- Private: why the entry at a place doesn't come next
+abbrev pub IsUnsteppedAt : ℕ → Image → Entry → ReplayError → Type 0
+IsUnsteppedAt place image entry replays.Memory = ⊤
+IsUnsteppedAt place image entry (replays.OutOfOrder at) = (at ≡ place) × (entry.version ≤ image.version)
+IsUnsteppedAt place image entry (replays.NoSuchStore at) = (at ≡ place) × (is_store_number entry.store ≡ false)
+IsUnsteppedAt place image entry (replays.Refused at error) =
+    (at ≡ place) × AreUndone entry.store image.map (commands_of entry.changes) error
+IsUnsteppedAt place image entry error = ⊥
 
 -- Private: the map is that of this database, and holds its stores
 pub record Has (d : Database) (m : Map) : Type 0 where

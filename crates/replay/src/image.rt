@@ -7,12 +7,13 @@ ghost use Rattle.schedule.specs.Past.{is_accepted};
 ghost use Rattle.schedule.specs.declared.reply.Reply.TheVariants as replies;
 ghost use Rattle.replay.specs.declared.error.PerformError.TheVariants as performs;
 ghost use Rattle.replay.specs.Commands.{commands_of};
+ghost use Rattle.replay.specs.Pairs.{all_pairs};
 ghost use Rattle.replay.specs.Replaying.{AllDone, AreUndone, IsRefusalOf};
 
 use crate::command::commands_of;
 use crate::error::PerformError;
 use command_log::Changes;
-use kv_core::{KvMap, Mutations};
+use kv_core::{Bytes, KeyRange, KvMap, Mutations, Pair};
 use record_store::{KnownSchema, StoreNumber};
 use schedule::{Command, Reply, perform_knowing};
 use std::alloc::{AllocError, Global};
@@ -102,6 +103,34 @@ impl Image {
             map: KvMap::new(alloc),
             version: 0,
             known: KnownSchema::new(),
+        }
+    }
+
+    /// The database of these pairs at a version. Whether it is a lawful one is for the caller to
+    /// know. Where a key is there more than once, the first of its pairs stands.
+    pub fn of_pairs(alloc: Global, version: u64, pairs: Vec<Pair>) -> Result<Image, AllocError>
+        ensures { IfOk result (λ image. image
+            ≡ record { map = finite.from_entries pairs.items; version = version }) }
+    {
+        let mut image = Image::new(alloc);
+        image.map = KvMap::from_pairs(alloc, pairs)?;
+        image.version = version;
+        Ok(image)
+    }
+
+    /// The pairs, copied, in the order of their keys.
+    pub fn pairs(&self, alloc: Global) -> Result<Vec<Pair>, AllocError>
+        ensures { IfOk result (λ pairs. pairs.items ≡ all_pairs self.now.map) }
+    {
+        let end = Bytes::from_slice(alloc, &[0xff])?;
+        let Some(range) = KeyRange::new(Bytes::new(Vec::new(alloc)), end) else {
+            unreachable!();
+        };
+        let pairs = self.map.range(&range, usize::MAX, false)?;
+        if pairs.len() < usize::MAX {
+            Ok(pairs)
+        } else {
+            Err(AllocError)
         }
     }
 

@@ -11,4 +11,4 @@ pub use command::{change_of, command_of};
 pub use error::{PerformError, ReplayError};
 pub use image::{Done, Image};
 pub use laws::logs_hold;
-pub use replaying::replay;
+pub use replaying::{replay, replay_on};

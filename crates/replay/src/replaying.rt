@@ -1,7 +1,10 @@
 // The entries of a log, performed again. Called by who opens what a log has kept.
-ghost use Rattle.std.specs.Prelude.{◌≡◌, IfOk, IfErr};
+ghost use Rattle.std.specs.Prelude.{◌≡◌, [], List, IfOk, IfErr};
 ghost use Rattle.command_log.specs.Answers.{IsWrittenAs};
-ghost use Rattle.replay.specs.Replaying.{IsNoStep, IsReplay, IsStep, IsNoneRead, IsUnreplayed};
+ghost use Rattle.command_log.specs.declared.entry.Entry.{Entry as EntryValue};
+ghost use Rattle.replay.specs.Replaying.{IsLogged, IsReplay, IsReplayOn, IsUnreplayed};
+ghost use Rattle.replay.specs.Replaying.{IsNoStep, IsNoneRead, IsStep, IsUnreplayedOn};
+ghost use Rattle.replay.specs.Replaying.{IsUnreadAt, IsUnsteppedAt, IsWhyOn};
 ghost use Rattle.replay.specs.Replaying.{log_bytes, told_at};
 
 use crate::error::{PerformError, ReplayError};
@@ -14,6 +17,7 @@ use std::alloc::Global;
 fn entry_at(alloc: Global, place: usize, bytes: &[u8]) -> Result<Entry, ReplayError>
     ensures read { IfOk result (IsWrittenAs bytes.now) }
     ensures unread { IfErr result (IsNoneRead bytes.now) }
+    ensures told { IfErr result (IsUnreadAt place bytes.now) }
 {
     match entry_of(alloc, bytes) {
         Ok(entry) => Ok(entry),
@@ -43,6 +47,7 @@ fn after_entry(
 ) -> Result<Image, ReplayError>
     ensures step { IfOk result (IsStep image entry) }
     ensures no_step { IfErr result (IsNoStep image entry) }
+    ensures told { IfErr result (IsUnsteppedAt place image entry) }
 {
     if entry.version <= image.version() {
         return Err(ReplayError::OutOfOrder(place));
@@ -58,17 +63,31 @@ fn after_entry(
     }
 }
 
-/// The database that the entries of a log come to, whose bytes these are: the changes of each are
-/// performed in one transaction in its store, in their order, over a database without pairs. What
-/// isn't a lawful log is refused.
+/// The database that the entries of a log come to after what is there, whose bytes these are: the
+/// changes of each are performed in one transaction in its store, in their order. What makes no
+/// lawful log with the entries that what is there comes from is refused.
+pub fn replay_on(alloc: Global, image: Image, log: &[Vec<u8>]) -> Result<Image, ReplayError>
+    ensures replayed { IfOk result (λ next. (before : List EntryValue) → IsLogged before image
+        → IsReplayOn before (log_bytes log.now) next) }
+    ensures refused { IfErr result (λ error. (before : List EntryValue) → IsLogged before image
+        → IsUnreplayedOn before (log_bytes log.now) error) }
+    ensures told { IfErr result (λ error. (before : List EntryValue) → IsLogged before image
+        → IsWhyOn before (log_bytes log.now) error) }
+{
+    let mut next = image;
+    for (place, bytes) in log.iter().enumerate() {
+        let entry = entry_at(alloc, place, bytes.as_slice())?;
+        next = after_entry(alloc, next, place, entry)?;
+    }
+    Ok(next)
+}
+
+/// The database that the entries of a log come to over a database without pairs. What isn't a
+/// lawful log is refused.
 pub fn replay(alloc: Global, log: &[Vec<u8>]) -> Result<Image, ReplayError>
     ensures replayed { IfOk result (IsReplay (log_bytes log.now)) }
     ensures refused { IfErr result (IsUnreplayed (log_bytes log.now)) }
+    ensures told { IfErr result (IsWhyOn [] (log_bytes log.now)) }
 {
-    let mut image = Image::new(alloc);
-    for (place, bytes) in log.iter().enumerate() {
-        let entry = entry_at(alloc, place, bytes.as_slice())?;
-        image = after_entry(alloc, image, place, entry)?;
-    }
-    Ok(image)
+    replay_on(alloc, Image::new(alloc), log)
 }

@@ -1,6 +1,6 @@
 // A device that fails in each call of a run, with what it writes there torn. Run as tests.
 use crate::parts::holds;
-use crate::run::{COUNT, databases, is_after, request};
+use crate::run::{COUNT, databases, has_all, request};
 use durable::{CommitError, Durable, Unopened, open};
 use journal::{Device, Fuse, Memory};
 use kv_core::Bytes;
@@ -52,11 +52,7 @@ fn opened_anew(
 ) -> Result<Durable<Memory>, Fail> {
     match open(alloc, Memory::new(alloc, file)) {
         Ok(db) => {
-            let found = match db.image() {
-                Some(image) => is_after(alloc, wanted, image)?,
-                None => return Err(Fail::new(format_args!("a closed one"))),
-            };
-            holds(found.wrapping_sub(count) <= 1, "transactions")?;
+            has_all(alloc, wanted, count, db.image())?;
             Ok(db)
         }
         Err(Unopened { device: _, error }) => Err(Fail::new(format_args!("{error}"))),

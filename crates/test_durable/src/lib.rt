@@ -5,6 +5,8 @@
 #[cfg(test)]
 mod bytes;
 #[cfg(test)]
+mod checkpoints;
+#[cfg(test)]
 mod failing;
 #[cfg(test)]
 mod files;

@@ -104,6 +104,20 @@ pub fn databases(alloc: Global) -> Result<Vec<Vec<(Bytes, Bytes)>>, Fail> {
     Ok(made)
 }
 
+/// What is read of a database is that after all acknowledged transactions, or after one more.
+pub fn has_all(
+    alloc: Global,
+    databases: &[Vec<(Bytes, Bytes)>],
+    acknowledged: usize,
+    image: Option<&Image>,
+) -> Result<(), Fail> {
+    let Some(image) = image else {
+        return Err(Fail::new(format_args!("a closed one")));
+    };
+    let found = is_after(alloc, databases, image)?;
+    holds(found.wrapping_sub(acknowledged) <= 1, "transactions")
+}
+
 /// Whether the database of an image is that after so many transactions, as its version says.
 pub fn is_after(
     alloc: Global,

@@ -1,33 +1,13 @@
-use Rattle.txn.proofs.Exits.{exit_with}
-use Rattle.replay.specs.Replaying.{IsUnreplayed, log_bytes}
-use Rattle.replay.proofs.Replays.{bytes_at, bytes_within, replay_none, replay_turn, unread, unstepped}
+use Rattle.replay.specs.Replaying.{log_bytes}
+use Rattle.replay.proofs.Replays.{new_replayed, new_unreplayed}
+use Rattle.replay.proofs.Whys.{new_told}
 use Rattle.replay.proofs.replaying.replay.Goals as goal
 
-pub loop-place-init : goal.loop-place-init
-loop-place-init c = replay_none c.new-image.result c.new-image.ensures
+pub returns-clause-replayed : goal.returns-clause-replayed
+returns-clause-replayed c = new_replayed (log_bytes c.args.log.now) c.new.result c.replay_on.result c.new.ensures c.replay_on.ensures.replayed
 
-pub returns-in_err-entry-clause-refused : goal.returns-in_err-entry-clause-refused
-returns-in_err-entry-clause-refused c =
-    let log = c.args.log.now in
-    let i = c.loop-place.place in
-    let bytes = c.as_slice.result.now in
-    exit_with c.from_residual.result c.in_err-entry.field-0.0 (IsUnreplayed (log_bytes log)) c.from_residual.ensures
-    (unread (log_bytes log) i bytes c.loop-place.image c.in_err-entry.field-0.0 (bytes_within log i c.loop-place-test.true) (bytes_at log i c.index-log-place.result bytes c.loop-place-test.true c.index-log-place.is c.as_slice.ensures.value)
-    c.loop-place.invariant c.in_err-entry.ensures.unread)
+pub returns-clause-refused : goal.returns-clause-refused
+returns-clause-refused c = new_unreplayed (log_bytes c.args.log.now) c.new.result c.replay_on.result c.new.ensures c.replay_on.ensures.refused
 
-pub returns-in_err-image-clause-refused : goal.returns-in_err-image-clause-refused
-returns-in_err-image-clause-refused c =
-    let log = c.args.log.now in
-    let i = c.loop-place.place in
-    let bytes = c.as_slice.result.now in
-    exit_with c.from_residual-in_err-image.result c.in_err-image.field-0.0 (IsUnreplayed (log_bytes log)) c.from_residual-in_err-image.ensures
-    (unstepped (log_bytes log) i bytes c.in_ok-entry.entry c.loop-place.image c.in_err-image.field-0.0 (bytes_within log i c.loop-place-test.true) (bytes_at log i c.index-log-place.result bytes c.loop-place-test.true c.index-log-place.is c.as_slice.ensures.value)
-    c.loop-place.invariant c.in_ok-entry.ensures.read c.in_err-image.ensures.no_step)
-
-pub loop-place-preserved : goal.loop-place-preserved
-loop-place-preserved c =
-    let log = c.args.log.now in
-    let i = c.loop-place.place in
-    let bytes = c.as_slice.result.now in
-    replay_turn (log_bytes log) i bytes c.in_ok-entry.entry c.loop-place.image c.in_ok-image.image (bytes_within log i c.loop-place-test.true) (bytes_at log i c.index-log-place.result bytes c.loop-place-test.true c.index-log-place.is c.as_slice.ensures.value)
-    c.loop-place.invariant c.in_ok-entry.ensures.read c.in_ok-image.ensures.step
+pub returns-clause-told : goal.returns-clause-told
+returns-clause-told c = new_told (log_bytes c.args.log.now) c.new.result c.replay_on.result c.new.ensures c.replay_on.ensures.told

@@ -38,24 +38,24 @@ loop-request-preserved g c =
     }
 
 pub returns-in-Err-clause-any_moment : goal.returns-in-Err-clause-any_moment
-returns-in-Err-clause-any_moment g c = λ entries keeps.
+returns-in-Err-clause-any_moment g c = λ base entries keeps.
     let d = g.D.Device in
     let first = c.args.self.now in
     let now = c.loop-request.self in
     let new = c.commit.new.self in
     let all = c.args.requests.items in
     let so_far = subst (λ rest. HasCommitted d.seen d.may_leave d.moment d.left_since (log_device first) (image_of first) all rest c.loop-request.place (log_device now) (image_of now)) c.in-Some.ensures.steps.0 c.loop-request.invariant.so_far in
-    leaves_more d.seen d.may_leave d.moment d.left_since (log_device first) (log_device now) (log_device new) (image_of first) (image_of now) all (into_iter_items c.next.new.self) c.loop-request.place c.in-Some.request so_far c.commit.ensures.any_moment entries keeps
+    leaves_more d.seen d.may_leave d.moment d.left_since (log_device first) (log_device now) (log_device new) (image_of first) (image_of now) all (into_iter_items c.next.new.self) c.loop-request.place c.in-Some.request so_far c.commit.ensures.any_moment base entries keeps
 
 pub returns-in-Err-clause-stopped : goal.returns-in-Err-clause-stopped
-returns-in-Err-clause-stopped g c = λ entries keeps.
+returns-in-Err-clause-stopped g c = λ base entries keeps.
     let d = g.D.Device in
     let first = c.args.self.now in
     let now = c.loop-request.self in
     let new = c.commit.new.self in
     let all = c.args.requests.items in
     let so_far = subst (λ rest. HasCommitted d.seen d.may_leave d.moment d.left_since (log_device first) (image_of first) all rest c.loop-request.place (log_device now) (image_of now)) c.in-Some.ensures.steps.0 c.loop-request.invariant.so_far in
-    stopped_there d.seen d.may_leave d.moment d.left_since first now new all (into_iter_items c.next.new.self) c.loop-request.place c.in-Some.request c.in-Err.error so_far c.in-Err.ensures.refused c.in-Err.ensures.full c.in-Err.ensures.unseen entries keeps
+    stopped_there d.seen d.may_leave d.moment d.left_since first now new all (into_iter_items c.next.new.self) c.loop-request.place c.in-Some.request c.in-Err.error so_far c.in-Err.ensures.refused c.in-Err.ensures.full c.in-Err.ensures.unseen base entries keeps
 
 pub returns-in-Err-clause-closed : goal.returns-in-Err-clause-closed
 returns-in-Err-clause-closed g c =
