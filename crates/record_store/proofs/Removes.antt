@@ -21,13 +21,14 @@ use Rattle.metadata.proofs.StoredOnce.{made_is}
 use Rattle.metadata.specs.declared.cells.Cell.{Cell}
 use Rattle.metadata.specs.declared.definition.TypeDefinition.{TypeDefinition}
 use Rattle.metadata.specs.Lawful.{IsLawfulSchema}
-use Rattle.metadata.specs.Record.{Record, key_items, key_of}
+use Rattle.metadata.specs.Cell.{items_of}
+use Rattle.metadata.specs.Record.{Record, key_of}
 use Rattle.metadata.specs.Records.{record_at}
 use Rattle.metadata.specs.Schema.{Schema, find_type}
 use Rattle.metadata.specs.Stored.{IsStoredAs}
 use Rattle.index_maint.specs.Built.{position_of}
 use Rattle.record_store.specs.declared.error.StoreError.{StoreError}
-use Rattle.record_store.specs.BuiltReading.{added_of, built_reading, found_of, type_number_in}
+use Rattle.record_store.specs.BuiltReading.{added_of, built_reading, found_of, position_in, type_number_in}
 use Rattle.record_store.specs.Call.{IsAnswered, IsOpenAs, IsRefused, Opened, Reading, service_of, where_there}
 use Rattle.record_store.specs.Calls.{remove_call, remove_footprint}
 use Rattle.record_store.specs.Meaning.{remove_meaning}
@@ -39,6 +40,7 @@ use Rattle.record_store.specs.Reading.{IsNotFound, ReadsHaveStopped, asked_built
 use Rattle.record_store.specs.Steps.{DidRead, of_write}
 use Rattle.record_store.specs.Store.{Store}
 use Rattle.record_store.proofs.Answered.{answered, answered_reading, done_with, key_given, refused_limit, refused_unread}
+use Rattle.record_store.proofs.Keys.{position_is}
 use Rattle.record_store.proofs.OneRecord.{read_there}
 use Rattle.record_store.proofs.RecordCalls.{filled, remove_list, remove_served}
 use Rattle.record_store.proofs.Writing.{built_unread, follow_read, follow_unread, key_unread, record_unread}
@@ -46,10 +48,13 @@ use Rattle.record_store.proofs.Writing.{built_unread, follow_read, follow_unread
 abbrev Pair : Type 0
 Pair = List ℕ × List ℕ
 
--- the position of a primary key that key cells give
-pub given_at : (schema : Schema) (name : List ℕ) (cells : List Cell) (type : TypeDefinition) (pk : List Item) (items : List ℕ) → find_type schema name ≡ Some type → key_of schema name cells ≡ Ok pk → IsTuple pk →
-    ((own : List Cell) → pk ≡ key_items type.number own → items ≡ position_of pk) → items ≡ position_of pk
-given_at schema name cells type pk items found asked tuple at = let key = key_given schema name cells type pk found asked tuple in at key.cells key.is
+-- the position in the key of a record whose primary key key cells give
+pub given_at : (prefix : List ℕ) (schema : Schema) (name : List ℕ) (cells : List Cell) (type : TypeDefinition) (pk : List Item) (key : List ℕ) → find_type schema name ≡ Some type → key_of schema name cells ≡ Ok pk →
+    IsTuple pk → key ≡ record_key prefix pk → position_in prefix type.number key ≡ position_of pk
+given_at prefix schema name cells type pk key found asked tuple is =
+    let given = key_given schema name cells type pk found asked tuple in
+    ap (position_in prefix type.number) (is ∙ ap (record_key prefix) given.is) ∙ position_is prefix type.number (items_of given.cells)
+    ∙ ap position_of (sym given.is)
 
 module _ (opened : Opened) (name : List ℕ) (cells : List Cell) (type : TypeDefinition) (pk : List Item) (lawful : IsLawfulSchema opened.schema) (found_type : find_type opened.schema name ≡ Some type)
     (own_type : find_type opened.schema type.name ≡ Some type) (asked : key_of opened.schema name cells ≡ Ok pk) (is_tuple : IsTuple pk) (at : List ℕ) (is_at : at ≡ position_of pk) where

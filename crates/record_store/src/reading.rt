@@ -1,9 +1,9 @@
 // How the record of a primary key is read. Called by `load`, `save` and `remove`.
-ghost use Rattle.std.specs.Prelude.{◌≡◌, ◌∷◌, [], Some, IfOk, IfErr};
+ghost use Rattle.std.specs.Prelude.{◌≡◌, ◌∷◌, [], Some, IfOk, IfErr, IsTrue};
 ghost use Rattle.std.specs.FinMap.{get as value_at};
 ghost use Rattle.tuple_codec.specs.Spelling.{spelling};
+ghost use Rattle.kv_core.specs.Bytes.{end_of_keys, key_lt};
 ghost use Rattle.kv_core.specs.Range.{point};
-ghost use Rattle.metadata.specs.Lawful.{IsLawfulSchema};
 ghost use Rattle.metadata.specs.Schema.{find_type};
 ghost use Rattle.metadata.specs.Stored.{IsStoredAs};
 ghost use Rattle.record_store.specs.Call.{whole};
@@ -19,27 +19,23 @@ use metadata::{Record, TypeDefinition};
 use tuple_codec::{Tuple, pack};
 use txn::{Snapshot, Transaction};
 
-impl Store {
-    // Reads the value at the key of the record with this primary key.
-    pub(crate) fn read_value<S: Snapshot>(
-        &self,
-        tx: &mut Transaction,
-        db: &S,
-        primary_key: &Tuple,
-    ) -> Result<Option<Bytes>, StoreError>
-        ensures read { IfOk result (λ value.
-            DidRead (S.map_at db.now) (point (record_key self.now.prefix primary_key.now) ∷ []) tx.old tx.new
-            (λ m. value ≡ value_at m (record_key self.now.prefix primary_key.now))) }
-        ensures refused { IfErr result (λ error.
-            HasNotRead (S.map_at db.now) (S.may_refuse db.now)
-            (point (record_key self.now.prefix primary_key.now) ∷ []) error tx.old tx.new) }
-        ensures lawful { IsLawfulSchema self.now.schema }
-    {
-        let key = record_key(self.alloc(), self.prefix(), primary_key)?;
-        let value = tx.get(db, &key)?;
-        Ok(value)
-    }
+// Reads the value at the key of a record.
+pub(crate) fn read_value<S: Snapshot>(
+    tx: &mut Transaction,
+    db: &S,
+    key: &Bytes,
+) -> Result<Option<Bytes>, StoreError>
+    requires { IsTrue (key_lt key.now end_of_keys) }
+    ensures read { IfOk result (λ value.
+        DidRead (S.map_at db.now) (point key.now ∷ []) tx.old tx.new (λ m. value ≡ value_at m key.now)) }
+    ensures refused { IfErr result (λ error.
+        HasNotRead (S.map_at db.now) (S.may_refuse db.now) (point key.now ∷ []) error tx.old tx.new) }
+{
+    let value = tx.get(db, key)?;
+    Ok(value)
+}
 
+impl Store {
     // The record of this primary key of a type of the schema that has this value.
     pub(crate) fn record_with(
         &self,
@@ -96,7 +92,8 @@ impl Store {
             HasNotFound (S.map_at db.now) (S.may_refuse db.now) self.now
             (whole (point (record_key self.now.prefix primary_key.now) ∷ [])) error tx.old tx.new) }
     {
-        let value = self.read_value(tx, db, primary_key)?;
+        let key = record_key(self.alloc(), self.prefix(), primary_key)?;
+        let value = read_value(tx, db, &key)?;
         let found = self.record_of(definition, primary_key, value)?;
         Ok(found)
     }

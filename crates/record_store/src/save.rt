@@ -1,6 +1,7 @@
 // How a record is inserted or replaced. Called by `schedule` for `save`, and by applications.
 ghost use Rattle.std.specs.Prelude.{◌≡◌, ◌∷◌, [], All, Some, IfOk, IfErr, OnOk, map};
 ghost use Rattle.std.specs.Option.{option_copied};
+ghost use Rattle.tuple_codec.specs.Spelling.{spelling};
 ghost use Rattle.metadata.specs.Cell.{IsCell};
 ghost use Rattle.metadata.specs.Record.{primary_key as primary_key_of};
 ghost use Rattle.metadata.specs.Schema.{find_type};
@@ -9,15 +10,15 @@ ghost use Rattle.kv_core.specs.declared.change.Mutation.TheVariants.{Set};
 ghost use Rattle.record_store.specs.Calls.{save_call};
 ghost use Rattle.record_store.specs.Meaning.{is_own};
 ghost use Rattle.record_store.specs.Layout.{record_key, record_value};
-ghost use Rattle.record_store.specs.Reading.{HaveFollowed, HaveNotFollowed};
+ghost use Rattle.record_store.specs.BuiltReading.{position_in};
+ghost use Rattle.record_store.specs.Reading.{HaveFollowed, HaveNotFollowed, IsFound, IsNotFound};
 
-use crate::built::position_of;
 use crate::error::StoreError;
-use crate::layout::{record_key, record_value};
+use crate::layout::{key_of_record, record_value};
+use crate::reading::read_value;
 use crate::store::Store;
-use kv_core::{Mutation, Pair};
+use kv_core::{Bytes, Mutation, Pair};
 use metadata::Record;
-use tuple_codec::Tuple;
 use txn::{Snapshot, Transaction};
 
 impl Store {
@@ -32,32 +33,49 @@ impl Store {
         }
     }
 
-    // What putting a record with this primary key in the place of another one writes.
+    // The record with the primary key of this one whose value was found, if one was.
+    fn replaced(&self, new: &Record, value: Option<Bytes>) -> Result<Option<Record>, StoreError>
+        ensures found { IfOk result (IsFound new.now.definition (spelling (primary_key_of new.now)) value) }
+        ensures refused { IfErr result (IsNotFound new.now.definition (spelling (primary_key_of new.now))
+            (record_key self.now.prefix (primary_key_of new.now)) value) }
+    {
+        let Some(value) = value else {
+            return Ok(None);
+        };
+        let primary_key = new.primary_key(self.alloc())?;
+        let found = self.record_with(new.definition(), &primary_key, &value)?;
+        Ok(Some(found))
+    }
+
+    // What putting a record at its key in the place of another one writes.
     fn replacement(
         &self,
         new: &Record,
         old: Option<&Record>,
-        primary_key: &Tuple,
-        position: &[u8],
+        key: &Bytes,
         found: &[Vec<Pair>],
     ) -> Result<Vec<Mutation>, StoreError>
-        requires { primary_key.now ≡ primary_key_of new.now }
         ensures mutations { IfOk result (λ mutations.
-            HaveFollowed self.now new.now.definition.number position.now (option_copied old.entry) (Some new.now)
+            HaveFollowed self.now new.now.definition.number
+            (position_in self.now.prefix new.now.definition.number key.now)
+            (option_copied old.entry) (Some new.now)
             (map (λ pairs. pairs.items) found.now) self.now.schema.indexes
-            (Set (record_key self.now.prefix (primary_key_of new.now)) (record_value new.now.cells) ∷ [])
+            (Set key.now (record_value new.now.cells) ∷ [])
             mutations.items) }
         ensures cells { OnOk result (All IsCell new.now.cells) }
-        ensures refused { IfErr result (HaveNotFollowed self.now new.now.definition.number position.now
+        ensures refused { IfErr result (HaveNotFollowed self.now new.now.definition.number
+            (position_in self.now.prefix new.now.definition.number key.now)
             (map (λ pairs. pairs.items) found.now)) }
     {
         let alloc = self.alloc();
-        let key = record_key(alloc, self.prefix(), primary_key)?;
+        let at = key.copy()?;
         let value = record_value(alloc, new.cells())?;
         let mut mutations = Vec::new(alloc);
-        mutations.push(Mutation::Set { key, value })?;
+        mutations.push(Mutation::Set { key: at, value })?;
         let number = new.definition().number;
-        self.push_index_changes(number, position, found, old, Some(new), &mut mutations)?;
+        let (old, new) = (old.map(Record::lend), new.lend());
+        let old = old.as_ref();
+        self.push_index_changes(number, key, found, old, Some(&new), &mut mutations)?;
         Ok(mutations)
     }
 
@@ -86,15 +104,14 @@ impl Store {
         if !self.is_own(new) {
             return Err(StoreError::OtherSchema);
         }
-        let primary_key = new.primary_key(self.alloc())?;
+        let record = new.lend();
+        let key = key_of_record(self.alloc(), self.prefix(), &record)?;
         let definition = new.definition();
-        let position = position_of(self.alloc(), definition.number, &primary_key)?;
-        let value = self.read_value(tx, db, &primary_key)?;
-        let at = position.as_slice();
-        let found = self.read_built(tx, db, definition.number, at)?;
-        let old = self.record_of(definition, &primary_key, value)?;
+        let value = read_value(tx, db, &key)?;
+        let found = self.read_built(tx, db, definition.number, &key)?;
+        let old = self.replaced(new, value)?;
         let found = found.as_slice();
-        let mutations = self.replacement(new, old.as_ref(), &primary_key, at, found)?;
+        let mutations = self.replacement(new, old.as_ref(), &key, found)?;
         tx.write_all(mutations)?;
         Ok(old)
     }
