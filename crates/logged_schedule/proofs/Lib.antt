@@ -1,0 +1,7 @@
+pub mod Places
+pub mod Waiting
+pub mod Longer
+pub mod Losing
+pub mod Logs
+pub mod Again
+pub mod Stepping
