@@ -8,7 +8,9 @@ ghost use mathlib.Core.List.{IsPrefix};
 ghost use Rattle.schedule.specs.Past.{is_changed};
 ghost use Rattle.runtime.specs.Clients.{IsFresh, IsSameTransaction, knows_that};
 ghost use Rattle.runtime.specs.History.{log_prefix};
-ghost use Rattle.runtime.specs.Commits.{Answers, IsDue, IsLogOf, commit_answer, unshown_answer};
+ghost use Rattle.runtime.specs.Commits.{Answers, IsDue, IsLogOf, answer_unless, commit_answer};
+ghost use Rattle.runtime.specs.Commits.{unshown_answer};
+ghost use Rattle.runtime.specs.Keeping.{IsSafe};
 ghost use Rattle.runtime.specs.Logs.{IsWellFormedLog};
 ghost use Rattle.runtime.specs.Serves.{IsAnswer, IsUnanswered};
 ghost use Rattle.runtime.specs.Publication.{knows};
@@ -17,7 +19,8 @@ ghost use Rattle.runtime.specs.Traces.{attempts_of, with_performed};
 
 use crate::answers::{CommitError, Done, Seen};
 use crate::commit_lock::{CommitLock, LockKey};
-use crate::critical_section::{End, LockedState, Told, critical_section};
+use crate::critical_section::{Told, critical_section};
+use crate::locked_state::{End, LockedState};
 use crate::log_prefix::LogPrefix;
 use crate::open_transaction::OpenTransaction;
 use crate::outcome::Outcome;
@@ -28,6 +31,7 @@ use record_store::StoreNumber;
 use schedule::{Command, Reply};
 use std::alloc::Global;
 use std::marker::Model;
+use std::snapshot::Snapshot;
 use std::sync::{Arc, Wait};
 
 /// A client, for one thread. It has one open transaction at most.
@@ -40,6 +44,7 @@ pub struct Client<E: End> {
     me: LogPrefix,
     number: u64,
     last: u64,
+    records: bool,
     begun: Option<OpenTransaction>,
 }
 
@@ -70,7 +75,8 @@ impl<E: End> Model for Client<E> {
 }
 
 impl<E: End> Client<E> {
-    /// A client of a database, which has seen this log.
+    /// A client of a database, which has seen this log. It records what its transactions change
+    /// where that is kept.
     pub(crate) fn new(
         alloc: Global,
         lock: Arc<CommitLock<LockedState<E>>>,
@@ -78,6 +84,7 @@ impl<E: End> Client<E> {
         reader: StateReader,
         me: LogPrefix,
         number: u64,
+        records: bool,
     ) -> Client<E>
         requires key { (key.table_id ≡ (arc_value lock).table.shared.table_id) × (key.me.1 ≡ [])
             × (key.me.0.about.value.state.name ≡ me.name) × (key.me.0.client ≡ Some number)
@@ -94,6 +101,7 @@ impl<E: End> Client<E> {
             me,
             number,
             last: 0,
+            records,
             begun: None,
         }
     }
@@ -151,6 +159,22 @@ impl<E: End> Client<E> {
         self.me.again()
     }
 
+    /// What keeps the database's log, as it is now, where there is one: each crash leaves what is
+    /// kept of all entries of the client's log, so of all that it was told to be committed. None
+    /// where nothing is kept. It waits for those that commit.
+    pub fn look_at_log<R: Wait>(&mut self, rt: &R) -> Option<Snapshot<E>>
+        ensures kept { IfSome result (λ seen. IsSafe E.may_leave E.is_log self.old.name
+            self.old.log seen.value) }
+        ensures same { self.new ≡ self.old }
+    {
+        let guard = self.lock.wait(rt);
+        let owned = self.lock.take(rt, &mut self.key);
+        let seen = owned.look(&self.me);
+        self.lock.put(&mut self.key, owned);
+        drop(guard);
+        seen
+    }
+
     /// Where the client takes memory.
     pub(crate) fn allocator(&self) -> Global {
         self.alloc
@@ -178,7 +202,7 @@ impl<E: End> Client<E> {
             return Err(EnterError::NotEntered);
         }
         self.me = prefix.again();
-        self.begun = Some(OpenTransaction::new(self.alloc, prefix, store));
+        self.begun = Some(OpenTransaction::new(self.alloc, prefix, store, self.records));
         Ok(())
     }
 
@@ -272,6 +296,7 @@ impl<E: End> Client<E> {
         }
         let told = critical_section(
             rt,
+            self.alloc,
             &self.lock,
             &mut self.key,
             self.number,
@@ -284,10 +309,11 @@ impl<E: End> Client<E> {
             last,
             prefix,
             due,
+            is_closed,
         } = told;
         self.me = learnt(&self.me, &prefix);
         self.last = last;
-        (answer_to(outcome, prefix), due)
+        (answer_to(outcome, prefix, is_closed), due)
     }
 }
 
@@ -305,10 +331,17 @@ fn learnt(me: &LogPrefix, seen: &Option<LogPrefix>) -> LogPrefix
     }
 }
 
-/// The answer that an outcome is, with the log that shows it.
-fn answer_to(outcome: Outcome, prefix: Option<LogPrefix>) -> Result<Done, CommitError>
-    ensures { result ≡ commit_answer outcome prefix }
+/// The answer that an outcome is, with the log that shows it; or that the database is closed.
+fn answer_to(
+    outcome: Outcome,
+    prefix: Option<LogPrefix>,
+    is_closed: bool,
+) -> Result<Done, CommitError>
+    ensures { result ≡ answer_unless is_closed (commit_answer outcome prefix) }
 {
+    if is_closed {
+        return Err(CommitError::Closed);
+    }
     let Some(prefix) = prefix else {
         return unshown(outcome);
     };

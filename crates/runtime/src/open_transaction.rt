@@ -18,9 +18,15 @@ pub struct OpenTransaction {
 }
 
 impl OpenTransaction {
-    /// A transaction in a store at the version of a log, which has done nothing yet.
+    /// A transaction in a store at the version of a log, which has done nothing yet, and whether
+    /// what it changes is recorded.
     #[tactic(auto, using(crate::proofs::WellFormed::open_first))]
-    pub fn new(alloc: Global, prefix: LogPrefix, store: StoreNumber) -> OpenTransaction
+    pub fn new(
+        alloc: Global,
+        prefix: LogPrefix,
+        store: StoreNumber,
+        records: bool,
+    ) -> OpenTransaction
         ensures prefix { result.prefix ≡ prefix }
         ensures fresh { IsFresh prefix.name prefix.log store result }
         ensures over { IsOpenOver prefix.name.config prefix.log
@@ -28,10 +34,11 @@ impl OpenTransaction {
         ensures at { result.transaction.read_version ≡ version_of prefix.name.config prefix.log }
     {
         let transaction = Transaction::begin(alloc, prefix.version());
+        let trace = Trace::begin(alloc, store, records);
         OpenTransaction {
             prefix,
             transaction,
-            trace: Trace::new(store),
+            trace,
         }
     }
 }

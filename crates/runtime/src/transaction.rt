@@ -13,7 +13,7 @@ ghost use Rattle.runtime.specs.Traces.{attempts_of};
 
 use crate::answers::{CommandError, CommitError, Done};
 use crate::client::Client;
-use crate::critical_section::End;
+use crate::locked_state::End;
 use crate::published_reads::EnterError;
 use crate::replies::{accepted, found, planned, removed, rows, saved, total};
 use metadata::Cells;

@@ -5,7 +5,7 @@ use Rattle.txn.specs.Refusing.{MayRefuse}
 use Rattle.schedule.specs.Performed.{IsCommandStopped, IsPerformed}
 use Rattle.runtime.specs.declared.log_entry.Entry.{Entry}
 use Rattle.runtime.specs.declared.performed.Performed.{Performed}
-use Rattle.runtime.specs.declared.trace.Trace.{Trace}
+use Rattle.runtime.specs.Traces.{Trace}
 use Rattle.runtime.specs.Traces.{with_performed}
 use Rattle.runtime.specs.History.{Name}
 use Rattle.runtime.specs.Logs.{IsOpenOver, version_of, log_tier}

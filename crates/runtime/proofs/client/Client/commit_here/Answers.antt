@@ -11,7 +11,7 @@ use Rattle.runtime.specs.Commits.{Answers}
 use Rattle.runtime.specs.Logs.{IsOpenOver}
 use Rattle.runtime.specs.Outcomes.{IsEndOf, Shows, entry, last_then}
 use Rattle.runtime.proofs.Serving.{nothing_written}
-use Rattle.runtime.proofs.Answering.{IsTold, answers_by, told_by}
+use Rattle.runtime.proofs.Answering.{IsTold, answers_open, told_by}
 use Rattle.runtime.proofs.Known.{reader_later}
 use Rattle.runtime.proofs.client.Client.commit_here.Goals as goal
 
@@ -45,7 +45,7 @@ returns-clause-answer g c w is =
     let before : Knowledge = knows_that c.self.inside.me.name c.self.inside.me.log c.self.inside.number c.self.inside.last c.self.inside.begun in
     let after : Knowledge = knows_that c.learnt.result.name c.learnt.result.log c.self.inside.number c.critical_section-told.result.last c.take.new.self in
     let told : IsTold before after c.into_request-request.result c.in-Some.field-0.trace outcome seen = told_by before after c.self.inside.me.name c.into_request-request.result c.in-Some.field-0.trace outcome seen refl c.learnt.ensures.seen shows in
-    rw (← c.self.view_is, ← r, ← t) (subst (λ answer. Answers before after c.into_request-request.result c.in-Some.field-0.trace answer) (sym c.answer_to.ensures) (answers_by before after c.into_request-request.result c.in-Some.field-0.trace outcome seen told last))
+    rw (← c.self.view_is, ← r, ← t) (subst (λ answer. Answers before after c.into_request-request.result c.in-Some.field-0.trace answer) (sym c.answer_to.ensures) (answers_open before after c.into_request-request.result c.in-Some.field-0.trace outcome seen c.critical_section-told.result.is_closed told last c.critical_section-told.ensures.closed))
 
 pub returns-clause-read_only : goal.returns-clause-read_only
 returns-clause-read_only g c w is none =

@@ -1,0 +1,123 @@
+-- What a commit log keeps of the log of a database, and what of it is on the disk beside the locked state.
+use Rattle.std.specs.Prelude.{◌≡◌, ◌⊎◌, ℕ, ◌+◌, Bool, is_none, if◌then◌else◌, List, [], ◌∷◌, ◌++◌, Option, Some, None, ⊤}
+use Rattle.cluster_core.specs.declared.answers.Config.{Config}
+use Rattle.command_log.specs.declared.change.Change.{Change}
+use Rattle.command_log.specs.declared.entry.Entry.{Entry as KeptEntry}
+use Rattle.runtime.specs.declared.keeping.Keeping.{Keeping}
+use Rattle.runtime.specs.declared.keeping.Keeping.TheVariants.{Off, On, Closed}
+use Rattle.runtime.specs.declared.log_entry.Entry.{Entry}
+use Rattle.runtime.specs.declared.outcome.Outcome.{Outcome}
+use Rattle.runtime.specs.declared.outcome.Outcome.TheVariants.{Committed, Unknown}
+use Rattle.runtime.specs.CommitStates.{CommitView}
+use Rattle.runtime.specs.History.{Name, Prefix}
+use Rattle.runtime.specs.Logs.{cause_next, version_of}
+use Rattle.runtime.specs.Traces.{changes_of}
+
+-- ---- what is kept
+
+-- what is kept of a submission that is committed at a version
+abbrev pub kept_entry : ℕ → ℕ → ℕ → ℕ → List Change → KeptEntry
+kept_entry version client number store changes =
+    record { version = version; client = client; number = number; store = store; changes = changes }
+
+-- of an entry that is committed at this version: whose submission it was, its store, and what its accepted commands
+-- changed
+abbrev pub kept_at : ℕ → Entry → KeptEntry
+kept_at version e = kept_entry version e.client e.number e.trace.store (changes_of e.trace.attempts.list)
+
+-- of an entry that comes next after a log: nothing where it is refused
+abbrev pub kept_next : Config → List Entry → Entry → List KeptEntry
+kept_next config log e =
+    if is_none (cause_next config log e.request) then kept_at (version_of config log + 1) e ∷ [] else []
+
+-- KEPT: of the entries after a log, in their order
+abbrev pub kept_after : Config → List Entry → List Entry → List KeptEntry
+kept_after config log [] = []
+kept_after config log (e ∷ es) = kept_next config log e ++ kept_after config (log ++ e ∷ []) es
+
+-- ---- what a crash leaves
+
+-- a file is the log of these entries, with all of the batch or with none of it
+abbrev pub IsBatchOrNone :
+    (List ℕ → List KeptEntry → Type 0) → List KeptEntry → List KeptEntry → List ℕ → Type 0
+IsBatchOrNone is_log entries batch file = is_log file entries ⊎ is_log file (entries ++ batch)
+
+-- each crash leaves the log of these entries, and maybe more after them
+abbrev pub LeavesAll :
+    {E : Type 0} → (E → List ℕ → Type 0) → (List ℕ → List KeptEntry → Type 0) → E → List KeptEntry → Type 0
+LeavesAll may_leave is_log end entries =
+    (file : List ℕ) → may_leave end file → (more : List KeptEntry) × is_log file (entries ++ more)
+
+-- ---- the locked state
+
+-- a state, what stands beside it, and whether what is committed is kept
+pub record LockedView (E : Type 0) : Type 0 where
+  pub state : CommitView
+  pub end : E
+  pub keeping : Keeping
+
+abbrev pub locked_view : {E : Type 0} → CommitView → E → Keeping → LockedView E
+locked_view state end keeping = record { state = state; end = end; keeping = keeping }
+
+-- entries are kept from a log on: the file has what it had at first, and then just what is kept of all entries after
+-- that log, those that readers see and the others; and nothing is in flight
+pub record IsOn {E : Type 0} (has : E → List KeptEntry → Type 0) (start : Prefix) (state : CommitView) (end : E) :
+    Type 0 where
+  pub first : List KeptEntry
+  pub shown : List Entry
+  pub hidden : List Entry
+  pub name : start.name ≡ state.name
+  pub published : state.published ≡ start.log ++ shown
+  pub log : state.log ≡ start.log ++ (shown ++ hidden)
+  pub idle : state.due ≡ state.log
+  pub kept : has end (first ++ kept_after state.name.config start.log (shown ++ hidden))
+
+-- no more entries are kept: each crash leaves what the file had at first, then what is kept of the entries that readers
+-- see, and maybe more
+pub record IsClosed {E : Type 0} (may_leave : E → List ℕ → Type 0) (is_log : List ℕ → List KeptEntry → Type 0)
+    (start : Prefix) (state : CommitView) (end : E) : Type 0 where
+  pub first : List KeptEntry
+  pub shown : List Entry
+  pub name : start.name ≡ state.name
+  pub published : state.published ≡ start.log ++ shown
+  pub leaves : LeavesAll may_leave is_log end (first ++ kept_after state.name.config start.log shown)
+
+-- KEEPS: what is on the disk beside a state
+abbrev pub Keeps :
+    {E : Type 0} → (E → List KeptEntry → Type 0) → (E → List ℕ → Type 0) → (List ℕ → List KeptEntry → Type 0) →
+    Keeping → CommitView → E → Type 0
+Keeps has may_leave is_log Off state end = ⊤
+Keeps has may_leave is_log (On start) state end = IsOn has start state end
+Keeps has may_leave is_log (Closed start) state end = IsClosed may_leave is_log start state end
+
+-- the log from which on entries are kept, or were
+abbrev pub start_of : Keeping → Option Prefix
+start_of Off = None
+start_of (On start) = Some start
+start_of (Closed start) = Some start
+
+-- SAFE: each crash leaves what the file had at first, then what is kept of all entries of this log after the one from
+-- which on they are kept, and maybe more
+pub record IsSafe {E : Type 0} (may_leave : E → List ℕ → Type 0) (is_log : List ℕ → List KeptEntry → Type 0)
+    (name : Name) (log : List Entry) (end : E) : Type 0 where
+  pub first : List KeptEntry
+  pub start : List Entry
+  pub rest : List Entry
+  pub split : log ≡ start ++ rest
+  pub leaves : LeavesAll may_leave is_log end (first ++ kept_after name.config start rest)
+
+-- ---- one request
+
+-- Private: what is kept of a request that came to this
+abbrev pub kept_by : Outcome → ℕ → ℕ → ℕ → List Change → List KeptEntry
+kept_by (Committed version) client number store changes = kept_entry version client number store changes ∷ []
+kept_by outcome client number store changes = []
+
+-- Private: it is known what became of the request
+abbrev pub IsKnown : Outcome → Type 0
+IsKnown Unknown = ⊥
+IsKnown outcome = ⊤
+
+-- Private: what is told of it
+abbrev pub told_if : Bool → Outcome → Outcome
+told_if goes_on outcome = if goes_on then outcome else Unknown
