@@ -3,7 +3,8 @@ use crate::in_turn::Begun;
 use cluster_core::Cluster;
 use drawings::{Act, Event, Lane, Outcome};
 use schedule::{Command, Refusal, Reply, Report, Reports, Step};
-use shell::{push_named_reply, range_named};
+use shell::push_named_reply;
+use shell_text::range_named;
 use std::alloc::{AllocError, Global};
 use std::fmt::Write;
 use std::str;
@@ -169,7 +170,10 @@ pub fn drawn_steps(
     let mut schedule = schedule;
     let mut events = Vec::new(alloc);
     for (index, step) in steps.iter().enumerate() {
-        let (after, reply) = schedule.step(alloc, step)?;
+        // A database in memory ends for want of memory alone.
+        let Ok((after, reply)) = schedule.step(alloc, step) else {
+            return Err(AllocError);
+        };
         schedule = after;
         let line = lines
             .get(index)

@@ -20,7 +20,7 @@ use Rattle.schedule.proofs.Turning.{open_elsewhere, open_fresh, open_later}
 use Rattle.schedule.proofs.Submitting.{submitted_more, submitted_later}
 use Rattle.runtime.specs.declared.log_entry.Entry.{Entry}
 use Rattle.runtime.specs.declared.performed.Performed.{Performed}
-use Rattle.runtime.specs.declared.trace.Trace.{Trace}
+use Rattle.runtime.specs.Traces.{Trace}
 use Rattle.runtime.specs.Logs.{requests_of, version_of, log_map, pipeline_of, submissions_from}
 use Rattle.runtime.specs.Logs.{submissions_of, IsOpenOver, is_same_submission, is_once, IsWellFormedLog, count_of, is_numbered}
 use Rattle.runtime.specs.Traces.{attempts_of, opened}
@@ -101,6 +101,7 @@ all_again p request =
       resolved = handled_again p.resolved (submitted p) last i;
       logged = handled_again p.logged (submitted p) last i;
       reported = last;
+      forgotten = p.forgotten;
     }
 
 pub pipeline_next : (config : Config) (log : List Entry) (e : Entry) → all_handled (submit e.request (pipeline_of config log)) ≡ pipeline_of config (log ++ e ∷ [])
@@ -176,6 +177,7 @@ pipeline_first config =
       resolved = resolved_first config.start (owners config.resolver_splits) i;
       logged = handled_first config.start config.logs i;
       reported = same i;
+      forgotten = 0;
     }
 
 -- a transaction that has done nothing yet

@@ -45,6 +45,7 @@ impl Model for CommitState {
     ghost use Rattle.std.specs.Prelude.{◌≡◌, ◌++◌, true};
     ghost use Rattle.runtime.specs.History.{log_prefix};
     ghost use Rattle.runtime.specs.Logs.{AreCounted, AreGiven, is_numbered};
+    ghost use Rattle.cluster_core.specs.Roles.{whole};
     ghost use Rattle.runtime.specs.CommitStates.{CommitView, commit_view, due_of, IsInFlight};
     ghost use Rattle.std.specs.Coded.{codes};
     ghost use Rattle.runtime.specs.contracts.log_entry.Entry as entries;
@@ -62,7 +63,7 @@ impl Model for CommitState {
         (h.head ≡ h.publisher.name.book)
         × (h.prefix ≡ log_prefix h.publisher.name (h.publisher.published ++ h.publisher.pending))
         × IsInFlight h.publisher.name (h.publisher.published ++ h.publisher.pending)
-        h.pipeline h.in_flight
+        (whole h.pipeline) h.in_flight
         × (is_numbered h.last.items
         (due_of h.in_flight (h.publisher.published ++ h.publisher.pending)) ≡ true)
         × AreGiven h.last.items
@@ -302,7 +303,8 @@ impl CommitState {
         }
     }
 
-    /// Shows readers all entries that were added. Where memory runs out they see what they saw.
+    /// Shows readers all entries that were added. Where memory runs out they see what they saw. Of
+    /// requests that are older than the window the pipeline keeps no bytes then.
     pub fn publish<R: Wait>(self, rt: &R) -> (CommitState, Result<(), AllocError>)
         ensures shown { MatchResult result.1
             (λ _. result.0 ≡ commit_view self.name self.log self.log self.due self.last)
@@ -310,13 +312,14 @@ impl CommitState {
     {
         let CommitState {
             alloc,
-            pipeline,
+            mut pipeline,
             publisher,
             head,
             prefix,
             in_flight,
             last,
         } = self;
+        pipeline.forget();
         let (publisher, result) = publisher.publish(rt);
         let state = CommitState {
             alloc,
@@ -360,12 +363,19 @@ impl CommitState {
     }
 
     /// The state of a new database, without entries, for as many clients as the configuration has
-    /// places. It is refused as `Pipeline::new` refuses the configuration.
-    pub fn open<R: Wait>(rt: &R, alloc: Global, config: &Config) -> Result<CommitState, ConfigError>
+    /// places, in which what is committed is kept, or isn't. It is refused as `Pipeline::new` refuses
+    /// the configuration.
+    pub fn open<R: Wait>(
+        rt: &R,
+        alloc: Global,
+        config: &Config,
+        kept: bool,
+    ) -> Result<CommitState, ConfigError>
         ensures allowed { OnOk result (IsNone (config_refusal config.now)) }
         ensures refused { IfErr result (λ error.
             (error ≡ ConfigError.Memory) ⊎ (config_refusal config.now ≡ Some error)) }
         ensures config { IfOk result (λ state. state.name.config ≡ config.now) }
+        ensures kept { IfOk result (λ state. state.name.kept ≡ kept) }
         ensures empty { IfOk result (λ state.
             (state.published ≡ []) × (state.log ≡ []) × (state.due ≡ [])) }
         ensures clients { IfOk result (λ state. length state.last ≡ config.now.places) }
@@ -374,7 +384,7 @@ impl CommitState {
         let pipeline = Pipeline::new(alloc, config)?;
         let places = config.places as usize;
         let last = Vec::from_elem(alloc, 0u64, places)?;
-        let (publisher, head) = Publisher::open(rt, alloc, config, places)?;
+        let (publisher, head) = Publisher::open(rt, alloc, config, kept, places)?;
         let prefix = publisher.prefix();
         Ok(CommitState {
             alloc,

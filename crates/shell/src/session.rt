@@ -2,13 +2,10 @@
 ghost use Rattle.std.specs.Prelude.{IfOk};
 ghost use Rattle.shell.specs.Further.{IsFurther};
 
-use crate::described::{push_index_lines, push_type_lines};
+use crate::database::Database;
 use crate::dump::write_dump;
 use crate::error::ShellError;
-use crate::helping::{help_of, help_of_all};
 use crate::importing::Order;
-use crate::opened::{Opened, open};
-use crate::planned::plan_lines;
 use crate::stepping::do_steps;
 use crate::stores::Stores;
 use crate::telling::Telling;
@@ -16,10 +13,13 @@ use cluster_core::Cluster;
 use json::Scratch;
 use json_places::Cursor;
 use record_store::{StoreError, StoreNumber};
-use schedule::{Schedule, Step};
+use schedule::Step;
 use script::{ScriptError, script_with};
 use script_check::check;
 use shell_line::{Flaw, Line, LineError, Show, line_of, place_in_line};
+use shell_text::{
+    Opened, help_of, help_of_all, open, plan_lines, push_index_lines, push_type_lines,
+};
 use std::alloc::{AllocError, Global};
 use std::io::Write;
 
@@ -96,11 +96,11 @@ fn do_text<W: Write>(
     alloc: Global,
     telling: Telling,
     session: &mut Session,
-    schedule: Schedule,
+    schedule: Database,
     line: &str,
     text: &str,
     output: &mut W,
-) -> Result<Schedule, ShellError>
+) -> Result<Database, ShellError>
     ensures { IfOk result (IsFurther schedule) }
 {
     let framed = framed(alloc, text)?;
@@ -181,7 +181,7 @@ fn lines_of(
 // Tells something of what is committed in the store of a number.
 fn tell_show<W: Write>(
     alloc: Global,
-    schedule: &Schedule,
+    schedule: &Database,
     number: StoreNumber,
     show: &Show,
     output: &mut W,
@@ -217,7 +217,7 @@ pub(crate) enum Asked {
 // A schedule after a line, and what the line asks for beside that.
 #[derive(Drop)]
 pub(crate) struct Done {
-    pub schedule: Schedule,
+    pub schedule: Database,
     pub asked: Asked,
 }
 
@@ -232,7 +232,7 @@ pub(crate) fn do_line<W: Write>(
     alloc: Global,
     telling: Telling,
     session: &mut Session,
-    schedule: Schedule,
+    schedule: Database,
     line: &str,
     output: &mut W,
 ) -> Result<Done, ShellError>
