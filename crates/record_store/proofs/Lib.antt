@@ -11,9 +11,11 @@ pub mod Filling
 pub mod Stopping
 pub mod OneRecord
 pub mod Openings
+pub mod Reopening
 pub mod Creating
 pub mod Answered
 pub mod RecordCalls
+pub mod Loads
 pub mod Saves
 pub mod Removes
 pub mod Scanning

@@ -9,13 +9,13 @@ ghost use Rattle.schedule.specs.Stepwise.{DoesNext, HasDone, IsSoFar};
 
 use crate::database::Database;
 use crate::kept_plans::KeptPlans;
+use crate::known::Known;
 use crate::reply::Reply;
 use crate::running::start;
 use crate::starting::laws_of;
 use crate::step::Step;
 use crate::transcript::ScheduleError;
 use cluster_core::{Cluster, Config};
-use record_store::KnownSchema;
 use std::alloc::{AllocError, Global};
 use std::marker::Model;
 
@@ -25,7 +25,7 @@ use std::marker::Model;
 pub struct Schedule {
     database: Database,
     kept: KeptPlans,
-    known: KnownSchema,
+    known: Known,
 }
 
 impl Model for Schedule {
@@ -73,7 +73,7 @@ impl Schedule {
         Ok(Schedule {
             database,
             kept,
-            known: KnownSchema::new(),
+            known: Known::new(),
         })
     }
 
