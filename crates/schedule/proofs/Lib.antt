@@ -4,6 +4,7 @@ pub mod OwnStore
 pub mod Composed
 pub mod Growing
 pub mod Refusing
+pub mod KnownStores
 pub mod Places
 pub mod ClientSteps
 pub mod Submits

@@ -9,23 +9,36 @@ ghost use Rattle.schedule.specs.Stepwise.{DoesNext, HasDone, IsSoFar};
 
 use crate::database::Database;
 use crate::kept_plans::KeptPlans;
+use crate::known::Known;
 use crate::reply::Reply;
 use crate::running::start;
 use crate::starting::laws_of;
 use crate::step::Step;
 use crate::transcript::ScheduleError;
 use cluster_core::{Cluster, Config};
-use record_store::KnownSchema;
 use std::alloc::{AllocError, Global};
 use std::marker::Model;
 
 /// A schedule after the steps that were done so far. It keeps no list of committed transactions, so
 /// that its memory is that of the database and of what is open.
-#[derive(Drop)]
 pub struct Schedule {
     database: Database,
     kept: KeptPlans,
-    known: KnownSchema,
+    known: Known,
+}
+
+// Written out, so that no proof of a caller has to take the database apart where one is dropped.
+impl Drop for Schedule {
+    fn drop(self) {
+        let Schedule {
+            database,
+            kept,
+            known,
+        } = self;
+        drop(database);
+        drop(kept);
+        drop(known);
+    }
 }
 
 impl Model for Schedule {
@@ -73,7 +86,7 @@ impl Schedule {
         Ok(Schedule {
             database,
             kept,
-            known: KnownSchema::new(),
+            known: Known::new(),
         })
     }
 
