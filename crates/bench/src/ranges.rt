@@ -27,17 +27,17 @@ fn list_of(alloc: Global, count: u32) -> Result<RangeList, AllocError> {
     Ok(list)
 }
 
-// How many of the ranges of the numbers below this one meet a range of the list.
-fn met_by(alloc: Global, list: &RangeList, count: u32) -> Result<u32, AllocError> {
-    let mut met: u32 = 0;
+// How many of the ranges of the numbers below this one the list has.
+fn had_of(alloc: Global, list: &RangeList, count: u32) -> Result<u32, AllocError> {
+    let mut had: u32 = 0;
     for number in 0..count {
         if let Some(range) = point(alloc, number)? {
-            if list.intersects(&range) {
-                met = met.wrapping_add(1);
+            if list.has(&range) {
+                had = had.wrapping_add(1);
             }
         }
     }
-    Ok(met)
+    Ok(had)
 }
 
 // Adds so many ranges, asks for as many, and prints both times in milliseconds.
@@ -46,9 +46,9 @@ fn measure_list(rt: &HostRuntime, count: u32) -> io::Result<()> {
     let list = list_of(rt.alloc(), count)?;
     let added = start.elapsed(rt)?.as_millis();
     let start = Instant::now(rt)?;
-    let met = met_by(rt.alloc(), &list, count)?;
+    let had = had_of(rt.alloc(), &list, count)?;
     let asked = start.elapsed(rt)?.as_millis();
-    println!(rt; "{count} ranges: add {added} ms, intersects {asked} ms, {met} met")
+    println!(rt; "{count} ranges: add {added} ms, has {asked} ms, {had} there")
 }
 
 /// Prints how long lists of ranges take.

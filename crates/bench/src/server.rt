@@ -8,7 +8,7 @@ use std::io;
 use tuple_codec::pack;
 
 // How many records there are, and how many of them a version has.
-const RECORDS: u32 = 100_000;
+const RECORDS: u32 = 1_000_000;
 
 const SETS: u32 = 100;
 

@@ -1,5 +1,6 @@
 //! Measures a running database: `bench_threads loads` and `bench_threads commits` run clients on
-//! threads, and `bench_threads database` holds records, for its memory to be read from outside. It
+//! threads, `bench_threads steady COMMITS` has four of them make so many commits, and
+//! `bench_threads database RECORDS` holds so many records, for its memory to be read from outside. It
 //! prints what it measured.
 #![tactic(auto)]
 
@@ -15,7 +16,7 @@ use std::thread::Threads;
 use std::{env, io};
 
 // What is printed where the command line names no benchmark.
-const USAGE: &str = "usage: bench_threads commits|database|loads";
+const USAGE: &str = "usage: bench_threads commits|loads|database RECORDS|steady COMMITS";
 
 // Runs the benchmark of this name, and says whether there is one.
 fn measures<R: Threads + Wait + Clock + Print + Sync>(
@@ -25,23 +26,48 @@ fn measures<R: Threads + Wait + Clock + Print + Sync>(
 ) -> io::Result<bool> {
     match name {
         "commits" => threads::measure_commits(rt, alloc)?,
-        "database" => database::measure_database(rt, alloc)?,
         "loads" => threads::measure_loads(rt, alloc)?,
         _ => return Ok(false),
     }
     Ok(true)
 }
 
-fn main(rt: HostRuntime) -> io::Result<ExitCode> {
-    let mut words: Vec<String> = env::args(&rt)?.collect(rt.alloc())?;
-    let asked = words.pop();
-    let is_known = match &asked {
-        Some(name) => words.len() == 1 && measures(&rt, rt.alloc(), name.as_str())?,
-        None => false,
-    };
-    if !is_known {
-        rt.eprintln(USAGE)?;
-        return Ok(ExitCode::from(2));
+// Runs the benchmark of this name over so many records or commits, and says whether there is one.
+fn measures_so_many<R: Threads + Wait + Clock + Print + Sync>(
+    rt: &R,
+    alloc: Global,
+    name: &str,
+    count: u32,
+) -> io::Result<bool> {
+    match name {
+        "database" => database::measure_database(rt, alloc, count)?,
+        "steady" => threads::measure_steady(rt, alloc, count)?,
+        _ => return Ok(false),
     }
-    Ok(ExitCode::SUCCESS)
+    Ok(true)
+}
+
+// Runs what the command line asks for, and says whether there is such a benchmark.
+fn runs<R: Threads + Wait + Clock + Print + Sync>(
+    rt: &R,
+    alloc: Global,
+    words: &[String],
+) -> io::Result<bool> {
+    match words {
+        [_, name] => measures(rt, alloc, name.as_str()),
+        [_, name, count] => match count.as_str().parse::<u32>() {
+            Ok(count) => measures_so_many(rt, alloc, name.as_str(), count),
+            Err(_) => Ok(false),
+        },
+        _ => Ok(false),
+    }
+}
+
+fn main(rt: HostRuntime) -> io::Result<ExitCode> {
+    let words: Vec<String> = env::args(&rt)?.collect(rt.alloc())?;
+    if runs(&rt, rt.alloc(), words.as_slice())? {
+        return Ok(ExitCode::SUCCESS);
+    }
+    rt.eprintln(USAGE)?;
+    Ok(ExitCode::from(2))
 }

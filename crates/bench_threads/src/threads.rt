@@ -1,5 +1,6 @@
 // Clients of the running database on threads: loads beside a writer, and commits. Called by `main`
-// for `bench_threads loads` and `bench_threads commits`, and by `database`, which opens one.
+// for `bench_threads loads`, `bench_threads commits` and `bench_threads steady`, and by `database`,
+// which opens one.
 use crate::commands::{create, load, save};
 use cluster_core::{Config, Splits};
 use runtime::{Client, CommandError, CommitError, Done, End, Waits, begin, open};
@@ -20,6 +21,11 @@ const RECORDS: u32 = 10_000;
 
 const COMMANDS: u32 = 100;
 
+// How many clients commit over and over, and how many records each of them has.
+const STEADY: u32 = 4;
+
+const SHARE: u32 = RECORDS / STEADY;
+
 // How many readers, and how many writers, there are in turn.
 const READERS: [u32; 3] = [1, 2, 4];
 
@@ -35,6 +41,8 @@ enum Work {
     Loads,
     // Saves so many records in a transaction, from the one of this number on.
     Saves { first: u32, count: u32 },
+    // Saves a record in each of so many transactions: the share of one of four clients, over and over.
+    Steady { first: u32, commits: u32 },
 }
 
 // What a thread does.
@@ -97,10 +105,22 @@ fn turn<E: End, R: Wait>(rt: &R, alloc: Global, job: &mut Job<E>, number: u32) -
             let start = first.wrapping_add(number.wrapping_mul(*count) % RECORDS);
             saves(rt, alloc, &mut job.client, start, *count)
         }
+        Work::Steady { first, commits: _ } => {
+            let start = first.wrapping_add(number % SHARE);
+            saves(rt, alloc, &mut job.client, start, 1)
+        }
     }
 }
 
-// Works until the time is over, and answers how many loads or saves were done: none where one failed.
+// Whether the work is over, of which so many turns are done.
+fn is_over<R: Clock>(rt: &R, work: &Work, begun: &Instant, turns: u32) -> Option<bool> {
+    match work {
+        Work::Steady { first: _, commits } => Some(turns >= *commits),
+        _ => Some(begun.elapsed(rt).ok()?.as_millis() >= SPAN),
+    }
+}
+
+// Works until it is over, and answers how many loads or saves were done: none where one failed.
 fn worked<E: End, R: Wait + Clock>(rt: &R, alloc: Global, job: Job<E>) -> Option<u64> {
     let mut job = job;
     let begun = Instant::now(rt).ok()?;
@@ -108,7 +128,7 @@ fn worked<E: End, R: Wait + Clock>(rt: &R, alloc: Global, job: Job<E>) -> Option
     for number in 0..u32::MAX {
         let count = turn(rt, alloc, &mut job, number)?;
         done = done.wrapping_add(u64::from(count));
-        if begun.elapsed(rt).ok()?.as_millis() >= SPAN {
+        if is_over(rt, &job.work, &begun, number.wrapping_add(1))? {
             break;
         }
     }
@@ -158,17 +178,22 @@ pub fn opened<E: End, R: Wait>(
     Some(clients)
 }
 
-// What each client does: so many save, each records of its own, and the others load.
+// What each client does: so many save, each records of its own, and the others load. With a number of
+// commits each makes so many.
 fn jobs<E: End>(
     alloc: Global,
     clients: Vec<Client<E>>,
     writers: u32,
     count: u32,
+    commits: u32,
 ) -> Option<Vec<Job<E>>> {
     let mut jobs = Vec::new(alloc);
     let mut place: u32 = 0;
     for client in clients {
-        let work = if place < writers {
+        let work = if commits > 0 {
+            let first = place.wrapping_mul(SHARE);
+            Work::Steady { first, commits }
+        } else if place < writers {
             let first = place.wrapping_mul(RECORDS);
             Work::Saves { first, count }
         } else {
@@ -187,10 +212,11 @@ fn counts<R: Threads + Wait + Clock + Sync>(
     writers: u32,
     readers: u32,
     count: u32,
+    commits: u32,
 ) -> Option<Vec<Option<u64>>> {
     let places = writers.wrapping_add(readers);
     let clients = opened(rt, alloc, Waits { rt }, places, WINDOW, RECORDS)?;
-    let jobs = jobs(alloc, clients, writers, count)?;
+    let jobs = jobs(alloc, clients, writers, count, commits)?;
     thread::map_vec(rt, jobs, &|job| worked(rt, alloc, job)).ok()
 }
 
@@ -214,7 +240,7 @@ fn rates<R: Threads + Wait + Clock + Sync>(
     readers: u32,
     count: u32,
 ) -> io::Result<(u64, u64)> {
-    let Some(counts) = counts(rt, alloc, writers, readers, count) else {
+    let Some(counts) = counts(rt, alloc, writers, readers, count, 0) else {
         return Err(io::Error::from(ErrorKind::OutOfMemory));
     };
     let Some((saves, loads)) = counts.as_slice().split_at_checked(writers as usize) else {
@@ -245,4 +271,20 @@ pub fn measure_commits<R: Threads + Wait + Clock + Print + Sync>(
         println!(rt; "{writers} clients: {commits} commits of one save a second")?;
     }
     Ok(())
+}
+
+/// Has four clients make so many commits of one save over 10,000 keys, and prints how many they made,
+/// and in how many milliseconds.
+pub fn measure_steady<R: Threads + Wait + Clock + Print + Sync>(
+    rt: &R,
+    alloc: Global,
+    commits: u32,
+) -> io::Result<()> {
+    let begun = Instant::now(rt)?;
+    let Some(counts) = counts(rt, alloc, STEADY, 0, 1, commits / STEADY) else {
+        return Err(io::Error::from(ErrorKind::OutOfMemory));
+    };
+    let made = rate(counts.as_slice())?.wrapping_mul(2);
+    let time = begun.elapsed(rt)?.as_millis();
+    println!(rt; "{made} commits over {RECORDS} keys in {time} ms")
 }

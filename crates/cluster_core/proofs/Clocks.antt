@@ -1,14 +1,16 @@
 -- Clocks are the start and a number of requests.
-use Rattle.std.proofs.Common.{◌≡◌, ℕ, suc, zero, ◌+◌, ◌<◌, Bool, true, false, ◌&&◌, replicate, nat_lt, List, [], ◌∷◌, length, map, get_or, set, refl, sym, ap, ◌∙◌, arith}
+use Rattle.std.proofs.Common.{◌≡◌, ℕ, suc, zero, ◌+◌, ◌<◌, ◌≤◌, Bool, true, false, None, ◌&&◌, replicate, nat_lt, List, [], ◌∷◌, length, map, get_or, set, refl, ap, ◌∙◌, arith}
 use Rattle.std.proofs.lemmas.Bool.{le-ltb, lt-ltb, ltb-false, ltb-true}
-use Rattle.std.proofs.lemmas.List.{get_or-map, length-map, map-set}
-use Rattle.std.specs.List.{list_all}
-use Rattle.kv_core.specs.declared.change.CommitRequest.{CommitRequest}
+use Rattle.std.proofs.lemmas.List.{get_or-map, length-map, length-set, map-set}
+use Rattle.std.proofs.lemmas.List.Elements.{recursion_from_All}
+use Rattle.std.specs.List.{All, AllByRecursion, list_all}
 use Rattle.cluster_core.specs.declared.answers.Config.{Config}
 use Rattle.cluster_core.specs.Configuration.{first_pipeline}
 use Rattle.cluster_core.specs.Decision.{Owned, owners}
-use Rattle.cluster_core.specs.Progress.{ResolverState, fresh, pipeline_state}
+use Rattle.cluster_core.specs.Progress.{ResolverState, fresh, forgets, pipeline_state, tells}
+use Rattle.cluster_core.specs.Requests.{RequestList}
 use Rattle.cluster_core.specs.Roles.{PipelineState, append, report, resolve}
+use Rattle.cluster_core.proofs.Forgetting.{length_forgets}
 use Rattle.cluster_core.proofs.Telling.{map-set_same}
 
 lt-add : (start n m : ℕ) → nat_lt (start + n) (start + m) ≡ nat_lt n m
@@ -47,11 +49,7 @@ raised_clock start f xs i new d inside more =
 pub within_clocks : {X : Type 0} (start : ℕ) (f : X → ℕ) (xs : List X) (i : ℕ) → i < length (map (λ x. start + f x) xs) → i < length xs
 within_clocks start f xs i inside = let len = length-map xs (λ x. start + f x) in omega (arith, inside, len)
 
-map-add : {X : Type 0} (start : ℕ) (f : X → ℕ) (xs : List X) → map (λ x. start + f x) xs ≡ map (λ n. start + n) (map f xs)
-map-add start f [] = refl
-map-add start f (x ∷ xs) = ap (λ ns. (start + f x) ∷ ns) (map-add start f xs)
-
-module _ (splits : List (List ℕ)) (window start : ℕ) (requests : List CommitRequest) (resolvers : List ResolverState) (logs : List (List Bool)) (reported : ℕ) where
+module _ (splits : List (List ℕ)) (window start : ℕ) (requests : RequestList) (resolvers : List ResolverState) (logs : List (List Bool)) (reported : ℕ) where
   abbrev old : PipelineState
   old = pipeline_state splits window start requests resolvers logs reported
 
@@ -71,16 +69,30 @@ module _ (splits : List (List ℕ)) (window start : ℕ) (requests : List Commit
   state_appended i new d inside more = ap (λ clocks. record old { logged = clocks }) (raised_clock start (λ passes. length passes) logs i new d inside more)
 
   -- after one more report
-  pub state_reported : (after : List ResolverState) → map (λ r. length r.causes) after ≡ map (λ r. length r.causes) resolvers →
+  pub state_reported : (after : List ResolverState) → after ≡ map tells resolvers →
       pipeline_state splits window start requests after logs (reported + 1) ≡ report (pipeline_state splits window start requests resolvers logs reported)
-  state_reported after same =
+  state_reported after is =
       let clocks : map (λ r. start + length r.causes) after ≡ map (λ r. start + length r.causes) resolvers =
-      map-add start (λ r. length r.causes) after ∙ ap (map (λ n. start + n)) same ∙ sym (map-add start (λ r. length r.causes) resolvers) in
+      ap (map (λ r. start + length r.causes)) is ∙ still resolvers in
       let next : start + (reported + 1) ≡ start + reported + 1 = omega arith in
       λ i. record old { resolved = clocks i; reported = next i }
+    where
+      still : (rs : List ResolverState) → map (λ r. start + length r.causes) (map tells rs) ≡ map (λ r. start + length r.causes) rs
+      still [] = refl
+      still (r ∷ rs) = λ i. (start + length-set r.causes r.told None i) ∷ still rs i
+
+  -- after no bytes are kept of the requests before a place
+  pub state_forgotten : (place : ℕ) (after : List (List Bool)) → after ≡ map (forgets place) logs → All (λ passes. place ≤ length passes) logs →
+      pipeline_state splits window start (record requests { forgotten = place }) resolvers after reported ≡ record (pipeline_state splits window start requests resolvers logs reported) { forgotten = place }
+  state_forgotten place after is inside =
+      λ i. record old { logged = (ap (map (λ passes. start + length passes)) is ∙ still logs (recursion_from_All (λ passes. place ≤ length passes) logs inside)) i; forgotten = place }
+    where
+      still : (ls : List (List Bool)) → AllByRecursion (λ passes. place ≤ length passes) ls → map (λ passes. start + length passes) (map (forgets place) ls) ≡ map (λ passes. start + length passes) ls
+      still [] all = refl
+      still (passes ∷ ls) all = λ i. (start + length_forgets place passes all.0 i) ∷ still ls all.1 i
 
 -- the pipeline at the start
-pub state_first : (config : Config) → pipeline_state config.resolver_splits config.window config.start [] (map fresh (owners config.resolver_splits)) (replicate config.logs []) 0 ≡ first_pipeline config
+pub state_first : (config : Config) → pipeline_state config.resolver_splits config.window config.start (record { all = []; forgotten = 0 }) (map fresh (owners config.resolver_splits)) (replicate config.logs []) 0 ≡ first_pipeline config
 state_first config =
     let at : config.start + 0 ≡ config.start = omega arith in
     λ i. record (first_pipeline config) { resolved = all (owners config.resolver_splits) i; logged = each config.logs i; reported = at i }

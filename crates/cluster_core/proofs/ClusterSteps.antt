@@ -11,7 +11,7 @@ use Rattle.kv_core.specs.Range.{KeyRange, point}
 use Rattle.kv_core.specs.Read.{first_value, read_of}
 use Rattle.kv_core.specs.declared.change.CommitRequest.{CommitRequest}
 use Rattle.kv_core.specs.declared.change.Mutation.{Mutation}
-use Rattle.cluster_core.specs.Cluster.{ClusterState, HasSameServers, database_at, maps_back, may_pull, pull, server_at, servers_at, tier_of}
+use Rattle.cluster_core.specs.Cluster.{ClusterState, HasSameServers, database_at, done_with_by, maps_back, may_pull, pull, server_at, servers_at, tier_of}
 use Rattle.cluster_core.specs.Configuration.{config_refusal, first_cluster, first_pipeline, first_tier}
 use Rattle.cluster_core.specs.Decision.{Owned, log, owners}
 use Rattle.cluster_core.specs.History.{map_at}
@@ -48,9 +48,9 @@ lower m n [] h all = tt
 lower m n (c ∷ clocks) h all = let one : c ≤ m = all.0 in (omega (arith, h, one), lower m n clocks h all.1)
 
 -- a pipeline that goes on leaves the servers those that their clocks say
-went-on : (p q : PipelineState) (tier : TierState) → q.window ≡ p.window → q.start ≡ p.start → submitted p ≤ submitted q →
+went-on : (p q : PipelineState) (tier : TierState) → q.window ≡ p.window → q.start ≡ p.start → q.forgotten ≡ p.forgotten → submitted p ≤ submitted q →
     ((version : ℕ) → version ≤ submitted p → map_at (history q) version ≡ map_at (history p) version) → 1 ≤ length q.logged → IsCluster p tier → IsCluster q tier
-went-on p q tier window start more same some is = record {
+went-on p q tier window start forgotten more same some is = record {
   servers = is.servers ∙ (λ i. record {
     splits = tier.splits;
     window = sym window i;
@@ -60,11 +60,12 @@ went-on p q tier window start more same some is = record {
   some_log = some;
   started = subst (λ n. AllByRecursion (λ clock. n ≤ clock) (clocks_of tier)) (sym start) is.started;
   given = lower (submitted p) (submitted q) (clocks_of tier) more is.given;
+  unpulled = subst (λ n. AllByRecursion (λ clock. n ≤ clock) (clocks_of tier)) (λ i. sym start i + sym forgotten i) is.unpulled;
 }
 
 pub went-submit : (p : PipelineState) (request : CommitRequest) (tier : TierState) → IsCluster p tier → IsCluster (submit request p) tier
 went-submit p request tier is =
-    went-on p (submit request p) tier refl refl
+    went-on p (submit request p) tier refl refl refl
     (let n : length (p.requests ++ request ∷ []) ≡ length p.requests + 1 = length-append p.requests (request ∷ []) in omega (arith, n))
     (λ version below. maps_stay p.splits p.start p.requests request version below) is.some_log is
 
@@ -142,6 +143,9 @@ module _ (p : PipelineState) (tier new : TierState) (s version : ℕ) (mutations
         (let from = All-get (λ clock. p.start ≤ clock) (clocks_of tier) s version is.started at in
         All-set (λ clock. p.start ≤ clock) (clocks_of tier) s (version + 1) is.started (omega (arith, from)));
     given = subst (AllByRecursion (λ clock. clock ≤ submitted p)) (sym clocks-after) (All-set (λ clock. clock ≤ submitted p) (clocks_of tier) s (version + 1) is.given (omega (arith, next)));
+    unpulled = subst (AllByRecursion (λ clock. p.start + p.forgotten ≤ clock)) (sym clocks-after)
+        (let from = All-get (λ clock. p.start + p.forgotten ≤ clock) (clocks_of tier) s version is.unpulled at in
+        All-set (λ clock. p.start + p.forgotten ≤ clock) (clocks_of tier) s (version + 1) is.unpulled (omega (arith, from)));
   }
 
   pub pulled-cluster : IsCluster p new
@@ -198,6 +202,48 @@ starts-cluster config allowed =
       started = subst (AllByRecursion (λ clock. config.start ≤ clock)) (sym clocks) (all-same (λ clock. config.start ≤ clock) config.start os (omega arith));
       given = subst (AllByRecursion (λ clock. clock ≤ submitted (first_pipeline config))) (sym clocks)
           (all-same (λ clock. clock ≤ submitted (first_pipeline config)) config.start os (omega arith));
+      unpulled = subst (AllByRecursion (λ clock. config.start + 0 ≤ clock)) (sym clocks) (all-same (λ clock. config.start + 0 ≤ clock) config.start os (omega arith));
+    }
+
+-- what a server hasn't pulled is kept
+pub unpulled-at : (p : PipelineState) (tier : TierState) (s version : ℕ) → IsCluster p tier → slice_get (clocks_of tier) s ≡ Some version → p.start + p.forgotten ≤ version
+unpulled-at p tier s version is at = All-get (λ clock. p.start + p.forgotten ≤ clock) (clocks_of tier) s version is.unpulled at
+
+-- how many requests are done with: no more than this, and no more than each server has pulled
+done-least : (start done : ℕ) (clocks : List ℕ) → done_with_by start done clocks ≤ done
+done-least start done [] = omega arith
+done-least start done (clock ∷ clocks) = let rest = done-least start done clocks in omega (arith, rest)
+
+done-more : (start done n : ℕ) (clocks : List ℕ) → n ≤ done → AllByRecursion (λ clock. start + n ≤ clock) clocks → n ≤ done_with_by start done clocks
+done-more start done n [] upto all = upto
+done-more start done n (clock ∷ clocks) upto all =
+    let one : start + n ≤ clock = all.0 in
+    let rest = done-more start done n clocks upto all.1 in
+    omega (arith, one, rest)
+
+done-each : (start done n : ℕ) (clocks : List ℕ) → n ≤ done_with_by start done clocks → AllByRecursion (λ clock. start ≤ clock) clocks → AllByRecursion (λ clock. start + n ≤ clock) clocks
+done-each start done n [] upto from = tt
+done-each start done n (clock ∷ clocks) upto from =
+    let one : start ≤ clock = from.0 in
+    (omega (arith, one, upto), done-each start done n clocks (omega (arith, upto)) from.1)
+
+pub done-from : (p : PipelineState) (tier : TierState) (done : ℕ) → IsCluster p tier → p.forgotten ≤ done → p.forgotten ≤ done_with_by p.start done (clocks_of tier)
+done-from p tier done is upto = done-more p.start done p.forgotten (clocks_of tier) upto is.unpulled
+
+pub done-upto : (p : PipelineState) (tier : TierState) (done : ℕ) → done_with_by p.start done (clocks_of tier) ≤ done
+done-upto p tier done = done-least p.start done (clocks_of tier)
+
+pub forgot-cluster : (p : PipelineState) (tier : TierState) (done : ℕ) → IsCluster p tier →
+    IsCluster (record p { forgotten = done_with_by p.start done (clocks_of tier) }) tier
+forgot-cluster p tier done is =
+    let n = done_with_by p.start done (clocks_of tier) in
+    record {
+      servers = is.servers;
+      counts = is.counts;
+      some_log = is.some_log;
+      started = is.started;
+      given = is.given;
+      unpulled = done-each p.start done n (clocks_of tier) (omega arith) is.started;
     }
 
 -- a pull leaves as many roles as there were

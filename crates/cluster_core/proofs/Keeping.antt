@@ -1,7 +1,8 @@
 -- What a resolver and a log keep, after one step of a role.
-use Rattle.std.proofs.Common.{◌≡◌, ℕ, zero, suc, ◌+◌, ◌-◌, ◌<◌, ◌≤◌, Bool, true, false, nat_le, not, is_none, Option, None, Some, List, [], ◌∷◌, ◌++◌, length, set, inl, inr, refl, sym, ap, subst, ◌∙◌, arith}
+use Rattle.std.proofs.Common.{◌≡◌, ℕ, zero, suc, ◌+◌, ◌-◌, ◌<◌, ◌≤◌, Bool, true, false, nat_le, not, is_none, Option, None, Some, List, [], ◌∷◌, ◌++◌, drop, length, set, inl, inr, refl, sym, ap, subst, ◌∙◌, arith}
 use Rattle.std.proofs.lemmas.Bool.{and_from, and_parts, cases_order}
 use Rattle.std.proofs.lemmas.List.{length_push, length-set}
+use Rattle.std.proofs.lemmas.Option.{slice_get_within}
 use Rattle.std.specs.List.{list_all, slice_get}
 use Rattle.std.specs.Option.{option_map_or}
 use Rattle.kv_core.specs.Change.{write_ranges}
@@ -10,9 +11,11 @@ use Rattle.kv_core.specs.declared.change.CommitRequest.{CommitRequest}
 use Rattle.cluster_core.specs.History.{Entry, until}
 use Rattle.cluster_core.specs.Decision.{Cause, Owned, agreed_above, agrees, disturbs, earlier, first_disturbed, is_committed, numbered}
 use Rattle.cluster_core.specs.Kept.{KeepsRecent, KnowsWriters, WritersState, agreed_at, rise_between, writes_key}
-use Rattle.cluster_core.specs.Progress.{ResolverState, IsResolver, IsLog, answer_of}
+use Rattle.cluster_core.specs.Progress.{ResolverState, IsResolver, IsLog, answer_of, forgets, tells}
+use Rattle.cluster_core.specs.Requests.{RequestList}
 use Rattle.cluster_core.proofs.Bridge.{entry_here, version_at}
 use Rattle.cluster_core.proofs.Causes.{cause_decides}
+use Rattle.cluster_core.proofs.Forgetting.{get_forgets, get_front, length_forgets}
 use Rattle.cluster_core.proofs.Growth.{numbered-push, until-push, later_changes_nothing}
 use Rattle.cluster_core.proofs.Rising.{rise_le}
 use Rattle.cluster_core.proofs.Waiting.{known_later}
@@ -35,12 +38,13 @@ pub answered_next : (window start : ℕ) (requests : List CommitRequest) (report
     IsResolver window start requests reported old → length old.causes < length requests → causes ≡ old.causes ++ why ∷ [] →
     ((entry : Entry) → slice_get (numbered start requests) (length old.causes) ≡ Some entry → why ≡ answer_of old.owner (numbered start requests) entry) →
     KnowsWriters old.owner start requests (length old.causes - window) (length old.causes + 1) writers → KeepsRecent window (length old.causes + 1) writers →
-    IsResolver window start requests reported (record { owner = old.owner; writers = writers; causes = causes })
+    IsResolver window start requests reported (record { owner = old.owner; writers = writers; told = old.told; causes = causes })
 answered_next window start requests reported old writers causes why was inside items is knows recent =
-    subst (λ xs. IsResolver window start requests reported (record { owner = old.owner; writers = writers; causes = xs })) (sym items)
+    subst (λ xs. IsResolver window start requests reported (record { owner = old.owner; writers = writers; told = old.told; causes = xs })) (sym items)
     (let more = length_push old.causes why in
     record {
       within = omega (arith, inside, more);
+      told = was.told;
       knows =
           subst (λ n. KnowsWriters old.owner start requests (n - window) n writers) (sym more)
           (known_later old.owner start requests (length old.causes - window) (length old.causes + 1 - window) (length old.causes + 1) writers (omega arith) knows);
@@ -51,6 +55,13 @@ answered_next window start requests reported old writers causes why was inside i
         | inr (inr past) ↦ absurd (omega (arith, past, below, more))
       ];
     })
+
+-- a resolver that keeps something else, which stands for the same
+pub answered_again : (window start : ℕ) (requests : List CommitRequest) (reported : ℕ) (old : ResolverState) (writers : WritersState) →
+    IsResolver window start requests reported old → KnowsWriters old.owner start requests (length old.causes - window) (length old.causes) writers → KeepsRecent window (length old.causes) writers →
+    IsResolver window start requests reported (record old { writers = writers })
+answered_again window start requests reported old writers was knows recent =
+    record { within = was.within; told = was.told; knows = knows; recent = recent; answers = was.answers }
 
 earlier-push : (start : ℕ) (requests : List CommitRequest) (q : CommitRequest) (v : ℕ) → v ≤ start + length requests + 1 →
     earlier (numbered start (requests ++ q ∷ [])) v ≡ earlier (numbered start requests) v
@@ -124,6 +135,7 @@ resolver_submitted window start requests q reported resolver was =
     let within = was.within in
     record {
       within = omega (arith, more, within);
+      told = was.told;
       knows = known_submitted resolver.owner start requests q (length resolver.causes - window) (length resolver.causes) resolver.writers within was.knows;
       recent = was.recent;
       answers = λ place entry after below there.
@@ -135,12 +147,6 @@ resolver_submitted window start requests q reported resolver was =
           (sym (earlier-push start requests q entry.version (omega (arith, number, inside))));
     }
 
--- what isn't reported after one more report wasn't before
-pub resolver_weaker : (window start : ℕ) (requests : List CommitRequest) (reported : ℕ) (resolver : ResolverState) →
-    IsResolver window start requests reported resolver → IsResolver window start requests (reported + 1) resolver
-resolver_weaker window start requests reported resolver was =
-    record { within = was.within; knows = was.knows; recent = was.recent; answers = λ place entry after below there. was.answers place entry (omega (arith, after)) below there }
-
 get-set_other : {X : Type 0} (xs : List X) (i j : ℕ) (x : X) → i < j → slice_get (set xs i x) j ≡ slice_get xs j
 get-set_other [] i j x below = refl
 get-set_other (y ∷ xs) zero zero x below = absurd (omega (arith, below))
@@ -150,44 +156,47 @@ get-set_other (y ∷ xs) (suc i) (suc j) x below = get-set_other xs i j x (omega
 
 -- a resolver whose answer to the request that is reported next was taken
 pub resolver_taken : (window start : ℕ) (requests : List CommitRequest) (place : ℕ) (resolver : ResolverState) →
-    IsResolver window start requests place resolver → IsResolver window start requests (place + 1) (record resolver { causes = set resolver.causes place None })
+    IsResolver window start requests place resolver → IsResolver window start requests (place + 1) (tells resolver)
 resolver_taken window start requests place resolver was =
-    let same = length-set resolver.causes place None in
+    let same = length-set resolver.causes resolver.told None in
     let within = was.within in
+    let told = was.told in
     record {
       within = omega (arith, same, within);
+      told = omega (arith, told);
       knows = subst (λ n. KnowsWriters resolver.owner start requests (n - window) n resolver.writers) (sym same) was.knows;
       recent = subst (λ n. KeepsRecent window n resolver.writers) (sym same) was.recent;
       answers = λ p entry after below there.
-          get-set_other resolver.causes place p None (omega (arith, after)) ∙ was.answers p entry (omega (arith, after)) (omega (arith, below, same)) there;
+          get-set_other resolver.causes resolver.told p None (omega (arith, after, told)) ∙ was.answers p entry (omega (arith, after)) (omega (arith, below, same)) there;
     }
 
 -- one more request changes nothing of what a log has
-pub log_submitted : (splits : List (List ℕ)) (start : ℕ) (requests : List CommitRequest) (q : CommitRequest) (reported : ℕ) (passes : List Bool) →
-    IsLog splits start requests reported passes → IsLog splits start (requests ++ q ∷ []) reported passes
+pub log_submitted : (splits : List (List ℕ)) (start : ℕ) (requests : RequestList) (q : CommitRequest) (reported : ℕ) (passes : List Bool) →
+    IsLog splits start requests reported passes → IsLog splits start (record requests { all = requests.all ++ q ∷ [] }) reported passes
 log_submitted splits start requests q reported passes was =
-    let more = length_push requests q in
+    let more = length_push requests.all q in
     let within = was.within in
     record {
       behind = was.behind;
       within = omega (arith, more, within);
-      answers = λ place entry below there.
-          let inside : place < length requests = omega (arith, below, within) in
-          let there' = there_before start requests q place entry inside there in
-          let number = version_at start requests place entry there' in
-          was.answers place entry below there' ∙ ap Some (sym (alike entry (omega (arith, number, inside))));
+      answers = λ place entry from below there.
+          let inside : place < length requests.all = omega (arith, below, within) in
+          let there' = there_before start requests.all q place entry inside there in
+          let number = version_at start requests.all place entry there' in
+          was.answers place entry from below there' ∙ ap Some (sym (alike entry (omega (arith, number, inside))));
+      nothing = was.nothing;
     }
   where
-    alike : (x : Entry) → x.version ≤ start + length requests + 1 → is_committed splits (numbered start (requests ++ q ∷ [])) x ≡ is_committed splits (numbered start requests) x
+    alike : (x : Entry) → x.version ≤ start + length requests.all + 1 → is_committed splits (numbered start (requests.all ++ q ∷ [])) x ≡ is_committed splits (numbered start requests.all) x
     alike x h =
-        cause_decides splits (numbered start (requests ++ q ∷ [])) x
-        ∙ ap (λ o. is_none o) (later_changes_nothing splits start requests q x h)
-        ∙ sym (cause_decides splits (numbered start requests) x)
+        cause_decides splits (numbered start (requests.all ++ q ∷ [])) x
+        ∙ ap (λ o. is_none o) (later_changes_nothing splits start requests.all q x h)
+        ∙ sym (cause_decides splits (numbered start requests.all) x)
 
 -- a log that has one more request
-pub log_appended : (splits : List (List ℕ)) (start : ℕ) (requests : List CommitRequest) (reported : ℕ) (old : List Bool) (passes : Bool) →
-    IsLog splits start requests reported old → length old < length requests →
-    ((entry : Entry) → slice_get (numbered start requests) (length old) ≡ Some entry → passes ≡ is_committed splits (numbered start requests) entry) →
+pub log_appended : (splits : List (List ℕ)) (start : ℕ) (requests : RequestList) (reported : ℕ) (old : List Bool) (passes : Bool) →
+    IsLog splits start requests reported old → length old < length requests.all →
+    ((entry : Entry) → slice_get (numbered start requests.all) (length old) ≡ Some entry → passes ≡ is_committed splits (numbered start requests.all) entry) →
     IsLog splits start requests reported (old ++ passes ∷ [])
 log_appended splits start requests reported old passes was inside is =
     let more = length_push old passes in
@@ -195,10 +204,26 @@ log_appended splits start requests reported old passes was inside is =
     record {
       behind = omega (arith, behind, more);
       within = omega (arith, inside, more);
-      answers = λ place entry below there. elim (cases_order place (length old)) [
+      answers = λ place entry from below there. elim (cases_order place (length old)) [
         | inl same ↦
-            ap (slice_get (old ++ passes ∷ [])) same ∙ get_last old passes ∙ ap Some (is entry (subst (λ i. slice_get (numbered start requests) i ≡ Some entry) same there))
-        | inr (inl before) ↦ get_before old (passes ∷ []) place before ∙ was.answers place entry before there
+            ap (slice_get (old ++ passes ∷ [])) same ∙ get_last old passes ∙ ap Some (is entry (subst (λ i. slice_get (numbered start requests.all) i ≡ Some entry) same there))
+        | inr (inl before) ↦ get_before old (passes ∷ []) place before ∙ was.answers place entry from before there
         | inr (inr past) ↦ absurd (omega (arith, past, below, more))
       ];
+      nothing = λ place gone. get_before old (passes ∷ []) place (slice_get_within old place true (was.nothing place gone)) ∙ was.nothing place gone;
+    }
+
+-- a log that keeps nothing of the requests before a place
+pub log_forgotten : (splits : List (List ℕ)) (start : ℕ) (requests : RequestList) (reported place : ℕ) (passes : List Bool) →
+    requests.forgotten ≤ place → place ≤ length passes → IsLog splits start requests reported passes →
+    IsLog splits start (record requests { forgotten = place }) reported (forgets place passes)
+log_forgotten splits start requests reported place passes from inside was =
+    let same : length (forgets place passes) ≡ length passes = length_forgets place passes inside in
+    let behind = was.behind in
+    let within = was.within in
+    record {
+      behind = omega (arith, behind, same);
+      within = omega (arith, within, same);
+      answers = λ at entry after below there. get_forgets place passes at after ∙ was.answers at entry (omega (arith, from, after)) (omega (arith, below, same)) there;
+      nothing = λ at gone. get_front place true (drop place passes) at gone;
     }

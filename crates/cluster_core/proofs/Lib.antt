@@ -10,6 +10,8 @@ pub mod LogMaps
 pub mod Growth
 pub mod Places
 pub mod Bridge
+pub mod Walks
+pub mod Forgetting
 pub mod Keeping
 pub mod Telling
 pub mod Clocks

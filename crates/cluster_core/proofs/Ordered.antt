@@ -2,12 +2,12 @@
 use Rattle.std.proofs.Common.{ℕ, ◌+◌, ◌≤◌, Bool, List, All, arith, length, map}
 use Rattle.std.proofs.lemmas.List.{length-map}
 use Rattle.std.proofs.lemmas.List.Elements.{All-map, All-weaker}
-use Rattle.kv_core.specs.declared.change.CommitRequest.{CommitRequest}
 use Rattle.cluster_core.specs.Progress.{IsLog, IsPipeline, IsResolver, ResolverState, pipeline_state}
+use Rattle.cluster_core.specs.Requests.{RequestList}
 use Rattle.cluster_core.specs.Roles.{AreInOrder}
 use Rattle.cluster_core.proofs.Standing.{some_resolver}
 
-module _ (splits : List (List ℕ)) (window start : ℕ) (requests : List CommitRequest) (resolvers : List ResolverState) (logs : List (List Bool)) (reported : ℕ)
+module _ (splits : List (List ℕ)) (window start : ℕ) (requests : RequestList) (resolvers : List ResolverState) (logs : List (List Bool)) (reported : ℕ)
     (was : IsPipeline splits window start requests resolvers logs reported) where
   abbrev answered_by : ResolverState → ℕ
   answered_by resolver = start + length resolver.causes
@@ -30,8 +30,8 @@ module _ (splits : List (List ℕ)) (window start : ℕ) (requests : List Commit
         some_resolver = omega (arith, some, resolvers_same);
         some_log = omega (arith, log, logs_same);
         given =
-            All-map (λ clock. clock ≤ start + length requests) answered_by resolvers
-            (All-weaker (IsResolver window start requests reported) (λ resolver. start + length resolver.causes ≤ start + length requests)
+            All-map (λ clock. clock ≤ start + length requests.all) answered_by resolvers
+            (All-weaker (IsResolver window start requests.all reported) (λ resolver. start + length resolver.causes ≤ start + length requests.all)
             (λ resolver is. let within = is.within in omega (arith, within)) resolvers was.resolving);
         answered =
             All-map (λ log. All (λ clock. log ≤ clock) (map answered_by resolvers)) logged_by logs

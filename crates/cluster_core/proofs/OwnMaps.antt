@@ -110,6 +110,9 @@ all_parts P x xs all is h = subst (AllByRecursion P) is h
 pub All-others : {X : Type 0} (P : X → Type 0) (x : X) (xs all : List X) → all ≡ x ∷ xs → All P all → All P xs
 All-others {X} P x xs all is h = λ k d below. let Q : List X → Type 0 = All P in subst Q is h (suc k) d (omega (arith, below))
 
+pub first_of_all : {X : Type 0} (P : X → Type 0) (x : X) (xs all : List X) → all ≡ x ∷ xs → All P all → P x
+first_of_all {X} P x xs all is h = let Q : List X → Type 0 = All P in subst Q is h zero x (omega arith)
+
 -- what is a part of a map is its own part
 pub own_part : (owner same : Owned) (x m : Map) → same ≡ owner → m ≡ part owner x → part same m ≡ m
 own_part owner same x m own is = ap (λ o. part o m) own ∙ ap (part owner) is ∙ part-part owner x ∙ sym is

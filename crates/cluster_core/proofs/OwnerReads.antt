@@ -1,5 +1,5 @@
 -- What the server that owns a key answers is what the servers together answer.
-use Rattle.std.proofs.Common.{◌≡◌, ℕ, Bool, true, false, cond, Option, None, Some, List, [], ◌∷◌, map, inl, inr, refl, sym, ap, subst, ◌∙◌}
+use Rattle.std.proofs.Common.{◌≡◌, ◌+◌, ◌≤◌, ℕ, Bool, true, false, cond, Option, None, Some, List, [], ◌∷◌, length, map, inl, inr, refl, sym, ap, subst, ◌∙◌}
 use Rattle.std.proofs.lemmas.Bool.{and_parts, cases_Bool}
 use Rattle.std.proofs.lemmas.Cmp.{nat_list_cmp_total}
 use Rattle.std.proofs.lemmas.List.Folds.{flat_map-map}
@@ -10,10 +10,10 @@ use Rattle.std.specs.Option.{option_or}
 use Rattle.kv_core.proofs.Order.{le_from_lt, lt_le_trans}
 use Rattle.kv_core.specs.Bytes.{key_cmp, key_le, key_lt}
 use Rattle.kv_core.specs.Range.{point}
-use Rattle.cluster_core.specs.Chains.{AreFalling}
+use Rattle.cluster_core.specs.Chains.{AreFalling, links_at}
 use Rattle.cluster_core.specs.Configuration.{is_rising_above}
 use Rattle.cluster_core.specs.Decision.{Owned, owners, owners_from, owns}
-use Rattle.cluster_core.specs.Server.{IsTier, owner_of, server_state}
+use Rattle.cluster_core.specs.Server.{IsServer, IsTier, owner_of, server_state}
 use Rattle.cluster_core.specs.Tier.{TierState, first_refusal, map_of, part, refusal, refusal_of, whole_map}
 use Rattle.cluster_core.specs.declared.answers.ReadError.{ReadError}
 use Rattle.cluster_core.specs.declared.server.Server.{Server}
@@ -120,6 +120,10 @@ found_holds P test (y ∷ ys) x all is = elim (cases_Bool (test y)) [
   | inr other ↦ found_holds P test ys x all.1 (is ∙ ap (λ b. cond b (Some y) (list.find test ys)) other)
 ]
 
+short_at : (window : ℕ) (k : List ℕ) (servers : List Server) → AllByRecursion (IsServer window) servers → AllByRecursion (λ s. length (links_at s.chains.chains k) ≤ window + 1) servers
+short_at window k [] kept = tt
+short_at window k (s ∷ servers) kept = (kept.0.short k, short_at window k servers kept.1)
+
 -- the servers of a tier, and the one that was found among them to own the key
 module _ (tier : TierState) (splits : List (List ℕ)) (window : ℕ) (servers same : List Server) (version : ℕ) (k : List ℕ) (found : Option Server)
     (view : ◌≡◌ {A = TierState} (record { splits = splits; window = window; servers = map server_state servers }) tier) (is : IsTier splits window servers)
@@ -144,3 +148,9 @@ module _ (tier : TierState) (splits : List (List ℕ)) (window : ℕ) (servers s
 
   pub owner_falling : (s : Server) → found ≡ Some s → AreFalling s.chains.chains
   owner_falling s is_found = found_holds (λ s. AreFalling s.chains.chains) (λ s. owns (owner_of s) k) servers s (falling_at window servers is.kept) (sym is_found ∙ there)
+
+  -- the owner of the key keeps no more of its values than one more than the window
+  pub owner_short : (s : Server) → found ≡ Some s → length (links_at s.chains.chains k) ≤ tier.window + 1
+  owner_short s is_found =
+      subst (λ (t : TierState). length (links_at s.chains.chains k) ≤ t.window + 1) view
+      (found_holds (λ s. length (links_at s.chains.chains k) ≤ window + 1) (λ s. owns (owner_of s) k) servers s (short_at window k servers is.kept) (sym is_found ∙ there))

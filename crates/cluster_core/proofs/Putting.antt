@@ -76,10 +76,10 @@ pub put_end : (owner : Owned) (mutations : List Mutation) (place i : ℕ) (old n
 put_end owner mutations place i old now all so key own written =
     so.covered key own (ap (list_any (writes key)) (take_all i mutations all) ∙ covers_is mutations key ∙ written)
 
--- the requests at the places so far are put under their places
-pub record EachSo (owner : Owned) (requests : List CommitRequest) (places : List ℕ) (i : ℕ) (old now : Run) : Type 0 where
+-- the requests at the places so far are put under their places, but for those before the least one
+pub record EachSo (owner : Owned) (requests : List CommitRequest) (least : ℕ) (places : List ℕ) (i : ℕ) (old now : Run) : Type 0 where
   pub puts : PutsEach requests places old now
-  pub covered : (key : Key) (place : ℕ) → has_place (take i places) place ≡ true → owns owner key ≡ true → writes_key requests place key ≡ true → IsCovered now key place
+  pub covered : (key : Key) (place : ℕ) → least ≤ place → has_place (take i places) place ≡ true → owns owner key ≡ true → writes_key requests place key ≡ true → IsCovered now key place
 
 pub each_over : (requests : List CommitRequest) (places : List ℕ) (i place : ℕ) (old now next : Run) → i < length places → place ≡ get_or places i 0 →
     Overlays (writes_key requests place) place now next → PutsEach requests places old now → PutsEach requests places old next
@@ -96,16 +96,28 @@ each_over requests places i place old now next inside here overlays puts = recor
       overlays.kept key at (omega (arith, le, here)) (puts.kept key at upto h);
 }
 
-pub each_more : (owner : Owned) (requests : List CommitRequest) (places : List ℕ) (i place : ℕ) (old now next : Run) →
+pub each_skipped : (owner : Owned) (requests : List CommitRequest) (least : ℕ) (places : List ℕ) (i place : ℕ) (old now : Run) → i < length places → place ≡ get_or places i 0 →
+    place < least → EachSo owner requests least places i old now → EachSo owner requests least places (i + 1) old now
+each_skipped owner requests least places i place old now inside here early so = record {
+  puts = so.puts;
+  covered = λ key at from any own wrote. elim (one_more (nat_eq at) places i (get_or places i 0) inside (sym (get_or_default_zero places i (get_or places i 0) inside)) any) [
+    | inl before ↦ so.covered key at from before own wrote
+    | inr now' ↦
+        let same : at ≡ place = eqb-true at (get_or places i 0) now' ∙ sym here in
+        absurd (omega (arith, same, early, from))
+  ];
+}
+
+pub each_more : (owner : Owned) (requests : List CommitRequest) (least : ℕ) (places : List ℕ) (i place : ℕ) (old now next : Run) →
     rise_between 0 (length requests) places ≡ true → i < length places → place ≡ get_or places i 0 → Overlays (writes_key requests place) place now next →
     ((key : Key) → owns owner key ≡ true → writes_key requests place key ≡ true → IsCovered next key place) →
-    EachSo owner requests places i old now → EachSo owner requests places (i + 1) old next
-each_more owner requests places i place old now next rising inside here overlays covered so = record {
+    EachSo owner requests least places i old now → EachSo owner requests least places (i + 1) old next
+each_more owner requests least places i place old now next rising inside here overlays covered so = record {
   puts = each_over requests places i place old now next inside here overlays so.puts;
-  covered = λ key at any own wrote. elim (one_more (nat_eq at) places i (get_or places i 0) inside (sym (get_or_default_zero places i (get_or places i 0) inside)) any) [
+  covered = λ key at from any own wrote. elim (one_more (nat_eq at) places i (get_or places i 0) inside (sym (get_or_default_zero places i (get_or places i 0) inside)) any) [
     | inl before ↦
         let earlier = rise_before 0 (length requests) places i at rising inside before in
-        overlays.kept key at (omega (arith, earlier, here)) (so.covered key at before own wrote)
+        overlays.kept key at (omega (arith, earlier, here)) (so.covered key at from before own wrote)
     | inr now' ↦
         let same : at ≡ place = eqb-true at (get_or places i 0) now' ∙ sym here in
         subst (IsCovered next key) (sym same) (covered key own (subst (λ p. writes_key requests p key ≡ true) same wrote))

@@ -1,14 +1,10 @@
 -- The cause that is taken from the resolvers when a request is reported.
-use Rattle.std.proofs.Common.{◌≡◌, ℕ, zero, suc, ◌+◌, ◌<◌, Option, None, List, [], ◌∷◌, length, map, drop, get_or, set, refl, sym, ap, subst, ◌∙◌}
-use Rattle.std.proofs.lemmas.List.{drop_more, set-get_or}
-use Rattle.std.proofs.lemmas.List.Elements.{All-get_or, All-set, All-weaker}
+use Rattle.std.proofs.Common.{◌≡◌, ℕ, zero, suc, true, false, Option, None, Some, List, [], ◌∷◌, map, get_or, set, refl, sym, ap, ◌∙◌}
+use Rattle.std.proofs.lemmas.Bool.{false≢true}
 use Rattle.std.proofs.lemmas.Option.{unwrap_or-slice_get}
-use Rattle.std.specs.List.{All}
-use Rattle.std.specs.Option.{option_or}
-use Rattle.kv_core.specs.declared.change.CommitRequest.{CommitRequest}
+use Rattle.std.specs.Option.{is_some, option_or}
 use Rattle.cluster_core.specs.Decision.{Cause}
-use Rattle.cluster_core.specs.Progress.{ResolverState, IsResolver, first_kept}
-use Rattle.cluster_core.proofs.Keeping.{resolver_taken, resolver_weaker}
+use Rattle.cluster_core.specs.Progress.{ResolverState, first_kept}
 
 -- a list with an item in the place of one that looks the same looks the same
 pub map-set_same : {X Y : Type 0} (f : X → Y) (xs : List X) (i : ℕ) (new d : X) → f new ≡ f (get_or xs i d) → map f (set xs i new) ≡ map f xs
@@ -16,29 +12,17 @@ map-set_same f [] i new d same = refl
 map-set_same f (y ∷ xs) zero new d same = λ k. same k ∷ map f xs
 map-set_same f (y ∷ xs) (suc i) new d same = ap (λ ys. f y ∷ ys) (map-set_same f xs i new d same)
 
--- the first cause of the resolvers that are left is that of the first of them, if it has one
-pub kept_here : (place : ℕ) (resolvers : List ResolverState) (i : ℕ) (d : ResolverState) (found : Option Cause) →
-    i < length resolvers → found ≡ get_or (get_or resolvers i d).causes place None →
-    first_kept place (drop i resolvers) ≡ option_or found (first_kept place (drop (i + 1) resolvers))
-kept_here place resolvers i d found inside cause =
-    ap (first_kept place) (drop_more resolvers i d inside)
-    ∙ ap (λ o. option_or o (first_kept place (drop (i + 1) resolvers))) (unwrap_or-slice_get (get_or resolvers i d).causes place None ∙ sym cause)
+-- the first cause of resolvers is that of the first of them, if it has one, and else that of the others
+pub first_some : (place : ℕ) (r : ResolverState) (rs all : List ResolverState) (first : Option Cause) → all ≡ r ∷ rs → r.told ≡ place →
+    first ≡ get_or r.causes r.told None → is_some first ≡ true → first ≡ first_kept place all
+first_some place r rs all None is told own some = absurd (false≢true some)
+first_some place r rs all (Some why) is told own some =
+    (λ i. option_or ((own ∙ ap (λ n. get_or r.causes n None) told ∙ sym (unwrap_or-slice_get r.causes place None)) i) (first_kept place rs))
+    ∙ ap (first_kept place) (sym is)
 
--- where there is no cause nothing changes
-pub taken_none : (place : ℕ) (resolvers : List ResolverState) (i : ℕ) (taken d : ResolverState) →
-    taken ≡ record (get_or resolvers i d) { causes = set (get_or resolvers i d).causes place None } → None ≡ get_or (get_or resolvers i d).causes place None →
-    set resolvers i taken ≡ resolvers
-taken_none place resolvers i taken d new none =
-    let old = get_or resolvers i d in
-    let same : set old.causes place None ≡ old.causes = ap (set old.causes place) none ∙ set-get_or old.causes place None in
-    ap (set resolvers i) (new ∙ ap (λ xs. record old { causes = xs }) same) ∙ set-get_or resolvers i d
-
--- each resolver keeps what isn't reported yet
-pub taken_all : (place : ℕ) (resolvers : List ResolverState) (i : ℕ) (taken d : ResolverState) → i < length resolvers →
-    taken ≡ record (get_or resolvers i d) { causes = set (get_or resolvers i d).causes place None } →
-    (window start : ℕ) (requests : List CommitRequest) → All (IsResolver window start requests place) resolvers → All (IsResolver window start requests (place + 1)) (set resolvers i taken)
-taken_all place resolvers i taken d inside new window start requests was =
-    All-set (IsResolver window start requests (place + 1)) resolvers i taken
-    (subst (IsResolver window start requests (place + 1)) (sym new)
-    (resolver_taken window start requests place (get_or resolvers i d) (All-get_or (IsResolver window start requests place) resolvers i d inside was)))
-    (All-weaker (IsResolver window start requests place) (IsResolver window start requests (place + 1)) (resolver_weaker window start requests place) resolvers was)
+pub first_none : (place : ℕ) (r : ResolverState) (rs all : List ResolverState) (first later : Option Cause) → all ≡ r ∷ rs → r.told ≡ place →
+    first ≡ get_or r.causes r.told None → is_some first ≡ false → later ≡ first_kept place rs → later ≡ first_kept place all
+first_none place r rs all (Some why) later is told own none rest = absurd (false≢true (sym none))
+first_none place r rs all None later is told own none rest =
+    rest ∙ (λ i. option_or ((own ∙ ap (λ n. get_or r.causes n None) told ∙ sym (unwrap_or-slice_get r.causes place None)) i) (first_kept place rs))
+    ∙ ap (first_kept place) (sym is)

@@ -36,16 +36,16 @@ module _ (owner : Owned) (start : ℕ) (requests : List CommitRequest) (least up
 
   -- all of it was put in order
   pub put_whole : PutsEach requests pending old new →
-      ((key : Key) (place : ℕ) → has_place pending place ≡ true → owns owner key ≡ true → writes_key requests place key ≡ true → IsCovered new key place) →
+      ((key : Key) (place : ℕ) → least ≤ place → has_place pending place ≡ true → owns owner key ≡ true → writes_key requests place key ≡ true → IsCovered new key place) →
       KnowsKeys owner start requests least upto upto new
   put_whole puts covered =
       let keys = put_keys puts in
       record {
         sound = keys.sound;
         settled = λ key place from before agreed own wrote. elim (cases_order place ordered) [
-          | inl same ↦ ∣ covered key place (was.waiting place from (omega (arith, same)) before agreed) own wrote ∣₁
+          | inl same ↦ ∣ covered key place from (was.waiting place from (omega (arith, same)) before agreed) own wrote ∣₁
           | inr (inl earlier) ↦ keys.settled key place from earlier agreed own wrote
-          | inr (inr later) ↦ ∣ covered key place (was.waiting place from (omega (arith, later)) before agreed) own wrote ∣₁
+          | inr (inr later) ↦ ∣ covered key place from (was.waiting place from (omega (arith, later)) before agreed) own wrote ∣₁
         ];
       }
 

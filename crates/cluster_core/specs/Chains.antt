@@ -3,14 +3,35 @@ use Rattle.std.specs.Prelude.{◌≡◌, ℕ, suc, ◌<◌, ◌==◌, false, nat
 use Rattle.std.specs.Prelude.{Some, None, List, [], ◌∷◌}
 use Rattle.std.specs.BTreeMap.{BTreeMap, get}
 use Rattle.std.specs.FinMap.{empty, insert, remove}
+use Rattle.std.specs.VecDeque.{deque_len, deque_capacity}
 use Rattle.kv_core.specs.Bytes.{has_key, key_cmp}
 use Rattle.kv_core.specs.Map.{Map}
 use Rattle.cluster_core.specs.declared.chain.Chain.{Chain}
 use Rattle.cluster_core.specs.declared.chain.Link.{Link}
+use Rattle.cluster_core.specs.declared.chain.Newest.{Newest}
+use Rattle.cluster_core.specs.declared.chain.Newest.TheVariants.{Value, Absent, Linked}
+
+-- the newest value
+abbrev pub newest_in : Newest → Option (List ℕ)
+newest_in (Value value) = Some value
+newest_in Absent = None
+newest_in (Linked linked) = linked.value.value
+
+-- the older links
+abbrev pub older_in : Newest → List Link
+older_in (Value value) = []
+older_in Absent = []
+older_in (Linked linked) = linked.value.older.items
+
+-- Private: there is room for an older link
+abbrev pub HasLinkRoom : Newest → Type 0
+HasLinkRoom (Value value) = ⊥
+HasLinkRoom Absent = ⊥
+HasLinkRoom (Linked linked) = deque_len linked.value.older < deque_capacity linked.value.older
 
 -- the links of a chain, the newest first
 abbrev pub links_of : Chain → List Link
-links_of chain = chain.newest ∷ chain.older.items
+links_of chain = record { version = chain.version; value = newest_in chain.newest } ∷ older_in chain.newest
 
 -- the value at a version: that of the newest link which isn't later, or none
 abbrev pub value_at : ℕ → List Link → Option (List ℕ)

@@ -6,7 +6,7 @@ use Rattle.cluster_core.specs.declared.answers.Work.{Work}
 use Rattle.cluster_core.specs.declared.answers.Work.TheVariants.{Done, NothingToDo}
 use Rattle.cluster_core.specs.History.{map_at}
 use Rattle.cluster_core.specs.Decision.{Owned, owners}
-use Rattle.cluster_core.specs.Roles.{HasSameRoles, PipelineState, history, raised}
+use Rattle.cluster_core.specs.Roles.{HasSameRoles, PipelineState, done_with, history, raised}
 use Rattle.cluster_core.specs.Tier.{ServerState, TierState, part}
 
 -- the pipeline, the splits between the servers, and the clock of each server
@@ -86,6 +86,18 @@ IsReadable c = All (λ clock. c.pipeline.reported ≤ clock) c.pulled
 abbrev pub Did : {State : Type 0} → Work → Bool → State → State → State → Type 0
 Did Done may old new next = (may ≡ true) × (new ≡ next)
 Did NothingToDo may old new next = (may ≡ false) × (new ≡ old)
+
+-- how many requests, the first ones, no role and no server asks for again
+abbrev pub done_with_by : ℕ → ℕ → List ℕ → ℕ
+done_with_by start done [] = done
+done_with_by start done (clock ∷ clocks) = min (clock - start) (done_with_by start done clocks)
+
+-- no bytes are kept of what neither a role nor a server asks for again
+abbrev pub forget : ClusterState → ClusterState
+forget c =
+    record c {
+      pipeline = record c.pipeline { forgotten = done_with_by c.pipeline.start (done_with c.pipeline) c.pulled };
+    }
 
 -- a pipeline alone, as a cluster that has no servers
 abbrev pub without_servers : PipelineState → ClusterState

@@ -59,6 +59,7 @@ first_pipeline config =
       resolved = map (λ _. config.start) (owners config.resolver_splits);
       logged = replicate config.logs config.start;
       reported = config.start;
+      forgotten = 0;
     }
 
 -- the servers at the start: each has the empty map at `start`

@@ -3,6 +3,7 @@ pub mod Decision
 pub mod Laws
 pub mod Serial
 pub mod Roles
+pub mod Requests
 pub mod Tier
 pub mod Configuration
 pub mod Cluster

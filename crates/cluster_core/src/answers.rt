@@ -7,7 +7,7 @@ ghost use Rattle.cluster_core.specs.declared.answers.ReadError.TheVariants.{Memo
 ghost use Rattle.cluster_core.specs.declared.answers.SubmitError.TheVariants.{Memory as SubmitMemory};
 
 use kv_core::{Bytes, KeyRange};
-use std::alloc::{AllocError, AllocFailed, Global};
+use std::alloc::{AllocError, Global};
 use std::marker::Model;
 use thiserror::Error;
 
@@ -138,10 +138,10 @@ impl From<AllocError> for ConfigError {
     }
 }
 
-impl<T: Drop> From<AllocFailed<T>> for SubmitError {
+impl From<AllocError> for SubmitError {
     ghost from_gives = { λ _ e. e ≡ SubmitMemory };
 
-    fn from(_e: AllocFailed<T>) -> SubmitError {
+    fn from(_e: AllocError) -> SubmitError {
         SubmitError::Memory
     }
 }

@@ -1,6 +1,6 @@
 // The multi-version map of a storage server. Used by `server`.
 ghost use Rattle.std.specs.Prelude.{◌≡◌, ◌∷◌, [], List, ℕ, IfOk, OnOk, OnErr, MatchOption};
-ghost use Rattle.std.specs.Prelude.{if◌then◌else◌, false};
+ghost use Rattle.std.specs.Prelude.{if◌then◌else◌, false, length};
 ghost use Rattle.std.specs.FinMap.{get};
 ghost use Rattle.std.specs.Map.{keys_of};
 ghost use Rattle.std.specs.Option.{option_copied};
@@ -16,17 +16,16 @@ ghost use Rattle.cluster_core.specs.Chains.{shown, value_at, without};
 ghost use Rattle.cluster_core.specs.Server.{turned};
 
 use crate::chain::Chain;
+use block_map::{BlockMap, Range};
 use kv_core::{Bytes, KeyRange, Mutation, Pair, add_le, is_operand};
 use std::alloc::{AllocError, Global};
-use std::collections::BTreeMap;
-use std::collections::btree_map::{Entry, Range};
 use std::mem;
 
 /// The chains of a server's keys, and the keys that were written at the version to come.
 #[derive(Debug, Drop)]
 pub(crate) struct Chains {
     alloc: Global,
-    chains: BTreeMap<Bytes, Chain>,
+    chains: BlockMap<Chain>,
     written: Vec<Bytes>,
 }
 
@@ -34,7 +33,7 @@ pub(crate) struct Chains {
 /// chains stay as they were.
 fn put_at(
     alloc: Global,
-    chains: &mut BTreeMap<Bytes, Chain>,
+    chains: &mut BlockMap<Chain>,
     version: u64,
     key: &Bytes,
     value: Option<Bytes>,
@@ -45,17 +44,15 @@ fn put_at(
     ensures err { OnErr result ((own : List ℕ) →
         links_at chains.new own ≡ links_at chains.old own) }
 {
-    match chains.entry(key.copy()?)? {
-        Entry::Occupied(entry) => entry.into_mut().put(version, value),
-        Entry::Vacant(entry) => {
-            entry.insert(Chain::new(alloc, version, value));
-            Ok(())
-        }
+    if let Some(chain) = chains.get_mut(key) {
+        return chain.put(alloc, version, value);
     }
+    chains.insert(key.copy()?, Chain::new(version, value))?;
+    Ok(())
 }
 
 /// Takes back what was put at a key at this version.
-fn take_back_at(chains: &mut BTreeMap<Bytes, Chain>, version: u64, key: &Bytes)
+fn take_back_at(chains: &mut BlockMap<Chain>, version: u64, key: &Bytes)
     ensures { (own : List ℕ) → links_at chains.new own ≡ (if is_eq (key_cmp key.now own)
         then without version (links_at chains.old own) else links_at chains.old own) }
 {
@@ -68,7 +65,7 @@ fn take_back_at(chains: &mut BTreeMap<Bytes, Chain>, version: u64, key: &Bytes)
 }
 
 /// Drops what no version from the floor on needs of a key.
-fn settle_at(chains: &mut BTreeMap<Bytes, Chain>, floor: u64, key: &Bytes)
+fn settle_at(chains: &mut BlockMap<Chain>, floor: u64, key: &Bytes)
     requires { AreFalling chains.old }
     ensures { (own : List ℕ) → links_at chains.new own ≡ (if is_eq (key_cmp key.now own)
         then needed floor (links_at chains.old own) else links_at chains.old own) }
@@ -82,7 +79,7 @@ fn settle_at(chains: &mut BTreeMap<Bytes, Chain>, floor: u64, key: &Bytes)
 }
 
 /// The value of a key at a version, or None where it has none.
-fn value_of<'a>(chains: &'a BTreeMap<Bytes, Chain>, version: u64, key: &Bytes) -> Option<&'a Bytes>
+fn value_of<'a>(chains: &'a BlockMap<Chain>, version: u64, key: &Bytes) -> Option<&'a Bytes>
     requires { AreFalling chains.now }
     ensures { option_copied result ≡ value_at version (links_at chains.now key.now) }
 {
@@ -95,7 +92,7 @@ fn value_of<'a>(chains: &'a BTreeMap<Bytes, Chain>, version: u64, key: &Bytes) -
 /// The sum of the value of a key at a version and an operand.
 fn sum_at(
     alloc: Global,
-    chains: &BTreeMap<Bytes, Chain>,
+    chains: &BlockMap<Chain>,
     version: u64,
     key: &Bytes,
     operand: &Bytes,
@@ -114,7 +111,7 @@ fn sum_at(
 /// The keys of the range that have a value at a version.
 fn keys_shown(
     alloc: Global,
-    chains: &BTreeMap<Bytes, Chain>,
+    chains: &BlockMap<Chain>,
     version: u64,
     range: &KeyRange,
 ) -> Result<Vec<Bytes>, AllocError>
@@ -123,7 +120,7 @@ fn keys_shown(
         keys.items ≡ keys_of (pairs_in (shown chains.now.entries version) range.now)) }
 {
     let mut keys = Vec::new(alloc);
-    for (key, chain) in chains.range(range.begin()..range.end()) {
+    for (key, chain) in chains.range(range.begin(), range.end()) {
         if chain.value_at(version).is_some() {
             keys.push(key.copy()?)?;
         }
@@ -132,7 +129,7 @@ fn keys_shown(
 }
 
 /// The next of the entries from the front, or with `reverse` from the back.
-fn next_of<'a>(rest: &mut Range<'a, Bytes, Chain>, reverse: bool) -> Option<(&'a Bytes, &'a Chain)>
+fn next_of<'a>(rest: &mut Range<'a, Chain>, reverse: bool) -> Option<(&'a Bytes, &'a Chain)>
     ensures { MatchOption result (turned reverse rest.old ≡ [])
         (λ entry. turned reverse rest.old ≡ (entry.0.now, entry.1.now) ∷ turned reverse rest.new) }
 {
@@ -151,7 +148,7 @@ impl Chains {
     {
         Chains {
             alloc,
-            chains: BTreeMap::new(alloc),
+            chains: BlockMap::new(alloc),
             written: Vec::new(alloc),
         }
     }
@@ -279,7 +276,7 @@ impl Chains {
             pairs.items ≡ read_of (shown self.now.chains.entries version) range.now limit reverse) }
     {
         let mut pairs = Vec::new(self.alloc);
-        let mut rest = self.chains.range(range.begin()..range.end());
+        let mut rest = self.chains.range(range.begin(), range.end());
         while pairs.len() < limit {
             let Some((key, chain)) = next_of(&mut rest, reverse) else {
                 break;
@@ -304,6 +301,16 @@ impl Chains {
                 pairs.push((key.copy()?, value.copy()?))?;
                 Ok(pairs)
             }
+        }
+    }
+
+    /// How many links a key has.
+    pub(crate) fn depth(&self, key: &Bytes) -> usize
+        ensures { result ≡ length (links_at self.now.chains key.now) }
+    {
+        match self.chains.get(key) {
+            Some(chain) => chain.len(),
+            None => 0,
         }
     }
 

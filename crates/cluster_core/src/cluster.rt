@@ -7,11 +7,13 @@ ghost use Rattle.kv_core.specs.Range.{point};
 ghost use Rattle.kv_core.specs.Read.{read_of};
 ghost use Rattle.cluster_core.specs.Cluster.{Did, HasPulled, HasSameServers, HasWholeLog, IsAllPulled};
 ghost use Rattle.cluster_core.specs.Cluster.{IsBehind, IsSomeBehind};
-ghost use Rattle.cluster_core.specs.Cluster.{database_at, may_pull, pull as with_pulled, tier_of, with_pipeline};
+ghost use Rattle.cluster_core.specs.Cluster.{database_at, forget as with_forgotten, may_pull, pull as with_pulled};
+ghost use Rattle.cluster_core.specs.Cluster.{tier_of, with_pipeline};
 ghost use Rattle.cluster_core.specs.Configuration.{config_refusal, first_cluster};
 ghost use Rattle.cluster_core.specs.History.{IsLegal};
 ghost use Rattle.cluster_core.specs.Roles.{AreInOrder, append as with_appended, history, may_append, may_report};
-ghost use Rattle.cluster_core.specs.Roles.{may_resolve, outcome, report as with_reported, resolve as with_resolved};
+ghost use Rattle.cluster_core.specs.Roles.{done_with, kept, may_resolve, outcome, report as with_reported};
+ghost use Rattle.cluster_core.specs.Roles.{resolve as with_resolved};
 ghost use Rattle.cluster_core.specs.Roles.{submit as with_submitted, submit_refusal, submitted};
 ghost use Rattle.cluster_core.specs.Tier.{refusal};
 
@@ -20,6 +22,7 @@ use crate::pipeline::{Pipeline, Ticket};
 use crate::tier::Tier;
 use kv_core::{Bytes, CommitRequest, KeyRange, Pair};
 use std::alloc::{AllocError, Global};
+use std::collections::VecDeque;
 use std::marker::Model;
 
 /// The whole cluster: the sequencer, the resolvers and the logs, and the storage servers, which
@@ -67,10 +70,12 @@ impl Cluster {
         self.pipeline.read_version()
     }
 
-    /// All requests that were submitted, in version order. Those of them that are committed make
-    /// a legal history: each would have read the same just before its own version.
-    pub fn requests(&self) -> &[CommitRequest]
-        ensures value { result.now ≡ self.now.pipeline.requests }
+    /// The requests that were submitted and are kept, in version order: all of them but those that
+    /// were forgotten. Those of all that are committed make a legal history: each would have read
+    /// the same just before its own version.
+    pub fn requests(&self) -> &VecDeque<CommitRequest>
+        ensures value { result.now.items ≡ kept self.now.pipeline }
+        ensures needed { self.now.pipeline.forgotten ≤ done_with self.now.pipeline }
         ensures legal { IsLegal (history self.now.pipeline) }
     {
         self.pipeline.requests()
@@ -162,6 +167,18 @@ impl Cluster {
         self.pipeline.report_lost()
     }
 
+    /// Keeps no bytes of the requests of which neither a role nor a server asks again: those that are
+    /// reported, older than the window, and pulled by every server.
+    pub fn forget(&mut self)
+        ensures step { self.new ≡ with_forgotten self.old }
+        ensures roles { HasSameServers self.old self.new }
+    {
+        let done = self
+            .tier
+            .pulled_by_all(self.pipeline.start(), self.pipeline.done_with());
+        self.pipeline.forget_before(done);
+    }
+
     /// Has a server apply the next version of its log, once the log has it, unless memory runs
     /// out for that, which leaves the cluster as it was.
     pub fn pull(&mut self, s: usize) -> Result<Work, AllocError>
@@ -202,6 +219,14 @@ impl Cluster {
             self.pull_log(s)?;
         }
         Ok(())
+    }
+
+    /// Whether a read of the range at a version is refused, as `Tier::check` says.
+    pub fn check(&self, range: &KeyRange, version: u64) -> Result<(), ReadError>
+        ensures allowed { OnOk result (IsNone (refusal (tier_of self.now) range.now version)) }
+        ensures refused { IfErr result (λ error. refusal (tier_of self.now) range.now version ≡ Some error) }
+    {
+        self.tier.check(range, version)
     }
 
     /// The pairs of the range in the database at a version: the first ones in the order of their

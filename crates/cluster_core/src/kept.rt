@@ -4,6 +4,7 @@ ghost use Rattle.std.specs.Prelude.{◌≡◌, ◌+◌, ◌-◌, ◌<◌, ◌≤
 ghost use Rattle.std.specs.Prelude.{OnOk, OnErr, false, length, Option, slice_get, Some};
 ghost use Rattle.kv_core.specs.Change.{write_range, write_ranges};
 ghost use Rattle.kv_core.specs.Range.{contains, covers, point};
+ghost use Rattle.kv_core.specs.declared.change.CommitRequest.{CommitRequest};
 ghost use Rattle.cluster_core.specs.History.{Entry};
 ghost use Rattle.cluster_core.specs.Decision.{cut, numbered, Owned, owns};
 ghost use Rattle.cluster_core.specs.Kept.{has_place, KeepsRecent, KnowsKeys, KnowsWriters, least_of};
@@ -14,8 +15,9 @@ ghost use Rattle.cluster_core.specs.Progress.{answer_of};
 ghost use Rattle.cluster_core.specs.Segments.{IsCovered, IsNewestOver, Overlays};
 
 use crate::part::Part;
+use crate::requests::Requests;
 use crate::segments::Segments;
-use kv_core::{Bytes, CommitRequest, KeyRange, Mutation};
+use kv_core::{Bytes, KeyRange, Mutation};
 use std::alloc::{AllocError, Global};
 use std::marker::Model;
 
@@ -95,33 +97,40 @@ fn put_all(
 fn put_request(
     segments: &mut Segments,
     part: &Part,
-    requests: &[CommitRequest],
+    requests: &Requests,
     place: usize,
 ) -> Result<(), AllocError>
-    requires { place < length requests.now }
-    ensures overlays { Overlays (writes_key requests.now place) place segments.old segments.new }
+    requires kept { requests.now.forgotten ≤ place }
+    requires inside { place < length requests.now.all }
+    ensures overlays { Overlays (writes_key requests.now.all place) place segments.old segments.new }
     ensures covered { OnOk result ((key : List ℕ) → IsTrue (owns part.now key) →
-        IsTrue (writes_key requests.now place key) → IsCovered segments.new key place) }
+        IsTrue (writes_key requests.now.all place key) → IsCovered segments.new key place) }
 {
-    let request = &requests[place];
+    let request = requests.at(place);
     put_all(segments, part, request.mutations.as_slice(), place)?;
     Ok(())
 }
 
-/// Puts the keys of the owner that the requests at these places write under their places.
+/// Puts the keys of the owner that the requests at these places write under their places, but for
+/// places before the least one, of which nobody asks.
 fn put_each(
     segments: &mut Segments,
     part: &Part,
-    requests: &[CommitRequest],
+    requests: &Requests,
+    least: usize,
     places: &[usize],
 ) -> Result<(), AllocError>
-    requires { IsTrue (rise_between zero (length requests.now) places.now) }
-    ensures puts { PutsEach requests.now places.now segments.old segments.new }
-    ensures covered { OnOk result ((key : List ℕ) (place : ℕ) →
+    requires kept { requests.now.forgotten ≤ least }
+    requires rising { IsTrue (rise_between zero (length requests.now.all) places.now) }
+    ensures puts { PutsEach requests.now.all places.now segments.old segments.new }
+    ensures covered { OnOk result ((key : List ℕ) (place : ℕ) → least ≤ place →
         IsTrue (has_place places.now place) → IsTrue (owns part.now key) →
-        IsTrue (writes_key requests.now place key) → IsCovered segments.new key place) }
+        IsTrue (writes_key requests.now.all place key) → IsCovered segments.new key place) }
 {
     for place in places {
+        if *place < least {
+            continue;
+        }
         put_request(segments, part, requests, *place)?;
     }
     Ok(())
@@ -144,19 +153,20 @@ fn cause_against(
     segments: &Segments,
     part: &Part,
     start: u64,
-    requests: &[CommitRequest],
+    requests: &Requests,
     place: usize,
 ) -> Result<Option<Cause>, AllocError>
-    requires inside { place < length requests.now }
-    requires fits { start + length requests.now < 2 ^ 64 }
-    requires below { ReadsBelow (numbered start requests.now) }
-    requires knows { let least = least_of start requests.now place in
-        KnowsKeys part.now start requests.now least place place segments.now }
-    ensures { let entries = numbered start requests.now in
+    requires kept { requests.now.forgotten ≤ place }
+    requires inside { place < length requests.now.all }
+    requires fits { start + length requests.now.all < 2 ^ 64 }
+    requires below { ReadsBelow (numbered start requests.now.all) }
+    requires knows { let least = least_of start requests.now.all place in
+        KnowsKeys part.now start requests.now.all least place place segments.now }
+    ensures { let entries = numbered start requests.now.all in
         IfOk result (λ cause. (entry : Entry) → slice_get entries place ≡ Some entry →
         cause ≡ answer_of part.now entries entry) }
 {
-    let request = &requests[place];
+    let request = requests.at(place);
     let least = request.read_version.saturating_sub(start) as usize;
     for range in request.reads.as_slice() {
         if let Some(newest) = newest_since(segments, part, range, least) {
@@ -206,6 +216,13 @@ impl Writers {
         }
     }
 
+    /// The place from which on it keeps ranges.
+    pub(crate) fn dropped(&self) -> usize
+        ensures { result ≡ self.now.dropped }
+    {
+        self.dropped
+    }
+
     /// Drops what stands under a place before this one, if a window has passed since the last time.
     /// So each entry is looked at no more than twice, and is gone after two windows.
     fn forget(&mut self, least: usize, window: usize)
@@ -223,25 +240,34 @@ impl Writers {
         self.dropped = least;
     }
 
-    /// Puts in order what waits, of the requests before a place.
+    /// Puts in order what waits, of the requests before a place, from the least one on of which
+    /// anybody asks.
     fn put_in_order(
         &mut self,
         part: &Part,
-        requests: &[CommitRequest],
+        requests: &Requests,
+        least: usize,
         upto: usize,
     ) -> Result<(), AllocError>
-        requires inside { upto ≤ length requests.now }
+        requires kept { requests.now.forgotten ≤ least }
+        requires inside { upto ≤ length requests.now.all }
         requires in_order { IsTrue (rise_between self.old.ordered upto self.old.pending) }
-        ensures ok { OnOk result ((start least : ℕ) →
-            KnowsWriters part.now start requests.now least upto self.old →
-            KnowsKeys part.now start requests.now least upto upto self.new.segments) }
-        ensures kept { (start least : ℕ) →
-            KnowsWriters part.now start requests.now least upto self.old →
-            KnowsWriters part.now start requests.now least upto self.new }
+        ensures ok { OnOk result ((start from : ℕ) → least ≤ from →
+            KnowsWriters part.now start requests.now.all from upto self.old →
+            KnowsKeys part.now start requests.now.all from upto upto self.new.segments) }
+        ensures kept { (start from : ℕ) → least ≤ from →
+            KnowsWriters part.now start requests.now.all from upto self.old →
+            KnowsWriters part.now start requests.now.all from upto self.new }
         ensures recent { (window next : ℕ) →
             KeepsRecent window next self.old → KeepsRecent window next self.new }
     {
-        put_each(&mut self.segments, part, requests, self.pending.as_slice())?;
+        put_each(
+            &mut self.segments,
+            part,
+            requests,
+            least,
+            self.pending.as_slice(),
+        )?;
         self.pending.clear();
         self.ordered = upto;
         Ok(())
@@ -259,32 +285,37 @@ impl Writers {
     }
 
     /// The cause against the request at a place by an owner, or None where the owner agrees to it.
+    /// Nobody asks of what stands before the floor.
     fn decide(
         &mut self,
         part: &Part,
         start: u64,
-        requests: &[CommitRequest],
+        requests: &Requests,
+        floor: usize,
         place: usize,
     ) -> Result<Option<Cause>, AllocError>
-        requires inside { place < length requests.now }
-        requires fits { start + length requests.now < 2 ^ 64 }
-        requires below { ReadsBelow (numbered start requests.now) }
-        requires knows { let least = least_of start requests.now place in
-            KnowsWriters part.now start requests.now least place self.old }
-        ensures cause { let entries = numbered start requests.now in
+        requires kept { requests.now.forgotten ≤ floor }
+        requires asks { floor ≤ least_of start requests.now.all place }
+        requires before { floor ≤ place }
+        requires inside { place < length requests.now.all }
+        requires fits { start + length requests.now.all < 2 ^ 64 }
+        requires below { ReadsBelow (numbered start requests.now.all) }
+        requires knows { let least = least_of start requests.now.all place in
+            KnowsWriters part.now start requests.now.all least place self.old }
+        ensures cause { let entries = numbered start requests.now.all in
             IfOk result (λ cause. (entry : Entry) → slice_get entries place ≡ Some entry →
             cause ≡ answer_of part.now entries entry) }
-        ensures kept { (least : ℕ) →
-            KnowsWriters part.now start requests.now least place self.old →
-            KnowsWriters part.now start requests.now least place self.new }
+        ensures kept { (least : ℕ) → floor ≤ least →
+            KnowsWriters part.now start requests.now.all least place self.old →
+            KnowsWriters part.now start requests.now.all least place self.new }
         ensures recent { (window next : ℕ) →
             KeepsRecent window next self.old → KeepsRecent window next self.new }
     {
-        let least = requests[place].read_version.saturating_sub(start) as usize;
+        let least = requests.at(place).read_version.saturating_sub(start) as usize;
         if !self.may_meet(least) {
             return Ok(None);
         }
-        self.put_in_order(part, requests, place)?;
+        self.put_in_order(part, requests, floor, place)?;
         cause_against(&self.segments, part, start, requests, place)
     }
 
@@ -295,28 +326,30 @@ impl Writers {
         part: &Part,
         start: u64,
         window: u64,
-        requests: &[CommitRequest],
+        requests: &Requests,
         place: usize,
     ) -> Result<Option<Cause>, AllocError>
-        requires inside { place < length requests.now }
-        requires fits { start + length requests.now < 2 ^ 64 }
-        requires below { ReadsBelow (numbered start requests.now) }
-        requires recent { ReadsWithin window (numbered start requests.now) }
-        requires knows { KnowsWriters part.now start requests.now (place - window) place self.old }
-        ensures cause { let entries = numbered start requests.now in
+        requires kept { requests.now.forgotten ≤ place - window }
+        requires inside { place < length requests.now.all }
+        requires fits { start + length requests.now.all < 2 ^ 64 }
+        requires below { ReadsBelow (numbered start requests.now.all) }
+        requires recent { ReadsWithin window (numbered start requests.now.all) }
+        requires knows { KnowsWriters part.now start requests.now.all (place - window) place self.old }
+        ensures cause { let entries = numbered start requests.now.all in
             IfOk result (λ cause. (entry : Entry) → slice_get entries place ≡ Some entry →
             cause ≡ answer_of part.now entries entry) }
         ensures grown { OnOk result
-            (KnowsWriters part.now start requests.now (place - window) (place + 1) self.new) }
+            (KnowsWriters part.now start requests.now.all (place - window) (place + 1) self.new) }
         ensures kept { OnErr result
-            (KnowsWriters part.now start requests.now (place - window) place self.new) }
+            (KnowsWriters part.now start requests.now.all (place - window) place self.new) }
         ensures recent_grown { KeepsRecent window place self.old →
             OnOk result (KeepsRecent window (place + 1) self.new) }
         ensures recent_kept { KeepsRecent window place self.old →
             OnErr result (KeepsRecent window place self.new) }
     {
-        self.forget(place.saturating_sub(window as usize), window as usize);
-        let cause = self.decide(part, start, requests, place)?;
+        let floor = place.saturating_sub(window as usize);
+        self.forget(floor, window as usize);
+        let cause = self.decide(part, start, requests, floor, place)?;
         if cause.is_none() {
             self.pending.push(place)?;
         }

@@ -1,9 +1,8 @@
 // The commit pipeline of optimistic concurrency control. Used by `cluster`, by `txn`, which commits
 // to it, and by `runtime`, which keeps it behind a lock.
-ghost use Rattle.std.specs.Prelude.{◌≡◌, ◌⊎◌, ℕ, List, [], slice_index, ◌+◌, ◌-◌, ◌<◌, ◌≤◌, Some, None};
+ghost use Rattle.std.specs.Prelude.{◌≡◌, ◌⊎◌, ◌*◌, ℕ, [], slice_index, ◌+◌, ◌-◌, ◌<◌, ◌≤◌, Some, None};
 ghost use Rattle.std.specs.Prelude.{IsNone, IfOk, IfErr, OnOk, OnErr, if◌then◌else◌, length, map};
-ghost use Rattle.std.specs.Prelude.{replicate, slice_get, true, nat_lt, All, ◌^◌, IsSome, IfSome, is_some};
-ghost use Rattle.std.specs.List.{list_all};
+ghost use Rattle.std.specs.Prelude.{replicate, slice_get, true, nat_lt, ◌^◌, IsSome, IfSome, is_some};
 ghost use Rattle.cluster_core.specs.History.{IsLegal};
 ghost use Rattle.cluster_core.specs.Decision.{log, owners};
 ghost use Rattle.cluster_core.specs.Configuration.{config_refusal, first_pipeline};
@@ -12,17 +11,18 @@ ghost use Rattle.cluster_core.specs.Roles.{AreInOrder, HasSameRoles, PipelineSta
 ghost use Rattle.cluster_core.specs.Roles.{submitted, submit_refusal};
 ghost use Rattle.cluster_core.specs.Roles.{submit as with_submitted, may_resolve, resolve as with_resolved, may_append};
 ghost use Rattle.cluster_core.specs.Roles.{append as with_appended, may_report, report as with_reported, outcome};
-ghost use Rattle.cluster_core.specs.Progress.{IsResolver, counts_of, first_kept};
-ghost use Rattle.cluster_core.specs.Progress.{fresh, has_agreed, owners_of, pipeline_state};
+ghost use Rattle.cluster_core.specs.Roles.{done_with, forget as with_forgotten, kept};
+ghost use Rattle.cluster_core.specs.Progress.{fresh, pipeline_state};
 
 use crate::answers::{Config, ConfigError, Reported, Splits, SubmitError, Work};
 use crate::config::refusal_of;
-use crate::kept::Cause;
-use crate::log::Log;
-use crate::part::{Part, parts_between};
-use crate::resolver::Resolver;
-use kv_core::{Bytes, CommitRequest, Mutation};
+use crate::log::{Log, all_logged, empty_logs, forget_each};
+use crate::part::parts_between;
+use crate::requests::Requests;
+use crate::resolver::{Resolver, all_agree, all_answered, resolvers_of, take_cause};
+use kv_core::{CommitRequest, Mutation};
 use std::alloc::{AllocError, Global};
+use std::collections::VecDeque;
 use std::marker::Model;
 
 /// The version that was given to a request.
@@ -53,13 +53,14 @@ impl Ticket {
 /// The sequencer, the resolvers and the logs.
 ///
 /// Each version passes them in turn: the sequencer gives it to a request, each resolver answers
-/// for it, each log appends it, and then it is reported.
+/// for it, each log appends it, and then it is reported. All requests are kept, until `forget` drops
+/// those of which no role asks again.
 #[derive(Debug, Drop)]
 pub struct Pipeline {
     window: u64,
     start: u64,
     splits: Splits,
-    requests: Vec<CommitRequest>,
+    requests: Requests,
     resolvers: Vec<Resolver>,
     logs: Vec<Log>,
     reported: usize,
@@ -72,70 +73,10 @@ impl Model for Pipeline {
     ghost Value = { PipelineState };
 
     ghost view = { λ a.
-        pipeline_state a.splits a.window a.start a.requests.items a.resolvers.items a.logs.items a.reported };
+        pipeline_state a.splits a.window a.start a.requests a.resolvers.items a.logs.items a.reported };
 
     ghost invariant = { λ a.
-        IsPipeline a.splits a.window a.start a.requests.items a.resolvers.items a.logs.items a.reported };
-}
-
-/// A resolver for each part of the keys.
-fn resolvers_of(alloc: Global, parts: Vec<Part>) -> Result<Vec<Resolver>, AllocError>
-    ensures { IfOk result (λ resolvers. resolvers.items ≡ map fresh parts.items) }
-{
-    parts
-        .into_iter()
-        .map(|part| Resolver::new(alloc, part))
-        .collect(alloc)
-}
-
-/// So many logs without requests.
-fn empty_logs(alloc: Global, count: u64) -> Result<Vec<Log>, AllocError>
-    ensures { IfOk result (λ logs. logs.items ≡ replicate count []) }
-{
-    let mut logs = Vec::new(alloc);
-    for _ in 0..count {
-        logs.push(Log::new(alloc))?;
-    }
-    Ok(logs)
-}
-
-/// Whether every resolver has answered for the request at a place.
-fn all_answered(resolvers: &[Resolver], place: usize) -> bool
-    ensures { result ≡ list_all (λ resolver. nat_lt place (length resolver.causes)) resolvers.now }
-{
-    resolvers.iter().all(|resolver| place < resolver.answered())
-}
-
-/// Whether every resolver has agreed to the request at a place.
-fn all_agree(resolvers: &[Resolver], place: usize) -> bool
-    ensures { result ≡ list_all (has_agreed place) resolvers.now }
-{
-    resolvers.iter().all(|resolver| resolver.has_agreed(place))
-}
-
-/// Whether every log has the request at a place.
-fn all_logged(logs: &[Log], place: usize) -> bool
-    ensures { result ≡ list_all (λ passes. nat_lt place (length passes)) logs.now }
-{
-    logs.iter().all(|log| place < log.len())
-}
-
-/// Takes the first cause against the request at a place from the resolver that has it.
-fn take_cause(resolvers: &mut [Resolver], place: usize) -> Option<Cause>
-    requires { All (λ resolver. place < length resolver.causes) resolvers.old }
-    ensures cause { result ≡ first_kept place resolvers.old }
-    ensures owners { owners_of resolvers.new ≡ owners_of resolvers.old }
-    ensures counts { counts_of resolvers.new ≡ counts_of resolvers.old }
-    ensures kept { (window start : ℕ) (requests : List CommitRequest) →
-        All (IsResolver window start requests place) resolvers.old →
-        All (IsResolver window start requests (place + 1)) resolvers.new }
-{
-    for resolver in resolvers.iter_mut() {
-        if let Some(cause) = resolver.take_cause(place) {
-            return Some(cause);
-        }
-    }
-    None
+        IsPipeline a.splits a.window a.start a.requests a.resolvers.items a.logs.items a.reported };
 }
 
 impl Pipeline {
@@ -175,7 +116,8 @@ impl Pipeline {
     ) -> Result<Pipeline, AllocError>
         requires { 1 ≤ logs }
         ensures { IfOk result (λ pipeline.
-            pipeline ≡ pipeline_state splits window start [] (map fresh (owners splits)) (replicate logs []) 0) }
+            pipeline ≡ pipeline_state splits window start (record { all = []; forgotten = 0 })
+            (map fresh (owners splits)) (replicate logs []) 0) }
     {
         let parts = parts_between(alloc, splits.as_slice())?;
         let resolvers = resolvers_of(alloc, parts)?;
@@ -184,7 +126,7 @@ impl Pipeline {
             window,
             start,
             splits,
-            requests: Vec::new(alloc),
+            requests: Requests::new(alloc),
             resolvers,
             logs,
             reported: 0,
@@ -200,13 +142,15 @@ impl Pipeline {
         self.start + self.reported as u64
     }
 
-    /// All requests that were submitted, in version order. Those of them that are committed make
-    /// a legal history: each would have read the same just before its own version.
-    pub fn requests(&self) -> &[CommitRequest]
-        ensures value { result.now ≡ self.now.requests }
+    /// The requests that were submitted and are kept, in version order: all of them but those that
+    /// were forgotten. Those of all that are committed make a legal history: each would have read
+    /// the same just before its own version.
+    pub fn requests(&self) -> &VecDeque<CommitRequest>
+        ensures value { result.now.items ≡ kept self.now }
+        ensures needed { self.now.forgotten ≤ done_with self.now }
         ensures legal { IsLegal (history self.now) }
     {
-        self.requests.as_slice()
+        self.requests.kept()
     }
 
     /// The number of resolvers.
@@ -214,6 +158,15 @@ impl Pipeline {
         ensures { result ≡ length self.now.resolved }
     {
         self.resolvers.len()
+    }
+
+    /// Of how many versions, the last ones for which it has answered, a resolver keeps what was
+    /// written: those of two windows at most, or of one version where the window is 0.
+    pub fn depth(&self, r: usize) -> usize
+        requires { r < length self.now.resolved }
+        ensures { result ≤ 2 * self.now.window + (1 - self.now.window) }
+    {
+        self.resolvers[r].depth()
     }
 
     /// The number of logs.
@@ -270,7 +223,7 @@ impl Pipeline {
         if self.resolvers[r].answered() == self.requests.len() {
             return Ok(Work::NothingToDo);
         }
-        self.resolvers[r].answer_next(self.start, self.window, self.requests.as_slice())?;
+        self.resolvers[r].answer_next(self.start, self.window, &self.requests)?;
         Ok(Work::Done)
     }
 
@@ -307,7 +260,7 @@ impl Pipeline {
     {
         let place = self.reported;
         let version = self.start + place as u64 + 1;
-        let cause = take_cause(self.resolvers.as_mut_slice(), place);
+        let cause = take_cause(self.resolvers.as_mut_slice());
         self.reported = place + 1;
         match cause {
             Some(cause) => Reported::Conflict {
@@ -345,15 +298,51 @@ impl Pipeline {
         Work::Done
     }
 
+    /// Keeps no bytes of the requests before a place.
+    pub(crate) fn forget_before(&mut self, place: usize)
+        requires from { self.old.forgotten ≤ place }
+        requires upto { place ≤ done_with self.old }
+        ensures { self.new ≡ record self.old { forgotten = place } }
+    {
+        self.requests.forget(place);
+        forget_each(self.logs.as_mut_slice(), place);
+    }
+
+    /// The version at which the clocks began.
+    pub(crate) fn start(&self) -> u64
+        ensures { result ≡ self.now.start }
+    {
+        self.start
+    }
+
+    /// How many requests, the first ones, no role asks for again.
+    pub(crate) fn done_with(&self) -> usize
+        ensures value { result ≡ done_with self.now }
+        ensures forgotten { self.now.forgotten ≤ result }
+    {
+        self.reported.saturating_sub(self.window as usize)
+    }
+
+    /// Keeps no bytes of the requests of which no role asks again: those that are reported, and older
+    /// than the window. What is kept then is no more than the window and what isn't reported.
+    pub fn forget(&mut self)
+        ensures step { self.new ≡ with_forgotten self.old }
+        ensures bound { length (kept self.new) ≤ self.new.window + (submitted self.new - self.new.reported) }
+        ensures roles { HasSameRoles self.old self.new }
+    {
+        self.forget_before(self.done_with());
+    }
+
     /// What a log has of the request at a place: its mutations where it is committed, and else
     /// nothing.
     pub(crate) fn logged(&self, l: usize, place: usize) -> &[Mutation]
         requires log { l < length self.now.logged }
+        requires kept { self.now.forgotten ≤ place }
         requires place { self.now.start + place < slice_index self.now.logged l }
         ensures { slice_get (log self.now.splits (entries self.now)) place ≡ Some result.now }
     {
         if self.logs[l].passes(place) {
-            self.requests[place].mutations.as_slice()
+            self.requests.at(place).mutations.as_slice()
         } else {
             &[]
         }
@@ -362,7 +351,7 @@ impl Pipeline {
     /// What a log has of the version after this one, or None where it doesn't have it yet.
     pub(crate) fn logged_after(&self, l: usize, version: u64) -> Option<&[Mutation]>
         requires log { l < length self.now.logged }
-        requires from { self.now.start ≤ version }
+        requires kept { self.now.start + self.now.forgotten ≤ version }
         ensures some { IfSome result (λ mutations.
             slice_get (log self.now.splits (entries self.now)) (version - self.now.start) ≡ Some mutations.now) }
         ensures given { IsSome result → version < submitted self.now }

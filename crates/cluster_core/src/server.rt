@@ -9,7 +9,8 @@ ghost use Rattle.kv_core.specs.Change.{write_range};
 ghost use Rattle.kv_core.specs.Map.{after_all};
 ghost use Rattle.kv_core.specs.Range.{has_keys};
 ghost use Rattle.kv_core.specs.Read.{read_of};
-ghost use Rattle.cluster_core.specs.Chains.{AreBelow, AreFalling, Writes, shown};
+ghost use Rattle.cluster_core.specs.Chains.{AreBelow, AreFalling, Writes, links_at, shown};
+ghost use Rattle.cluster_core.specs.Cluster.{done_with_by};
 ghost use Rattle.cluster_core.specs.Decision.{cut, owns};
 ghost use Rattle.cluster_core.specs.Server.{IsAtRest, IsServer, IsStaged, first_server, next_map};
 ghost use Rattle.cluster_core.specs.Server.{owner_of, pairs_at, server_state, turned};
@@ -218,10 +219,10 @@ impl Server {
         ensures { result ≡ (if has_keys (cut (owner_of self.now) range.now)
             then refusal_of window (server_state self.now) version else None) }
     {
-        if self.part.meets(range) {
-            self.refusal_at(window, version)
-        } else {
-            None
+        // The version comes first, since it is there for most reads, and the range isn't compared then.
+        match self.refusal_at(window, version) {
+            Some(error) if self.part.meets(range) => Some(error),
+            _ => None,
         }
     }
 
@@ -235,6 +236,13 @@ impl Server {
             return None;
         }
         self.chains.value(key, self.version - back)
+    }
+
+    /// How many values of a key are kept.
+    pub(crate) fn depth(&self, key: &Bytes) -> usize
+        ensures { result ≡ length (links_at self.now.chains.chains key.now) }
+    {
+        self.chains.depth(key)
     }
 
     /// The pairs of the range in the map at a version, as `Chains::read` gives them.
@@ -255,6 +263,19 @@ impl Server {
         }
         self.chains.read(range, self.version - back, limit, reverse)
     }
+}
+
+/// How many versions after the start each of the servers has applied, or this many where that is
+/// less.
+pub(crate) fn least_pulled(servers: &[Server], start: u64, most: usize) -> usize
+    ensures { result ≡ done_with_by start most (map (λ server. server.version) servers.now) }
+{
+    let Some((server, others)) = servers.split_first() else {
+        return most;
+    };
+    let own = server.version.saturating_sub(start) as usize;
+    let all = least_pulled(others, start, most);
+    if own <= all { own } else { all }
 }
 
 /// Whether each of the servers has a version left.

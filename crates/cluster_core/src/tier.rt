@@ -1,11 +1,12 @@
 // The storage servers together, which share out the keys. Used by `cluster`, by `txn`, which reads
 // from it, and by `runtime`, which publishes it to readers.
-ghost use Rattle.std.specs.Prelude.{◌≡◌, ℕ, ◌⊎◌, ◌+◌, ◌<◌, ◌^◌, ◌↔◌, Some, IsTrue, IsNone, IfOk};
+ghost use Rattle.std.specs.Prelude.{◌≡◌, ℕ, ◌⊎◌, ◌+◌, ◌<◌, ◌≤◌, ◌^◌, ◌↔◌, Some, IsTrue, IsNone, IfOk};
 ghost use Rattle.std.specs.Prelude.{IfErr, OnOk, OnErr, All, length, map, slice_get, slice_set};
 ghost use Rattle.std.specs.FinMap.{get};
 ghost use Rattle.std.specs.List.{AllByRecursion};
 ghost use Rattle.kv_core.specs.Range.{point};
 ghost use Rattle.kv_core.specs.Read.{read_of};
+ghost use Rattle.cluster_core.specs.Cluster.{done_with_by};
 ghost use Rattle.cluster_core.specs.Configuration.{config_refusal, first_tier};
 ghost use Rattle.cluster_core.specs.Decision.{Owned, owners};
 ghost use Rattle.cluster_core.specs.Server.{IsServer, first_server, owner_of, server_state};
@@ -14,7 +15,9 @@ ghost use Rattle.cluster_core.specs.Tier.{ServerState, absorb, absorb_all, refus
 use crate::answers::{Config, ConfigError, ReadError, Splits};
 use crate::config::refusal_of;
 use crate::part::{Part, parts_between};
-use crate::server::{Server, have_next, owner_among, pull_each, read_each, refusal_among};
+use crate::server::{
+    Server, have_next, least_pulled, owner_among, pull_each, read_each, refusal_among,
+};
 use kv_core::{Bytes, KeyRange, Mutation, Pair};
 use std::alloc::{AllocError, Global};
 use std::marker::Model;
@@ -101,6 +104,13 @@ impl Tier {
         self.servers[s].version()
     }
 
+    /// How many versions after the start every server has applied, or this many where that is less.
+    pub(crate) fn pulled_by_all(&self, start: u64, most: usize) -> usize
+        ensures { result ≡ done_with_by start most (map (λ server. server.version) self.now.servers) }
+    {
+        least_pulled(self.servers.as_slice(), start, most)
+    }
+
     /// Whether there is a version left for `pull_entry`.
     pub fn has_next(&self) -> bool
         ensures { IsTrue result ↔ All (λ server. server.version + 1 < 2 ^ 64) self.now.servers }
@@ -134,6 +144,29 @@ impl Tier {
         let server = &mut self.servers[s];
         server.pull(window, mutations)?;
         Ok(())
+    }
+
+    /// How many values of a key are kept: those that a version of the window still shows, so no more
+    /// than one more than the window is long.
+    pub fn depth(&self, key: &Bytes) -> usize
+        ensures { result ≤ self.now.window + 1 }
+    {
+        match owner_among(self.servers.as_slice(), key) {
+            Some(server) => server.depth(key),
+            None => 0,
+        }
+    }
+
+    /// Whether a read of the range at a version is refused, which takes no memory. It is refused as
+    /// `read` is, apart from memory.
+    pub fn check(&self, range: &KeyRange, version: u64) -> Result<(), ReadError>
+        ensures allowed { OnOk result (IsNone (refusal self.now range.now version)) }
+        ensures refused { IfErr result (λ error. refusal self.now range.now version ≡ Some error) }
+    {
+        match refusal_among(self.servers.as_slice(), self.window, range, version) {
+            Some(error) => Err(error),
+            None => Ok(()),
+        }
     }
 
     /// The pairs of the range at a version: the first ones in the order of their keys, or with

@@ -107,4 +107,8 @@ impl Snapshot for Partial<'_> {
         }
         Ok(value)
     }
+
+    fn check(&self, _range: &KeyRange, _version: u64) -> Result<(), ReadError> {
+        Ok(())
+    }
 }

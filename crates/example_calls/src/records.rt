@@ -66,7 +66,7 @@ fn pairs(alloc: Global, schema: &Schema, new: &Record) -> Option<usize> {
         state,
         false,
         None,
-        Some(new),
+        Some(&new.lend()),
         &mut into,
     )
     .ok()?;

@@ -1,5 +1,5 @@
 -- The keys of entries, and those of built ranges, come before the end of the keys, where the store's prefix does.
-use Rattle.std.proofs.Common.{◌≡◌, ℕ, true, List, [], ◌∷◌, ◌++◌, append_assoc, refl, ap, ◌∙◌, pos}
+use Rattle.std.proofs.Common.{◌≡◌, ℕ, true, List, [], ◌∷◌, ◌++◌, append-nil, append_assoc, refl, sym, ap, ◌∙◌, pos}
 use Rattle.std.specs.Ordering.{is_lt, nat_cmp, ordering_then}
 use Rattle.std.specs.declared.cmp.Ordering.{Ordering}
 use Rattle.std.specs.declared.cmp.Ordering.TheVariants.{Less, Equal, Greater}
@@ -44,3 +44,9 @@ pub place_below : (prefix : List ℕ) (number : ℕ) (made : List ℕ) → key_l
 place_below prefix number made low is =
     ap (λ k. key_lt k end_of_keys) is
     ∙ below_behind prefix (int_spelling (pos 6) ++ (int_spelling (pos number) ++ [])) low (built_below (int_spelling (pos number) ++ []))
+
+-- two packs that were appended behind the prefix, one after another
+pub two_behind : (prefix start first second one two three : List ℕ) → start ≡ [] → one ≡ start ++ prefix → two ≡ one ++ first → three ≡ two ++ second → three ≡ prefix ++ (first ++ (second ++ []))
+two_behind prefix start first second one two three empty is then last =
+    last ∙ ap (λ k. k ++ second) (then ∙ ap (λ k. k ++ first) (is ∙ ap (λ k. k ++ prefix) empty)) ∙ append_assoc prefix first second
+    ∙ ap (λ k. prefix ++ (first ++ k)) (sym (append-nil second))

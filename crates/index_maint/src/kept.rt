@@ -10,7 +10,7 @@ ghost use Rattle.index_maint.specs.Kept.{build_writes, changes_by, kept_writes, 
 
 use crate::maintainer::{CountIndex, Maintainer, SumIndex, ValueIndex};
 use kv_core::Mutation;
-use metadata::{Cells, IndexDefinition, IndexKind, Record, State};
+use metadata::{Cells, IndexDefinition, IndexKind, Record, RecordRef, State};
 use std::alloc::{AllocError, Global};
 use tuple_codec::pack;
 
@@ -31,8 +31,8 @@ fn push_changes_by(
     alloc: Global,
     prefix: &[u8],
     index: &IndexDefinition,
-    old: Option<&Record>,
-    new: Option<&Record>,
+    old: Option<&RecordRef<'_>>,
+    new: Option<&RecordRef<'_>>,
     mutations: &mut Vec<Mutation>,
 ) -> Result<(), AllocError>
     requires { IsTrue (key_lt prefix.now end_of_keys) }
@@ -54,8 +54,8 @@ fn push_part_changes(
     prefix: &[u8],
     index: &IndexDefinition,
     at_built: bool,
-    old: Option<&Record>,
-    new: Option<&Record>,
+    old: Option<&RecordRef<'_>>,
+    new: Option<&RecordRef<'_>>,
     mutations: &mut Vec<Mutation>,
 ) -> Result<(), AllocError>
     requires { IsTrue (key_lt prefix.now end_of_keys) }
@@ -85,8 +85,8 @@ pub fn push_kept_changes(
     index: &IndexDefinition,
     state: State,
     at_built: bool,
-    old: Option<&Record>,
-    new: Option<&Record>,
+    old: Option<&RecordRef<'_>>,
+    new: Option<&RecordRef<'_>>,
     mutations: &mut Vec<Mutation>,
 ) -> Result<(), AllocError>
     requires { IsTrue (key_lt prefix.now end_of_keys) }
@@ -118,7 +118,7 @@ pub fn push_build(
         ≡ mutations.old.items ++ build_writes prefix.now index.now records.now) }
 {
     for one in records {
-        push_changes_by(alloc, prefix, index, None, Some(one), mutations)?;
+        push_changes_by(alloc, prefix, index, None, Some(&one.lend()), mutations)?;
     }
     Ok(())
 }

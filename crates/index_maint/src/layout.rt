@@ -1,25 +1,28 @@
-// The key prefixes of an index. Called by `entry` and `total`, and by `record_store`,
+// The key prefixes of an index. Called by `maintainer` and `total`, and by `record_store`,
 // `online_builder` and `plan_exec`.
 ghost use Rattle.std.specs.Prelude.{◌≡◌, ◌∷◌, [], IfOk, IsTrue, pos};
 ghost use Rattle.tuple_codec.specs.Item.{int};
+ghost use Rattle.tuple_codec.specs.Subspace.{subspace_key};
 ghost use Rattle.kv_core.specs.Bytes.{end_of_keys, key_lt};
 ghost use Rattle.index_maint.specs.Layout.{built_place, entries_prefix};
 
 use metadata::{PLACE_OF_BUILT_RANGES, PLACE_OF_ENTRIES};
 use std::alloc::{AllocError, Global};
-use tuple_codec::{Element, Tuple, TupleInt, pack_into};
+use tuple_codec::{TupleInt, pack_int};
 
-// The tuple of two numbers.
-fn pair_tuple(alloc: Global, first: u64, second: u64) -> Result<Tuple, AllocError>
-    ensures { IfOk result (λ tuple. tuple ≡ int (pos first) ∷ int (pos second) ∷ []) }
+// Room for the key of an entry behind a store's prefix, as long as it mostly is.
+const KEY_ROOM: usize = 48;
+
+// The prefix, and the pack of these two numbers.
+fn place_under(alloc: Global, prefix: &[u8], place: u64, number: u64) -> Result<Vec<u8>, AllocError>
+    ensures { IfOk result (λ bytes.
+        bytes.items ≡ subspace_key prefix.now (int (pos place) ∷ int (pos number) ∷ [])) }
 {
-    let mut elements = Vec::new(alloc);
-    elements.push(Element::Int(TupleInt::from(first)))?;
-    elements.push(Element::Int(TupleInt::from(second)))?;
-    match Tuple::new(elements) {
-        Ok(tuple) => Ok(tuple),
-        Err(_) => unreachable!(),
-    }
+    let mut bytes = Vec::with_capacity(alloc, prefix.len().saturating_add(KEY_ROOM))?;
+    bytes.extend_from_slice(prefix)?;
+    pack_int(TupleInt::from(place), &mut bytes)?;
+    pack_int(TupleInt::from(number), &mut bytes)?;
+    Ok(bytes)
 }
 
 /// What the key of each entry of the index with this number begins with, under a store's prefix:
@@ -27,10 +30,7 @@ fn pair_tuple(alloc: Global, first: u64, second: u64) -> Result<Tuple, AllocErro
 pub fn entries_prefix(alloc: Global, prefix: &[u8], number: u64) -> Result<Vec<u8>, AllocError>
     ensures { IfOk result (λ bytes. bytes.items ≡ entries_prefix prefix.now number) }
 {
-    let tuple = pair_tuple(alloc, PLACE_OF_ENTRIES, number)?;
-    let mut bytes = Vec::from_slice(alloc, prefix)?;
-    pack_into(&tuple, &mut bytes)?;
-    Ok(bytes)
+    place_under(alloc, prefix, PLACE_OF_ENTRIES, number)
 }
 
 /// What the key of each built range of the index with this number begins with, under a store's
@@ -40,8 +40,5 @@ pub fn built_place(alloc: Global, prefix: &[u8], number: u64) -> Result<Vec<u8>,
     ensures below { IfOk result (λ place.
         IsTrue (key_lt prefix.now end_of_keys) → IsTrue (key_lt place.items end_of_keys)) }
 {
-    let tuple = pair_tuple(alloc, PLACE_OF_BUILT_RANGES, number)?;
-    let mut place = Vec::from_slice(alloc, prefix)?;
-    pack_into(&tuple, &mut place)?;
-    Ok(place)
+    place_under(alloc, prefix, PLACE_OF_BUILT_RANGES, number)
 }

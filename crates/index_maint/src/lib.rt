@@ -3,7 +3,6 @@
 //! A call answers `AllocError` only where memory is wanting.
 #![tactic(auto)]
 
-mod entry;
 mod kept;
 mod laws;
 mod layout;

@@ -1,17 +1,20 @@
 // Index maintenance by kind, behind one trait. Called by `kept`.
-ghost use Rattle.std.specs.Prelude.{◌≡◌, ◌++◌, IfOk, IsTrue, OnOk, Some};
-ghost use Rattle.std.specs.Option.{option_copied, option_map};
+ghost use Rattle.std.specs.Prelude.{◌≡◌, ◌++◌, [], IfOk, IsTrue, OnOk, Some};
+ghost use Rattle.std.specs.Option.{option_copied};
 ghost use Rattle.kv_core.specs.Bytes.{end_of_keys, key_lt};
-ghost use Rattle.index_maint.specs.Changes.{HasEntries, entry_changes, value_changes};
-ghost use Rattle.index_maint.specs.Entries.{entry_of};
+ghost use Rattle.kv_core.specs.Range.{point};
+ghost use Rattle.kv_core.specs.declared.change.Mutation.TheVariants.{ClearRange, Set};
+ghost use Rattle.index_maint.specs.Changes.{HasEntries, value_changes};
+ghost use Rattle.index_maint.specs.Entries.{HasItems, entry_of};
+ghost use Rattle.index_maint.specs.Layout.{entry_key};
 ghost use Rattle.index_maint.specs.Laws.{Follows, HasWithin, IgnoresOthers, Keeping};
 ghost use Rattle.index_maint.specs.Laws.{OnlyChanges, WritesWithin, Writing};
 ghost use Rattle.index_maint.specs.Totals.{HasCounts, HasSums, count_changes, sum_changes};
 
-use crate::entry::Entry;
+use crate::layout::entries_prefix;
 use crate::total::{count_part, push_parts, sum_part};
-use kv_core::Mutation;
-use metadata::{IndexDefinition, Record};
+use kv_core::{Bytes, KeyRange, Mutation};
+use metadata::{IndexDefinition, RecordRef};
 use std::alloc::{AllocError, Global};
 
 /// How an index of one kind is kept, under a store's prefix.
@@ -42,8 +45,8 @@ pub trait Maintainer {
         alloc: Global,
         prefix: &[u8],
         index: &IndexDefinition,
-        old: Option<&Record>,
-        new: Option<&Record>,
+        old: Option<&RecordRef<'_>>,
+        new: Option<&RecordRef<'_>>,
         mutations: &mut Vec<Mutation>,
     ) -> Result<(), AllocError>
         requires { IsTrue (key_lt prefix.now end_of_keys) }
@@ -55,8 +58,8 @@ pub trait Maintainer {
         alloc: Global,
         prefix: &[u8],
         index: &IndexDefinition,
-        old: Option<&Record>,
-        new: Option<&Record>,
+        old: Option<&RecordRef<'_>>,
+        new: Option<&RecordRef<'_>>,
     ) -> Result<Vec<Mutation>, AllocError>
         requires { IsTrue (key_lt prefix.now end_of_keys) }
         ensures { IfOk result (λ mutations.
@@ -72,59 +75,64 @@ pub trait Maintainer {
 #[derive(Drop)]
 pub struct ValueIndex {}
 
-// The entry of a record, if there is one.
-fn entry_if(
+// The key of the entry of a record.
+fn entry_key(
     alloc: Global,
+    prefix: &[u8],
     index: &IndexDefinition,
-    one: Option<&Record>,
-) -> Result<Option<Entry>, AllocError>
-    ensures { IfOk result (λ entry. entry ≡ option_map (entry_of index.now) (option_copied one.entry)) }
+    one: &RecordRef<'_>,
+) -> Result<Bytes, AllocError>
+    requires { IsTrue (key_lt prefix.now end_of_keys) }
+    ensures key { IfOk result (λ key.
+        key ≡ entry_key prefix.now index.now.number (entry_of index.now one.now)) }
+    ensures below { IfOk result (λ key. IsTrue (key_lt key end_of_keys)) }
+    ensures items { OnOk result (HasItems (entry_of index.now one.now)) }
 {
-    match one {
-        Some(one) => Ok(Some(Entry::of(alloc, index, one)?)),
-        None => Ok(None),
+    let mut key = entries_prefix(alloc, prefix, index.number)?;
+    one.cells().push_pack_at(&index.columns, &mut key)?;
+    one.push_primary_key(&mut key)?;
+    Ok(Bytes::new(key))
+}
+
+// What takes the entry with this key out.
+fn clear(alloc: Global, key: &Bytes) -> Result<Mutation, AllocError>
+    requires { IsTrue (key_lt key.now end_of_keys) }
+    ensures { IfOk result (λ mutation. mutation ≡ ClearRange (point key.now)) }
+{
+    let range = KeyRange::point(alloc, key)?;
+    Ok(Mutation::ClearRange(range))
+}
+
+// What puts the entry with this key in.
+fn set(alloc: Global, key: Bytes) -> Mutation
+    ensures { result ≡ Set key [] }
+{
+    Mutation::Set {
+        key,
+        value: Bytes::new(Vec::new(alloc)),
     }
 }
 
-// What is to be written where one entry gives way to another, which is not the same.
+// What is to be written where the entry of one record gives way to that of another one.
 fn push_replacement(
     alloc: Global,
     prefix: &[u8],
-    number: u64,
-    old: &Entry,
-    new: &Entry,
+    index: &IndexDefinition,
+    old: &RecordRef<'_>,
+    new: &RecordRef<'_>,
     mutations: &mut Vec<Mutation>,
 ) -> Result<(), AllocError>
     requires { IsTrue (key_lt prefix.now end_of_keys) }
     ensures { OnOk result (mutations.new.items
-        ≡ mutations.old.items ++ entry_changes prefix.now number (Some old.now) (Some new.now)) }
+        ≡ mutations.old.items ++ value_changes prefix.now index.now (Some old.now) (Some new.now)) }
 {
-    if old.is_same(alloc, new)? {
+    let gone = entry_key(alloc, prefix, index, old)?;
+    let come = entry_key(alloc, prefix, index, new)?;
+    if gone.compare(&come).is_eq() {
         return Ok(());
     }
-    mutations.push(old.clear(alloc, prefix, number)?)?;
-    mutations.push(new.set(alloc, prefix, number)?)?;
-    Ok(())
-}
-
-// What is to be written where one entry, if there is one, gives way to another, if there is one.
-fn push_entries(
-    alloc: Global,
-    prefix: &[u8],
-    number: u64,
-    old: Option<Entry>,
-    new: Option<Entry>,
-    mutations: &mut Vec<Mutation>,
-) -> Result<(), AllocError>
-    requires { IsTrue (key_lt prefix.now end_of_keys) }
-    ensures { OnOk result (mutations.new.items ≡ mutations.old.items ++ entry_changes prefix.now number old new) }
-{
-    match (old, new) {
-        (Some(old), Some(new)) => push_replacement(alloc, prefix, number, &old, &new, mutations)?,
-        (Some(old), None) => mutations.push(old.clear(alloc, prefix, number)?)?,
-        (None, Some(new)) => mutations.push(new.set(alloc, prefix, number)?)?,
-        (None, None) => {}
-    }
+    mutations.push(clear(alloc, &gone)?)?;
+    mutations.push(set(alloc, come))?;
     Ok(())
 }
 
@@ -139,13 +147,23 @@ impl Maintainer for ValueIndex {
         alloc: Global,
         prefix: &[u8],
         index: &IndexDefinition,
-        old: Option<&Record>,
-        new: Option<&Record>,
+        old: Option<&RecordRef<'_>>,
+        new: Option<&RecordRef<'_>>,
         mutations: &mut Vec<Mutation>,
     ) -> Result<(), AllocError> {
-        let old = entry_if(alloc, index, old)?;
-        let new = entry_if(alloc, index, new)?;
-        push_entries(alloc, prefix, index.number, old, new, mutations)
+        match (old, new) {
+            (Some(old), Some(new)) => push_replacement(alloc, prefix, index, old, new, mutations)?,
+            (Some(old), None) => {
+                let key = entry_key(alloc, prefix, index, old)?;
+                mutations.push(clear(alloc, &key)?)?;
+            }
+            (None, Some(new)) => {
+                let key = entry_key(alloc, prefix, index, new)?;
+                mutations.push(set(alloc, key))?;
+            }
+            (None, None) => {}
+        }
+        Ok(())
     }
 }
 
@@ -165,8 +183,8 @@ impl Maintainer for CountIndex {
         alloc: Global,
         prefix: &[u8],
         index: &IndexDefinition,
-        old: Option<&Record>,
-        new: Option<&Record>,
+        old: Option<&RecordRef<'_>>,
+        new: Option<&RecordRef<'_>>,
         mutations: &mut Vec<Mutation>,
     ) -> Result<(), AllocError> {
         let old = count_part(alloc, index, old)?;
@@ -198,8 +216,8 @@ impl Maintainer for SumIndex {
         alloc: Global,
         prefix: &[u8],
         index: &IndexDefinition,
-        old: Option<&Record>,
-        new: Option<&Record>,
+        old: Option<&RecordRef<'_>>,
+        new: Option<&RecordRef<'_>>,
         mutations: &mut Vec<Mutation>,
     ) -> Result<(), AllocError> {
         let old = sum_part(alloc, index, old)?;

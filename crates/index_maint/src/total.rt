@@ -10,10 +10,10 @@ ghost use Rattle.index_maint.specs.Totals.{part_changes, part_of, same_group, su
 
 use crate::layout::entries_prefix;
 use kv_core::{Bytes, Mutation};
-use metadata::{Cell, Cells, IndexDefinition, Record};
+use metadata::{Cell, Cells, IndexDefinition, RecordRef};
 use std::alloc::{AllocError, Global};
 use std::marker::Model;
-use tuple_codec::{compare, pack_into};
+use tuple_codec::compare;
 
 /// What a record counts in a total, modulo 2^64, and in which group: the cells of the index's columns.
 #[derive(Drop)]
@@ -62,9 +62,8 @@ pub fn group_key(
         IsTrue (key_lt prefix.now end_of_keys) → IsTrue (key_lt key end_of_keys)) }
     ensures cells { OnOk result (All IsCell group.now) }
 {
-    let cells = group.tuple(alloc)?;
     let mut key = entries_prefix(alloc, prefix, number)?;
-    pack_into(&cells, &mut key)?;
+    group.push_pack(&mut key)?;
     Ok(Bytes::new(key))
 }
 
@@ -200,7 +199,7 @@ pub(crate) fn push_parts(
 }
 
 // What the field at this place counts in a sum.
-fn amount_at(one: &Record, place: Option<usize>) -> u64
+fn amount_at(one: &RecordRef<'_>, place: Option<usize>) -> u64
     ensures { result ≡ summed_share place one.now }
 {
     match place {
@@ -216,7 +215,7 @@ fn amount_at(one: &Record, place: Option<usize>) -> u64
 pub(crate) fn count_part(
     alloc: Global,
     index: &IndexDefinition,
-    one: Option<&Record>,
+    one: Option<&RecordRef<'_>>,
 ) -> Result<Option<Part>, AllocError>
     ensures { IfOk result (λ part.
         part ≡ option_map (part_of count_share index.now) (option_copied one.entry)) }
@@ -234,7 +233,7 @@ pub(crate) fn count_part(
 pub(crate) fn sum_part(
     alloc: Global,
     index: &IndexDefinition,
-    one: Option<&Record>,
+    one: Option<&RecordRef<'_>>,
 ) -> Result<Option<Part>, AllocError>
     ensures { IfOk result (λ part.
         part ≡ option_map (part_of sum_share index.now) (option_copied one.entry)) }

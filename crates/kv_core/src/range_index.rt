@@ -1,44 +1,23 @@
-// The search index beside a list of ranges. Used by `range_list`.
-ghost use Rattle.std.specs.Prelude.{◌≡◌, [], List, ℕ, IsTrue, IfOk, OnOk, OnErr, MatchBool};
+// The search index beside a long list of ranges. Used by `range_list`.
+ghost use Rattle.std.specs.Prelude.{◌≡◌, [], List, IfOk, OnOk, OnErr};
 ghost use Rattle.std.specs.List.{list_any};
-ghost use Rattle.kv_core.specs.Bytes.{has_key};
-ghost use Rattle.kv_core.specs.Range.{KeyRange as Range, any_meets, contains, is_same_range, point};
+ghost use Rattle.kv_core.specs.Range.{KeyRange as Range, is_same_range};
 ghost use Rattle.kv_core.specs.RangeIndex.{IsIndexOf, IsKept, IsMore};
 
 use crate::bytes::Bytes;
-use crate::coverage::Coverage;
 use crate::range::KeyRange;
 use std::alloc::{AllocError, Global};
 use std::collections::{BTreeSet, HashSet};
 
-/// What is known of a list of ranges: the keys whose points are in it, its other ranges in their
-/// order, and the keys that these cover.
+/// What is known of a list of ranges: the keys whose points are in it, and its other ranges in
+/// their order.
 ///
 /// Most ranges that a transaction reads are points, which are noted and looked for by their key's
-/// hash alone. So to ask which keys lie in another range takes going over the points.
+/// hash alone.
 #[derive(Debug, Drop)]
 pub(crate) struct RangeIndex {
     points: HashSet<Bytes>,
     known: BTreeSet<KeyRange>,
-    coverage: Coverage,
-}
-
-/// Whether one of the keys lies in the range.
-fn has_between(points: &HashSet<Bytes>, range: &KeyRange) -> bool
-    ensures { MatchBool result
-        ((key : List ℕ) × IsTrue (contains range.now key) × IsTrue (has_key points.now.keys key))
-        ((key : List ℕ) → IsTrue (contains range.now key)
-        → IsTrue (has_key points.now.keys key) → ⊥) }
-{
-    if range.is_point() {
-        return points.contains(range.begin());
-    }
-    for key in points {
-        if range.contains(key) {
-            return true;
-        }
-    }
-    false
 }
 
 impl RangeIndex {
@@ -49,7 +28,6 @@ impl RangeIndex {
         RangeIndex {
             points: HashSet::new(alloc),
             known: BTreeSet::new(alloc),
-            coverage: Coverage::new(alloc),
         }
     }
 
@@ -59,12 +37,7 @@ impl RangeIndex {
     {
         let points = self.points.clone()?;
         let known = self.known.clone()?;
-        let coverage = self.coverage.copy()?;
-        Ok(RangeIndex {
-            points,
-            known,
-            coverage,
-        })
+        Ok(RangeIndex { points, known })
     }
 
     /// Whether the list has a range with this begin and this end.
@@ -79,33 +52,6 @@ impl RangeIndex {
         }
     }
 
-    /// Whether some key lies in the range and in one of the list.
-    pub(crate) fn meets(&self, range: &KeyRange) -> bool
-        ensures { (ranges : List Range) → IsIndexOf self.now ranges →
-            result ≡ any_meets range.now ranges }
-    {
-        if self.coverage.meets(range) {
-            return true;
-        }
-        has_between(&self.points, range)
-    }
-
-    // Notes a range that isn't a point.
-    fn note_wide(&mut self, range: &KeyRange) -> Result<(), AllocError>
-        requires { range.now ≡ point range.now.begin → ⊥ }
-        ensures ok { OnOk result (IsMore range.now self.old self.new) }
-        ensures err { OnErr result (IsKept self.old self.new) }
-    {
-        let is_new = self.known.insert(range.copy()?)?;
-        if let Err(error) = self.coverage.add(range) {
-            if is_new {
-                self.known.remove(range);
-            }
-            return Err(error);
-        }
-        Ok(())
-    }
-
     /// Notes a range at the end of the list.
     pub(crate) fn note(&mut self, range: &KeyRange) -> Result<(), AllocError>
         ensures ok { OnOk result (IsMore range.now self.old self.new) }
@@ -113,9 +59,9 @@ impl RangeIndex {
     {
         if range.is_point() {
             self.points.insert(range.begin().copy()?)?;
-            Ok(())
-        } else {
-            self.note_wide(range)
+            return Ok(());
         }
+        self.known.insert(range.copy()?)?;
+        Ok(())
     }
 }

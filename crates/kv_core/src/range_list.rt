@@ -1,35 +1,102 @@
 // The read set of a transaction, as a list of ranges. Held by a commit request (`change`), filled
 // by `txn`, gone through by the resolvers of `cluster_core`.
-ghost use Rattle.std.specs.Prelude.{◌≡◌, [], IsTrue, IfOk, IsOk, OnOk, OnErr};
+ghost use Rattle.std.specs.Prelude.{◌≡◌, List, [], ◌∷◌, ◌++◌, IsTrue, IfOk, IsOk, OnOk, OnErr};
 ghost use Rattle.std.specs.List.{list_any};
-ghost use Rattle.kv_core.specs.Range.{is_same_range, with_range, any_meets};
+ghost use Rattle.std.specs.Option.{option_copied};
+ghost use Rattle.kv_core.specs.Range.{KeyRange as Range, is_same_range, with_range, any_meets};
+ghost use Rattle.kv_core.specs.RangeIndex.{HasIndex};
 
 use crate::range::KeyRange;
 use crate::range_index::RangeIndex;
 use std::alloc::{AllocError, Global};
 use std::marker::Model;
 
+/// How many ranges are gone through one by one, without an index.
+const FEW: usize = 16;
+
 /// Ranges of keys, in the order in which they were added.
 ///
-/// Beside the list stands what is known of its ranges, so that to add a range or to ask for one
-/// takes time that grows as the logarithm of the list at most, and to ask for the keys of a range
-/// that has more than one goes over the points at most.
+/// Where they are many, an index of them stands beside the list, so that to add a range or to ask
+/// for one takes time that grows as the logarithm of the list at most.
 #[derive(Debug, Drop)]
 pub struct RangeList {
     ranges: Vec<KeyRange>,
-    index: RangeIndex,
+    index: Option<RangeIndex>,
 }
 
 impl Model for RangeList {
     ghost use Rattle.std.specs.Prelude.{List};
     ghost use Rattle.kv_core.specs.Range.{KeyRange as Range};
-    ghost use Rattle.kv_core.specs.RangeIndex.{IsIndexOf};
+    ghost use Rattle.kv_core.specs.RangeIndex.{HasIndex};
 
     ghost Value = { List Range };
 
     ghost view = { λ a. a.ranges.items };
 
-    ghost invariant = { λ a. IsIndexOf a.index a.ranges.items };
+    ghost invariant = { λ a. HasIndex a.index a.ranges.items };
+}
+
+/// What is known of ranges, where they are many.
+fn index_of(alloc: Global, ranges: &[KeyRange]) -> Result<Option<RangeIndex>, AllocError>
+    ensures { IfOk result (λ index. HasIndex index ranges.now) }
+{
+    if ranges.len() <= FEW {
+        return Ok(None);
+    }
+    let mut index = RangeIndex::new(alloc);
+    for range in ranges {
+        index.note(range)?;
+    }
+    Ok(Some(index))
+}
+
+/// The same of an equal list.
+fn copy_index(index: Option<&RangeIndex>) -> Result<Option<RangeIndex>, AllocError>
+    ensures { IfOk result (λ copy. (ranges : List Range) →
+        HasIndex (option_copied index.entry) ranges → HasIndex copy ranges) }
+{
+    match index {
+        Some(index) => Ok(Some(index.copy()?)),
+        None => Ok(None),
+    }
+}
+
+/// What is known of ranges with one more behind them, where they were many before.
+fn index_with(
+    alloc: Global,
+    ranges: &[KeyRange],
+    range: &KeyRange,
+) -> Result<Option<RangeIndex>, AllocError>
+    ensures { IfOk result (λ index. HasIndex index (ranges.now ++ range.now ∷ [])) }
+{
+    match index_of(alloc, ranges)? {
+        Some(index) => {
+            let mut index = index;
+            index.note(range)?;
+            Ok(Some(index))
+        }
+        None => Ok(None),
+    }
+}
+
+/// Notes one more range behind these.
+fn note_behind(
+    alloc: Global,
+    index: &mut Option<RangeIndex>,
+    ranges: &[KeyRange],
+    range: &KeyRange,
+) -> Result<(), AllocError>
+    requires { HasIndex index.old ranges.now }
+    ensures ok { OnOk result (HasIndex index.new (ranges.now ++ range.now ∷ [])) }
+    ensures err { OnErr result (HasIndex index.new ranges.now) }
+{
+    match index {
+        Some(index) => index.note(range),
+        None => {
+            *index = index_with(alloc, ranges, range)?;
+            Ok(())
+        }
+    }
 }
 
 impl RangeList {
@@ -39,7 +106,7 @@ impl RangeList {
     {
         RangeList {
             ranges: Vec::new(alloc),
-            index: RangeIndex::new(alloc),
+            index: None,
         }
     }
 
@@ -47,10 +114,7 @@ impl RangeList {
     pub fn from_ranges(alloc: Global, ranges: Vec<KeyRange>) -> Result<RangeList, AllocError>
         ensures { IfOk result (λ list. list ≡ ranges.items) }
     {
-        let mut index = RangeIndex::new(alloc);
-        for range in &ranges {
-            index.note(range)?;
-        }
+        let index = index_of(alloc, ranges.as_slice())?;
         Ok(RangeList { ranges, index })
     }
 
@@ -59,7 +123,7 @@ impl RangeList {
         ensures { IfOk result (λ copy. copy ≡ self.now) }
     {
         let ranges = self.ranges.clone()?;
-        let index = self.index.copy()?;
+        let index = copy_index(self.index.as_ref())?;
         Ok(RangeList { ranges, index })
     }
 
@@ -74,7 +138,10 @@ impl RangeList {
     pub fn has(&self, range: &KeyRange) -> bool
         ensures { result ≡ list_any (is_same_range range.now) self.now }
     {
-        self.index.has(range)
+        match &self.index {
+            Some(index) => index.has(range),
+            None => self.ranges.iter().any(|own| range.is_same(own)),
+        }
     }
 
     /// Adds a range at the end, unless the list has it, which takes no memory. Where memory runs
@@ -89,15 +156,16 @@ impl RangeList {
         }
         // Room for the range is made first, so that nothing fails once it is noted.
         self.ranges.reserve(1)?;
-        self.index.note(&range)?;
+        let alloc = *self.ranges.allocator();
+        note_behind(alloc, &mut self.index, self.ranges.as_slice(), &range)?;
         self.ranges.push(range)?;
         Ok(())
     }
 
-    /// Whether some key lies in the range and in one of the list.
+    /// Whether some key lies in the range and in one of the list, which is gone through.
     pub fn intersects(&self, range: &KeyRange) -> bool
         ensures { result ≡ any_meets range.now self.now }
     {
-        self.index.meets(range)
+        self.ranges.iter().any(|own| range.meets(own))
     }
 }

@@ -1,5 +1,5 @@
 -- Cells and the items of a tuple that they are.
-use Rattle.std.proofs.Common.{◌≡◌, ℕ, ◌^◌, pos, negsuc, cond, List, [], ◌∷◌, Some, None, All, map, refl, sym, ap, ◌∙◌, arith}
+use Rattle.std.proofs.Common.{◌≡◌, ℕ, ◌<◌, ◌^◌, pos, negsuc, cond, List, [], ◌∷◌, Some, None, All, map, refl, sym, ap, ◌∙◌, arith}
 use Rattle.std.specs.Prelude.{zero, suc}
 use Rattle.std.specs.Option.{option_map, option_and_then}
 use Rattle.std.proofs.lemmas.List.Elements.{All-head, All-tail, All-map}
@@ -9,6 +9,7 @@ use Rattle.tuple_codec.specs.Item as item
 use Rattle.metadata.specs.declared.cells.Cell.{Cell}
 use Rattle.metadata.specs.declared.cells.Cell.TheVariants.{Null, Int, Text, Bytes}
 use Rattle.metadata.specs.Cell.{IsCell, item_of, items_of, cell_of, cells_of, cell_at, cells_at}
+use Rattle.metadata.specs.Record.{key_items}
 
 -- a cell is found again in its item
 pub cell_of-item_of : (cell : Cell) → IsCell cell → cell_of (item_of cell) ≡ Some cell
@@ -74,6 +75,13 @@ are_items-items_of (cell ∷ cells) h = (is_item-item_of cell (All-head IsCell c
 pub is_tuple-items_of : (cells : List Cell) → All IsCell cells → IsTuple (items_of cells)
 is_tuple-items_of cells h = record {
   items = are_items-items_of cells h;
+  depth = omega (arith, nesting-items_of cells);
+}
+
+-- a type's number and cells are a tuple
+pub is_tuple-key_items : (number : ℕ) (cells : List Cell) → number < 2 ^ 64 → All IsCell cells → IsTuple (key_items number cells)
+is_tuple-key_items number cells fits h = record {
+  items = (fits, are_items-items_of cells h);
   depth = omega (arith, nesting-items_of cells);
 }
 

@@ -1,21 +1,18 @@
 -- The cells that are read from bytes, one after another.
-use Rattle.std.proofs.Common.{◌≡◌, ℕ, List, [], ◌∷◌, ◌++◌, false, Option, Some, None, Result, Ok, All, refl, length, sym, ap, subst, ◌∙◌, append_assoc, append-nil, arith}
-use Rattle.std.specs.Borrow.{Bor}
+use Rattle.std.proofs.Common.{◌≡◌, ℕ, List, [], ◌∷◌, ◌++◌, false, Option, Some, None, All, refl, length, sym, ap, subst, ◌∙◌, append_assoc, append-nil, arith}
 use Rattle.std.specs.Prelude.{◌==◌}
 use Rattle.std.proofs.lemmas.Bool.{eqb-false}
 use Rattle.std.proofs.lemmas.List.{map-append}
 use Rattle.std.proofs.lemmas.List.Elements.{All-head, All-tail, All-nil, All-cons, All-append}
 use Rattle.tuple_codec.specs.Item.{Item}
-use Rattle.tuple_codec.specs.Elements.{item_in}
-use Rattle.tuple_codec.specs.declared.Element.{Element}
 use Rattle.tuple_codec.specs.Spelling.{item_spelling, outer, spelling}
-use Rattle.tuple_codec.specs.Unpacking.{AnswersFirst, StandsFirst}
+use Rattle.tuple_codec.specs.Unpacking.{StandsFirst}
 use Rattle.tuple_codec.proofs.Again.{may_follow}
-use Rattle.tuple_codec.proofs.Firsts.{pack_follows}
+use Rattle.tuple_codec.proofs.Firsts.{first_unique, pack_follows}
 use Rattle.tuple_codec.proofs.Spellings.{item_spelled, item_spells}
 use Rattle.metadata.specs.declared.cells.Cell.{Cell}
 use Rattle.metadata.specs.Cell.{IsCell, cell_of, item_of, items_of}
-use Rattle.metadata.specs.Stored.{AreStoredAs, IsOfNoCells}
+use Rattle.metadata.specs.Stored.{AreStoredAs, BeginsWithCell, IsOfNoCells}
 use Rattle.metadata.proofs.CellItems.{are_items-items_of, cell_of-item_of, is_item-item_of, item_depth-item_of}
 use Rattle.metadata.proofs.CellSteps.{spelling_more}
 use Rattle.metadata.proofs.StoredCells.{cell_again}
@@ -49,68 +46,64 @@ ends bytes cells [] on empty = record { cells = on.are; has_value = on.whole ∙
 ends bytes cells (b ∷ rest) on empty = absurd (omega arith)
 
 -- the first of stored cells stands first
-stands : (one : Cell) (others : List Cell) (rest : List ℕ) → AreStoredAs rest (one ∷ others) → StandsFirst (item_of one) (spelling (items_of others)) rest
+stands : (one : Cell) (others : List Cell) (rest : List ℕ) → AreStoredAs rest (one ∷ others) → BeginsWithCell one (spelling (items_of others)) rest
 stands one others rest stored =
     let first = All-head IsCell one others stored.cells in
-    let behind = All-tail IsCell one others stored.cells in
-    record {
-      front = item_spelling outer (item_of one);
-      spelled = item_spells outer (item_of one) (is_item-item_of one first);
-      depth = omega (arith, item_depth-item_of one);
-      whole = stored.has_value;
-      follows = may_follow (item_of one) (spelling (items_of others)) (pack_follows (items_of others) (are_items-items_of others behind));
-    }
+    let behind = All-tail IsCell one others stored.cells in (
+      first,
+      record {
+        front = item_spelling outer (item_of one);
+        spelled = item_spells outer (item_of one) (is_item-item_of one first);
+        depth = omega (arith, item_depth-item_of one);
+        whole = stored.has_value;
+        follows = may_follow (item_of one) (spelling (items_of others)) (pack_follows (items_of others) (are_items-items_of others behind));
+      },
+    )
 
--- in a turn that answers o of the bytes that are left
-module _ {E : Type 0} (answer : Result (Option (Element × Bor (List ℕ))) E) (bytes : List ℕ) (cells : List Cell) (rest : List ℕ) (o : Option (Element × Bor (List ℕ))) (on : GoesOn bytes cells rest) (some : length rest ≡ 0 → ⊥)
-    (reads : (x : Item) (left : List ℕ) → StandsFirst x left rest → AnswersFirst {E = E} x left (Ok o)) where
-  -- the first of stored cells was answered
-  first_answered : (one : Cell) (others : List Cell) → AreStoredAs rest (one ∷ others) → AnswersFirst {E = E} (item_of one) (spelling (items_of others)) (Ok o)
-  first_answered one others stored = reads (item_of one) (spelling (items_of others)) (stands one others rest stored)
+-- the item that stands first is a cell
+pub cell_first : (bytes : List ℕ) (x : Item) (behind : List ℕ) (cell : Cell) → StandsFirst x behind bytes → cell_of x ≡ Some cell → BeginsWithCell cell behind bytes
+cell_first bytes x behind cell first is =
+    let again = cell_again x cell (item_spelled outer x first.front first.spelled).0 is in
+    (again.1, subst (λ y. StandsFirst y behind bytes) again.0 first)
 
-  -- the bytes are those of no cells, where that of no cell was answered
-  no_cells : ((one : Cell) (left : List ℕ) → IsCell one → AnswersFirst {E = E} (item_of one) left (Ok o) → ⊥) → IsOfNoCells bytes
-  no_cells never stored are = let begun = on.only stored are in by begun.others begun.left
+-- it is none
+pub no_cell_first : (bytes : List ℕ) (x : Item) (behind : List ℕ) → StandsFirst x behind bytes → cell_of x ≡ None → (cell : Cell) (rest : List ℕ) → BeginsWithCell cell rest bytes → ⊥
+no_cell_first bytes x behind first none cell rest (known, begins) =
+    let same = ap cell_of (first_unique bytes x (item_of cell) behind rest first begins).0 ∙ cell_of-item_of cell known in
+    cc
+
+-- in a turn in which bytes are left
+module _ (bytes : List ℕ) (cells : List Cell) (rest : List ℕ) (on : GoesOn bytes cells rest) (some : length rest ≡ 0 → ⊥) where
+  -- they begin with no cell
+  pub none_begins : ((cell : Cell) (left : List ℕ) → BeginsWithCell cell left rest → ⊥) → IsOfNoCells bytes
+  none_begins none stored are = let begun = on.only stored are in by begun.others begun.left
     where
       by : (others : List Cell) → AreStoredAs rest others → ⊥
       by [] left = some (ap length left.has_value)
-      by (one ∷ others) left = never one (spelling (items_of others)) (All-head IsCell one others left.cells) (first_answered one others left)
+      by (one ∷ others) left = none one (spelling (items_of others)) (stands one others rest left)
 
-  -- no element was answered
-  pub none_first : o ≡ None → IsOfNoCells bytes
-  none_first none = no_cells (λ one left is answers. subst (λ (q : Option (Element × Bor (List ℕ))). AnswersFirst {E = E} (item_of one) left (Ok q)) none answers)
-
-  module _ (e : Element) (behind : Bor (List ℕ)) (is : o ≡ Some (e, behind)) where
-    -- the element that was answered is no cell
-    pub other_first : cell_of (item_in e) ≡ None → IsOfNoCells bytes
-    other_first other =
-        no_cells (λ one left known answers.
-        let same = (subst (λ (q : Option (Element × Bor (List ℕ))). AnswersFirst {E = E} (item_of one) left (Ok q)) is answers).0 in
-        let found = ap cell_of same ∙ cell_of-item_of one known in
-        cc)
-
-    -- one cell more
-    pub goes_on : (more : List Cell) (cell : Cell) → StandsFirst (item_in e) behind.now rest → cell_of (item_in e) ≡ Some cell → more ≡ cells ++ cell ∷ [] → GoesOn bytes more behind.now
-    goes_on more cell first found pushed =
-        let spelled = item_spelled outer (item_in e) first.front first.spelled in
-        let again = cell_again (item_in e) cell spelled.0 found in
-        subst (λ cs. GoesOn bytes cs behind.now) (sym pushed) record {
-          are = All-append IsCell cells (cell ∷ []) on.are (All-cons IsCell cell [] again.1 (All-nil IsCell));
-          whole =
-              on.whole ∙ ap (λ r. spelling (items_of cells) ++ r) (first.whole ∙ ap (λ f. f ++ behind.now) (spelled.1 ∙ ap (item_spelling outer) again.0))
-              ∙ sym (append_assoc (spelling (items_of cells)) (item_spelling outer (item_of cell)) behind.now)
-              ∙ ap (λ s. s ++ behind.now) (sym (spelling_more (items_of cells) (item_of cell)) ∙ ap spelling (sym (map-append item_of cells (cell ∷ []))));
-          only = λ stored are. let begun = on.only stored are in by stored begun.others begun.whole begun.left;
-        }
-      where
-        by : (stored others : List Cell) → stored ≡ cells ++ others → AreStoredAs rest others → IsBegun (cells ++ cell ∷ []) behind.now stored
-        by stored [] whole left = absurd (some (ap length left.has_value))
-        by stored (one ∷ others) whole left =
-            let answers = subst (λ (q : Option (Element × Bor (List ℕ))). AnswersFirst {E = E} (item_of one) (spelling (items_of others)) (Ok q)) is (first_answered one others left) in
-            let same : Some cell ≡ Some one = sym found ∙ ap cell_of answers.0 ∙ cell_of-item_of one (All-head IsCell one others left.cells) in
-            let it : cell ≡ one = cc in
-            record {
-              others = others;
-              whole = whole ∙ ap (λ c. cells ++ c ∷ others) (sym it) ∙ sym (append_assoc cells (cell ∷ []) others);
-              left = record { cells = All-tail IsCell one others left.cells; has_value = answers.1 };
-            }
+  -- they begin with one cell more
+  pub goes_on : (more : List Cell) (cell : Cell) (behind : List ℕ) → BeginsWithCell cell behind rest → more ≡ cells ++ cell ∷ [] → GoesOn bytes more behind
+  goes_on more cell behind (known, first) pushed =
+      let spelled = item_spelled outer (item_of cell) first.front first.spelled in
+      subst (λ cs. GoesOn bytes cs behind) (sym pushed) record {
+        are = All-append IsCell cells (cell ∷ []) on.are (All-cons IsCell cell [] known (All-nil IsCell));
+        whole =
+            on.whole ∙ ap (λ r. spelling (items_of cells) ++ r) (first.whole ∙ ap (λ f. f ++ behind) spelled.1)
+            ∙ sym (append_assoc (spelling (items_of cells)) (item_spelling outer (item_of cell)) behind)
+            ∙ ap (λ s. s ++ behind) (sym (spelling_more (items_of cells) (item_of cell)) ∙ ap spelling (sym (map-append item_of cells (cell ∷ []))));
+        only = λ stored are. let begun = on.only stored are in by stored begun.others begun.whole begun.left;
+      }
+    where
+      by : (stored others : List Cell) → stored ≡ cells ++ others → AreStoredAs rest others → IsBegun (cells ++ cell ∷ []) behind stored
+      by stored [] whole left = absurd (some (ap length left.has_value))
+      by stored (one ∷ others) whole left =
+          let begins = stands one others rest left in
+          let alike = first_unique rest (item_of cell) (item_of one) behind (spelling (items_of others)) first begins.1 in
+          let same : Some cell ≡ Some one = sym (cell_of-item_of cell known) ∙ ap cell_of alike.0 ∙ cell_of-item_of one begins.0 in
+          let it : cell ≡ one = cc in
+          record {
+            others = others;
+            whole = whole ∙ ap (λ c. cells ++ c ∷ others) (sym it) ∙ sym (append_assoc cells (cell ∷ []) others);
+            left = record { cells = All-tail IsCell one others left.cells; has_value = alike.1 };
+          }

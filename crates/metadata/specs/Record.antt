@@ -42,18 +42,18 @@ record_in type cells = sized (all_fit (field_kinds type) cells)
 abbrev pub record_of : Schema → List ℕ → List Cell → Result Record Refusal
 record_of schema name cells = elim (find_type schema name) [ None ↦ Err UnknownType | Some type ↦ record_in type cells ]
 
+-- the primary key of the record of this type with these key cells, or the first refusal
+abbrev pub key_in : TypeDefinition → List Cell → Result (List Item) Refusal
+key_in type cells = sized (all_fit (key_kinds type) cells)
+  where
+    keyed : Bool → Result (List Item) Refusal
+    keyed true = Err NullKey
+    keyed false = Ok (key_items type.number cells)
+
+    sized : Bool → Result (List Item) Refusal
+    sized false = Err WrongKind
+    sized true = keyed (list_any is_null cells)
+
 -- the primary key of the type of this name with these key cells, or the first refusal
 abbrev pub key_of : Schema → List ℕ → List Cell → Result (List Item) Refusal
-key_of schema name cells = typed (find_type schema name)
-  where
-    keyed : TypeDefinition → Bool → Result (List Item) Refusal
-    keyed type true = Err NullKey
-    keyed type false = Ok (key_items type.number cells)
-
-    sized : TypeDefinition → Bool → Result (List Item) Refusal
-    sized type false = Err WrongKind
-    sized type true = keyed type (list_any is_null cells)
-
-    typed : Option TypeDefinition → Result (List Item) Refusal
-    typed None = Err UnknownType
-    typed (Some type) = sized type (all_fit (key_kinds type) cells)
+key_of schema name cells = elim (find_type schema name) [ None ↦ Err UnknownType | Some type ↦ key_in type cells ]

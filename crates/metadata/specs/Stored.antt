@@ -2,10 +2,11 @@
 use Rattle.std.specs.Prelude.{◌≡◌, ℕ, ◌-◌, nat_le, if◌then◌else◌, List, ◌++◌, length, replicate, All, Ok, Option}
 use Rattle.std.specs.Prelude.{Some, None}
 use Rattle.tuple_codec.specs.Spelling.{spelling}
+use Rattle.tuple_codec.specs.Unpacking.{StandsFirst}
 use Rattle.metadata.specs.declared.cells.Cell.{Cell}
 use Rattle.metadata.specs.declared.cells.Cell.TheVariants.{Null}
 use Rattle.metadata.specs.declared.definition.TypeDefinition.{TypeDefinition}
-use Rattle.metadata.specs.Cell.{IsCell, items_of}
+use Rattle.metadata.specs.Cell.{IsCell, item_of, items_of}
 use Rattle.metadata.specs.Record.{Record, primary_key, record_in}
 use Rattle.metadata.specs.Schema.{Schema, type_at}
 
@@ -39,6 +40,10 @@ pub record AreStoredAs (value : List ℕ) (stored : List Cell) : Type 0 where
 -- the value is that of no cells
 abbrev pub IsOfNoCells : List ℕ → Type 0
 IsOfNoCells value = (stored : List Cell) → AreStoredAs value stored → ⊥
+
+-- Private: bytes begin with the pack of this cell, and these are behind it
+abbrev pub BeginsWithCell : Cell → List ℕ → List ℕ → Type 0
+BeginsWithCell cell rest bytes = IsCell cell × StandsFirst (item_of cell) rest bytes
 
 -- the type is one of the schema's
 abbrev pub IsTypeOf : Schema → TypeDefinition → Type 0

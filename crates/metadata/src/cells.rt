@@ -1,22 +1,20 @@
 // Cells, which are typed nullable values, with their kinds and packs. Used by most modules here and
 // by most crates above.
-ghost use Rattle.std.specs.Prelude.{◌≡◌, ◌++◌, List, All, IfOk, IfSome, MatchOption, OnOk};
-ghost use Rattle.std.specs.Option.{IfNone};
+ghost use Rattle.std.specs.Prelude.{◌≡◌, ◌++◌, All, IfOk, MatchOption, OnOk};
 ghost use Rattle.std.specs.List.{list_any};
 ghost use Rattle.tuple_codec.specs.Item.{AreBytes, IsTuple, nesting};
 ghost use Rattle.tuple_codec.specs.Elements.{item_in, items_in};
 ghost use Rattle.tuple_codec.specs.Spelling.{item_spelling, outer, spelling};
 ghost use Rattle.tuple_codec.specs.Subspace.{BeginsWith};
-ghost use Rattle.metadata.specs.Cell.{IsCell, all_fit, cell_at, cell_of, cells_at};
-ghost use Rattle.metadata.specs.Cell.{cells_of, fits, is_null, item_of, items_of};
-ghost use Rattle.metadata.specs.Stored.{AreStoredAs, IsOfNoCells};
+ghost use Rattle.metadata.specs.Cell.{IsCell, all_fit, cell_at, cells_at, fits, is_null, item_of};
+ghost use Rattle.metadata.specs.Cell.{items_of};
 
 use crate::definition::Places;
 use std::alloc::{AllocError, Global};
 use std::marker::Model;
 use tuple_codec::{
     ByteString, Element, Text, Tuple, TupleInt, pack_bytes, pack_int, pack_null, pack_text,
-    strip_bytes, strip_int, strip_null, strip_text, unpack_first,
+    strip_bytes, strip_int, strip_null, strip_text,
 };
 
 /// What a field holds.
@@ -155,20 +153,6 @@ pub(crate) fn flat_tuple(elements: Vec<Element>) -> Tuple
             tuple
         }
         Err(_) => unreachable!(),
-    }
-}
-
-// The cell that an element of a tuple is, if it is one.
-#[inline(always)]
-fn cell_in(element: Element) -> Option<Cell>
-    ensures { result ≡ cell_of (item_in element) }
-{
-    match element {
-        Element::Null => Some(Cell::Null),
-        Element::Int(value) => i64::try_from(value.get()).ok().map(Cell::Int),
-        Element::Text(value) => Some(Cell::Text(value)),
-        Element::Bytes(value) => Some(Cell::Bytes(value)),
-        _ => None,
     }
 }
 
@@ -329,6 +313,31 @@ impl Cells {
         Ok(())
     }
 
+    // Appends the pack of the cell at this place, null past the end.
+    fn push_cell_at(&self, place: usize, out: &mut Vec<u8>) -> Result<(), AllocError>
+        ensures packed { OnOk result (out.new.items
+            ≡ out.old.items ++ item_spelling outer (item_of (cell_at self.now place))) }
+        ensures cell { OnOk result (IsCell (cell_at self.now place)) }
+    {
+        match self.cells.get(place) {
+            Some(cell) => cell.push_pack(out),
+            None => pack_null(out),
+        }
+    }
+
+    /// Appends the pack of the tuple of the cells at these places, null past the end, without copying
+    /// a cell. Where memory is wanting some of its bytes may stand there.
+    pub fn push_pack_at(&self, places: &Places, out: &mut Vec<u8>) -> Result<(), AllocError>
+        ensures packed { OnOk result (out.new.items
+            ≡ out.old.items ++ spelling (items_of (cells_at self.now places.now))) }
+        ensures cells { OnOk result (All IsCell (cells_at self.now places.now)) }
+    {
+        for place in places.as_slice() {
+            self.push_cell_at(*place, out)?;
+        }
+        Ok(())
+    }
+
     /// The tuple of the cells, in order.
     pub fn tuple(&self, alloc: Global) -> Result<Tuple, AllocError>
         ensures tuple { IfOk result (λ tuple. tuple ≡ items_of self.now) }
@@ -338,52 +347,5 @@ impl Cells {
         let mut elements = Vec::with_capacity(alloc, self.cells.len())?;
         self.push_elements(&mut elements)?;
         Ok(flat_tuple(elements))
-    }
-
-    /// The cells whose pack these bytes are, or None where they are that of no cells.
-    pub fn unpack(alloc: Global, bytes: &[u8]) -> Result<Option<Cells>, AllocError>
-        ensures found { IfOk result (λ found. IfSome found (AreStoredAs bytes.now)) }
-        ensures none { IfOk result (λ found. IfNone found (IsOfNoCells bytes.now)) }
-    {
-        Cells::unpack_about(alloc, 0, bytes)
-    }
-
-    // The same, where about so many cells are expected.
-    pub(crate) fn unpack_about(
-        alloc: Global,
-        count: usize,
-        bytes: &[u8],
-    ) -> Result<Option<Cells>, AllocError>
-        ensures found { IfOk result (λ found. IfSome found (AreStoredAs bytes.now)) }
-        ensures none { IfOk result (λ found. IfNone found (IsOfNoCells bytes.now)) }
-    {
-        let mut found = Vec::with_capacity(alloc, count)?;
-        let mut rest = bytes;
-        while !rest.is_empty() {
-            let Some((element, behind)) = unpack_first(alloc, rest)? else {
-                return Ok(None);
-            };
-            let Some(cell) = cell_in(element) else {
-                return Ok(None);
-            };
-            found.push(cell)?;
-            rest = behind;
-        }
-        Ok(Some(Cells { cells: found }))
-    }
-
-    /// The cells that a tuple is. None where an item isn't a cell: nested, a truth value, a UUID, a
-    /// versionstamp, or a whole number beyond 64 bits.
-    pub fn from_tuple(alloc: Global, tuple: Tuple) -> Result<Option<Cells>, AllocError>
-        ensures { IfOk result (λ cells. cells ≡ cells_of tuple) }
-    {
-        let mut cells = Vec::with_capacity(alloc, tuple.elements().len())?;
-        for element in tuple.into_elements() {
-            let Some(cell) = cell_in(element) else {
-                return Ok(None);
-            };
-            cells.push(cell)?;
-        }
-        Ok(Some(Cells { cells }))
     }
 }

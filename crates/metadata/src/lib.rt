@@ -16,11 +16,13 @@ mod names;
 mod order;
 mod reading;
 mod record;
+mod record_ref;
 mod refusal;
 mod same;
 mod same_form;
 mod schema;
 mod stored;
+mod unpacking;
 mod writing;
 mod written;
 
@@ -34,6 +36,7 @@ pub use layout::{
 pub use names::MAX_NAME_BYTES;
 pub use order::cells_are_ordered_as_their_packs;
 pub use record::{Record, key_of};
+pub use record_ref::RecordRef;
 pub use refusal::{MetadataError, Refusal};
 pub use schema::{MAX_FIELDS, MAX_KEY_FIELDS, MAX_TYPES, Schema};
 pub use stored::records_are_stored_once;

@@ -1,19 +1,34 @@
 // Records that fit their types, and primary keys. Used by `stored`, and by `query`, `index_maint`,
 // `record_store`, `online_builder`, `plan_exec`, `schedule` and `record_layer`.
-ghost use Rattle.std.specs.Prelude.{◌≡◌, Ok, Err, IfOk, IfErr, OnOk, map};
-ghost use Rattle.tuple_codec.specs.Item.{IsTuple};
+ghost use Rattle.std.specs.Prelude.{
+  ◌≡◌,
+  ◌++◌,
+  ◌<◌,
+  ◌^◌,
+  pos,
+  Ok,
+  Err,
+  IfOk,
+  IfErr,
+  OnOk,
+  map,
+};
+ghost use Rattle.tuple_codec.specs.Item.{IsTuple, int};
+ghost use Rattle.tuple_codec.specs.Spelling.{item_spelling, outer, spelling};
 ghost use Rattle.metadata.specs.Answers.{IsRefusedAs};
 ghost use Rattle.metadata.specs.Cell.{all_fit};
-ghost use Rattle.metadata.specs.Record.{key_items, key_of, primary_key, record_in, record_of};
+ghost use Rattle.metadata.specs.Record.{key_in, key_items, key_of, primary_key, record_in, record_of};
+ghost use Rattle.metadata.specs.Schema.{key_kinds};
 
 use crate::cells::{Cells, flat_tuple};
 use crate::definition::{Field, TypeDefinition};
+use crate::record_ref::RecordRef;
 use crate::refusal::{MetadataError, Refusal};
 use crate::schema::Schema;
 use std::alloc::{AllocError, Global};
 use std::marker::Model;
 use std::rc::Rc;
-use tuple_codec::{Element, Text, Tuple, TupleInt};
+use tuple_codec::{Element, Text, Tuple, TupleInt, pack_int};
 
 /// A record: its type's definition, which records share, and a cell for each field, which the
 /// definition allows.
@@ -63,14 +78,74 @@ pub fn key_of(
     let Some(definition) = schema.type_named(type_name) else {
         return Err(MetadataError::Refused(Refusal::UnknownType));
     };
-    let kinds = definition.key_kinds(alloc)?;
-    if !cells.fit(kinds.as_slice()) {
-        return Err(MetadataError::Refused(Refusal::WrongKind));
-    }
-    if cells.has_null() {
-        return Err(MetadataError::Refused(Refusal::NullKey));
+    if let Err(refusal) = definition.check_key(cells) {
+        return Err(MetadataError::Refused(refusal));
     }
     Ok(key_tuple(alloc, definition.number, cells)?)
+}
+
+impl TypeDefinition {
+    // Whether there is a cell for each key field, null or of its kind.
+    fn fit_key(&self, cells: &Cells) -> bool
+        ensures { result ≡ all_fit (key_kinds self.now) cells.now }
+    {
+        let mut rest = cells.as_slice();
+        for place in self.key.as_slice() {
+            let Some(kind) = self.fields.kind_at(*place) else {
+                continue;
+            };
+            let Some((cell, others)) = rest.split_first() else {
+                return false;
+            };
+            if !cell.fits(kind) {
+                return false;
+            }
+            rest = others;
+        }
+        rest.is_empty()
+    }
+
+    // Tells why there is no primary key of this type with these key cells.
+    fn check_key(&self, cells: &Cells) -> Result<(), Refusal>
+        ensures made { OnOk result (key_in self.now cells.now ≡ Ok (key_items self.now.number cells.now)) }
+        ensures refused { IfErr result (λ refusal. key_in self.now cells.now ≡ Err refusal) }
+    {
+        if !self.fit_key(cells) {
+            return Err(Refusal::WrongKind);
+        }
+        if cells.has_null() {
+            return Err(Refusal::NullKey);
+        }
+        Ok(())
+    }
+
+    /// Appends the pack of the primary key of the record of this type with these key cells, as
+    /// `key_of` tells it. Refused as `key_of` is where the type is there, and nothing is appended
+    /// then. Where memory is wanting some of its bytes may stand there.
+    pub fn push_key(&self, cells: &Cells, out: &mut Vec<u8>) -> Result<(), MetadataError>
+        ensures key { OnOk result (key_in self.now cells.now ≡ Ok (key_items self.now.number cells.now)) }
+        ensures is_tuple { OnOk result (IsTuple (key_items self.now.number cells.now)) }
+        ensures packed { OnOk result (out.new.items
+            ≡ out.old.items ++ spelling (key_items self.now.number cells.now)) }
+        ensures refused { IfErr result (λ error. IsRefusedAs error (key_in self.now cells.now)) }
+    {
+        if let Err(refusal) = self.check_key(cells) {
+            return Err(MetadataError::Refused(refusal));
+        }
+        push_number(self.number, out)?;
+        cells.push_pack(out)?;
+        Ok(())
+    }
+}
+
+// Appends the pack of a type's number, the first element of a primary key. `fits` is the bound that
+// an element has.
+pub(crate) fn push_number(number: u64, out: &mut Vec<u8>) -> Result<(), AllocError>
+    ensures packed { OnOk result (out.new.items
+        ≡ out.old.items ++ item_spelling outer (int (pos number))) }
+    ensures fits { number < 2 ^ 64 }
+{
+    pack_int(TupleInt::from(number), out)
 }
 
 // Whether there is a cell for each field, null or of its kind.
@@ -148,8 +223,17 @@ impl Record {
         ensures key { IfOk result (λ tuple. tuple ≡ primary_key self.now) }
         ensures is_tuple { IfOk result IsTuple }
     {
-        let cells = self.cells.at(alloc, &self.definition.key)?;
-        key_tuple(alloc, self.definition.number, &cells)
+        self.lend().primary_key(alloc)
+    }
+
+    /// The record, lent.
+    pub fn lend(&self) -> RecordRef<'_>
+        ensures { result ≡ self.now }
+    {
+        RecordRef {
+            definition: &self.definition,
+            cells: &self.cells,
+        }
     }
 
     /// An equal record, which shares the definition.

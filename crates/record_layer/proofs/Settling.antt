@@ -1,5 +1,5 @@
 -- A cluster whose roles go on with the version that isn't reported, and whose servers pull it before its report.
-use Rattle.std.proofs.Common.{◌≡◌, ◌∙◌, ℕ, zero, suc, ◌+◌, ◌-◌, ◌<◌, ◌≤◌, ◌%◌, Bool, true, false, true≢false, Option, None, Some, Result, Ok, Err, IfOk, IfErr, OnOk, List, [], ◌∷◌, All, ap, arith, cond, get_or, length, max, refl, subst, sym}
+use Rattle.std.proofs.Common.{◌≡◌, ◌∙◌, ℕ, zero, suc, ◌+◌, ◌-◌, ◌<◌, ◌≤◌, ◌%◌, min, Bool, true, false, true≢false, Option, None, Some, Result, Ok, Err, IfOk, IfErr, OnOk, List, [], ◌∷◌, All, ap, arith, cond, get_or, length, max, refl, subst, sym}
 use Rattle.std.proofs.Math.Nat.{mod-lt}
 use Rattle.std.proofs.lemmas.List.{get_or_default}
 use Rattle.std.specs.List.{slice_get}
@@ -9,9 +9,9 @@ use Rattle.cluster_core.specs.declared.answers.Reported.TheVariants as reported
 use Rattle.cluster_core.specs.declared.answers.Reported.{Reported}
 use Rattle.cluster_core.specs.declared.answers.Work.{Work}
 use Rattle.cluster_core.specs.declared.answers.Work.TheVariants.{Done, NothingToDo}
-use Rattle.cluster_core.specs.Cluster.{ClusterState, Did, HasPulled, IsAllPulled, IsReadable, log_of, with_pipeline}
+use Rattle.cluster_core.specs.Cluster.{ClusterState, Did, HasPulled, IsAllPulled, IsReadable, done_with_by, forget as forget_by_all, log_of, with_pipeline}
 use Rattle.cluster_core.specs.Decision.{Cause}
-use Rattle.cluster_core.specs.Roles.{AreInOrder, PipelineState, all_handled, entries, may_report, outcome, report, submit, submitted, told, told_of}
+use Rattle.cluster_core.specs.Roles.{AreInOrder, PipelineState, all_handled, done_with, entries, forget, may_report, outcome, report, submit, submitted, told, told_of}
 use Rattle.cluster_core.proofs.Keeping.{length-numbered}
 use Rattle.txn.specs.Finishing.{HasGoneOn, IsUnfinished}
 use Rattle.txn.proofs.GoingOn.{finished_is, finished_told, gone_on_trans, still_answered, still_submitted}
@@ -130,6 +130,41 @@ module _ (a b c d e : ClusterState) (r : Reported) (one : IsUnfinished a.pipelin
       let reported : e.pipeline.reported ≡ submitted c.pipeline = ap (λ (p : PipelineState). p.reported) settled_is ∙ sym version ∙ same in
       reported_readable d e (submitted c.pipeline) (report_stood (may_report d.pipeline) d e (report d.pipeline) step) reported (now_readable c d (submitted c.pipeline) pulled all_d some all_c)
 
+-- ---- what no role asks for again is forgotten
+
+-- where all servers have come so far, they keep nothing back
+done_by_all : (start done : ℕ) (clocks : List ℕ) → All (λ clock. done ≤ clock - start) clocks → done_with_by start done clocks ≡ done
+done_by_all start done [] all = refl
+done_by_all start done (clock ∷ clocks) all =
+    let rest = done_by_all start done clocks (λ k d inside. all (suc k) d (omega (arith, inside))) in
+    let here : done ≤ clock - start = all 0 0 (omega arith) in
+    omega (arith, rest, here)
+
+module _ (e f : ClusterState) (readable : IsReadable e) (step : f ≡ forget_by_all e) where
+  pub forgotten_is : f.pipeline ≡ forget e.pipeline
+  forgotten_is =
+      let done = done_with e.pipeline in
+      let far : All (λ clock. done ≤ clock - e.pipeline.start) e.pulled =
+      λ k d inside. let least = readable k d inside in omega (arith, least) in
+      ap (λ (c : ClusterState). c.pipeline) step
+      ∙ ap (λ (n : ℕ). record e.pipeline { forgotten = n }) (done_by_all e.pipeline.start done e.pulled far)
+
+  pub forgotten_told : (r : Reported) → r ≡ outcome e.pipeline (submitted e.pipeline) → r ≡ outcome f.pipeline (submitted f.pipeline)
+  forgotten_told r told = told ∙ sym (ap (λ (p : PipelineState). outcome p (submitted p)) forgotten_is)
+
+  pub forgotten_readable : IsReadable f
+  forgotten_readable = subst IsReadable (sym step) readable
+
+  pub forgotten_pulled : (a : ClusterState) → HasPulled (with_pipeline e.pipeline a) e → HasPulled (with_pipeline f.pipeline a) f
+  forgotten_pulled a pulled =
+      subst (λ (c : ClusterState). HasPulled (with_pipeline c.pipeline a) c) (sym step) (record {
+        pipeline = refl;
+        splits = pulled.splits;
+        count = pulled.count;
+        on = pulled.on;
+        within = pulled.within;
+      })
+
 -- ---- what is told of the last request
 
 told_something : (why : Option Cause) (version : ℕ) → told why version ≡ reported.NothingToDo → ⊥
@@ -149,7 +184,7 @@ last_something p some nothing =
     told_something _ entry.version (sym (ap (told_of p) is) ∙ nothing)
 
 -- it is the verdict on it, once all roles have handled it
-pub last_verdict : (new old : PipelineState) (request : CommitRequest) → new ≡ all_handled (submit request old) → outcome new (submitted new) ≡ verdict request new
+pub last_verdict : (new old : PipelineState) (request : CommitRequest) → new ≡ forget (all_handled (submit request old)) → outcome new (submitted new) ≡ verdict request new
 last_verdict new old request is =
     let given = submit request old in
     let entry = slice_get (entries given) (submitted given - given.start - 1) in

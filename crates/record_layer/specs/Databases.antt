@@ -5,7 +5,7 @@ use Rattle.cluster_core.specs.declared.answers.Reported.{Reported}
 use Rattle.cluster_core.specs.declared.answers.Reported.TheVariants.{Committed, Conflict as ReportedConflict}
 use Rattle.cluster_core.specs.declared.answers.SubmitError.TheVariants.{Memory}
 use Rattle.cluster_core.specs.Cluster.{ClusterState, IsReadable}
-use Rattle.cluster_core.specs.Roles.{PipelineState, all_handled, is_caught_up, outcome, submit, submit_refusal}
+use Rattle.cluster_core.specs.Roles.{PipelineState, all_handled, forget, is_caught_up, outcome, submit, submit_refusal}
 use Rattle.cluster_core.specs.Roles.{submitted}
 use Rattle.txn.specs.Finishing.{HasGoneOn, IsUnfinished}
 use Rattle.txn.specs.Holds.{verdict}
@@ -30,9 +30,10 @@ abbrev pub IsTaken : CommitRequest → DatabaseView → Type 0
 IsTaken request old =
     (old.is_settled ≡ true) × (submit_refusal old.cluster.pipeline request.read_version ≡ None)
 
--- every role has handled what stood submitted, and nothing else
+-- every role has handled what stood submitted, and nothing else, and no bytes are kept of requests that no role asks
+-- for again
 pub record IsFinished (standing : PipelineState) (new : DatabaseView) : Type 0 where
-  pub handled : new.cluster.pipeline ≡ all_handled standing
+  pub handled : new.cluster.pipeline ≡ forget (all_handled standing)
   pub settled : new.is_settled ≡ true
 
 -- the request was taken, and is committed at this version, as the resolvers decide

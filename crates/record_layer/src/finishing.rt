@@ -2,7 +2,7 @@
 // append and pull it, and then it is reported, so that it can be read at. Called by `database`.
 ghost use Rattle.std.specs.Prelude.{◌≡◌, IfOk, OnOk, OnErr};
 ghost use Rattle.cluster_core.specs.Cluster.{HasPulled, IsReadable, with_pipeline};
-ghost use Rattle.cluster_core.specs.Roles.{all_handled, outcome, submitted};
+ghost use Rattle.cluster_core.specs.Roles.{all_handled, forget, outcome, submitted};
 ghost use Rattle.txn.specs.Finishing.{HasGoneOn, IsUnfinished};
 ghost use Rattle.record_layer.specs.Databases.{HaveAll};
 
@@ -40,11 +40,12 @@ fn append_rest(cluster: &mut Cluster) -> Result<(), AllocError>
 }
 
 /// Has each role handle the last version that was given, which isn't reported yet, each server pull
-/// it, and tells then what is reported of it. Where memory runs out, some more roles have, and it
-/// can be finished later.
+/// it, and tells then what is reported of it; of requests that are older than the window no bytes
+/// are kept then. Where memory runs out, some more roles have, and it can be finished later.
 pub(crate) fn finish(cluster: &mut Cluster) -> Result<Reported, AllocError>
     requires { IsUnfinished cluster.old.pipeline }
-    ensures handled { OnOk result (cluster.new.pipeline ≡ all_handled cluster.old.pipeline) }
+    ensures handled { OnOk result
+        (cluster.new.pipeline ≡ forget (all_handled cluster.old.pipeline)) }
     ensures told { IfOk result (λ reported.
         reported ≡ outcome cluster.new.pipeline (submitted cluster.new.pipeline)) }
     ensures readable { OnOk result (IsReadable cluster.new) }
@@ -55,5 +56,7 @@ pub(crate) fn finish(cluster: &mut Cluster) -> Result<Reported, AllocError>
     append_rest(cluster)?;
     cluster.pull_all()?;
     prove!(cluster.read_version() <= u64::MAX);
-    Ok(cluster.report())
+    let reported = cluster.report();
+    cluster.forget();
+    Ok(reported)
 }

@@ -11,6 +11,7 @@ pub mod Filling
 pub mod Stopping
 pub mod OneRecord
 pub mod Openings
+pub mod Reopening
 pub mod Creating
 pub mod Answered
 pub mod RecordCalls

@@ -81,7 +81,7 @@ module _ (prefix : List ℕ) where
       written ≡ get m (schema_key prefix) → pairs ≡ pairs_in m (states_range prefix) → HasSchema (record { prefix = prefix; schema = schema; states = states }) m
   has_schema m schema states written pairs is are found listed = record { made = is.made; listed = are.are_listed; bytes = sym found ∙ is.bytes; states = sym listed ∙ are.are }
 
-  opened_there : (m : Map) (schema : Schema) (states : List (ℕ × State)) (serial : Serial) → HasSchema (record { prefix = prefix; schema = schema; states = states }) m → Holds prefix m serial →
+  pub opened_there : (m : Map) (schema : Schema) (states : List (ℕ × State)) (serial : Serial) → HasSchema (record { prefix = prefix; schema = schema; states = states }) m → Holds prefix m serial →
       IsThereAs (record { prefix = prefix; schema = schema; states = states }) serial
   opened_there m schema states None has holds =
       let some : ◌≡◌ {A = Option (List ℕ)} (Some (schema_bytes schema)) None = sym has.bytes ∙ no_schema_held prefix m holds in absurd (cc)

@@ -1,31 +1,37 @@
 -- What opening a store and making one establish.
-use Rattle.std.specs.Prelude.{◌≡◌, ℕ, List, [], ◌∷◌, Some, None, map}
+use Rattle.std.specs.Prelude.{◌≡◌, ℕ, true, List, [], ◌∷◌, Some, None, map}
 use Rattle.std.specs.FinMap.{get}
-use Rattle.std.specs.List.{AllByRecursion}
-use Rattle.kv_core.specs.Range.{KeyRange, point}
-use Rattle.kv_core.specs.Map.{Map, after_all, pairs_in}
+use Rattle.std.specs.List.{AllByRecursion, Contains, list_any}
+use Rattle.kv_core.specs.Range.{KeyRange, is_same_range, point}
+use Rattle.kv_core.specs.Map.{Agree, Map, after_all, pairs_in}
 use Rattle.kv_core.specs.Limits.{write_all_refusal}
 use Rattle.kv_core.specs.declared.change.CommitRequest.{CommitRequest}
 use Rattle.kv_core.specs.declared.change.Mutation.{Mutation}
 use Rattle.cluster_core.specs.declared.answers.ReadError.{ReadError}
+use Rattle.txn.specs.Reads.{seen}
 use Rattle.txn.specs.Runs.{Ran}
 use Rattle.metadata.specs.Lawful.{IsLawfulSchema}
 use Rattle.metadata.specs.Schema.{Schema}
 use Rattle.metadata.specs.Written.{schema_bytes}
 use Rattle.record_store.specs.declared.error.StoreError.{StoreError}
+use Rattle.record_store.specs.declared.opening.OpeningReads.{OpeningReads}
 use Rattle.record_store.specs.declared.error.StoreError.TheVariants.{Memory, Read, Write, Corrupt, NoStore}
 use Rattle.record_store.specs.declared.error.StoreError.TheVariants.{AlreadyThere}
-use Rattle.record_store.specs.Store.{Serial, created}
+use Rattle.record_store.specs.Store.{Serial, Store, created}
 use Rattle.record_store.specs.Layout.{schema_key, state_pair, states_range}
 use Rattle.record_store.specs.Holds.{Holds, IsListed}
 use Rattle.record_store.specs.Form.{IsFirstBad, IsOpeningPair, read_in}
 use Rattle.record_store.specs.Call.{IsOpenAs, Opened}
 use Rattle.record_store.specs.Calls.{schema_writes}
-use Rattle.record_store.specs.Steps.{DidRead, IsBeginning, IsNextRefused}
+use Rattle.record_store.specs.Steps.{DidRead, IsBeginning, IsNextRefused, of_read}
 
 -- what opening a store reads, in this order: its schema, and the states of its indexes
 abbrev pub opening_reach : List ℕ → List KeyRange
 opening_reach prefix = point (schema_key prefix) ∷ states_range prefix ∷ []
+
+-- Private: these are the ranges that opening a store under the prefix reads
+abbrev pub IsReadUnder : List ℕ → OpeningReads → Type 0
+IsReadUnder prefix reads = (reads.schema ≡ point (schema_key prefix)) × (reads.states ≡ states_range prefix)
 
 -- the fact stands of all that the map holds
 abbrev pub AtSerials : List ℕ → Map → (Serial → Type 0) → Type 0
@@ -49,6 +55,40 @@ pub record IsOpened (maps : ℕ → Map) (opened : Opened) (old new : CommitRequ
   pub ran :
       DidRead maps (opening_reach opened.prefix) old new (λ m.
       HasSchema opened m × AtSerials opened.prefix m (IsThereAs opened))
+
+-- a store that was opened in a transaction stands open in it: what an opening reads is among the ranges read, and every
+-- map that agrees with these has the store's schema and its states as the transaction sees it, and what it holds then
+-- is a store with them
+pub record StandsOpen (maps : ℕ → Map) (opened : Opened) (tx : CommitRequest) : Type 0 where
+  pub schema_read : list_any (is_same_range (point (schema_key opened.prefix))) tx.reads ≡ true
+  pub states_read : list_any (is_same_range (states_range opened.prefix)) tx.reads ≡ true
+  pub stands :
+      (m : Map) → Agree tx.reads (maps tx.read_version) m →
+      HasSchema opened (seen tx m) × AtSerials opened.prefix (seen tx m) (IsThereAs opened)
+
+-- a store that was opened stands there: what an opening reads is among the ranges read, and at the read version the
+-- transaction sees a store with the schema and the states that were opened
+pub record StandsThere (maps : ℕ → Map) (opened : Opened) (tx : CommitRequest) : Type 0 where
+  pub schema_read : list_any (is_same_range (point (schema_key opened.prefix))) tx.reads ≡ true
+  pub states_read : list_any (is_same_range (states_range opened.prefix)) tx.reads ≡ true
+  pub store : Store
+  pub holds : Holds opened.prefix (seen tx (maps tx.read_version)) (Some store)
+  pub same : IsOpenAs opened store
+
+-- a read of none of these ranges must be refused
+abbrev pub AreAllowed : (KeyRange → ℕ → Type 0) → List KeyRange → ℕ → Type 0
+AreAllowed must_refuse [] version = Unit {0}
+AreAllowed must_refuse (range ∷ ranges) version =
+    (must_refuse range version → ⊥) × AreAllowed must_refuse ranges version
+
+-- the error is with what a read of one of these ranges is refused
+pub record IsRefusalOfRead (refuses : KeyRange → ReadError → Type 0) (ranges : List KeyRange) (error : StoreError) :
+    Type 0 where
+  pub range : KeyRange
+  pub among : Contains ranges range
+  pub why : ReadError
+  pub is : error ≡ of_read why
+  pub refused : refuses range why
 
 -- why no store is opened: memory runs out, or a read is refused, in either case after the first ones; or all was
 -- read, and no schema stands there, or a pair does and the first pair read that isn't of the written form has this key,

@@ -8,7 +8,7 @@ ghost use Rattle.record_store.specs.Reading.{IsThere};
 
 use crate::error::StoreError;
 use crate::layout::schema_key;
-use crate::opening::{read_schema, read_states};
+use crate::opening::{OpeningReads, read_schema, read_states};
 use crate::store::{Store, lawful_known, shared_schema};
 use kv_core::{Bytes, Mutation};
 use metadata::Schema;
@@ -66,6 +66,7 @@ impl Store {
         let written = read_schema(alloc, prefix, tx, db)?;
         let _states = read_states(alloc, prefix, tx, db)?;
         refuse_store(&written)?;
+        let reads = OpeningReads::under(alloc, prefix)?;
         let own_prefix = Vec::from_slice(alloc, prefix)?;
         let copy = schema.copy()?;
         let own_schema = shared_schema(alloc, copy)?;
@@ -75,6 +76,7 @@ impl Store {
             prefix: own_prefix,
             schema: own_schema,
             states: Vec::new(alloc),
+            reads,
         })
     }
 }

@@ -10,7 +10,7 @@ use crate::error::StoreError;
 use crate::store::Store;
 use index_maint::push_kept_changes;
 use kv_core::{Mutation, Pair};
-use metadata::{IndexDefinition, Record, State};
+use metadata::{IndexDefinition, RecordRef, State};
 use std::alloc::AllocError;
 
 // What was found at a place, or nothing.
@@ -48,8 +48,8 @@ impl Store {
         index: &IndexDefinition,
         number: u64,
         at_built: bool,
-        old: Option<&Record>,
-        new: Option<&Record>,
+        old: Option<&RecordRef<'_>>,
+        new: Option<&RecordRef<'_>>,
         mutations: &mut Vec<Mutation>,
     ) -> Result<(), AllocError>
         ensures { OnOk result (mutations.new.items
@@ -72,8 +72,8 @@ impl Store {
         number: u64,
         position: &[u8],
         found: &[Vec<Pair>],
-        old: Option<&Record>,
-        new: Option<&Record>,
+        old: Option<&RecordRef<'_>>,
+        new: Option<&RecordRef<'_>>,
         mutations: &mut Vec<Mutation>,
     ) -> Result<(), StoreError>
         ensures followed { OnOk result (HaveFollowed self.now number position.now (option_copied old.entry)

@@ -12,7 +12,13 @@ use index_maint::{built_place, entries_prefix};
 use kv_core::{Bytes, KeyRange};
 use metadata::{Cells, PLACE_OF_RECORDS, PLACE_OF_SCHEMA, PLACE_OF_STATES, State};
 use std::alloc::{AllocError, Global};
-use tuple_codec::{Element, Subspace, Tuple, TupleInt, pack, pack_into};
+use tuple_codec::{Element, Subspace, Tuple, TupleInt, pack, pack_int, pack_into};
+
+// Room for a key behind a store's prefix, as long as it mostly is.
+const KEY_ROOM: usize = 32;
+
+// Room for the value of a record, as long as it mostly is.
+const VALUE_ROOM: usize = 64;
 
 // The tuple of a number alone.
 pub(crate) fn number_tuple(alloc: Global, number: u64) -> Result<Tuple, AllocError>
@@ -30,8 +36,10 @@ pub(crate) fn number_tuple(alloc: Global, number: u64) -> Result<Tuple, AllocErr
 pub(crate) fn place(alloc: Global, prefix: &[u8], number: u64) -> Result<Vec<u8>, AllocError>
     ensures { IfOk result (λ key. key.items ≡ place prefix.now number) }
 {
-    let tuple = number_tuple(alloc, number)?;
-    Subspace::new(Vec::from_slice(alloc, prefix)?).key(alloc, &tuple)
+    let mut key = Vec::with_capacity(alloc, prefix.len().saturating_add(KEY_ROOM))?;
+    key.extend_from_slice(prefix)?;
+    pack_int(TupleInt::from(number), &mut key)?;
+    Ok(key)
 }
 
 /// The key of the schema.
@@ -76,8 +84,8 @@ pub(crate) fn record_value(alloc: Global, cells: &Cells) -> Result<Bytes, AllocE
     ensures value { IfOk result (λ value. value ≡ record_value cells.now) }
     ensures cells { OnOk result (All IsCell cells.now) }
 {
-    let tuple = cells.tuple(alloc)?;
-    let value = pack(alloc, &tuple)?;
+    let mut value = Vec::with_capacity(alloc, VALUE_ROOM)?;
+    cells.push_pack(&mut value)?;
     Ok(Bytes::new(value))
 }
 

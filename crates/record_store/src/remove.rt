@@ -38,7 +38,8 @@ impl Store {
         let range = KeyRange::point(alloc, &key)?;
         let mut mutations = Vec::new(alloc);
         mutations.push(Mutation::ClearRange(range))?;
-        self.push_index_changes(number, position, found, Some(old), None, &mut mutations)?;
+        let old = old.lend();
+        self.push_index_changes(number, position, found, Some(&old), None, &mut mutations)?;
         Ok(mutations)
     }
 

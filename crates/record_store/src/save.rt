@@ -57,7 +57,9 @@ impl Store {
         let mut mutations = Vec::new(alloc);
         mutations.push(Mutation::Set { key, value })?;
         let number = new.definition().number;
-        self.push_index_changes(number, position, found, old, Some(new), &mut mutations)?;
+        let (old, new) = (old.map(Record::lend), new.lend());
+        let old = old.as_ref();
+        self.push_index_changes(number, position, found, old, Some(&new), &mut mutations)?;
         Ok(mutations)
     }
 

@@ -7,6 +7,7 @@ ghost use Rattle.metadata.specs.Schema.{find_type};
 ghost use Rattle.record_store.specs.Steps.{unknown_type};
 
 use crate::error::StoreError;
+use crate::opening::OpeningReads;
 use metadata::{Refusal, Schema, State, TypeDefinition};
 use std::alloc::{AllocError, Global};
 use std::marker::Model;
@@ -22,6 +23,8 @@ pub struct Store {
     pub(crate) prefix: Vec<u8>,
     pub(crate) schema: Rc<Schema>,
     pub(crate) states: Vec<(u64, State)>,
+    // What opening it reads.
+    pub(crate) reads: OpeningReads,
 }
 
 impl Model for Store {
@@ -29,12 +32,14 @@ impl Model for Store {
     ghost use Rattle.kv_core.specs.Bytes.{end_of_keys, key_lt};
     ghost use Rattle.metadata.specs.Lawful.{IsLawfulSchema};
     ghost use Rattle.record_store.specs.Call.{Opened};
+    ghost use Rattle.record_store.specs.Opening.{IsReadUnder};
 
     ghost Value = { Opened };
 
     ghost view = { λ s. record { prefix = s.prefix.items; schema = s.schema.value; states = s.states.items } };
 
-    ghost invariant = { λ s. IsTrue (key_lt s.prefix.items end_of_keys) × IsLawfulSchema s.schema.value };
+    ghost invariant = { λ s. IsTrue (key_lt s.prefix.items end_of_keys) × IsLawfulSchema s.schema.value
+        × IsReadUnder s.prefix.items s.reads };
 }
 
 // Each schema is lawful: this tells the prover so, and does nothing.

@@ -1,6 +1,5 @@
 -- What a run of a race is.
 use Rattle.std.specs.Prelude.{◌≡◌, ℕ, List, Some, None, IsNone}
-use Rattle.cluster_core.specs.declared.answers.Config.{Config}
 use Rattle.script.specs.Race.{race_of}
 use Rattle.script.specs.declared.race.Race.{Race}
 use Rattle.race.specs.Racing.{race_refusal}

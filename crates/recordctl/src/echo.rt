@@ -1,6 +1,6 @@
 // The lines of a script's steps, which `run --echo` prints. Called by `run` and `in_turn`.
 use command_line::RunWords;
-use shell::step_lines;
+use shell_text::step_lines;
 use std::alloc::{AllocError, Global};
 
 /// The lines of a script's steps where they are shown, each step as it is written, on one line;

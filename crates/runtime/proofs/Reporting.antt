@@ -10,7 +10,7 @@ use Rattle.cluster_core.specs.declared.answers.SubmitError.TheVariants.{TooOld, 
 use Rattle.cluster_core.specs.Decision.{Cause, cause, numbered}
 use Rattle.cluster_core.specs.Cluster.{without_servers}
 use Rattle.cluster_core.specs.Configuration.{first_pipeline}
-use Rattle.cluster_core.specs.Roles.{PipelineState, all_handled, is_caught_up, outcome, submit, submit_refusal, submitted, told}
+use Rattle.cluster_core.specs.Roles.{PipelineState, all_handled, is_caught_up, outcome, submit, submit_refusal, submitted, told, whole}
 use Rattle.cluster_core.proofs.Growth.{later_changes_nothing}
 use Rattle.txn.specs.Holds.{HeldError, first_raised, verdict}
 use Rattle.txn.specs.declared.commit.HoldError.TheVariants as holds
@@ -156,6 +156,13 @@ abbrev pub Held : Name → List ℕ → List Entry → PipelineState → Due →
 Held n last log q due =
     IsInFlight n log q (Unreported due)
     × (is_numbered (slice_set last due.submitted.client due.submitted.number) (log ++ submitted_entry due.submitted ∷ []) ≡ true)
+
+-- what is kept as bytes doesn't matter
+pub held_whole : (request : CommitRequest) (p q : PipelineState) → HeldError holds.Unknown request (without_servers p) (without_servers q) →
+    HeldError holds.Unknown request (without_servers (whole p)) (without_servers (whole q))
+held_whole request p q held =
+    let at = held.1.2 in
+    (held.0, (held.1.0, held.1.1, record { stands = ap whole at.stands; some_resolvers = at.some_resolvers; some_logs = at.some_logs; in_order = at.in_order }), refl)
 
 -- memory ran out after it was submitted
 pub held_next : (n : Name) (last : List ℕ) (log prefix : List Entry) (due : Due) (request : CommitRequest) (p q : PipelineState) →

@@ -10,7 +10,9 @@ use Rattle.cluster_core.proofs.answers.Splits.TheSendSync as splits
 use Rattle.cluster_core.proofs.kept.Cause.TheSendSync as cause
 use Rattle.cluster_core.proofs.log.Log.TheSendSync as log
 use Rattle.cluster_core.proofs.part.Part.TheSendSync as part
+use Rattle.cluster_core.proofs.past.Past.TheSendSync as past
 use Rattle.cluster_core.proofs.tree.Tree.TheLaws.TheKnot as knot
+use Rattle.cluster_core.specs.contracts.requests.Requests as Requests
 use Rattle.cluster_core.specs.contracts.segments.Segments as Segments
 use Rattle.cluster_core.specs.contracts.kept.Writers as Writers
 use Rattle.cluster_core.specs.contracts.resolver.Resolver as Resolver
@@ -50,9 +52,12 @@ writers_send = search (segments_send, sendable, crosses) depth 20
 resolver_send : IsSend Resolver.the_row
 resolver_send = search (part.the_send, writers_send, cause.the_send, sendable, crosses) depth 20
 
+requests_send : IsSend Requests.the_row
+requests_send = search (request.the_field_send, past.the_send, sendable, crosses) depth 20
+
 pipeline_send : IsSend Pipeline.the_row
 pipeline_send =
-    search (splits.the_send, request.the_field_send, resolver_send, log.the_send, sendable, crosses) depth 20
+    search (splits.the_send, requests_send, resolver_send, log.the_send, sendable, crosses) depth 20
 
 pub hold_send : IsSend CommitState.the_row
 hold_send =

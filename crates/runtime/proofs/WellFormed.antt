@@ -101,6 +101,7 @@ all_again p request =
       resolved = handled_again p.resolved (submitted p) last i;
       logged = handled_again p.logged (submitted p) last i;
       reported = last;
+      forgotten = p.forgotten;
     }
 
 pub pipeline_next : (config : Config) (log : List Entry) (e : Entry) → all_handled (submit e.request (pipeline_of config log)) ≡ pipeline_of config (log ++ e ∷ [])
@@ -176,6 +177,7 @@ pipeline_first config =
       resolved = resolved_first config.start (owners config.resolver_splits) i;
       logged = handled_first config.start config.logs i;
       reported = same i;
+      forgotten = 0;
     }
 
 -- a transaction that has done nothing yet

@@ -45,6 +45,7 @@ impl Model for CommitState {
     ghost use Rattle.std.specs.Prelude.{◌≡◌, ◌++◌, true};
     ghost use Rattle.runtime.specs.History.{log_prefix};
     ghost use Rattle.runtime.specs.Logs.{AreCounted, AreGiven, is_numbered};
+    ghost use Rattle.cluster_core.specs.Roles.{whole};
     ghost use Rattle.runtime.specs.CommitStates.{CommitView, commit_view, due_of, IsInFlight};
     ghost use Rattle.std.specs.Coded.{codes};
     ghost use Rattle.runtime.specs.contracts.log_entry.Entry as entries;
@@ -62,7 +63,7 @@ impl Model for CommitState {
         (h.head ≡ h.publisher.name.book)
         × (h.prefix ≡ log_prefix h.publisher.name (h.publisher.published ++ h.publisher.pending))
         × IsInFlight h.publisher.name (h.publisher.published ++ h.publisher.pending)
-        h.pipeline h.in_flight
+        (whole h.pipeline) h.in_flight
         × (is_numbered h.last.items
         (due_of h.in_flight (h.publisher.published ++ h.publisher.pending)) ≡ true)
         × AreGiven h.last.items
@@ -302,7 +303,8 @@ impl CommitState {
         }
     }
 
-    /// Shows readers all entries that were added. Where memory runs out they see what they saw.
+    /// Shows readers all entries that were added. Where memory runs out they see what they saw. Of
+    /// requests that are older than the window the pipeline keeps no bytes then.
     pub fn publish<R: Wait>(self, rt: &R) -> (CommitState, Result<(), AllocError>)
         ensures shown { MatchResult result.1
             (λ _. result.0 ≡ commit_view self.name self.log self.log self.due self.last)
@@ -310,13 +312,14 @@ impl CommitState {
     {
         let CommitState {
             alloc,
-            pipeline,
+            mut pipeline,
             publisher,
             head,
             prefix,
             in_flight,
             last,
         } = self;
+        pipeline.forget();
         let (publisher, result) = publisher.publish(rt);
         let state = CommitState {
             alloc,

@@ -2,7 +2,7 @@
 // `commit_state`.
 ghost use Rattle.std.specs.Prelude.{◌≡◌, List, [], ◌∷◌, ◌++◌, IfSome};
 ghost use Rattle.runtime.specs.CommitStates.{IsInFlight, IsRecorded, decided_due, due_of};
-ghost use Rattle.cluster_core.specs.Roles.{PipelineState};
+ghost use Rattle.cluster_core.specs.Roles.{PipelineState, whole};
 ghost use Rattle.txn.specs.Finishing.{IsUnfinished};
 ghost use Rattle.runtime.specs.History.{Name, log_prefix, submitted_entry};
 ghost use Rattle.runtime.specs.Logs.{IsWellFormedLog};
@@ -142,8 +142,8 @@ pub(crate) fn report(alloc: Global, pipeline: &mut Pipeline, due: Due) -> InFlig
     ensures due { (log : List Entry) →
         due_of result log ≡ log ++ submitted_entry due.submitted ∷ [] }
     ensures further { (name : Name) (log : List Entry) →
-        IsInFlight name log pipeline.old (InFlight.Unreported due) →
-        IsInFlight name log pipeline.new result }
+        IsInFlight name log (whole pipeline.old) (InFlight.Unreported due) →
+        IsInFlight name log (whole pipeline.new) result }
 {
     match finish(pipeline) {
         Ok(reported) => decided(alloc, &reported, due),

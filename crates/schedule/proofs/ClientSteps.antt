@@ -22,10 +22,14 @@ use Rattle.schedule.specs.Contract.{InTransaction, begin_reply, commit_reply}
 use Rattle.schedule.specs.Exact.{IsExactReply}
 use Rattle.schedule.specs.Performed.{IsPerformed}
 use Rattle.schedule.specs.Standing.{cluster_stepped, commits_of}
-use Rattle.schedule.specs.Turns.{IsOpenTransaction, fresh_request}
+use Rattle.txn.specs.Reads.{seen}
+use Rattle.schedule.specs.Holds.{Stands}
+use Rattle.schedule.specs.Known.{IsKnown, SeesSerial}
+use Rattle.schedule.specs.Turns.{AreSubmitted, IsOpenTransaction, fresh_request}
 use Rattle.schedule.specs.Running.{ArePlaces, IsOpen, IsPlace, IsPerformedBy, IsStanding, IsStandingAt, IsStepped, IsSubmit, StandsAfter, submitted_by}
 use Rattle.schedule.proofs.Places.{accepted-append, changed_at, client_there, place_found, place_none, place_some, places_same, places_set, store_missing, store_there}
-use Rattle.schedule.proofs.Composed.{command_right}
+use Rattle.schedule.proofs.Composed.{command_right, open_sees_serial}
+use Rattle.schedule.proofs.KnownStores.{none_known}
 use Rattle.schedule.proofs.Turning.{open_fresh, open_grown}
 
 -- only what clients have open changes
@@ -87,9 +91,9 @@ same_requests old new same = ap (λ (c : ClusterState). c.pipeline.requests) sam
 -- ---- begin
 
 pub begin_steps : (old new : Database) (client number version : ℕ) (found : Option OpenTransaction) (transaction : OpenTransaction) → client < CLIENTS → is_store_number number ≡ true →
-    found ≡ get_or old.transactions.items client found → found ≡ None → version ≡ old.cluster.pipeline.reported → transaction.store ≡ number → transaction.transaction ≡ fresh_request version → transaction.commands.items ≡ [] →
+    found ≡ get_or old.transactions.items client found → found ≡ None → version ≡ old.cluster.pipeline.reported → transaction.store ≡ number → transaction.transaction ≡ fresh_request version → transaction.commands.items ≡ [] → transaction.opened ≡ None →
     IsSet old new client (Some transaction) → IsStepped (Begin client number) (Begun version) old new
-begin_steps old new client number version found transaction there lawful is closed at in_store is_fresh none set past s =
+begin_steps old new client number version found transaction there lawful is closed at in_store is_fresh none unopened set past s =
     let maps = database_at old.cluster in
     let placed : IsPlace maps old.cluster.pipeline.reported (open_of client past) None = subst (λ (o : Option OpenTransaction). IsPlace maps old.cluster.pipeline.reported (open_of client past) o) closed (placed_at _ _ old client found there is s) in
     let begun : Open = record { store = number; read_version = version; attempts = [] } in
@@ -97,6 +101,7 @@ begin_steps old new client number version found transaction there lawful is clos
       store = in_store;
       done = subst (IsOpenTransaction maps old.cluster.pipeline.reported begun) (sym is_fresh) (open_fresh maps old.cluster.pipeline.reported number version lawful (omega (arith, at)));
       commands = none;
+      known = none_known transaction.store maps transaction.opened transaction.transaction unopened;
     } in
     record {
       right = client_there client (Begun version) _ there (store_there number (Begun version) (Begun version ≡ begin_reply old.cluster (open_of client past)) lawful
@@ -119,6 +124,16 @@ begin_missing d client number there none past s = record {
 
 -- ---- perform
 
+-- an open transaction sees a store, or none
+open_held : (c : ClusterState) (subs : List Submission) (open_now : Open) (transaction : OpenTransaction) → IsLegal (history c.pipeline) →
+    AreSubmitted (database_at c) c.pipeline.reported c.pipeline.start subs c.pipeline.requests → IsOpen (database_at c) c.pipeline.reported open_now transaction → SeesSerial transaction.store (database_at c) transaction.transaction
+open_held c subs open_now transaction legal are is =
+    let sees = open_sees_serial c subs open_now transaction.transaction legal are is.done in (
+      sees.0,
+      subst (λ number. Stands number (seen transaction.transaction (database_at c transaction.transaction.read_version)) sees.0) (sym is.store)
+          (subst (λ v. Stands open_now.store (seen transaction.transaction (database_at c v)) sees.0) (sym is.done.at) sees.1),
+    )
+
 pub perform_steps : (old new : Database) (client : ℕ) (command : Command) (reply : Reply) (found : Option OpenTransaction) (transaction after : OpenTransaction) → client < CLIENTS →
     found ≡ get_or old.transactions.items client found → found ≡ Some transaction → IsLegal (history old.cluster.pipeline) → IsPerformedBy old.cluster command reply transaction after →
     IsSet old new client (Some after) → IsStepped (Perform client command) reply old new
@@ -133,6 +148,9 @@ perform_steps old new client command reply found transaction after there is open
       store = performed.store ∙ is_open.store;
       done = open_grown maps reported open_now transaction.transaction after.transaction _ command reply is_open.done here;
       commands = performed.commands ∙ ap (λ cs. cs ++ cond (is_accepted reply) (command ∷ []) []) is_open.commands ∙ sym (accepted-append open_now.attempts attempt);
+      known =
+          subst (λ number. IsKnown number maps after.opened after.transaction) (sym performed.store)
+          (performed.known (open_held old.cluster (submitted_in past) open_now transaction legal s.submitted is_open));
     } in
     record {
       right = client_there client reply _ there
@@ -236,6 +254,16 @@ ended_seen old client found ended there is opened (past, s) =
     let placed : IsPlace maps reported (open_of client past) (Some ended) = subst (λ (o : Option OpenTransaction). IsPlace maps reported (open_of client past) o) opened (placed_at _ _ old client found there is s) in
     let (open_now, e, is_open) = place_some maps reported (open_of client past) ended placed in
     subst (λ version. version ≤ reported) (sym is_open.done.at) is_open.done.seen
+
+-- what is known of an open transaction's store stands there
+pub known_there : (old : Database) (client : ℕ) (found : Option OpenTransaction) (transaction : OpenTransaction) → client < CLIENTS →
+    found ≡ get_or old.transactions.items client found → found ≡ Some transaction → (past : Past) × StandsAfter past old → IsKnown transaction.store (database_at old.cluster) transaction.opened transaction.transaction
+known_there old client found transaction there is opened (past, s) =
+    let maps = database_at old.cluster in
+    let reported = old.cluster.pipeline.reported in
+    let placed : IsPlace maps reported (open_of client past) (Some transaction) = subst (λ (o : Option OpenTransaction). IsPlace maps reported (open_of client past) o) opened (placed_at _ _ old client found there is s) in
+    let (open_now, e, is_open) = place_some maps reported (open_of client past) transaction placed in
+    is_open.known
 
 pub commit_steps : (old mid new : Database) (client : ℕ) (reply : Reply) (found : Option OpenTransaction) (ended : OpenTransaction) → client < CLIENTS →
     found ≡ get_or old.transactions.items client found → found ≡ Some ended → IsSet old mid client None → IsSubmit client ended reply mid new → IsStepped (Commit client) reply old new

@@ -316,6 +316,12 @@ pub command_right : (c : ClusterState) (subs : List Submission) (open_now : Open
 command_right c subs open_now request new command answer legal are is performed =
     performed_right c.pipeline subs legal are open_now request new (λ version range. MayRefuse (tier_of c) range version) command answer is performed
 
+-- what an open transaction sees at its read version is a store, or none
+pub open_sees_serial : (c : ClusterState) (subs : List Submission) (open_now : Open) (request : CommitRequest) → IsLegal (history c.pipeline) →
+    AreSubmitted (database_at c) c.pipeline.reported c.pipeline.start subs c.pipeline.requests → IsOpenTransaction (database_at c) c.pipeline.reported open_now request →
+    (serial : Serial) × Stands open_now.store (seen request (database_at c open_now.read_version)) serial
+open_sees_serial c subs open_now request legal are is = (view (commits_of c.pipeline subs) open_now, open_sees c.pipeline subs legal are open_now request is)
+
 pub holds_all : (c : ClusterState) (subs : List Submission) → IsLegal (history c.pipeline) → AreSubmitted (database_at c) c.pipeline.reported c.pipeline.start subs c.pipeline.requests →
     HoldsCommitted c (commits_of c.pipeline subs)
 holds_all c subs legal are version from upto = holds_committed c.pipeline subs legal are version upto

@@ -4,12 +4,14 @@ pub mod OwnStore
 pub mod Composed
 pub mod Growing
 pub mod Refusing
+pub mod KnownStores
 pub mod Places
 pub mod ClientSteps
 pub mod Submits
 pub mod RoleSteps
 pub mod ReportSteps
 pub mod RunSteps
+pub mod Forgotten
 pub mod WorkSteps
 pub mod SettleSteps
 pub mod Reached

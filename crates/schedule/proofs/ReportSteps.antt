@@ -114,7 +114,12 @@ place_later : (maps : ℕ → Map) (reported later : ℕ) (o : Option Open) (val
 place_later maps reported later None None below is = tt
 place_later maps reported later None (Some transaction) below is = absurd is
 place_later maps reported later (Some open_now) None below is = absurd is
-place_later maps reported later (Some open_now) (Some transaction) below is = record { store = is.store; done = open_later maps reported later open_now transaction.transaction below is.done; commands = is.commands }
+place_later maps reported later (Some open_now) (Some transaction) below is = record {
+  store = is.store;
+  done = open_later maps reported later open_now transaction.transaction below is.done;
+  commands = is.commands;
+  known = is.known;
+}
 
 standing_reported : (opens : ℕ → Option Open) (submissions : List Submission) (c : ClusterState) (transactions : List (Option OpenTransaction)) (waiting left : List Unreported) (entries : List CommitEntry) (next : Unreported) (one : Submission) →
     IsStandingAt c opens submissions transactions waiting entries → c.pipeline.reported + 1 ≤ submitted c.pipeline → slice_get submissions (c.pipeline.reported - c.pipeline.start) ≡ Some one →

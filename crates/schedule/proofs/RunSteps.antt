@@ -103,15 +103,6 @@ longer_run config steps replies step reply old new plans kept run stepped_so kee
   subst (λ past. AreKept past kept) (sym (one_more_past config steps replies step reply old run.0)) (keeps (past_of [] steps replies) run.1),
 )
 
--- the same, whatever steps were done
-abbrev pub AnyRunWith : Database → List (Option AskedPlan) → Type 0
-AnyRunWith database plans = (config : Config) × (steps : List Step) × (replies : List Reply) × RunsWith config steps replies database plans
-
-pub one_longer : (step : Step) (reply : Reply) (old new : Database) (plans kept : List (Option AskedPlan)) → IsSteppedWith plans step reply old new → ((past : Past) → AreKept past plans → AreKept ((step, reply) ∷ past) kept)
-    → AnyRunWith old plans → AnyRunWith new kept
-one_longer step reply old new plans kept stepped_so keeps (config, steps, replies, run) =
-    (config, steps ++ step ∷ [], replies ++ reply ∷ [], longer_run config steps replies step reply old new plans kept run stepped_so keeps)
-
 -- a turn of the loop over steps
 pub turn : (config : Config) (steps : List Step) (i : ℕ) (step : Step) (before after : List Reply) (reply : Reply) (old new : Database) (plans kept : List (Option AskedPlan)) → i < length steps → step ≡ get_or steps i step → after ≡ before ++ reply ∷ [] →
     RunsWith config (take i steps) before old plans → IsSteppedWith plans step reply old new → ((past : Past) → AreKept past plans → AreKept ((step, reply) ∷ past) kept) → RunsWith config (take (i + 1) steps) after new kept

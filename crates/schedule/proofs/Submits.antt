@@ -1,5 +1,5 @@
 -- What the submission of an ended transaction replies and leaves, over plain values.
-use Rattle.std.proofs.Common.{◌≡◌, ℕ, ◌+◌, ◌-◌, ◌≤◌, ◌==◌, Bool, true, false, not, cond, List, [], ◌∷◌, ◌++◌, length, drop, get_or, map, take, refl, sym, ap, ◌∙◌, Option, Some, None, ◌⊎◌, inl, inr, length-append, arith}
+use Rattle.std.proofs.Common.{◌≡◌, ℕ, ◌+◌, ◌-◌, ◌≤◌, ◌==◌, Bool, true, false, not, cond, List, [], ◌∷◌, ◌++◌, length, drop, get_or, map, take, refl, sym, ap, subst, ◌∙◌, Option, Some, None, ◌⊎◌, inl, inr, length-append, arith}
 use Rattle.std.proofs.Math.Seq.{take-append_seam}
 use Rattle.std.proofs.lemmas.Bool.{eqb-true}
 use Rattle.std.proofs.lemmas.List.{drop-append-le, map-append}
@@ -23,6 +23,7 @@ use Rattle.schedule.specs.Standing.{with_next}
 use Rattle.schedule.specs.Running.{IsOpen, IsPlace, IsStanding, IsStandingAt, Submits, kept, submitted_by}
 use Rattle.schedule.proofs.ClientSteps.{none_added, same_requests, standing_as}
 use Rattle.schedule.proofs.Submitting.{commits_submitted, maps_submitted, submitted_length, submitted_more, submitted_versions}
+use Rattle.schedule.proofs.KnownStores.{known_elsewhere}
 use Rattle.schedule.proofs.Turning.{open_changed, open_elsewhere}
 
 -- ---- what a commit replies
@@ -92,7 +93,13 @@ place_elsewhere : (maps maps2 : ℕ → Map) (reported : ℕ) (o : Option Open) 
 place_elsewhere maps maps2 reported None None same is = tt
 place_elsewhere maps maps2 reported None (Some transaction) same is = absurd is
 place_elsewhere maps maps2 reported (Some open_now) None same is = absurd is
-place_elsewhere maps maps2 reported (Some open_now) (Some transaction) same is = record { store = is.store; done = open_elsewhere maps maps2 reported open_now transaction.transaction same is.done; commands = is.commands }
+place_elsewhere maps maps2 reported (Some open_now) (Some transaction) same is = record {
+  store = is.store;
+  done = open_elsewhere maps maps2 reported open_now transaction.transaction same is.done;
+  commands = is.commands;
+  known =
+      known_elsewhere transaction.store maps maps2 transaction.opened transaction.transaction (same transaction.transaction.read_version (subst (λ v. v ≤ reported) (sym is.done.at) is.done.seen)) is.known;
+}
 
 pub one_longer : {X : Type 0} (xs : List X) (x : X) → length (xs ++ x ∷ []) ≡ length xs + 1
 one_longer xs x = length-append xs (x ∷ [])

@@ -8,6 +8,7 @@ pub mod Past
 pub mod Holds
 pub mod Reach
 pub mod Performed
+pub mod Known
 pub mod Calls
 pub mod Executions
 pub mod Commits

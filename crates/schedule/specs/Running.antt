@@ -31,6 +31,7 @@ use Rattle.schedule.specs.Standing.{cluster_after, cluster_stepped, commits_of}
 use Rattle.schedule.specs.Contract.{InTransaction, OfClient, client_of, commit_reply, past_of, report_to}
 use Rattle.schedule.specs.Exact.{HasExactReplies, IsReplyTo}
 use Rattle.schedule.specs.Headline.{WasOpen}
+use Rattle.schedule.specs.Known.{IsKnown, StaysKnown}
 use Rattle.schedule.specs.Turns.{AreSubmitted, IsOpenTransaction}
 
 -- what is kept of a submission until it is reported
@@ -43,11 +44,12 @@ kept one =
       commands = accepted one.transaction.attempts;
     }
 
--- the transaction is the open one in its store, and has its accepted commands
+-- the transaction is the open one in its store, and has its accepted commands; where a store is kept, it stands there
 pub record IsOpen (maps : ℕ → Map) (reported : ℕ) (open_now : Open) (transaction : OpenTransaction) : Type 0 where
   pub store : transaction.store ≡ open_now.store
   pub done : IsOpenTransaction maps reported open_now transaction.transaction
   pub commands : transaction.commands.items ≡ accepted open_now.attempts
+  pub known : IsKnown transaction.store maps transaction.opened transaction.transaction
 
 -- a client's place has its open transaction, where there is one
 abbrev pub IsPlace : (ℕ → Map) → ℕ → Option Open → Option OpenTransaction → Type 0
@@ -112,7 +114,8 @@ abbrev pub IsSteppedWith : List (Option AskedPlan) → Step → Reply → Databa
 IsSteppedWith plans step reply old new =
     (past : Past) → StandsAfter past old → AreKept past plans → Steps past step reply old new
 
--- Private: a command was performed in an open transaction, in its store; it is kept where it is accepted
+-- Private: a command was performed in an open transaction, in its store; it is kept where it is accepted, and a
+-- store that is left open stands there
 pub record IsPerformedBy (c : ClusterState) (command : Command) (reply : Reply) (old new : OpenTransaction) :
     Type 0 where
   pub store : new.store ≡ old.store
@@ -120,6 +123,7 @@ pub record IsPerformedBy (c : ClusterState) (command : Command) (reply : Reply) 
       IsPerformed old.store (database_at c) (λ range. MayRefuse (tier_of c) range old.transaction.read_version)
       command reply old.transaction new.transaction
   pub commands : new.commands.items ≡ old.commands.items ++ (if is_accepted reply then command ∷ [] else [])
+  pub known : StaysKnown old.store (database_at c) new.opened old.transaction new.transaction
 
 -- Private: the reply to executing where no plan is kept, whatever stood before: there is no such client, or it has no
 -- open transaction, or no plan

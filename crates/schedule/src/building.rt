@@ -2,14 +2,16 @@
 ghost use Rattle.std.specs.Prelude.{◌≡◌, IfOk, IfErr};
 ghost use Rattle.schedule.specs.declared.step.Command.{Command};
 ghost use Rattle.schedule.specs.Calls.{IsCommandRefused};
+ghost use Rattle.schedule.specs.Known.{IsKnown, StaysKnown};
 ghost use Rattle.schedule.specs.Performed.{IsPerformed};
 ghost use Rattle.schedule.specs.Serve.{reply_to_build};
 
 use crate::commands::open;
+use crate::known::Known;
 use crate::refusal::Refusal;
 use crate::reply::Reply;
 use online_builder::{Builder, Progress};
-use record_store::{KnownSchema, StoreError, StoreNumber};
+use record_store::{StoreError, StoreNumber};
 use std::alloc::Global;
 use tuple_codec::Text;
 use txn::{Snapshot, Transaction};
@@ -30,10 +32,12 @@ pub(crate) fn build<S: Snapshot>(
     number: StoreNumber,
     tx: &mut Transaction,
     db: &S,
-    known: &mut KnownSchema,
+    known: &mut Known,
     name: &Text,
     limit: u32,
 ) -> Result<Reply, StoreError>
+    requires known { IsKnown number (S.map_at db.now) known.old.store tx.old }
+    ensures known { StaysKnown number (S.map_at db.now) known.new.store tx.old tx.new }
     ensures performed { IfOk result (λ answer.
         IsPerformed number (S.map_at db.now)
         (λ range. S.may_refuse db.now range tx.old.read_version)

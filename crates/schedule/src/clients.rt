@@ -1,19 +1,22 @@
 // The steps of clients: a transaction is begun, given commands, committed or abandoned. Called by
 // `running`.
 ghost use Rattle.std.specs.Prelude.{◌≡◌, ◌≤◌, IfOk};
+ghost use Rattle.cluster_core.specs.Cluster.{database_at};
+ghost use Rattle.schedule.specs.Known.{IsKnown};
 ghost use Rattle.schedule.specs.Past.{Past, is_accepted};
 ghost use Rattle.schedule.specs.Running.{IsPerformedBy, IsStepped, IsSteppedWith, IsSubmit, IsUnplanned, StandsAfter};
 
 use crate::database::{Database, OpenTransaction, Unreported};
 use crate::kept_plans::KeptPlans;
-use crate::performing::perform_knowing;
+use crate::known::Known;
+use crate::performing::perform_open;
 use crate::refusal::Refusal;
 use crate::reply::Reply;
 use crate::starting::laws_of;
 use crate::step::{CLIENTS, Command, Step};
 use crate::transcript::Commands;
 use cluster_core::{Cluster, SubmitError};
-use record_store::{KnownSchema, StoreNumber};
+use record_store::StoreNumber;
 use std::alloc::{AllocError, Global};
 use txn::Transaction;
 
@@ -28,18 +31,22 @@ fn is_accepted(reply: &Reply) -> bool
 }
 
 impl OpenTransaction {
-    // Performs a command, and keeps it where it is accepted.
+    // Performs a command, and keeps it where it is accepted. A store that is left open is kept too.
     fn perform(
         &mut self,
         alloc: Global,
         command: &Command,
         cluster: &Cluster,
-        known: &mut KnownSchema,
+        known: &mut Known,
     ) -> Result<Reply, AllocError>
+        requires { IsKnown self.old.store (database_at cluster.now)
+            self.old.opened self.old.transaction }
         ensures { IfOk result (λ reply. IsPerformedBy cluster.now command.now reply self.old self.new) }
     {
+        known.store = self.opened.take();
         let transaction = &mut self.transaction;
-        let reply = perform_knowing(alloc, command, self.store, transaction, cluster, known)?;
+        let reply = perform_open(alloc, command, self.store, transaction, cluster, known)?;
+        self.opened = known.store.take();
         if is_accepted(&reply) {
             let command = command.copy()?;
             self.commands.push(command)?;
@@ -68,6 +75,7 @@ impl Database {
             store,
             transaction: Transaction::begin(alloc, version),
             commands,
+            opened: None,
         });
         Reply::Begun(version)
     }
@@ -78,8 +86,9 @@ impl Database {
         alloc: Global,
         client: u64,
         command: &Command,
-        known: &mut KnownSchema,
+        known: &mut Known,
     ) -> Result<Reply, AllocError>
+        requires { (past : Past) × StandsAfter past self.old }
         ensures { IfOk result (λ reply. IsStepped (Step.Perform client command.now) reply self.old self.new) }
     {
         if client >= CLIENTS as u64 {
@@ -114,8 +123,9 @@ impl Database {
         alloc: Global,
         kept: &KeptPlans,
         client: u64,
-        known: &mut KnownSchema,
+        known: &mut Known,
     ) -> Result<Reply, AllocError>
+        requires { (past : Past) × StandsAfter past self.old }
         ensures { IfOk result (λ reply.
             IsSteppedWith kept.now.plans.items (Step.Execute client) reply self.old self.new) }
     {
@@ -138,6 +148,7 @@ impl Database {
             store,
             transaction,
             commands,
+            opened: _,
         } = ended;
         let request = transaction.into_request();
         if request.mutations.is_empty() {

@@ -1,37 +1,51 @@
 // The commands on types and records, and the opening of the store. Called by `performing`; the
 // opening also by the modules of the other commands.
-ghost use Rattle.std.specs.Prelude.{◌≡◌, Ok, IfOk, IfErr};
+ghost use Rattle.std.specs.Prelude.{◌≡◌, None, Ok, IfOk, IfErr, OnOk};
 ghost use Rattle.metadata.specs.Answers.{IsRefusedAs};
 ghost use Rattle.metadata.specs.Record.{record_of};
 ghost use Rattle.record_store.specs.Layout.{store_prefix};
-ghost use Rattle.record_store.specs.Opening.{IsOpened, IsUnopened};
+ghost use Rattle.record_store.specs.Opening.{AreAllowed, IsOpened, IsUnopened, StandsThere};
+ghost use Rattle.record_store.specs.Opening.{opening_reach};
 ghost use Rattle.schedule.specs.declared.step.Command.{Command};
 ghost use Rattle.schedule.specs.Serve.{reply_to_load, reply_to_remove, reply_to_save};
 ghost use Rattle.schedule.specs.Performed.{IsPerformed};
 ghost use Rattle.schedule.specs.Calls.{IsCommandRefused};
+ghost use Rattle.schedule.specs.Known.{IsKnown, SeesSerial, StaysKnown};
 
+use crate::known::Known;
 use crate::reply::Reply;
 use metadata::{Cells, Field, MetadataError, Record, Schema, SchemaRequest, TypeRequest};
-use record_store::{KnownSchema, Store, StoreError, StoreNumber};
+use record_store::{Store, StoreError, StoreNumber};
 use std::alloc::Global;
 use tuple_codec::Text;
 use txn::{Snapshot, Transaction};
 
-/// Opens the store of this number.
+/// Opens the store of this number: that which is known is opened again, and given away.
 pub(crate) fn open<S: Snapshot>(
     alloc: Global,
     number: StoreNumber,
     tx: &mut Transaction,
     db: &S,
-    known: &mut KnownSchema,
+    known: &mut Known,
 ) -> Result<Store, StoreError>
+    requires known { IsKnown number (S.map_at db.now) known.old.store tx.old }
+    ensures taken { known.new.store ≡ None }
     ensures opened { IfOk result (λ store. IsOpened (S.map_at db.now) store tx.old tx.new) }
     ensures prefix { IfOk result (λ store. store.prefix ≡ store_prefix number) }
+    ensures there { IfOk result (λ store.
+        SeesSerial number (S.map_at db.now) tx.old → StandsThere (S.map_at db.now) store tx.new) }
+    ensures allowed { OnOk result
+        (AreAllowed (S.must_refuse db.now)
+        (opening_reach (store_prefix number)) tx.new.read_version) }
     ensures refused { IfErr result (λ error.
         IsUnopened (S.map_at db.now) (S.may_refuse db.now) (store_prefix number) error tx.old tx.new) }
 {
+    if let Some(store) = known.store.take() {
+        store.reopen(tx, db)?;
+        return Ok(store);
+    }
     let prefix = number.prefix(alloc)?;
-    Store::open_knowing(alloc, &prefix, tx, db, known)
+    Store::open_knowing(alloc, &prefix, tx, db, &mut known.schema)
 }
 
 /// Makes the store of this number, of these types and indexes, where there is none.
@@ -62,9 +76,11 @@ pub(crate) fn add_type<S: Snapshot>(
     number: StoreNumber,
     tx: &mut Transaction,
     db: &S,
-    known: &mut KnownSchema,
+    known: &mut Known,
     request: &TypeRequest,
 ) -> Result<Reply, StoreError>
+    requires known { IsKnown number (S.map_at db.now) known.old.store tx.old }
+    ensures known { StaysKnown number (S.map_at db.now) known.new.store tx.old tx.new }
     ensures performed { IfOk result (λ answer.
         IsPerformed number (S.map_at db.now)
         (λ range. S.may_refuse db.now range tx.old.read_version)
@@ -84,10 +100,12 @@ pub(crate) fn add_field<S: Snapshot>(
     number: StoreNumber,
     tx: &mut Transaction,
     db: &S,
-    known: &mut KnownSchema,
+    known: &mut Known,
     type_name: &Text,
     field: &Field,
 ) -> Result<Reply, StoreError>
+    requires known { IsKnown number (S.map_at db.now) known.old.store tx.old }
+    ensures known { StaysKnown number (S.map_at db.now) known.new.store tx.old tx.new }
     ensures performed { IfOk result (λ answer.
         IsPerformed number (S.map_at db.now)
         (λ range. S.may_refuse db.now range tx.old.read_version)
@@ -131,10 +149,12 @@ pub(crate) fn save<S: Snapshot>(
     number: StoreNumber,
     tx: &mut Transaction,
     db: &S,
-    known: &mut KnownSchema,
+    known: &mut Known,
     type_name: &Text,
     cells: &Cells,
 ) -> Result<Reply, StoreError>
+    requires known { IsKnown number (S.map_at db.now) known.old.store tx.old }
+    ensures known { StaysKnown number (S.map_at db.now) known.new.store tx.old tx.new }
     ensures performed { IfOk result (λ answer.
         IsPerformed number (S.map_at db.now)
         (λ range. S.may_refuse db.now range tx.old.read_version)
@@ -146,6 +166,7 @@ pub(crate) fn save<S: Snapshot>(
     let store = open(alloc, number, tx, db, known)?;
     let new = record_asked(alloc, store.schema(), type_name, cells)?;
     let old = store.save(tx, db, &new)?;
+    known.store = Some(store);
     Ok(saved_reply(old))
 }
 
@@ -165,10 +186,12 @@ pub(crate) fn load<S: Snapshot>(
     number: StoreNumber,
     tx: &mut Transaction,
     db: &S,
-    known: &mut KnownSchema,
+    known: &mut Known,
     type_name: &Text,
     cells: &Cells,
 ) -> Result<Reply, StoreError>
+    requires known { IsKnown number (S.map_at db.now) known.old.store tx.old }
+    ensures known { StaysKnown number (S.map_at db.now) known.new.store tx.old tx.new }
     ensures performed { IfOk result (λ answer.
         IsPerformed number (S.map_at db.now)
         (λ range. S.may_refuse db.now range tx.old.read_version)
@@ -179,6 +202,7 @@ pub(crate) fn load<S: Snapshot>(
 {
     let store = open(alloc, number, tx, db, known)?;
     let found = store.load(tx, db, type_name, cells)?;
+    known.store = Some(store);
     Ok(loaded_reply(found))
 }
 
@@ -199,10 +223,12 @@ pub(crate) fn remove<S: Snapshot>(
     number: StoreNumber,
     tx: &mut Transaction,
     db: &S,
-    known: &mut KnownSchema,
+    known: &mut Known,
     type_name: &Text,
     cells: &Cells,
 ) -> Result<Reply, StoreError>
+    requires known { IsKnown number (S.map_at db.now) known.old.store tx.old }
+    ensures known { StaysKnown number (S.map_at db.now) known.new.store tx.old tx.new }
     ensures performed { IfOk result (λ answer.
         IsPerformed number (S.map_at db.now)
         (λ range. S.may_refuse db.now range tx.old.read_version)
@@ -213,5 +239,6 @@ pub(crate) fn remove<S: Snapshot>(
 {
     let store = open(alloc, number, tx, db, known)?;
     let was_there = store.remove(tx, db, type_name, cells)?;
+    known.store = Some(store);
     Ok(removed_reply(was_there))
 }

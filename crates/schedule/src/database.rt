@@ -7,7 +7,7 @@ use crate::commit_log::CommitLog;
 use crate::step::Command;
 use crate::transcript::Commands;
 use cluster_core::{Cluster, Reported};
-use record_store::StoreNumber;
+use record_store::{Store, StoreNumber};
 use std::collections::VecDeque;
 use txn::Transaction;
 
@@ -17,6 +17,8 @@ pub(crate) struct OpenTransaction {
     pub(crate) store: StoreNumber,
     pub(crate) transaction: Transaction,
     pub(crate) commands: Vec<Command>,
+    // The store, where a command left it open.
+    pub(crate) opened: Option<Store>,
 }
 
 // What is listed of a submitted transaction once it is reported as committed.

@@ -3,10 +3,12 @@ ghost use Rattle.std.specs.Prelude.{◌≡◌, IfOk, IfErr, map};
 ghost use Rattle.schedule.specs.declared.step.Command.{Command};
 ghost use Rattle.schedule.specs.Calls.{IsCommandRefused};
 ghost use Rattle.schedule.specs.Executions.{IsExecution, IsNoExecution, IsQueried, IsUnqueried};
+ghost use Rattle.schedule.specs.Known.{IsKnown, StaysKnown};
 ghost use Rattle.schedule.specs.Performed.{IsPerformed};
 
 use crate::asked_query::AskedQuery;
 use crate::commands::open;
+use crate::known::Known;
 use crate::refusal::Refusal;
 use crate::reply::{Reply, Rows};
 use crate::shared_plan::SharedPlan;
@@ -14,7 +16,7 @@ use metadata::Record;
 use plan_exec::{ExecError, plan_for_store};
 use planner::{Plan, PlanError};
 use query::Query;
-use record_store::{KnownSchema, Records, Store, StoreError, StoreNumber};
+use record_store::{Records, Store, StoreError, StoreNumber};
 use std::alloc::{AllocError, Global};
 use txn::{Snapshot, Transaction};
 
@@ -59,9 +61,11 @@ pub(crate) fn execute<S: Snapshot>(
     number: StoreNumber,
     tx: &mut Transaction,
     db: &S,
-    known: &mut KnownSchema,
+    known: &mut Known,
     plan: &SharedPlan,
 ) -> Result<Reply, StoreError>
+    requires known { IsKnown number (S.map_at db.now) known.old.store tx.old }
+    ensures known { StaysKnown number (S.map_at db.now) known.new.store tx.old tx.new }
     ensures performed { IfOk result (λ answer.
         IsPerformed number (S.map_at db.now)
         (λ range. S.may_refuse db.now range tx.old.read_version)
@@ -74,6 +78,7 @@ pub(crate) fn execute<S: Snapshot>(
     plan.query();
     let store = open(alloc, number, tx, db, known)?;
     let reply = execution(alloc, &store, tx, db, plan)?;
+    known.store = Some(store);
     Ok(reply)
 }
 
@@ -109,9 +114,11 @@ pub(crate) fn query<S: Snapshot>(
     number: StoreNumber,
     tx: &mut Transaction,
     db: &S,
-    known: &mut KnownSchema,
+    known: &mut Known,
     asked: &AskedQuery,
 ) -> Result<Reply, StoreError>
+    requires known { IsKnown number (S.map_at db.now) known.old.store tx.old }
+    ensures known { StaysKnown number (S.map_at db.now) known.new.store tx.old tx.new }
     ensures performed { IfOk result (λ answer.
         IsPerformed number (S.map_at db.now)
         (λ range. S.may_refuse db.now range tx.old.read_version)
@@ -122,5 +129,6 @@ pub(crate) fn query<S: Snapshot>(
 {
     let store = open(alloc, number, tx, db, known)?;
     let reply = query_reply(alloc, &store, tx, db, asked.query())?;
+    known.store = Some(store);
     Ok(reply)
 }

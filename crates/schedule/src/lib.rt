@@ -17,6 +17,7 @@ mod database;
 mod executing;
 mod index_commands;
 mod kept_plans;
+mod known;
 mod performing;
 mod planning;
 mod refusal;

@@ -2,6 +2,7 @@
 ghost use Rattle.std.specs.Prelude.{◌≡◌, None, Some, IfOk, IfErr, OnErr};
 ghost use Rattle.schedule.specs.Performed.{IsCommandStopped, IsPerformed};
 ghost use Rattle.schedule.specs.Calls.{IsCommandRefused};
+ghost use Rattle.schedule.specs.Known.{IsKnown, StaysKnown};
 ghost use Rattle.schedule.specs.Refusals.{read_reply, reply_of, write_reply};
 
 use crate::building::build;
@@ -10,6 +11,7 @@ use crate::executing::{execute, query};
 use crate::index_commands::{
     add_index, aggregate, disable_index, drop_index, index_state, mark_readable, mark_write_only,
 };
+use crate::known::Known;
 use crate::planning::plan;
 use crate::refusal::Refusal;
 use crate::reply::Reply;
@@ -18,6 +20,7 @@ use cluster_core::ReadError;
 use kv_core::WriteError;
 use record_store::{KnownSchema, StoreError, StoreNumber};
 use std::alloc::{AllocError, Global};
+use std::mem;
 use txn::{Snapshot, Transaction};
 
 /// The reply that a refused read is; want of memory is none.
@@ -74,8 +77,10 @@ fn answer<S: Snapshot>(
     number: StoreNumber,
     tx: &mut Transaction,
     db: &S,
-    known: &mut KnownSchema,
+    known: &mut Known,
 ) -> Result<Reply, StoreError>
+    requires known { IsKnown number (S.map_at db.now) known.old.store tx.old }
+    ensures known { StaysKnown number (S.map_at db.now) known.new.store tx.old tx.new }
     ensures performed { IfOk result (λ answer.
         IsPerformed number (S.map_at db.now)
         (λ range. S.may_refuse db.now range tx.old.read_version) command.now answer
@@ -85,7 +90,10 @@ fn answer<S: Snapshot>(
         command.now error tx.old tx.new) }
 {
     match command {
-        Command::Create(request) => create(alloc, number, tx, db, request),
+        Command::Create(request) => {
+            known.store = None;
+            create(alloc, number, tx, db, request)
+        }
         Command::Type(request) => add_type(alloc, number, tx, db, known, request),
         Command::Field(name, field) => add_field(alloc, number, tx, db, known, name, field),
         Command::Save(type_name, cells) => save(alloc, number, tx, db, known, type_name, cells),
@@ -126,8 +134,8 @@ pub fn perform<S: Snapshot>(
     ensures stopped { OnErr result (
         IsCommandStopped number (S.map_at db.now) command.now tx.old tx.new) }
 {
-    let mut known = KnownSchema::new();
-    perform_knowing(alloc, command, number, tx, db, &mut known)
+    let mut known = Known::new();
+    perform_open(alloc, command, number, tx, db, &mut known)
 }
 
 /// The same, where the schema of the store may be known, which needn't be decoded again. It is
@@ -140,6 +148,33 @@ pub fn perform_knowing<S: Snapshot>(
     db: &S,
     known: &mut KnownSchema,
 ) -> Result<Reply, AllocError>
+    ensures performed { IfOk result (λ answer.
+        IsPerformed number (S.map_at db.now)
+        (λ range. S.may_refuse db.now range tx.old.read_version) command.now answer
+        tx.old tx.new) }
+    ensures stopped { OnErr result (
+        IsCommandStopped number (S.map_at db.now) command.now tx.old tx.new) }
+{
+    let mut own = Known::of(mem::replace(known, KnownSchema::new()));
+    let reply = perform_open(alloc, command, number, tx, db, &mut own);
+    let Known { schema, store: _ } = own;
+    *known = schema;
+    reply
+}
+
+/// The same, where the store may be known too, as a command left it open in the transaction: then
+/// it needn't be opened anew. After a command that may change the schema or the state of an index
+/// it isn't known.
+pub(crate) fn perform_open<S: Snapshot>(
+    alloc: Global,
+    command: &Command,
+    number: StoreNumber,
+    tx: &mut Transaction,
+    db: &S,
+    known: &mut Known,
+) -> Result<Reply, AllocError>
+    requires known { IsKnown number (S.map_at db.now) known.old.store tx.old }
+    ensures known { StaysKnown number (S.map_at db.now) known.new.store tx.old tx.new }
     ensures performed { IfOk result (λ answer.
         IsPerformed number (S.map_at db.now)
         (λ range. S.may_refuse db.now range tx.old.read_version) command.now answer

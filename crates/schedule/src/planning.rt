@@ -3,17 +3,19 @@ ghost use Rattle.std.specs.Prelude.{IfOk, IfErr};
 ghost use Rattle.record_store.specs.Calls.{index_states};
 ghost use Rattle.schedule.specs.declared.step.Command.{Command};
 ghost use Rattle.schedule.specs.Calls.{IsCommandRefused};
+ghost use Rattle.schedule.specs.Known.{IsKnown, StaysKnown};
 ghost use Rattle.schedule.specs.Performed.{IsPerformed};
 ghost use Rattle.schedule.specs.Planning.{IsPlanReply};
 
 use crate::asked_query::AskedQuery;
 use crate::commands::open;
+use crate::known::Known;
 use crate::refusal::Refusal;
 use crate::reply::Reply;
 use crate::shared_plan::SharedPlan;
 use plan_exec::plan_for_store;
 use planner::PlanError;
-use record_store::{KnownSchema, Store, StoreError, StoreNumber};
+use record_store::{Store, StoreError, StoreNumber};
 use std::alloc::{AllocError, Global};
 use txn::{Snapshot, Transaction};
 
@@ -39,9 +41,11 @@ pub(crate) fn plan<S: Snapshot>(
     number: StoreNumber,
     tx: &mut Transaction,
     db: &S,
-    known: &mut KnownSchema,
+    known: &mut Known,
     asked: &AskedQuery,
 ) -> Result<Reply, StoreError>
+    requires known { IsKnown number (S.map_at db.now) known.old.store tx.old }
+    ensures known { StaysKnown number (S.map_at db.now) known.new.store tx.old tx.new }
     ensures performed { IfOk result (λ answer.
         IsPerformed number (S.map_at db.now)
         (λ range. S.may_refuse db.now range tx.old.read_version)
@@ -52,5 +56,6 @@ pub(crate) fn plan<S: Snapshot>(
 {
     let store = open(alloc, number, tx, db, known)?;
     let reply = plan_reply(alloc, &store, asked)?;
+    known.store = Some(store);
     Ok(reply)
 }

@@ -9,11 +9,11 @@ ghost use Rattle.schedule.specs.Running.{HasRun, IsFirst, IsSteppedWith, StandsA
 
 use crate::database::Database;
 use crate::kept_plans::KeptPlans;
+use crate::known::Known;
 use crate::reply::Reply;
 use crate::step::Step;
 use crate::transcript::ScheduleError;
 use cluster_core::{Config, ConfigError};
-use record_store::KnownSchema;
 use std::alloc::{AllocError, Global};
 
 impl Database {
@@ -22,7 +22,7 @@ impl Database {
         &mut self,
         alloc: Global,
         kept: &KeptPlans,
-        known: &mut KnownSchema,
+        known: &mut Known,
         step: &Step,
     ) -> Result<Reply, AllocError>
         requires { (past : Past) × StandsAfter past self.old }
@@ -50,7 +50,7 @@ impl Database {
             (config : Configuration) → IsFirst config self.old → HasRun config steps.now replies.items self.new) }
     {
         let mut kept = KeptPlans::new(alloc)?;
-        let mut known = KnownSchema::new();
+        let mut known = Known::new();
         let mut replies = Vec::new(alloc);
         for step in steps {
             let reply = self.step(alloc, &kept, &mut known, step)?;

@@ -1,39 +1,50 @@
 //! A schedule that is made a step at a time, for who has no list of steps: a person at a shell.
 ghost use Rattle.std.specs.Prelude.{◌≡◌, ◌⊎◌, [], Some, IfOk, IfErr, OnOk, IsNone};
+ghost use Rattle.cluster_core.specs.Cluster.{forget};
 ghost use Rattle.cluster_core.specs.Configuration.{config_refusal};
 ghost use Rattle.cluster_core.specs.declared.answers.ConfigError.{ConfigError as ConfigRefusal};
 ghost use Rattle.schedule.specs.Exact.{IsExactRun};
 ghost use Rattle.schedule.specs.Headline.{IsHeadline};
 ghost use Rattle.schedule.specs.Right.{IsRightRun};
-ghost use Rattle.schedule.specs.Stepwise.{DoesNext, HasDone, IsSoFar};
+ghost use Rattle.schedule.specs.Stepwise.{DoesNext, HasDone, IsSoFar, whole_cluster};
 
 use crate::database::Database;
 use crate::kept_plans::KeptPlans;
+use crate::known::Known;
 use crate::reply::Reply;
 use crate::running::start;
 use crate::starting::laws_of;
 use crate::step::Step;
 use crate::transcript::ScheduleError;
 use cluster_core::{Cluster, Config};
-use record_store::KnownSchema;
 use std::alloc::{AllocError, Global};
 use std::marker::Model;
 
-/// A schedule after the steps that were done so far. It keeps no list of committed transactions, so
-/// that its memory is that of the database and of what is open.
-#[derive(Drop)]
+/// A schedule after the steps that were done so far. It keeps no list of committed transactions, and
+/// of the requests no more bytes than a role or a server may still ask for, so that its memory is
+/// that of the database, of its window and of what is open.
 pub struct Schedule {
     database: Database,
     kept: KeptPlans,
-    known: KnownSchema,
+    known: Known,
+}
+
+// Written out, so that no proof of a caller has to take the database apart where one is dropped.
+impl Drop for Schedule {
+    fn drop(self) {
+        let Schedule {
+            database,
+            kept,
+            known,
+        } = self;
+        drop(database);
+        drop(kept);
+        drop(known);
+    }
 }
 
 impl Model for Schedule {
-    ghost use Rattle.std.specs.Prelude.{List};
-    ghost use Rattle.cluster_core.specs.declared.answers.Config.{Config as Configuration};
-    ghost use Rattle.schedule.specs.declared.step.Step.{Step as Asked};
-    ghost use Rattle.schedule.specs.declared.reply.Reply.{Reply as Answer};
-    ghost use Rattle.schedule.specs.Stepwise.{HasDone, StepwiseState};
+    ghost use Rattle.schedule.specs.Stepwise.{IsReached, StepwiseState, stepwise_state};
     ghost use Rattle.schedule.specs.contracts.step.Command as command;
     ghost use Rattle.schedule.specs.contracts.shared_plan.SharedPlan as plan;
     ghost use Rattle.std.specs.Coded.{codes};
@@ -42,18 +53,19 @@ impl Model for Schedule {
 
     ghost coded = { Prim.hlevel (codes, command.the_row.coded, plan.the_row.coded) };
 
-    ghost view = { λ s. record { database = s.database; plans = s.kept.plans.items } };
+    ghost view = { λ s. stepwise_state s.database s.kept.plans.items };
 
-    ghost invariant = { λ s. (config : Configuration) × (steps : List Asked) × (replies : List Answer)
-        × HasDone config steps replies (record { database = s.database; plans = s.kept.plans.items }) };
+    ghost invariant = { λ s. IsReached s.database s.kept.plans.items };
 }
 
 impl Database {
-    // Lets go the transactions that are listed: whoever has steps one by one isn't given the list.
+    // Lets go the transactions that are listed, since whoever has steps one by one isn't given the
+    // list, and the bytes of the requests of which nobody asks again.
     fn let_go(&mut self)
-        ensures { self.new ≡ self.old }
+        ensures { self.new ≡ record self.old { cluster = forget self.old.cluster } }
     {
         self.commits.let_go();
+        self.cluster.forget();
     }
 }
 
@@ -73,7 +85,7 @@ impl Schedule {
         Ok(Schedule {
             database,
             kept,
-            known: KnownSchema::new(),
+            known: Known::new(),
         })
     }
 
@@ -98,9 +110,11 @@ impl Schedule {
     }
 
     /// The cluster after the steps so far. Whatever steps those were and whatever they replied: the
-    /// transcript of them is one that `run_schedule` may answer.
+    /// transcript of them is one that `run_schedule` may answer, but that of the requests only those
+    /// are kept of which a role or a server may still ask.
     pub fn cluster(&self) -> &Cluster
-        ensures now { result.now ≡ self.now.database.cluster }
+        ensures now { whole_cluster result.now ≡ self.now.database.cluster }
+        ensures forgotten { result.now ≡ forget result.now }
         ensures right { IsSoFar IsRightRun self.now }
         ensures exact { IsSoFar IsExactRun self.now }
         ensures headline { IsSoFar (λ _. IsHeadline) self.now }

@@ -1,11 +1,10 @@
 // A script that makes what is committed. Called by `session`.
-use crate::described::push_schema;
 use crate::error::ShellError;
-use crate::opened::Opened;
 use cluster_core::Cluster;
 use json_forms::cells_text;
 use metadata::{Record, State, TypeDefinition};
 use record_store::{StoreError, StoreNumber};
+use shell_text::{Opened, push_schema};
 use std::alloc::{AllocError, Global};
 use std::fmt::Write as _;
 use std::io::Write;

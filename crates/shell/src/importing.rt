@@ -4,15 +4,13 @@ ghost use Rattle.shell.specs.Further.{IsFurther};
 
 use crate::error::ShellError;
 use crate::import::{Import, Importer};
-use crate::import_rows::{RowError, cells_of_line, cells_of_row, places_of};
 use crate::lines::next_line;
-use crate::opened::fields_of;
-use crate::progress::Progress;
 use crate::stores::Stores;
 use crate::telling::{Telling, Watch, tell};
 use csv::{Error, ErrorKind, Reader, StringRecord};
 use metadata::{Cells, Field};
 use schedule::{Reply, Schedule, Step};
+use shell_text::{Progress, RowError, cells_of_line, cells_of_row, fields_of, places_of};
 use std::alloc::{AllocError, Global};
 use std::fs::File;
 use std::io::{BufReader, Read, Write};

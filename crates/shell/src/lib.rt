@@ -4,33 +4,21 @@
 //! run of them: the clauses of `Schedule`.
 #![tactic(auto)]
 
-mod built;
-mod described;
 mod dump;
 mod error;
-mod helping;
 mod import;
-mod import_rows;
 mod importing;
-mod keys;
 mod lines;
-mod listing;
 mod names;
-mod opened;
-mod planned;
-mod progress;
 mod reading;
 mod refusals;
 mod scripts;
 mod session;
 mod stepping;
 mod stores;
-mod table;
 mod telling;
 
 pub use error::ShellError;
-pub use listing::step_lines;
-pub use names::{push_named_reply, range_named};
-pub use progress::Progress;
+pub use names::push_named_reply;
 pub use reading::run_shell;
 pub use telling::{RowForm, Telling, Watch};

@@ -3,7 +3,6 @@ ghost use Rattle.std.specs.Prelude.{IfOk};
 ghost use Rattle.shell.specs.Further.{IsFurther};
 
 use crate::error::ShellError;
-use crate::listing::step_lines;
 use crate::session::Session;
 use crate::stepping::do_steps;
 use crate::stores::Stores;
@@ -12,6 +11,7 @@ use cluster_core::Config;
 use schedule::{Schedule, Step};
 use script::{ScriptError, script_with};
 use script_check::{check, problem_lines};
+use shell_text::step_lines;
 use std::alloc::{AllocError, Global};
 use std::io::Write;
 

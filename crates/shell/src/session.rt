@@ -2,13 +2,9 @@
 ghost use Rattle.std.specs.Prelude.{IfOk};
 ghost use Rattle.shell.specs.Further.{IsFurther};
 
-use crate::described::{push_index_lines, push_type_lines};
 use crate::dump::write_dump;
 use crate::error::ShellError;
-use crate::helping::{help_of, help_of_all};
 use crate::importing::Order;
-use crate::opened::{Opened, open};
-use crate::planned::plan_lines;
 use crate::stepping::do_steps;
 use crate::stores::Stores;
 use crate::telling::Telling;
@@ -20,6 +16,9 @@ use schedule::{Schedule, Step};
 use script::{ScriptError, script_with};
 use script_check::check;
 use shell_line::{Flaw, Line, LineError, Show, line_of, place_in_line};
+use shell_text::{
+    Opened, help_of, help_of_all, open, plan_lines, push_index_lines, push_type_lines,
+};
 use std::alloc::{AllocError, Global};
 use std::io::Write;
 

@@ -1,17 +1,14 @@
 // What a step replies, in the shell's words. Called by `stepping`.
-use crate::built::range_words;
 use crate::error::ShellError;
-use crate::names::range_named;
-use crate::opened::fields_of;
 use crate::refusals::refusal_words;
 use crate::stores::Stores;
-use crate::table::push_table;
 use cluster_core::Cluster;
 use json_forms::cells_text;
 use metadata::{Cells, State};
 use record_store::StoreNumber;
 use schedule::{Command, Reply, Report, Rows, Step};
 use script::push_reply;
+use shell_text::{fields_of, push_table, range_named, range_words};
 use std::alloc::{AllocError, Global};
 use std::fmt::Write as _;
 use std::io::Write;

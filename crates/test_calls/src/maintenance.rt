@@ -39,7 +39,8 @@ fn changes<M: Maintainer>(
     old: &Record,
     new: &Record,
 ) -> Result<Vec<Mutation>, Fail> {
-    Ok(M::changes(alloc, &PREFIX, index, Some(old), Some(new))?)
+    let (old, new) = (old.lend(), new.lend());
+    Ok(M::changes(alloc, &PREFIX, index, Some(&old), Some(&new))?)
 }
 
 /// What the first index of a schema writes.

@@ -56,4 +56,9 @@ impl Snapshot for Watched {
         self.count();
         self.map.value(key, version)
     }
+
+    fn check(&self, range: &KeyRange, version: u64) -> Result<(), ReadError> {
+        self.count();
+        self.map.check(range, version)
+    }
 }

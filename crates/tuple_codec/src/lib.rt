@@ -30,6 +30,7 @@ pub use strip::{strip_bytes, strip_int, strip_null, strip_text};
 use thiserror::Error;
 pub use unpacking::{
     bytes_are_spelled_or_refused, packs_are_ordered, spellings_are_unique, unpack, unpack_first,
+    unpack_int,
 };
 use uuid::Uuid;
 pub use write::{pack, pack_bytes, pack_element, pack_int, pack_into, pack_null, pack_text};

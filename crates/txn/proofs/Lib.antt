@@ -4,6 +4,7 @@ pub mod GoingOn
 pub mod Merging
 pub mod Rounds
 pub mod OneMore
+pub mod LastMutations
 pub mod Comparing
 pub mod Deciding
 pub mod Cursors

@@ -13,6 +13,10 @@ use Rattle.txn.specs.Reads.{has_read, seen}
 use Rattle.txn.specs.declared.cursor.RangeCursor.{RangeCursor}
 use Rattle.txn.specs.declared.cursor.TheConstants.{BATCH}
 
+-- how many pairs a cursor reads at a time
+abbrev pub BatchInPairs : Type 0
+BatchInPairs = BATCH ≡ 64
+
 -- the part of a range behind the last one of these pairs, in one direction
 abbrev pub behind_last : KeyRange → Bool → List (List ℕ × List ℕ) → KeyRange
 behind_last range reversed pairs =

@@ -5,6 +5,7 @@ pub mod Attempts
 pub mod Refusing
 pub mod Narrowing
 pub mod Own
+pub mod Latest
 pub mod Reading
 pub mod Reads
 pub mod Cursor

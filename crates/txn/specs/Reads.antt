@@ -7,6 +7,8 @@ use Rattle.kv_core.specs.declared.limits.TheConstants.{MAX_TRANSACTION_BYTES}
 use Rattle.kv_core.specs.Map.{Map, after_all, value_after_all, Agree}
 use Rattle.txn.specs.declared.own.OwnWrites.{OwnWrites}
 use Rattle.txn.specs.Own.{own_state, under}
+use Rattle.txn.specs.declared.latest.Latest.{Latest}
+use Rattle.txn.specs.Latest.{NotesFirst}
 use Rattle.kv_core.specs.Read.{read_of, range_read}
 use Rattle.kv_core.specs.declared.change.CommitRequest.{CommitRequest}
 use Rattle.kv_core.specs.declared.change.Mutation.{Mutation}
@@ -49,9 +51,10 @@ Follow own mutations =
 abbrev pub IsNoted : OwnWrites → List Mutation → Type 0
 IsNoted own mutations = (own.noted ≤ length mutations) × Follow own (take own.noted mutations)
 
--- Private: a transaction knows the size of its mutations, which is within the limit, and its own writes are those of
--- the mutations noted so far
-pub record IsTransaction (request : CommitRequest) (size : ℕ) (own : OwnWrites) : Type 0 where
+-- Private: a transaction knows the size of its mutations, which is within the limit, and its own writes and the last
+-- mutations of keys are those of the mutations that each of these has noted so far
+pub record IsTransaction (request : CommitRequest) (size : ℕ) (own : OwnWrites) (latest : Latest) : Type 0 where
   pub sized : size ≡ size_of_all request.mutations
   pub small : size ≤ MAX_TRANSACTION_BYTES
   pub noted : IsNoted own request.mutations
+  pub placed : NotesFirst latest request.mutations

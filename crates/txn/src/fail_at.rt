@@ -9,7 +9,7 @@ use kv_core::{Bytes, KeyRange, Pair};
 use std::cell::Cell;
 
 /// Another snapshot, whose read of this number, counted from 1, is refused with this error. The
-/// others, for pairs or for a value, are passed on.
+/// others, for pairs or for a value, are passed on. A check counts as a read.
 #[derive(Drop)]
 pub struct FailAt<'a, S: Snapshot> {
     db: &'a S,
@@ -81,5 +81,10 @@ impl<S: Snapshot> Snapshot for FailAt<'_, S> {
     fn value(&self, key: &Bytes, version: u64) -> Result<Option<Bytes>, ReadError> {
         self.count()?;
         self.db.value(key, version)
+    }
+
+    fn check(&self, range: &KeyRange, version: u64) -> Result<(), ReadError> {
+        self.count()?;
+        self.db.check(range, version)
     }
 }

@@ -57,6 +57,14 @@ pub trait Snapshot {
         ensures refused { IfErr result (λ error.
             (error ≡ ReadError.Memory) ⊎ may_refuse self.now (point key.now) version error) };
 
+    /// Whether a read of the range at the version is refused at this time, which takes no memory:
+    /// what was read of it before need not be read again to know.
+    ///
+    /// It is refused as a read of the range is, apart from memory.
+    fn check(&self, range: &KeyRange, version: u64) -> Result<(), ReadError>
+        ensures allowed { OnOk result (must_refuse self.now range.now version → ⊥) }
+        ensures refused { IfErr result (λ error. may_refuse self.now range.now version error) };
+
     /// With what a part of a range may be refused the whole may be too, unless it always is.
     ghost narrows: { (snapshot : Self) (whole part : Range) (version : ℕ) (error : Refused) →
         IsPart part whole → may_refuse snapshot part version error →
@@ -86,6 +94,10 @@ impl Snapshot for Tier {
     fn value(&self, key: &Bytes, version: u64) -> Result<Option<Bytes>, ReadError> {
         Tier::value(self, key, version)
     }
+
+    fn check(&self, range: &KeyRange, version: u64) -> Result<(), ReadError> {
+        Tier::check(self, range, version)
+    }
 }
 
 /// The database, read from its servers.
@@ -110,6 +122,10 @@ impl Snapshot for Cluster {
 
     fn value(&self, key: &Bytes, version: u64) -> Result<Option<Bytes>, ReadError> {
         Cluster::value(self, key, version)
+    }
+
+    fn check(&self, range: &KeyRange, version: u64) -> Result<(), ReadError> {
+        Cluster::check(self, range, version)
     }
 }
 
@@ -139,5 +155,9 @@ impl Snapshot for KvMap {
             Some(value) => Ok(Some(value.copy()?)),
             None => Ok(None),
         }
+    }
+
+    fn check(&self, _range: &KeyRange, _version: u64) -> Result<(), ReadError> {
+        Ok(())
     }
 }

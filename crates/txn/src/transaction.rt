@@ -10,6 +10,7 @@ ghost use Rattle.kv_core.specs.Limits.{write_refusal, write_all_refusal};
 ghost use Rattle.kv_core.specs.Read.{read_of, range_read};
 ghost use Rattle.txn.specs.Reads.{seen, has_read, with_mutation, with_mutations};
 
+use crate::latest::{Last, Latest};
 use crate::own::OwnWrites;
 use crate::read::{range_read, read_under};
 use crate::snapshot::Snapshot;
@@ -25,13 +26,15 @@ use std::marker::Model;
 /// mutations.
 ///
 /// Its reads see its own mutations, which nobody else sees before they are committed. Beside the
-/// list of mutations it keeps what they come to in the order of the keys, as far as its reads
-/// needed it, so that a read takes time that grows as their logarithm.
+/// list of mutations it keeps where the last one of each key stands, which tells most values, and
+/// what they come to in the order of the keys, each as far as its reads needed it, so that a read
+/// takes time that grows as their logarithm.
 #[derive(Debug, Drop)]
 pub struct Transaction {
     request: CommitRequest,
     size: u64,
     own: OwnWrites,
+    latest: Latest,
 }
 
 impl Model for Transaction {
@@ -42,7 +45,7 @@ impl Model for Transaction {
 
     ghost view = { λ a. a.request };
 
-    ghost invariant = { λ a. IsTransaction a.request a.size a.own };
+    ghost invariant = { λ a. IsTransaction a.request a.size a.own a.latest };
 }
 
 impl Transaction {
@@ -58,6 +61,7 @@ impl Transaction {
             },
             size: 0,
             own: OwnWrites::new(alloc),
+            latest: Latest::new(alloc),
         }
     }
 
@@ -74,8 +78,16 @@ impl Transaction {
         if self.request.mutations.is_empty() {
             return Ok(stored);
         }
-        self.own.catch_up(self.request.mutations.as_slice())?;
-        self.own.value(key, stored)
+        let mutations = self.request.mutations.as_slice();
+        match self.latest.of(mutations, key)? {
+            Last::Is(Mutation::Set { value, .. }) => Ok(Some(value.copy()?)),
+            Last::Is(Mutation::ClearRange(_)) => Ok(None),
+            Last::Missing => Ok(stored),
+            _ => {
+                self.own.catch_up(mutations)?;
+                self.own.value(key, stored)
+            }
+        }
     }
 
     /// The value at a key, or None where there is none, as the transaction sees it. `Bytes::is_key`
@@ -100,6 +112,15 @@ impl Transaction {
         let range = KeyRange::point(self.own.alloc, key)?;
         self.request.reads.add(range)?;
         Ok(value)
+    }
+
+    /// Whether a read of the range in the transaction is refused at this time, which takes no memory.
+    /// The range isn't added to those read: what was read of it before stands, if it isn't refused.
+    pub fn check<S: Snapshot>(&self, db: &S, range: &KeyRange) -> Result<(), ReadError>
+        ensures allowed { OnOk result (S.must_refuse db.now range.now self.now.read_version → ⊥) }
+        ensures refused { IfErr result (λ error. S.may_refuse db.now range.now self.now.read_version error) }
+    {
+        db.check(range, self.request.read_version)
     }
 
     /// The pairs of a range as the transaction sees them, up to the limit. Nothing is added to the

@@ -2,18 +2,14 @@ use Rattle.std.proofs.Common.{◌∙◌, ◌++◌, ap, false, subst, sym}
 use Rattle.std.proofs.lemmas.List.{append-nil}
 use Rattle.std.specs.List.{AllByRecursion}
 use Rattle.std.specs.Map.{keys_of}
-use Rattle.kv_core.proofs.Stored.{forward}
 use Rattle.cluster_core.specs.Chains.{IsFalling, links_of}
 use Rattle.cluster_core.proofs.Shown.{chains_between, falling_in, pairs_in-shown, pairs_shown}
 use Rattle.cluster_core.proofs.chains.keys_shown.Goals as goal
 
-pub range-key-items-requires : goal.range-key-items-requires
-range-key-items-requires c = forward c.args.range.now _ _ c.begin.ensures.value c.end.ensures c.begin.ensures.lawful
-
 pub loop-key-init : goal.loop-key-init
 loop-key-init c =
     let rest =
-    c.into_iter-key-iterator.ensures.into_iter_gives ∙ c.range-key-items.ensures.between tt
+    c.into_iter-key-iterator.ensures.into_iter_gives ∙ c.range-key-items.ensures.between
     ∙ chains_between c.args.range.now _ _ c.args.chains.now.entries c.begin.ensures.value c.end.ensures in record {
       keys = ap (λ xs. xs ++ keys_of (pairs_shown c.args.version c.into_iter-key-iterator.result)) c.new-keys.ensures.items ∙ ap (λ es. keys_of (pairs_shown c.args.version es)) rest;
       falling = subst (AllByRecursion (λ e. IsFalling (links_of e.1))) (sym rest) (falling_in c.args.range.now c.args.chains.now false c.range-key-items.ensures.ordered c.requires);

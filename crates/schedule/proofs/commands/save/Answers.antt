@@ -7,6 +7,7 @@ use Rattle.schedule.specs.declared.step.Command.TheVariants.{Save}
 use Rattle.schedule.proofs.Outcomes.{answered_as, performed, refused, refused_asked, refused_unopened}
 use Rattle.schedule.specs.Serve.{reply_to_save}
 use Rattle.schedule.proofs.Serving.{save_meets, save_refuses}
+use Rattle.schedule.proofs.KnownStores.{save_stays}
 use Rattle.schedule.proofs.commands.save.Goals as goal
 
 pub returns-in_err-store-clause-refused : goal.returns-in_err-store-clause-refused
@@ -34,3 +35,9 @@ returns-clause-performed g c =
     (performed c.args.number c.in_ok-store.store (Save c.args.type_name.now c.args.cells.now) (λ opened. save_call opened c.in_ok-new.new) reply_to_save c.in_ok-old.old c.in_ok-store.ensures.prefix
     (save_meets c.args.number c.in_ok-store.store c.args.type_name.now c.args.cells.now c.in_ok-new.new (ap (λ s. record_of s c.args.type_name.now c.args.cells.now) (sym c.schema.ensures) ∙ c.in_ok-new.ensures.made))
     c.in_ok-store.ensures.opened c.in_ok-old.ensures.saved)
+
+pub returns-clause-known : goal.returns-clause-known
+returns-clause-known g c = λ sees. (
+  c.in_ok-store.ensures.prefix,
+  save_stays (g.S.Snapshot.map_at c.args.db.now) c.in_ok-store.store _ _ c.in_ok-new.new c.in_ok-old.old c.in_ok-old.ensures.saved (c.in_ok-store.ensures.there sees),
+)

@@ -6,6 +6,7 @@ use Rattle.schedule.specs.Calls.{IsCommandRefused}
 use Rattle.schedule.specs.Performed.{IsPerformed}
 use Rattle.schedule.proofs.Executions.{execution_performed, plan_executes, unexecuted}
 use Rattle.schedule.proofs.Outcomes.{refused_unopened}
+use Rattle.schedule.proofs.KnownStores.{execution_stays}
 use Rattle.schedule.proofs.executing.execute.Goals as goal
 
 pub returns-in_err-store-clause-refused : goal.returns-in_err-store-clause-refused
@@ -26,3 +27,9 @@ returns-clause-performed g c =
     subst (λ plan. IsPerformed c.args.number (g.S.Snapshot.map_at c.args.db.now) (λ range. g.S.Snapshot.may_refuse c.args.db.now range c.args.tx.now.read_version) (Execute plan) c.in_ok-reply.reply c.args.tx.now c.execution.new.tx) c.plan-plan.ensures
     (execution_performed c.args.number c.in_ok-store.store c.plan-plan.result.now c.in_ok-reply.reply c.in_ok-store.ensures.prefix (c.query.ensures.typed ∙ ap (λ q. (query_of q).record_type) c.query.ensures.query)
     c.in_ok-store.ensures.opened c.in_ok-reply.ensures.executed)
+
+pub returns-clause-known : goal.returns-clause-known
+returns-clause-known g c = λ sees. (
+  c.in_ok-store.ensures.prefix,
+  execution_stays (g.S.Snapshot.map_at c.args.db.now) c.in_ok-store.store _ _ c.plan-plan.result.now c.in_ok-reply.reply c.in_ok-reply.ensures.executed (c.in_ok-store.ensures.there sees),
+)

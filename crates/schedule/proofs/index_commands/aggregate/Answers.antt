@@ -8,6 +8,7 @@ use Rattle.schedule.specs.declared.reply.Reply.TheVariants.{Total}
 use Rattle.schedule.specs.declared.step.Command.TheVariants.{Aggregate}
 use Rattle.schedule.proofs.Outcomes.{answered_as, performed, refused, refused_unopened}
 use Rattle.schedule.proofs.IndexServing.{aggregate_meets}
+use Rattle.schedule.proofs.KnownStores.{aggregate_stays}
 use Rattle.schedule.proofs.index_commands.aggregate.Goals as goal
 
 pub returns-in_err-store-clause-refused : goal.returns-in_err-store-clause-refused
@@ -29,3 +30,9 @@ returns-clause-performed g c =
   where
     fits : SFits w64 c.in_ok-total.total
     fits = search rules
+
+pub returns-clause-known : goal.returns-clause-known
+returns-clause-known g c = λ sees. (
+  c.in_ok-store.ensures.prefix,
+  aggregate_stays (g.S.Snapshot.map_at c.args.db.now) c.in_ok-store.store _ _ c.args.name.now c.args.group.now c.in_ok-total.total c.in_ok-total.ensures.found (c.in_ok-store.ensures.there sees),
+)

@@ -1,5 +1,5 @@
-use Rattle.std.proofs.lemmas.Result.{IfOk-weaker}
+use Rattle.schedule.proofs.KnownStores.{none_known}
 use Rattle.schedule.proofs.performing.perform_knowing.Goals as goal
 
-pub returns-in-Err-clause-performed : goal.returns-in-Err-clause-performed
-returns-in-Err-clause-performed g c = IfOk-weaker c.reply_of.result _ _ (λ answer is. c.in-Err.ensures.refused.replied answer is) c.reply_of.ensures.reply
+pub perform_open-reply-requires : goal.perform_open-reply-requires
+perform_open-reply-requires g c = record { known = none_known c.args.number (g.S.Snapshot.map_at c.args.db.now) c.of-own.result.store c.args.tx.now c.of-own.ensures }

@@ -20,3 +20,6 @@ returns-in_err-reply-clause-refused g c =
 pub returns-clause-performed : goal.returns-clause-performed
 returns-clause-performed g c =
     plan_performed c.args.number c.in_ok-store.store c.args.asked.now c.in_ok-reply.reply c.in_ok-store.ensures.prefix c.in_ok-store.ensures.opened c.in_ok-reply.ensures
+
+pub returns-clause-known : goal.returns-clause-known
+returns-clause-known g c = λ sees. (c.in_ok-store.ensures.prefix, c.in_ok-store.ensures.there sees)

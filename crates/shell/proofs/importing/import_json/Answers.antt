@@ -10,3 +10,6 @@ returns g c = elim c.rows-test.branch [
   | then-rows-test+in_ok-row+in_ok-after+then-not-goes_on w ↦
       subst (λ (i : Import). IsFurther c.args.import.schedule i.schedule) (sym w.import-is) (λ start so_far. w.in_ok-after.ensures start (c.rows.invariant start so_far))
 ]
+
+pub rows-preserved : goal.rows-preserved
+rows-preserved g c start so_far = c.in_ok-after.ensures start (c.rows.invariant start so_far)

@@ -1,19 +1,15 @@
 use Rattle.std.proofs.Common.{◌≡◌, ◌∙◌, ◌<◌, ◌≤◌, subst, sym, take}
 use Rattle.std.specs.List.{AllByRecursion}
-use Rattle.kv_core.proofs.Stored.{forward}
 use Rattle.cluster_core.specs.Chains.{IsFalling, links_of}
 use Rattle.cluster_core.specs.Server.{turned}
 use Rattle.cluster_core.proofs.Shown.{chains_between, chains_in, falling_in, pairs_shown, read-shown, read_full, read_pair, read_start, read_stops}
 use Rattle.cluster_core.proofs.chains.Chains.read_between.Goals as goal
 use Rattle.cluster_core.proofs.chains.Chains.read_between.Goals.{else-loop-rest-test, then-loop-rest-test+in_default}
 
-pub range-rest-requires : goal.range-rest-requires
-range-rest-requires c = forward c.args.range.now _ _ c.begin.ensures.value c.end.ensures c.begin.ensures.lawful
-
 pub loop-rest-init : goal.loop-rest-init
 loop-rest-init c =
     let es = c.args.self.now.chains.entries in
-    let rest = c.range-rest.ensures.between tt ∙ chains_between c.args.range.now _ _ es c.begin.ensures.value c.end.ensures in record {
+    let rest = c.range-rest.ensures.between ∙ chains_between c.args.range.now _ _ es c.begin.ensures.value c.end.ensures in record {
       pairs = read_start c.args.version c.args.limit c.args.reverse c.range-rest.result (chains_in c.args.range.now es) c.new-pairs.result.items c.new-pairs.ensures.items rest;
       falling = subst (λ r. AllByRecursion (λ e. IsFalling (links_of e.1)) (turned c.args.reverse r)) (sym rest)
           (falling_in c.args.range.now c.args.self.now.chains c.args.reverse c.range-rest.ensures.ordered c.requires);

@@ -1,6 +1,9 @@
 use Rattle.std.proofs.Common.{refl}
-use Rattle.cluster_core.proofs.ClusterSteps.{may-there, next-there, pulled-cluster, pulled-view, roles_stay}
+use Rattle.cluster_core.proofs.ClusterSteps.{may-there, next-there, pulled-cluster, pulled-view, roles_stay, unpulled-at}
 use Rattle.cluster_core.proofs.cluster.Cluster.pull.Goals as goal
+
+pub logged_after-requires-clause-kept : goal.logged_after-requires-clause-kept
+logged_after-requires-clause-kept c = unpulled-at c.self.inside.pipeline c.self.inside.tier c.args.s c.version-version.result c.self.invariant c.version-version.ensures
 
 pub pull-requires-clause-next : goal.pull-requires-clause-next
 pull-requires-clause-next c = next-there c.self.inside.tier c.args.s c.version-version.result c.version-version.ensures (c.in-Some.ensures.next refl)

@@ -1,47 +1,61 @@
-use Rattle.std.proofs.Common.{◌≡◌, ◌∙◌, ◌-◌, ◌+◌, ◌++◌, ◌∷◌, [], ap, arith, is_none, not, subst, sym, true, false}
+use Rattle.std.proofs.Common.{◌≡◌, ◌∙◌, ◌-◌, ◌+◌, ◌≤◌, ◌++◌, ◌∷◌, [], ap, arith, is_none, not, subst, sym, true, false}
 use Rattle.cluster_core.specs.Kept.{KeepsRecent, KnowsWriters, WritersState, agreed_at}
 use Rattle.cluster_core.proofs.Recent.{on_err, recent_push}
 use Rattle.cluster_core.proofs.Waiting.{agreed_from, asks_within, known_agreed, known_later, known_refused}
 use Rattle.cluster_core.proofs.kept.Writers.answer.Goals as goal
 use Rattle.cluster_core.proofs.kept.Writers.answer.Goals.{then-is_none+in_ok-push, else-is_none}
 
+pub decide-requires-clause-kept : goal.decide-requires-clause-kept
+decide-requires-clause-kept c =
+    let low = c.saturating_sub-floor.ensures in
+    let kept = c.requires.kept in
+    omega (arith, low, kept)
+
+pub decide-requires-clause-asks : goal.decide-requires-clause-asks
+decide-requires-clause-asks c =
+    subst (λ n. n ≤ Rattle.cluster_core.specs.Kept.least_of c.args.start c.args.requests.now.all c.args.place) (sym c.saturating_sub-floor.ensures)
+    (asks_within c.args.window c.args.start c.args.requests.now.all c.args.place c.requires.recent c.requires.inside)
+
+pub decide-requires-clause-before : goal.decide-requires-clause-before
+decide-requires-clause-before c = let low = c.saturating_sub-floor.ensures in omega (arith, low)
+
 pub decide-requires-clause-knows : goal.decide-requires-clause-knows
 decide-requires-clause-knows c =
-    let low = c.saturating_sub.ensures in
-    known_later c.args.part.now c.args.start c.args.requests.now c.saturating_sub.result _ c.args.place c.forget.new.self
-    (subst (λ n. Rattle.std.proofs.Common.◌≤◌ n (Rattle.cluster_core.specs.Kept.least_of c.args.start c.args.requests.now c.args.place)) (sym low)
-    (asks_within c.args.window c.args.start c.args.requests.now c.args.place c.requires.recent c.requires.inside))
-    (c.forget.ensures.kept c.args.part.now c.args.start c.args.requests.now c.args.place
-    (subst (λ n. KnowsWriters c.args.part.now c.args.start c.args.requests.now n c.args.place c.args.self.now) (sym low) c.requires.knows))
+    let low = c.saturating_sub-floor.ensures in
+    known_later c.args.part.now c.args.start c.args.requests.now.all c.saturating_sub-floor.result _ c.args.place c.forget.new.self
+    (subst (λ n. Rattle.std.proofs.Common.◌≤◌ n (Rattle.cluster_core.specs.Kept.least_of c.args.start c.args.requests.now.all c.args.place)) (sym low)
+    (asks_within c.args.window c.args.start c.args.requests.now.all c.args.place c.requires.recent c.requires.inside))
+    (c.forget.ensures.kept c.args.part.now c.args.start c.args.requests.now.all c.args.place
+    (subst (λ n. KnowsWriters c.args.part.now c.args.start c.args.requests.now.all n c.args.place c.args.self.now) (sym low) c.requires.knows))
 
 pub returns-clause-grown : goal.returns-clause-grown
 returns-clause-grown c =
-    let low = c.saturating_sub.ensures in
+    let low = c.saturating_sub-floor.ensures in
     let least = c.args.place - c.args.window in
-    let dropped = c.forget.ensures.kept c.args.part.now c.args.start c.args.requests.now c.args.place
-    (subst (λ n. KnowsWriters c.args.part.now c.args.start c.args.requests.now n c.args.place c.args.self.now) (sym low) c.requires.knows) in
-    let decided = c.in_ok-cause.ensures.kept least (subst (λ n. KnowsWriters c.args.part.now c.args.start c.args.requests.now n c.args.place c.forget.new.self) low dropped) in
-    let was = subst (KnowsWriters c.args.part.now c.args.start c.args.requests.now least c.args.place) (sym c.self.view_is) decided in
-    let agreed = agreed_from c.args.part.now c.args.start c.args.requests.now c.args.place c.in_ok-cause.cause c.requires.inside c.in_ok-cause.ensures.cause in
+    let dropped = c.forget.ensures.kept c.args.part.now c.args.start c.args.requests.now.all c.args.place
+    (subst (λ n. KnowsWriters c.args.part.now c.args.start c.args.requests.now.all n c.args.place c.args.self.now) (sym low) c.requires.knows) in
+    let decided = c.in_ok-cause.ensures.kept least (omega (arith, low)) (subst (λ n. KnowsWriters c.args.part.now c.args.start c.args.requests.now.all n c.args.place c.forget.new.self) low dropped) in
+    let was = subst (KnowsWriters c.args.part.now c.args.start c.args.requests.now.all least c.args.place) (sym c.self.view_is) decided in
+    let agreed = agreed_from c.args.part.now c.args.start c.args.requests.now.all c.args.place c.in_ok-cause.cause c.requires.inside c.in_ok-cause.ensures.cause in
     elim c.if-is_none.branch [
       | then-is_none+in_ok-push w ↦
-          let none : agreed_at c.args.part.now c.args.start c.args.requests.now c.args.place ≡ true = agreed ∙ ap not (c.is_none.ensures ∙ ap not w.if-is_none.true) in
-          subst (KnowsWriters c.args.part.now c.args.start c.args.requests.now least (c.args.place + 1)) (sym w.self-is)
-          (subst (λ ps. KnowsWriters c.args.part.now c.args.start c.args.requests.now least (c.args.place + 1)
+          let none : agreed_at c.args.part.now c.args.start c.args.requests.now.all c.args.place ≡ true = agreed ∙ ap not (c.is_none.ensures ∙ ap not w.if-is_none.true) in
+          subst (KnowsWriters c.args.part.now c.args.start c.args.requests.now.all least (c.args.place + 1)) (sym w.self-is)
+          (subst (λ ps. KnowsWriters c.args.part.now c.args.start c.args.requests.now.all least (c.args.place + 1)
           (record { segments = c.self.inside.segments; ordered = c.self.inside.ordered; pending = ps; dropped = c.self.inside.dropped })) (sym w.in_ok-push.ensures.items)
-          (known_agreed c.args.part.now c.args.start c.args.requests.now least c.args.place _ was none))
+          (known_agreed c.args.part.now c.args.start c.args.requests.now.all least c.args.place _ was none))
       | else-is_none w ↦
-          let some : agreed_at c.args.part.now c.args.start c.args.requests.now c.args.place ≡ false = agreed ∙ ap not (c.is_none.ensures ∙ ap not w.if-is_none.false) in
-          subst (KnowsWriters c.args.part.now c.args.start c.args.requests.now least (c.args.place + 1)) (sym w.self-is)
-          (known_refused c.args.part.now c.args.start c.args.requests.now least c.args.place _ decided some)
+          let some : agreed_at c.args.part.now c.args.start c.args.requests.now.all c.args.place ≡ false = agreed ∙ ap not (c.is_none.ensures ∙ ap not w.if-is_none.false) in
+          subst (KnowsWriters c.args.part.now c.args.start c.args.requests.now.all least (c.args.place + 1)) (sym w.self-is)
+          (known_refused c.args.part.now c.args.start c.args.requests.now.all least c.args.place _ decided some)
     ]
 
 pub returns-clause-recent_grown : goal.returns-clause-recent_grown
 returns-clause-recent_grown c = λ was.
     let window = c.args.window in
     let place = c.args.place in
-    let small = c.forget.ensures.recent place place c.saturating_sub.ensures (omega arith) (omega arith) was in
-    let next = c.in_ok-cause.ensures.recent window (place + 1) (c.forget.ensures.recent place (place + 1) c.saturating_sub.ensures (omega arith) (omega arith) was) in
+    let small = c.forget.ensures.recent place place c.saturating_sub-floor.ensures (omega arith) (omega arith) was in
+    let next = c.in_ok-cause.ensures.recent window (place + 1) (c.forget.ensures.recent place (place + 1) c.saturating_sub-floor.ensures (omega arith) (omega arith) was) in
     let decided = subst (KeepsRecent window (place + 1)) (sym c.self.view_is) next in
     let from = (subst (KeepsRecent window place) (sym c.self.view_is) (c.in_ok-cause.ensures.recent window place small)).passed in
     elim c.if-is_none.branch [
@@ -54,10 +68,10 @@ returns-clause-recent_grown c = λ was.
 
 pub returns-in_err-cause-clause-recent_kept : goal.returns-in_err-cause-clause-recent_kept
 returns-in_err-cause-clause-recent_kept c = λ was.
-    on_err _ (c.in_err-cause.ensures.recent c.args.window c.args.place (c.forget.ensures.recent c.args.place c.args.place c.saturating_sub.ensures (omega arith) (omega arith) was))
+    on_err _ (c.in_err-cause.ensures.recent c.args.window c.args.place (c.forget.ensures.recent c.args.place c.args.place c.saturating_sub-floor.ensures (omega arith) (omega arith) was))
 
 pub returns-in_err-push-clause-recent_kept : goal.returns-in_err-push-clause-recent_kept
 returns-in_err-push-clause-recent_kept c = λ was.
-    let kept = c.in_ok-cause.ensures.recent c.args.window c.args.place (c.forget.ensures.recent c.args.place c.args.place c.saturating_sub.ensures (omega arith) (omega arith) was) in
+    let kept = c.in_ok-cause.ensures.recent c.args.window c.args.place (c.forget.ensures.recent c.args.place c.args.place c.saturating_sub-floor.ensures (omega arith) (omega arith) was) in
     on_err _ (subst (λ ps. KeepsRecent c.args.window c.args.place (record { segments = c.self.inside.segments; ordered = c.self.inside.ordered; pending = ps; dropped = c.self.inside.dropped })) (sym c.in_err-push.ensures.items)
     (subst (KeepsRecent c.args.window c.args.place) (sym c.self.view_is) kept))

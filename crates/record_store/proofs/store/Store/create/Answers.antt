@@ -63,3 +63,8 @@ pub returns-in_err-copy-clause-refused : goal.returns-in_err-copy-clause-refused
 returns-in_err-copy-clause-refused g c =
     exit_with c.from_residual-in_err-copy.result no_memory _ c.from_residual-in_err-copy.ensures
     (uncreated_memory c.args.prefix.now c.args.schema.now c.in_ok-written.written c.in_ok-written.ensures.read c.in_ok-_states.ensures.read)
+
+pub returns-in_err-reads-clause-refused : goal.returns-in_err-reads-clause-refused
+returns-in_err-reads-clause-refused g c =
+    exit_with c.from_residual-in_err-reads.result no_memory _ c.from_residual-in_err-reads.ensures
+    (uncreated_memory c.args.prefix.now c.args.schema.now c.in_ok-written.written c.in_ok-written.ensures.read c.in_ok-_states.ensures.read)

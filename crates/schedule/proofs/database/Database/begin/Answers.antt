@@ -1,4 +1,4 @@
-use Rattle.std.proofs.Common.{Option, None, arith, refl, subst, sym, true, ◌∙◌, ◌≡◌, ℕ}
+use Rattle.std.proofs.Common.{Option, arith, refl, subst, sym, true, ◌∙◌, ◌≡◌, ℕ}
 use Rattle.std.specs.Prelude.{SomeIff}
 use Rattle.record_store.specs.Layout.{is_store_number}
 use Rattle.schedule.proofs.Places.{no_number, none_from}
@@ -13,5 +13,5 @@ returns-in_default c =
 pub returns : goal.returns
 returns c =
     begin_steps c.args.self.now _ c.args.client c.args.number c.read_version-version.result c.index.result.now _ (omega arith) c.in-Some.ensures.0 c.index.ensures
-    (none_from c.index.result.now (sym c.is_some.ensures ∙ c.if-is_some.false)) c.read_version-version.ensures.value c.in-Some.ensures.1 c.begin.ensures c.new-commands.ensures.items
+    (none_from c.index.result.now (sym c.is_some.ensures ∙ c.if-is_some.false)) c.read_version-version.ensures.value c.in-Some.ensures.1 c.begin.ensures c.new-commands.ensures.items refl
     (record { cluster = refl; transactions = refl; unreported = refl; commits = refl })

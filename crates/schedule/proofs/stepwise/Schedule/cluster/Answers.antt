@@ -1,9 +1,15 @@
-use Rattle.std.proofs.Common.{subst}
+use Rattle.std.proofs.Common.{ap, subst}
 use Rattle.cluster_core.specs.History.{IsLegal}
 use Rattle.cluster_core.specs.Roles.{history}
 use Rattle.schedule.specs.Stepwise.{StepwiseState}
 use Rattle.schedule.proofs.RunSteps.{run_ends}
 use Rattle.schedule.proofs.stepwise.Schedule.cluster.Goals as goal
+
+pub returns-clause-now : goal.returns-clause-now
+returns-clause-now c = ap (λ (s : StepwiseState). s.database.cluster) c.self.view_is
+
+pub returns-clause-forgotten : goal.returns-clause-forgotten
+returns-clause-forgotten c = c.self.invariant.forgotten
 
 pub returns-clause-right : goal.returns-clause-right
 returns-clause-right c config steps replies done =

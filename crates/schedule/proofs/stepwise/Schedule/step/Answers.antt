@@ -1,17 +1,42 @@
-use Rattle.std.proofs.Common.{subst, sym, ◌∷◌, ◌++◌, []}
+use Rattle.std.proofs.Common.{subst, sym, ap, ◌∙◌, ◌∷◌, ◌++◌, []}
+use Rattle.cluster_core.specs.Cluster.{forget}
+use Rattle.schedule.specs.Contract.{past_of}
 use Rattle.schedule.specs.declared.database.Database.{Database}
-use Rattle.schedule.specs.Stepwise.{HasDone}
-use Rattle.schedule.proofs.RunSteps.{AnyRunWith, longer_run, one_longer}
+use Rattle.schedule.specs.Stepwise.{HasDone, stepwise_state, whole_database}
+use Rattle.schedule.proofs.Forgotten.{stands_so, stepped_whole}
+use Rattle.schedule.proofs.RunSteps.{longer_run}
 use Rattle.schedule.proofs.stepwise.Schedule.step.Goals as goal
+
+pub step-requires : goal.step-requires
+step-requires c =
+    let past = past_of [] c.self.invariant.steps c.self.invariant.replies in
+    (past, stands_so past c.self.inside.database c.self.invariant.done.0.stands)
 
 pub invariant_of-longer : goal.invariant_of-longer
 invariant_of-longer c =
-    subst (λ (d : Database). AnyRunWith d c.keep.new.self.plans.items) (sym c.let_go.ensures)
-    (one_longer c.args.step.now c.in_ok-reply.reply c.self.inside.database c.step.new.self c.self.inside.kept.plans.items c.keep.new.self.plans.items
-    c.in_ok-reply.ensures c.in_ok-keep.ensures c.self.invariant)
+    let was = c.self.invariant in
+    let step = c.args.step.now in
+    let reply = c.in_ok-reply.reply in
+    let plans = c.self.inside.kept.plans.items in
+    let kept = c.keep.new.self.plans.items in
+    record {
+      forgotten = ap (λ (d : Database). d.cluster) c.let_go.ensures ∙ sym (ap (λ (d : Database). forget d.cluster) c.let_go.ensures);
+      config = was.config;
+      steps = was.steps ++ step ∷ [];
+      replies = was.replies ++ reply ∷ [];
+      done =
+          subst (λ (d : Database). HasDone was.config (was.steps ++ step ∷ []) (was.replies ++ reply ∷ []) (stepwise_state d kept)) (sym c.let_go.ensures)
+          (longer_run was.config was.steps was.replies step reply (whole_database c.self.inside.database) (whole_database c.step.new.self) plans kept was.done
+          (stepped_whole plans step reply c.self.inside.database c.step.new.self c.in_ok-reply.ensures) c.in_ok-keep.ensures);
+    }
 
 pub returns : goal.returns
 returns c config steps replies done =
-    subst (λ (d : Database). HasDone config (steps ++ c.args.step.now ∷ []) (replies ++ c.in_ok-reply.reply ∷ []) (record { database = d; plans = c.keep.new.self.plans.items })) (sym c.let_go.ensures)
-    (longer_run config steps replies c.args.step.now c.in_ok-reply.reply c.self.inside.database c.step.new.self c.self.inside.kept.plans.items c.keep.new.self.plans.items
-    (subst (HasDone config steps replies) (sym c.self.view_is) done) c.in_ok-reply.ensures c.in_ok-keep.ensures)
+    let step = c.args.step.now in
+    let reply = c.in_ok-reply.reply in
+    let plans = c.self.inside.kept.plans.items in
+    let kept = c.keep.new.self.plans.items in
+    subst (λ (d : Database). HasDone config (steps ++ step ∷ []) (replies ++ reply ∷ []) (stepwise_state d kept)) (sym c.let_go.ensures)
+    (longer_run config steps replies step reply (whole_database c.self.inside.database) (whole_database c.step.new.self) plans kept
+    (subst (HasDone config steps replies) (sym c.self.view_is) done)
+    (stepped_whole plans step reply c.self.inside.database c.step.new.self c.in_ok-reply.ensures) c.in_ok-keep.ensures)

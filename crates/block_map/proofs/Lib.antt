@@ -1,0 +1,16 @@
+pub mod Around
+pub mod Keys
+pub mod Sought
+pub mod Parted
+pub mod Edited
+pub mod Forked
+pub mod Joined
+pub mod Dense
+pub mod Ranged
+pub mod Spanned
+pub mod Zipped
+pub mod Cut
+pub mod Going
+pub mod Updating
+pub mod Wholes
+pub mod Mapped

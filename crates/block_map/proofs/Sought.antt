@@ -1,0 +1,137 @@
+-- What a binary search finds among keys in order.
+use Rattle.std.proofs.Common.{◌≡◌, ℕ, zero, suc, ◌+◌, ◌-◌, ◌<◌, ◌≤◌, Bool, true, false, cond, inl, inr, Ordering, Less, Equal, Greater, List, [], ◌∷◌, length, get_or, Result, Ok, Err, refl, sym, ap, ◌∙◌, subst, arith}
+use Rattle.std.proofs.lemmas.Bool.{cases_lt}
+use Rattle.std.proofs.lemmas.Cmp.{alike_right, nat_list_cmp_total, tied_back}
+use Rattle.std.proofs.lemmas.List.Sorted.{searchable_from_sorted}
+use Rattle.std.proofs.lemmas.Map.Keys.{Less-from_sorted, sorted_head, sorted_tail}
+use Rattle.std.specs.List.Sorted.{IsBinarySearchResult, IsNonDecreasingBy, IsSearchInRange, IsSortedBy, IsStrictlySortedBy}
+use Rattle.std.specs.Map.{keys_of}
+use Rattle.std.specs.Ordering.{is_lt, match_ordering, ordering_index}
+use Rattle.std_collections.specs.Layout.BTreeMap.{one_further, seek}
+use Rattle.kv_core.specs.Bytes.{key_cmp, key_lt}
+use Rattle.block_map.specs.Blocks.{bounds_upto}
+use Rattle.block_map.proofs.Keys.{Greater-turned, Less-turned, all_at, below_Less, below_back, below_upto}
+
+-- a key before one that ties with another comes before that
+before_tied : (a b c : List ℕ) → key_cmp a b ≡ Less → key_cmp b c ≡ Equal → key_cmp a c ≡ Less
+before_tied a b c p q = sym (alike_right nat_list_cmp_total b c a q) ∙ p
+
+module _ (key : List ℕ) where
+  rising : (ks : List (List ℕ)) → IsStrictlySortedBy key_cmp ks → IsSortedBy (λ a b. is_lt (key_cmp a b)) ks
+  rising ks sorted k d low high = ap is_lt (Less-turned (get_or ks k d) (get_or ks (k + 1) d) (Less-from_sorted key_cmp ks k (k + 1) d sorted (omega arith) high))
+
+  -- what a search wants of keys in order
+  pub searchable : (ks : List (List ℕ)) → IsStrictlySortedBy key_cmp ks → IsNonDecreasingBy (λ y. ordering_index (key_cmp y key)) ks
+  searchable ks sorted = searchable_from_sorted nat_list_cmp_total (λ k. k) ks key (rising ks sorted)
+
+  module _ {X : Type 0} where
+    seek_step : (e : List ℕ × X) (es : List (List ℕ × X)) (r : Ordering) → key_cmp key e.0 ≡ r → seek (key_cmp key) (e ∷ es) ≡ match_ordering r (Err 0) (Ok 0) (one_further (seek (key_cmp key) es))
+    seek_step e es r h = ap (λ o. match_ordering o (Err 0) (Ok 0) (one_further (seek (key_cmp key) es))) h
+
+    pub seek_found : (es : List (List ℕ × X)) (at : ℕ) → IsStrictlySortedBy key_cmp (keys_of es) → at < length (keys_of es) → key_cmp (get_or (keys_of es) at []) key ≡ Equal → seek (key_cmp key) es ≡ Ok at
+    seek_found [] at sorted within tied = absurd (omega arith)
+    seek_found (e ∷ es) zero sorted within tied = seek_step e es Equal (tied_back nat_list_cmp_total e.0 key tied)
+    seek_found (e ∷ es) (suc at) sorted within tied =
+        let below : key_cmp e.0 (get_or (keys_of es) at []) ≡ Less = all_at (λ y. key_cmp e.0 y ≡ Less) (keys_of es) at [] (sorted_head key_cmp e.0 (keys_of es) sorted) (omega arith) in
+        seek_step e es Greater (Less-turned e.0 key (before_tied e.0 (get_or (keys_of es) at []) key below tied))
+        ∙ ap one_further (seek_found es at (sorted_tail key_cmp e.0 (keys_of es) sorted) (omega arith) tied)
+
+    pub seek_gap : (es : List (List ℕ × X)) (at : ℕ) → at ≤ length (keys_of es) → ((j : ℕ) → j < at → key_cmp (get_or (keys_of es) j []) key ≡ Less) → ((j : ℕ) → at ≤ j → j < length (keys_of es) → key_cmp (get_or (keys_of es) j []) key ≡ Greater) → seek (key_cmp key) es ≡ Err at
+    seek_gap [] zero within low high = refl
+    seek_gap [] (suc at) within low high = absurd (omega arith)
+    seek_gap (e ∷ es) zero within low high = seek_step e es Less (Greater-turned e.0 key (high 0 (omega arith) (omega arith)))
+    seek_gap (e ∷ es) (suc at) within low high =
+        seek_step e es Greater (Less-turned e.0 key (low 0 (omega arith)))
+        ∙ ap one_further (seek_gap es at (omega arith) (λ j h. low (suc j) (omega arith)) (λ j h l. high (suc j) (omega arith) (omega arith)))
+
+    -- the place that a binary search among the keys finds is that of a search from the front
+    pub sought : (es : List (List ℕ × X)) (r : Result ℕ ℕ) → IsStrictlySortedBy key_cmp (keys_of es) → IsSearchInRange r (length (keys_of es)) → IsBinarySearchResult (λ y. key_cmp y key) (keys_of es) r → r ≡ seek (key_cmp key) es
+    sought es (Ok at) sorted within found = sym (seek_found es at sorted within (found []))
+    sought es (Err at) sorted within parted =
+        let sides = parted (searchable (keys_of es) sorted) in
+        sym (seek_gap es at within (λ j h. sides.0 j [] (omega arith) h) (λ j h l. sides.1 j [] h l))
+
+  upto_step : (k : List ℕ) (ks : List (List ℕ)) (b : Bool) → key_lt key k ≡ b → bounds_upto key (k ∷ ks) ≡ cond b 0 (suc (bounds_upto key ks))
+  upto_step k ks b h = ap (λ t. cond t 0 (suc (bounds_upto key ks))) h
+
+  pub upto_gap : (ks : List (List ℕ)) (at : ℕ) → at ≤ length ks → ((j : ℕ) → j < at → key_lt key (get_or ks j []) ≡ false) → (at < length ks → key_lt key (get_or ks at []) ≡ true) → bounds_upto key ks ≡ at
+  upto_gap [] zero within low high = refl
+  upto_gap [] (suc at) within low high = absurd (omega arith)
+  upto_gap (k ∷ ks) zero within low high = upto_step k ks true (high (omega arith))
+  upto_gap (k ∷ ks) (suc at) within low high =
+      upto_step k ks false (low 0 (omega arith)) ∙ ap suc (upto_gap ks at (omega arith) (λ j h. low (suc j) (omega arith)) (λ h. high (omega arith)))
+
+  pub upto_found : (ks : List (List ℕ)) (at : ℕ) → IsStrictlySortedBy key_cmp ks → at < length ks → key_cmp (get_or ks at []) key ≡ Equal → bounds_upto key ks ≡ at + 1
+  upto_found ks at sorted within tied =
+      upto_gap ks (at + 1) (omega arith)
+      (λ j h. elim (cases_lt j at) [
+        | inl before ↦ ap is_lt (Less-turned (get_or ks j []) key (before_tied (get_or ks j []) (get_or ks at []) key (Less-from_sorted key_cmp ks j at [] sorted before within) tied))
+        | inr not ↦ subst (λ i. key_lt key (get_or ks i []) ≡ false) {x = at} (omega arith) (ap is_lt (tied_back nat_list_cmp_total (get_or ks at []) key tied))
+      ])
+      (λ h. ap is_lt (tied_before (get_or ks at []) (get_or ks (at + 1) []) tied (Less-from_sorted key_cmp ks at (at + 1) [] sorted (omega arith) h)))
+    where
+      tied_before : (a b : List ℕ) → key_cmp a key ≡ Equal → key_cmp a b ≡ Less → key_cmp key b ≡ Less
+      tied_before a b p q = sym (nat_list_cmp_total.congr a key b p) ∙ q
+
+  -- the same of bounds
+  pub placed : (ks : List (List ℕ)) (at : ℕ) → IsStrictlySortedBy key_cmp ks → IsBinarySearchResult (λ y. key_cmp y key) ks (Err at) → at ≤ length ks → bounds_upto key ks ≡ at
+  placed ks at sorted parted within =
+      let sides = parted (searchable ks sorted) in
+      upto_gap ks at within (λ j h. ap is_lt (Less-turned (get_or ks j []) key (sides.0 j [] (omega arith) h))) (λ h. ap is_lt (Greater-turned (get_or ks at []) key (sides.1 at [] (omega arith) h)))
+
+  -- ---- a place between two neighbours
+
+  pub gap_here : {X : Type 0} (es : List (List ℕ × X)) (place : ℕ) → IsStrictlySortedBy key_cmp (keys_of es) → place ≤ length (keys_of es) → (0 < place → key_lt (get_or (keys_of es) (place - 1) []) key ≡ true) → (place < length (keys_of es) → key_lt key (get_or (keys_of es) place []) ≡ true) → seek (key_cmp key) es ≡ Err place
+  gap_here es place sorted within before after =
+      let ks = keys_of es in
+      seek_gap es place within
+      (λ j h. elim (cases_lt j (place - 1)) [
+        | inl lower ↦
+            let inside : place - 1 < length ks = omega arith in
+            nat_list_cmp_total.trans (get_or ks j []) (get_or ks (place - 1) []) key (Less-from_sorted key_cmp ks j (place - 1) [] sorted lower inside) (below_Less (get_or ks (place - 1) []) key (before (omega arith)))
+        | inr last ↦
+            let same : place - 1 ≡ j = omega arith in
+            subst (λ i. key_cmp (get_or ks i []) key ≡ Less) same (below_Less (get_or ks (place - 1) []) key (before (omega arith)))
+      ])
+      (λ j h l. elim (cases_lt place j) [
+        | inl higher ↦
+            Less-turned key (get_or ks j []) (nat_list_cmp_total.trans key (get_or ks place []) (get_or ks j []) (below_Less key (get_or ks place []) (after (omega arith))) (Less-from_sorted key_cmp ks place j [] sorted higher l))
+        | inr first ↦
+            let same : place ≡ j = omega arith in
+            subst (λ i. key_cmp (get_or ks i []) key ≡ Greater) same (Less-turned key (get_or ks place []) (below_Less key (get_or ks place []) (after (omega arith))))
+      ])
+
+  pub upto_here : (ks : List (List ℕ)) (block : ℕ) → IsStrictlySortedBy key_cmp ks → block ≤ length ks → (0 < block → key_lt key (get_or ks (block - 1) []) ≡ false) → (block < length ks → key_lt key (get_or ks block []) ≡ true) → bounds_upto key ks ≡ block
+  upto_here ks block sorted within from before =
+      upto_gap ks block within
+      (λ j h. elim (cases_lt j (block - 1)) [
+        | inl lower ↦
+            let inside : block - 1 < length ks = omega arith in
+            below_back (get_or ks j []) key (below_upto (get_or ks j []) (get_or ks (block - 1) []) key (ap is_lt (Less-from_sorted key_cmp ks j (block - 1) [] sorted lower inside)) (from (omega arith)))
+        | inr last ↦
+            let same : block - 1 ≡ j = omega arith in
+            subst (λ i. key_lt key (get_or ks i []) ≡ false) same (from (omega arith))
+      ])
+      before
+
+  -- what a search among a block's keys finds
+  pub sought_in : {X : Type 0} (es : List (List ℕ × X)) (ks : List (List ℕ)) (r : Result ℕ ℕ) → ks ≡ keys_of es → IsStrictlySortedBy key_cmp (keys_of es) → IsSearchInRange r (length ks) → IsBinarySearchResult (λ y. key_cmp y key) ks r → r ≡ seek (key_cmp key) es
+  sought_in es ks r are sorted range found = sought es r sorted (subst (λ l. IsSearchInRange r (length l)) are range) (subst (λ l. IsBinarySearchResult (λ y. key_cmp y key) l r) are found)
+
+  -- what a search among the bounds finds
+  pub bound_found : (ks l : List (List ℕ)) (at : ℕ) → l ≡ ks → IsStrictlySortedBy key_cmp ks → at < length l → ((d : List ℕ) → key_cmp (get_or l at d) key ≡ Equal) → at + 1 ≡ bounds_upto key ks
+  bound_found ks l at is sorted within tied = sym (upto_found ks at sorted (subst (λ x. at < length x) is within) (subst (λ x. key_cmp (get_or x at []) key ≡ Equal) is (tied [])))
+
+  pub bound_gap : (ks l : List (List ℕ)) (at : ℕ) → l ≡ ks → IsStrictlySortedBy key_cmp ks → at ≤ length l → IsBinarySearchResult (λ y. key_cmp y key) l (Err at) → at ≡ bounds_upto key ks
+  bound_gap ks l at is sorted within parted = sym (placed ks at sorted (subst (λ x. IsBinarySearchResult (λ y. key_cmp y key) x (Err at)) is parted) (subst (λ x. at ≤ length x) is within))
+
+  -- the same of keys that are read as a slice
+  pub gap_in : {X : Type 0} (es : List (List ℕ × X)) (l : List (List ℕ)) (place : ℕ) → l ≡ keys_of es → IsStrictlySortedBy key_cmp (keys_of es) → place ≤ length l → (0 < place → key_lt (get_or l (place - 1) []) key ≡ true) → (place < length l → key_lt key (get_or l place []) ≡ true) → seek (key_cmp key) es ≡ Err place
+  gap_in es l place are sorted within before after =
+      gap_here es place sorted (subst (λ x. place ≤ length x) are within)
+      (subst (λ x. 0 < place → key_lt (get_or x (place - 1) []) key ≡ true) are before) (subst (λ x. place < length x → key_lt key (get_or x place []) ≡ true) are after)
+
+  pub upto_in : (ks l : List (List ℕ)) (block : ℕ) → l ≡ ks → IsStrictlySortedBy key_cmp ks → block ≤ length l → (0 < block → key_lt key (get_or l (block - 1) []) ≡ false) → (block < length l → key_lt key (get_or l block []) ≡ true) → block ≡ bounds_upto key ks
+  upto_in ks l block are sorted within from before =
+      sym (upto_here ks block sorted (subst (λ x. block ≤ length x) are within)
+      (subst (λ x. 0 < block → key_lt key (get_or x (block - 1) []) ≡ false) are from) (subst (λ x. block < length x → key_lt key (get_or x block []) ≡ true) are before))
