@@ -31,7 +31,7 @@ TESTED_TOOLS = ("wrong_bodies", "house_rules", "quick_build", "model")
 PROGRAM_TESTS = (("the program", "program_tests", PROGRAMS), ("want of memory", "refused_growths", FAILING + PROGRAMS),
                  ("the model", "model", PROGRAMS))
 # the minutes after which no aged edit is begun: on a slow machine the proofs alone take most of the gate's time
-AGED_MINUTES = "90"
+AGED_MINUTES = "60"
 # the most gigabytes that the proof of a crate has taken
 PROOF_MEMORY = 4
 COUNTED = re.compile(r"(\d+) (?:passed|refused), (\d+) (?:failed|not)")
@@ -121,11 +121,11 @@ def main():
     parser.add_argument("--whole", action="store_true", help="try all wrong bodies")
     recorded = [] if parser.parse_args().whole else ["--recorded", "--minutes", AGED_MINUTES]
     python, since = sys.executable, time.monotonic()
-    jobs = str(max(1, len(os.sched_getaffinity(0)) // 2))
-    wrong = Command("nice", "-n", "10", python, "tools/wrong_bodies", "--over-ci", "--from-nothing", "--jobs", jobs,
+    jobs = str(max(1, len(os.sched_getaffinity(0)) // 4))
+    wrong = Command("nice", "-n", "19", python, "tools/wrong_bodies", "--over-ci", "--from-nothing", "--jobs", jobs,
                     *recorded, reads=True)
     proofs = Command("rt", "ci", reader=wrong, RT_JOBS=str(proofs_at_once()))
-    tools = [Command("nice", "-n", "10", python, f"tools/{it}/tests.py") for it in TESTED_TOOLS]
+    tools = [Command("nice", "-n", "19", python, f"tools/{it}/tests.py") for it in TESTED_TOOLS]
     rules = Command(python, "tools/house_rules")
     tests = [proofs.ended("rt ci", counts)]
     for title, tool, programs in PROGRAM_TESTS:
