@@ -8,6 +8,9 @@ pub mod Composing
 pub mod ReadAs
 pub mod KeyRanges
 pub mod EntryNumbers
+pub mod EntryCells
+pub mod EntryPacks
+pub mod JoinedBytes
 pub mod SingleReads
 pub mod InOrder
 pub mod Shares

@@ -17,6 +17,7 @@ use Rattle.cluster_core.specs.contracts.segments.Segments as Segments
 use Rattle.cluster_core.specs.contracts.kept.Writers as Writers
 use Rattle.cluster_core.specs.contracts.resolver.Resolver as Resolver
 use Rattle.cluster_core.specs.contracts.pipeline.Pipeline as Pipeline
+use Rattle.schedule.proofs.known.Known.TheSendSync as known
 use Rattle.runtime.proofs.publisher.Publisher.TheSendSync as publisher
 use Rattle.runtime.proofs.log_prefix.LogHead.TheSendSync as head
 use Rattle.runtime.proofs.log_prefix.LogPrefix.TheSendSync as prefix
@@ -109,7 +110,7 @@ client_send E g s =
             option.the_field_send _ reader_send,
             (
               prefix.the_send,
-              (search (sendable, crosses), (search (sendable, crosses), (option.the_field_send _ open_tx.the_send, tt))),
+              (search (sendable, crosses), (search (sendable, crosses), (option.the_field_send _ open_tx.the_send, (known.the_field_send, tt)))),
             ),
           ),
         ),

@@ -11,8 +11,8 @@ use Rattle.kv_core.specs.Range.{KeyRange, has_keys}
 use Rattle.kv_core.specs.declared.change.CommitRequest.{CommitRequest}
 use Rattle.kv_core.specs.declared.change.Mutation.{Mutation}
 use Rattle.cluster_core.specs.declared.answers.Config.{Config}
-use Rattle.cluster_core.specs.declared.answers.ReadError.{ReadError}
-use Rattle.cluster_core.specs.declared.answers.ReadError.TheVariants as reads
+use Rattle.kv_core.specs.declared.snapshot.ReadError.{ReadError}
+use Rattle.kv_core.specs.declared.snapshot.ReadError.TheVariants as reads
 use Rattle.cluster_core.specs.Configuration.{first_tier}
 use Rattle.cluster_core.specs.Decision.{Owned, owners, numbered, cut, is_committed, logged}
 use Rattle.cluster_core.specs.History as histories
@@ -40,7 +40,7 @@ use Rattle.runtime.specs.Logs.{logged_mutations, log_tier, submissions_of, commi
 use Rattle.runtime.specs.Logs.{HoldsEach, IsHeadlineOf, IsSerialLog, IsWellFormedLog, IsOpenOver, IsServedLog}
 use Rattle.runtime.specs.Traces.{attempts_of, opened, with_performed}
 use Rattle.runtime.specs.Serves.{IsAnswer, stopped}
-use Rattle.txn.specs.Refusing.{MayRefuse}
+use Rattle.cluster_core.specs.Refusing.{MayRefuse}
 use Rattle.txn.specs.Runs.{Ran}
 use Rattle.txn.proofs.Running.{ran_because}
 use Rattle.runtime.proofs.Entries.{map_begins, version_begins}

@@ -4,11 +4,12 @@ ghost use Rattle.cluster_core.specs.Roles.{is_caught_up};
 
 use crate::configs::{config_of, logs_and_window};
 use cluster_core::Pipeline;
+use commits::{Commit, HoldError};
 use kv_core::CommitRequest;
 use std::alloc::Global;
 use std::test::Fail;
 use test_parts::{holds, report_text, request_of, same, shown};
-use txn::{Commit, Ended, HoldError, Next, Retry};
+use txn::{Ended, Next, Retry};
 
 /// A pipeline whose roles have handled all that was submitted.
 #[derive(Drop)]

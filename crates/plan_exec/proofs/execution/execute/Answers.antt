@@ -12,7 +12,7 @@ use Rattle.plan_exec.proofs.execution.execute.Goals as goal
 
 pub loop-found-init : goal.loop-found-init
 loop-found-init g c =
-    subst (λ made. HasTaken (g.S.Snapshot.map_at c.args.db.now) (level_of c.in_ok-rows.rows).stream made (level_of c.in_ok-rows.rows).stream c.args.tx.now c.args.tx.now) (sym c.new-found.ensures.items)
+    subst (λ made. HasTaken (g.S.Snapshot.map_at c.args.db.now) (level_of c.in_ok-rows.rows).stream made (level_of c.in_ok-rows.rows).stream c.args.tx.now c.args.tx.now) (sym c.in_ok-found.ensures.items)
     (taken_none (level_of c.in_ok-rows.rows).stream)
 
 pub loop-found-smaller : goal.loop-found-smaller
