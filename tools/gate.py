@@ -4,9 +4,8 @@
 1. `rt ci`: every proof from nothing, the tests, the programs as two compilers build them, and the edits of must-fail/.
 2. Beside it, with what processors are left: the wrong bodies, which the prover must refuse (tools/wrong_bodies), each
    once `rt ci` has proved the crates below its own. One isn't tried again where the record has that it was refused over
-   the same texts, nor where nothing near it has changed, but for a tenth of these, as far as they are begun in time;
-   with --whole all are. The lines that the record takes are printed as they come, so that a run that is cut short has
-   told them.
+   the same texts, nor where nothing near it has changed, but for a tenth of these; with --whole all are. The lines that
+   the record takes are printed as they come, so that a run that is cut short has told them.
 3. Beside it too: the tools' own tests, and the house's rules over the files as they stand (tools/house_rules).
 4. The cases of cases/, the examples and the program's edge, against both built programs (tools/program_tests), the
    programs whose allocations fail in turn (tools/refused_growths), and random scripts of which a model tells what both
@@ -30,10 +29,6 @@ FAILING = [f"crates/{it}/out/{it}{end}" for it in ("test_memory", "test_commits"
 TESTED_TOOLS = ("wrong_bodies", "house_rules", "quick_build", "model")
 PROGRAM_TESTS = (("the program", "program_tests", PROGRAMS), ("want of memory", "refused_growths", FAILING + PROGRAMS),
                  ("the model", "model", PROGRAMS))
-# the minutes after which no aged edit is begun: on a slow machine the proofs alone take most of the gate's time
-AGED_MINUTES = "60"
-# the most gigabytes that the proof of a crate has taken
-PROOF_MEMORY = 4
 COUNTED = re.compile(r"(\d+) (?:passed|refused), (\d+) (?:failed|not)")
 # what the wrong bodies' tool says of each of its checks
 CHECKED = re.compile(r"\w+: (?:proved without edits|a round of \d+, \d+ told|\w+ alone): .*\n")
@@ -62,10 +57,10 @@ class Command:
     What it prints is handed on, line by line, to another command that has begun, where there is one to read it.
     """
 
-    def __init__(self, *words, reads=False, reader=None, **environment):
+    def __init__(self, *words, reads=False, reader=None):
         self.lines, self.reader, self.process = [], reader, subprocess.Popen(
             words, stdin=subprocess.PIPE if reads else subprocess.DEVNULL, stdout=subprocess.PIPE,
-            stderr=subprocess.STDOUT, text=True, errors="replace", env={**os.environ, **environment})
+            stderr=subprocess.STDOUT, text=True, errors="replace")
         self.reading = threading.Thread(target=self.read)
         self.reading.start()
 
@@ -106,26 +101,16 @@ def spent(since):
     return f"took {minutes:.0f} minutes, {processors:.0f} of processors; the largest process {most:.1f} GB"
 
 
-def proofs_at_once():
-    """How many crates `rt ci` proves side by side: one a processor, where each has the memory that one takes at most.
-
-    By itself it reckons with up to twice of that, and leaves processors without work.
-    """
-    with open("/proc/meminfo", encoding="ascii") as told:
-        free = int(re.search(r"MemAvailable:\s+(\d+)", told.read())[1]) / 1e6
-    return max(1, min(len(os.sched_getaffinity(0)), int(free / PROOF_MEMORY)))
-
-
 def main():
     parser = argparse.ArgumentParser(description=__doc__, formatter_class=argparse.RawDescriptionHelpFormatter)
     parser.add_argument("--whole", action="store_true", help="try all wrong bodies")
-    recorded = [] if parser.parse_args().whole else ["--recorded", "--minutes", AGED_MINUTES]
+    recorded = [] if parser.parse_args().whole else ["--recorded"]
     python, since = sys.executable, time.monotonic()
-    jobs = str(max(1, len(os.sched_getaffinity(0)) // 4))
-    wrong = Command("nice", "-n", "19", python, "tools/wrong_bodies", "--over-ci", "--from-nothing", "--jobs", jobs,
+    jobs = str(max(1, len(os.sched_getaffinity(0)) // 2))
+    wrong = Command("nice", "-n", "10", python, "tools/wrong_bodies", "--over-ci", "--from-nothing", "--jobs", jobs,
                     *recorded, reads=True)
-    proofs = Command("rt", "ci", reader=wrong, RT_JOBS=str(proofs_at_once()))
-    tools = [Command("nice", "-n", "19", python, f"tools/{it}/tests.py") for it in TESTED_TOOLS]
+    proofs = Command("rt", "ci", reader=wrong)
+    tools = [Command("nice", "-n", "10", python, f"tools/{it}/tests.py") for it in TESTED_TOOLS]
     rules = Command(python, "tools/house_rules")
     tests = [proofs.ended("rt ci", counts)]
     for title, tool, programs in PROGRAM_TESTS:

@@ -14,6 +14,7 @@ from agreement import agreement_faults
 from cases import cases_in, example_cases
 from drawings import drawing_faults
 from edges import MANY_STEPS, MEMORY_LIMITS, SETTLE, byte_cases, command_line_cases, echo_cases, long_cases, long_line
+from folders import folder_faults
 from manuals import manual_faults
 from shells import shell_cases
 from terminals import terminal_faults
@@ -107,6 +108,7 @@ def faults(program, folder):
     yield from agreement_faults(program, cases)
     yield from drawing_faults(program, cases)
     yield from terminal_faults(program, folder)
+    yield from folder_faults(program, folder)
     yield from manual_faults(program)
     race = next(case for case in cases if "race" in case.words[:1] and case.status == 0)
     for words, given in ([["run"], SETTLE.encode()], [["pack", "[1]"], b""], [["unpack", "14"], b""],

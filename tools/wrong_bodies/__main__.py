@@ -18,9 +18,8 @@ line 'error: NAME' must be refused by the compiler, with that error. A file crat
 With --recorded an edit isn't tried again where tools/wrong_bodies/refused.txt says that it was refused over the same
 texts: its function's own, and what that leads to of what its crate and those below it say without their bodies and
 proofs. Such an edit is fresh. It is aged where since then only such texts have changed that its function's own contract
-doesn't name; of the aged ones a tenth is tried, another one for each tree, of as few crates as have so many; those that
-aren't begun after --minutes are left, and said to be. With --aged all aged ones are tried. With --record the edits that
-were tried and refused are put there. A line is printed for each of them, with a sum; --take
+doesn't name; of the aged ones a tenth is tried, another one for each tree. With --aged all aged ones are tried. With
+--record the edits that were tried and refused are put there. A line is printed for each of them, with a sum; --take
 puts those of such lines of a run's output, or of the gate's, into the record, where their texts still are those of that
 run.
 
@@ -64,7 +63,6 @@ def options_of(words):
     parser.add_argument("--work", help="an existing folder for the copies, for what is left to be looked at")
     parser.add_argument("--recorded", action="store_true", help="pass over what is fresh, and nine of ten aged ones")
     parser.add_argument("--aged", action="store_true", help="pass over what is fresh alone")
-    parser.add_argument("--minutes", type=float, help="after so many minutes aged ones that aren't begun are left")
     parser.add_argument("--record", action="store_true", help="put the edits that are tried and refused there")
     parser.add_argument("--take", metavar="FILE", help="try nothing, and put what a run printed there")
     parser.add_argument("--verbose", action="store_true", help="print the goals that are open for each edit too")

@@ -1,7 +1,6 @@
 """The order of work: which crates are proved and which edits tried, side by side."""
 import os
 import threading
-import time
 from concurrent.futures import FIRST_COMPLETED, ThreadPoolExecutor, wait
 import records
 from edits import BadEdit, dealt, texts_of
@@ -32,12 +31,10 @@ class Crew:
     def __init__(self, root, folder, options, told=None):
         """`told` are the crates that `rt ci` has proved so far, where the edits are tried over its libraries."""
         self.workshop = Workshop(root, folder, options.from_nothing, told is not None)
-        self.options, self.told, self.since = options, told, time.monotonic()
+        self.options, self.told = options, told
         self.printing, self.proved, self.tasks = threading.Lock(), set(), []
         # edits by crate and name: those that are refused, the ones of them that were tried, and those that aren't
         self.refused, self.tried, self.others = set(), set(), set()
-        # those of the aged ones that are to be tried, and those that were left for want of time
-        self.drawn, self.late = set(), set()
         chosen = options.crates or list(self.workshop.crates)
         self.edits = {name: edits for name in chosen if (edits := self.edits_of(name))}
         self.sums, every = records.Sums(root, self.workshop.crates), self.edits.items()
@@ -69,22 +66,13 @@ class Crew:
         aged = {it for it, grade in grades.items() if grade is Grade.AGED}
         drawn = aged if self.options.aged else records.tenth(self.sums.tree(), aged) if aged else set()
         passed = {it for it, grade in grades.items() if grade is not Grade.CHANGED} - drawn
-        self.refused, self.drawn = self.refused | passed, drawn
+        self.refused |= passed
         for name, edits in list(self.edits.items()):
             self.edits[name] = [it for it in edits if (name, it.name) not in passed]
             if not self.edits[name]:
                 del self.edits[name]
         counts = ", ".join(f"{sum(it is grade for it in grades.values())} {grade.value}" for grade in Grade)
         self.say(f"{len(grades)} edits: {counts}; {len(grades) - len(passed)} are tried, {len(drawn)} of them aged")
-
-    def in_time(self, name, edits):
-        """Those of a crate's edits that are tried: after the minutes that are given the aged ones are left."""
-        if self.options.minutes is None or time.monotonic() - self.since < 60 * self.options.minutes:
-            return edits
-        late = {(name, it.name) for it in edits} & self.drawn
-        with self.printing:
-            self.late, self.refused = self.late | late, self.refused | late
-        return [it for it in edits if (name, it.name) not in late]
 
     def rows(self):
         """The sums of the edits that were tried and refused."""
@@ -124,8 +112,6 @@ class Crew:
         for task in self.tasks:
             for edit in self.edits.get(task.name, []):
                 self.judge(task.name, edit.name, Verdict.UNTRIED, "")
-        if self.late:
-            self.say(f"{len(self.late)} aged edits weren't begun in time: left for another run")
 
     def places(self):
         """How many checks are made at a time: as many as are asked for, or one a processor once `rt ci` has ended."""
@@ -162,7 +148,6 @@ class Crew:
         """
         texts = texts_of(os.path.join(self.workshop.root, "crates", name))
         bodies, alone = {}, []
-        self.edits[name] = self.in_time(name, self.edits[name])
         for edit in self.edits[name]:
             try:
                 edit.applied(texts)
@@ -175,8 +160,6 @@ class Crew:
             else:
                 bodies[edit] = changed
         rounds = dealt(list(bodies), bodies)
-        if not rounds and not alone:
-            return []
         is_proved = name in self.workshop.bases or self.told is not None and len(rounds) + len(alone) < 2
         if not is_proved and not self.seed(name, frozenset() if alone else frozenset().union(*bodies.values())):
             return []
@@ -195,8 +178,6 @@ class Crew:
     def lone(self, name, edit, bodies):
         """The task that tries one edit by itself, without answers of its proof where these alone refuse it."""
         def work():
-            if not self.in_time(name, [edit]):
-                return []
             tried, checks = edit, []
             while True:
                 (verdict, line, answers), check = self.workshop.try_alone(name, tried, bodies)
@@ -225,8 +206,7 @@ class Rounds:
 
         Where answers of a proof are all that refuses an edit, it is tried again without them.
         """
-        untold, edits = [], self.crew.in_time(self.name, edits)
-        verdicts, checks = self.crew.workshop.try_round(self.name, edits, self.bodies) if edits else ({}, [])
+        untold, (verdicts, checks) = [], self.crew.workshop.try_round(self.name, edits, self.bodies)
         for edit, (verdict, line, answers) in verdicts.items():
             if verdict is Verdict.UNTOLD:
                 untold.append(edit)
@@ -235,8 +215,7 @@ class Rounds:
                 self.bodies[untold[-1]] = self.bodies[edit]
             else:
                 self.crew.judge(self.name, edit.name, verdict, line)
-        if checks:
-            self.crew.say(f"{self.name}: a round of {len(edits)}, {len(edits) - len(untold)} told: {spent(checks)}")
+        self.crew.say(f"{self.name}: a round of {len(edits)}, {len(edits) - len(untold)} told: {spent(checks)}")
         if untold and self.crew.options.verbose:
             self.crew.say(f"{self.name}: not told: {' '.join(it.name for it in untold)}")
         with self.crew.printing:

@@ -146,14 +146,8 @@ def all_edits(root, name):
 
 
 def tenth(tree, edits):
-    """A tenth of edits, by crate and name, at least one of them: another one for another sum of a tree.
-
-    They are those of few crates, since a crate is checked as it stands before its edits are tried, which takes longer.
-    """
-    def place(*words):
-        return hashlib.sha256(repr((tree, *words)).encode()).hexdigest()
-
-    drawn = sorted(edits, key=lambda it: (place(it[0]), place(*it)))
+    """A tenth of edits, by crate and name, at least one of them: another one for another sum of a tree."""
+    drawn = sorted(edits, key=lambda it: hashlib.sha256(repr((tree, *it)).encode()).hexdigest())
     return set(drawn[:-(-len(drawn) // 10)])
 
 

@@ -221,6 +221,6 @@ def crew_of(root, **words):
     """The crew that the command line would give with these options, which prints nothing as it is made."""
     options = argparse.Namespace(**{
         "crates": [], "only": "", "verbose": False, "jobs": 1, "from_nothing": True, "recorded": False, "aged": False,
-        "record": False, "minutes": None, **words})
+        "record": False, **words})
     with contextlib.redirect_stdout(io.StringIO()):
         return Crew(root, root, options)

@@ -121,6 +121,17 @@ module _ (opened : Opened) (number : ℕ) (position : List ℕ) where
         ));
   }
 
+  -- what isn't asked of another isn't read
+  pub none_asked : {maps : ℕ → Map} {old new : CommitRequest} (index : IndexDefinition) (pairs : List Pair) → asks opened number index ≡ false → pairs ≡ [] → new ≡ old → HasReadOne maps opened number position index pairs old new
+  none_asked index pairs not_asked none same = record {
+    added = [];
+    ran = ran_still same (λ m.
+        let place = built_place opened.prefix index.number in (
+          sym (ap (λ b. cond b ((last_upto place position).added m ∷ []) []) not_asked),
+          none ∙ sym (ap (λ b. cond b ((last_upto place position).pairs m) []) not_asked),
+        ));
+  }
+
   -- it is the only read that is asked for
   pub one_asked : (index : IndexDefinition) → asks opened number index ≡ true → (m : Map) → (built_reading opened number position (index ∷ [])).asked m ≡ upto_range (built_place opened.prefix index.number) position ∷ []
   one_asked index asked m = ap (λ b. cond b (upto_range (built_place opened.prefix index.number) position ∷ []) [] ++ []) asked

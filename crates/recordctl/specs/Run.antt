@@ -32,6 +32,11 @@ explains_run text GaveUp = ⊥
 explains_run text (RefusedCommand why) = ⊥
 explains_run text Corrupt = ⊥
 
+-- Private: a fault says why there is no database of a configuration: it is refused, or memory is wanting
+abbrev pub IsRefusedConfig : Config → Fault → Type 0
+IsRefusedConfig config (BadConfig why) = config_refusal config ≡ Some why
+IsRefusedConfig config fault = fault ≡ OutOfMemory
+
 -- Private: a transcript is that of a script's text: a right run of the script's steps over a database of its
 -- configuration
 pub record IsTranscriptOf (text : List ℕ) (transcript : Transcript) : Type 0 where

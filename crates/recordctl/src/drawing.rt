@@ -170,7 +170,10 @@ pub fn drawn_steps(
     let mut schedule = schedule;
     let mut events = Vec::new(alloc);
     for (index, step) in steps.iter().enumerate() {
-        let (after, reply) = schedule.step(alloc, step)?;
+        // A database in memory ends for want of memory alone.
+        let Ok((after, reply)) = schedule.step(alloc, step) else {
+            return Err(AllocError);
+        };
         schedule = after;
         let line = lines
             .get(index)

@@ -12,6 +12,7 @@ mod echo;
 mod fault;
 mod in_turn;
 mod input;
+mod logs;
 mod plans;
 mod printing;
 mod racing;
@@ -23,7 +24,8 @@ mod tuples;
 use checks::{check_files, check_input};
 use command_line::{CommandLineError, PlanForm, Request, RunWords, request_of, version_line};
 use fault::Fault;
-use in_turn::{draw_run, run_in_turn};
+use in_turn::{draw_run, run_in_folder, run_in_turn};
+use logs::print_log;
 use plans::print_plan;
 use printing::print_line;
 use racing::run_race;
@@ -77,10 +79,29 @@ fn run_as<R: Read, W: Write, E: Write>(
     }
 }
 
-// Runs the script in a file.
-fn run_file<H: Files + AllocGlobal, W: Write, E: Write>(
+// The same over the database in a folder, where one is named.
+fn run_over<H: Files<File = File> + AllocGlobal, R: Read, W: Write, E: Write>(
     rt: &H,
     words: RunWords,
+    data: Option<&str>,
+    is_watched: bool,
+    input: &mut R,
+    output: &mut W,
+    errors: &mut E,
+) -> ExitCode
+    ensures { exit_status result ≤ 1 }
+{
+    match data {
+        Some(folder) => run_in_folder(rt, words, is_watched, folder, input, output, errors),
+        None => run_as(rt.alloc(), words, is_watched, input, output, errors),
+    }
+}
+
+// Runs the script in a file, over the database in a folder where one is named.
+fn run_file<H: Files<File = File> + AllocGlobal, W: Write, E: Write>(
+    rt: &H,
+    words: RunWords,
+    data: Option<&str>,
     terminals: Terminals,
     path: &str,
     output: &mut W,
@@ -90,9 +111,14 @@ fn run_file<H: Files + AllocGlobal, W: Write, E: Write>(
 {
     let is_watched = terminals.is_watched && !terminals.is_read;
     match File::open(rt, path) {
-        Ok(mut file) => run_as(rt.alloc(), words, is_watched, &mut file, output, errors),
+        Ok(mut file) => run_over(rt, words, data, is_watched, &mut file, output, errors),
         Err(_) => refuse(errors, Fault::CannotRead),
     }
+}
+
+// The text that may be there.
+fn text_of(text: &Option<String>) -> Option<&str> {
+    text.as_ref().map(|text| text.as_str())
 }
 
 // The form in which a plan is printed: where the words don't say, a tree on a terminal, else a line.
@@ -148,7 +174,12 @@ fn print_version<W: Write, E: Write>(alloc: Global, output: &mut W, errors: &mut
 }
 
 // Does what the words of the command line ask for, where a text that isn't in a file is read from the input.
-fn perform<H: Files + AllocGlobal + Threads + Wait + Sync, R: Read, W: Write, E: Write>(
+fn perform<
+    H: Files<File = File> + AllocGlobal + Threads + Wait + Sync,
+    R: Read,
+    W: Write,
+    E: Write,
+>(
     rt: &H,
     words: &[String],
     terminals: Terminals,
@@ -160,10 +191,13 @@ fn perform<H: Files + AllocGlobal + Threads + Wait + Sync, R: Read, W: Write, E:
 {
     let alloc = rt.alloc();
     match request_of(alloc, words) {
-        Ok(Request::Run(words, Some(path))) => {
-            run_file(rt, words, terminals, path.as_str(), output, errors)
+        Ok(Request::Run(words, Some(path), data)) => {
+            let data = text_of(&data);
+            run_file(rt, words, data, terminals, path.as_str(), output, errors)
         }
-        Ok(Request::Run(words, None)) => run_as(alloc, words, false, input, output, errors),
+        Ok(Request::Run(words, None, data)) => {
+            run_over(rt, words, text_of(&data), false, input, output, errors)
+        }
         Ok(Request::Check(paths)) if paths.is_empty() => check_input(alloc, input, output, errors),
         Ok(Request::Check(paths)) => check_files(rt, paths.as_slice(), output, errors),
         Ok(Request::Explain(form, Some(path))) => {
@@ -179,7 +213,11 @@ fn perform<H: Files + AllocGlobal + Threads + Wait + Sync, R: Read, W: Write, E:
         Ok(Request::Race(None)) => run_race(rt, alloc, input, output, errors),
         Ok(Request::Version) => print_version(alloc, output, errors),
         Ok(Request::Simulate(words)) => simulate(alloc, words, output, errors),
-        Ok(Request::Shell(words)) => run_typed(rt, words, terminals, input, output, errors),
+        Ok(Request::Shell(words, data)) => {
+            let data = text_of(&data);
+            run_typed(rt, words, data, terminals, input, output, errors)
+        }
+        Ok(Request::Log(folder)) => print_log(rt, folder.as_str(), output, errors),
         Err(error) => refuse_command_line(errors, &error),
     }
 }

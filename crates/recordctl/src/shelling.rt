@@ -1,11 +1,14 @@
 // The command `shell`. Called by `main`.
-ghost use Rattle.std.specs.Prelude.{◌≤◌};
+ghost use Rattle.std.specs.Prelude.{◌≡◌, ◌≤◌};
 ghost use Rattle.std.specs.Process.{exit_status};
 
 use crate::fault::Fault;
 use crate::run::refuse;
+use cluster_core::Config;
 use command_line::ShellWords;
-use shell::{RowForm, ShellError, Telling, Watch, run_shell};
+use shell::{Database, FolderError, RowForm, ShellError, Telling, Watch, open_folder, run_shell};
+use std::fmt::Display;
+use std::fs::File;
 use std::io::{Read, Write};
 use std::process::ExitCode;
 use std::rt::Files;
@@ -44,12 +47,39 @@ fn telling_of(words: ShellWords, terminals: Terminals) -> Telling {
     }
 }
 
-/// Does the steps that are typed, each as it comes, and tells what it replies. Answers the exit
-/// status: 0 at the end of the input, or 1 with a line on `errors` where it can't be read or memory
-/// is wanting, and 1 without one where `output` can't be written.
-pub fn run_typed<H: Files + AllocGlobal, R: Read, W: Write, E: Write>(
+// The database in a folder, or without one a new one in memory.
+fn database_in<H: Files<File = File> + AllocGlobal>(
+    rt: &H,
+    data: Option<&str>,
+) -> Result<Database, FolderError> {
+    let alloc = rt.alloc();
+    let config = Config::single(alloc);
+    match data {
+        Some(folder) => open_folder(rt, alloc, folder, config),
+        None => match Database::new(alloc, &config) {
+            Ok(database) => Ok(database),
+            Err(_) => Err(FolderError::OutOfMemory),
+        },
+    }
+}
+
+/// Prints a line, and answers the exit status, which is 1.
+pub fn refuse_by<E: Write, T: Display>(errors: &mut E, error: &T) -> ExitCode
+    ensures { exit_status result ≡ 1 }
+{
+    let _ = writeln!(errors, "{error}");
+    ExitCode::FAILURE
+}
+
+/// Does the steps that are typed, each as it comes, and tells what it replies: over the database in
+/// a folder, which is made where it isn't there, or without one over one in memory. Answers the
+/// exit status: 0 at the end of the input, or 1 with a line on `errors` where the database isn't
+/// opened, its log doesn't go on, the input can't be read or memory is wanting, and 1 without one
+/// where `output` can't be written.
+pub fn run_typed<H: Files<File = File> + AllocGlobal, R: Read, W: Write, E: Write>(
     rt: &H,
     words: ShellWords,
+    data: Option<&str>,
     terminals: Terminals,
     input: &mut R,
     output: &mut W,
@@ -57,10 +87,16 @@ pub fn run_typed<H: Files + AllocGlobal, R: Read, W: Write, E: Write>(
 ) -> ExitCode
     ensures { exit_status result ≤ 1 }
 {
-    match run_shell(rt, telling_of(words, terminals), input, output, errors) {
+    let telling = telling_of(words, terminals);
+    let database = match database_in(rt, data) {
+        Ok(database) => database,
+        Err(error) => return refuse_by(errors, &error),
+    };
+    match run_shell(rt, telling, database, input, output, errors) {
         Ok(_) => ExitCode::SUCCESS,
         Err(ShellError::OutOfMemory) => refuse(errors, Fault::OutOfMemory),
         Err(ShellError::CannotRead) => refuse(errors, Fault::CannotRead),
         Err(ShellError::CannotWrite) => ExitCode::FAILURE,
+        Err(ShellError::Unlogged(error)) => refuse_by(errors, &error),
     }
 }

@@ -147,7 +147,7 @@ fn perform_over(
         return Err(EnterError::TooOld);
     }
     prove!(prefix.version() <= u64::MAX);
-    match perform(alloc, command, trace.store, tx, &state.tier) {
+    match perform(alloc, command, trace.store(), tx, &state.tier) {
         Ok(reply) => {
             trace.add(command, &reply);
             Ok(reply)

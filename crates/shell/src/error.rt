@@ -1,4 +1,5 @@
 // Why a shell ends. Used by every module here; `recordctl` prints it.
+use logged_schedule::StepError;
 use schedule::ScheduleError;
 use std::alloc::{AllocError, AllocFailed};
 use std::io;
@@ -12,6 +13,8 @@ pub enum ShellError {
     CannotWrite,
     /// The input can't be read.
     CannotRead,
+    /// The log of the database doesn't go on.
+    Unlogged(StepError),
 }
 
 impl From<AllocError> for ShellError {

@@ -5,7 +5,7 @@ use Rattle.txn.specs.Refusing.{MayRefuse}
 use Rattle.schedule.specs.Performed.{IsCommandStopped, IsPerformed}
 use Rattle.runtime.specs.declared.log_entry.Entry.{Entry}
 use Rattle.runtime.specs.declared.performed.Performed.{Performed}
-use Rattle.runtime.specs.declared.trace.Trace.{Trace}
+use Rattle.runtime.specs.Traces.{Trace}
 use Rattle.runtime.specs.Traces.{with_performed}
 use Rattle.runtime.specs.History.{Name}
 use Rattle.runtime.specs.Logs.{IsOpenOver, version_of, log_tier}
@@ -36,7 +36,9 @@ module _ (c : goal.After-add) where
   tier = c.requires.state.0.0 ∙ ap (λ (n : Name). log_tier n.config ys) c.requires.state.1
 
   performed : IsPerformed c.args.trace.now.store (whole_map (log_tier config ys)) (λ range. MayRefuse (log_tier config ys) range c.args.tx.now.read_version) c.args.command.now c.in-Ok.reply c.args.tx.now c.perform.new.tx
-  performed = subst (λ (t : TierState). IsPerformed c.args.trace.now.store (whole_map t) (λ range. MayRefuse t range c.args.tx.now.read_version) c.args.command.now c.in-Ok.reply c.args.tx.now c.perform.new.tx) tier c.in-Ok.ensures.performed
+  performed =
+      subst (λ (s : ℕ). IsPerformed s (whole_map (log_tier config ys)) (λ range. MayRefuse (log_tier config ys) range c.args.tx.now.read_version) c.args.command.now c.in-Ok.reply c.args.tx.now c.perform.new.tx) c.store.ensures
+      (subst (λ (t : TierState). IsPerformed c.store.result (whole_map t) (λ range. MayRefuse t range c.args.tx.now.read_version) c.args.command.now c.in-Ok.reply c.args.tx.now c.perform.new.tx) tier c.in-Ok.ensures.performed)
 
   right : IsOpenOver config log c.perform.new.tx (with_performed c.args.trace.now one) × IsAnswer config log c.args.tx.now c.args.trace.now c.args.command.now c.in-Ok.reply × (c.perform.new.tx.read_version ≡ c.args.tx.now.read_version)
   right = answers_right config log ys c.args.tx.now c.perform.new.tx c.args.trace.now c.args.command.now c.in-Ok.reply c.version.ensures.well_formed c.if-not-begins.ensures c.requires.over from near performed
@@ -55,6 +57,7 @@ returns-in-Err-clause-over c =
     let at : c.args.tx.now.read_version ≡ version_of config log = c.requires.at in
     let near : version_of config ys - c.args.tx.now.read_version ≤ config.window = subst (λ (v : ℕ). version_of config ys - v ≤ config.window) (sym at) (subst (λ (n : Name). version_of n.config ys - version_of config log ≤ config.window) c.requires.state.1 (c.if-not-is_near.ensures.0 refl)) in
     let tier : c.args.state.now.tier ≡ log_tier config ys = c.requires.state.0.0 ∙ ap (λ (n : Name). log_tier n.config ys) c.requires.state.1 in
-    let is : IsCommandStopped c.args.trace.now.store (whole_map (log_tier config ys)) c.args.command.now c.args.tx.now c.perform.new.tx = subst (λ (t : TierState). IsCommandStopped c.args.trace.now.store (whole_map t) c.args.command.now c.args.tx.now c.perform.new.tx) tier c.in-Err.ensures.stopped in
+    let there : IsCommandStopped c.store.result (whole_map (log_tier config ys)) c.args.command.now c.args.tx.now c.perform.new.tx = subst (λ (t : TierState). IsCommandStopped c.store.result (whole_map t) c.args.command.now c.args.tx.now c.perform.new.tx) tier c.in-Err.ensures.stopped in
+    let is : IsCommandStopped c.args.trace.now.store (whole_map (log_tier config ys)) c.args.command.now c.args.tx.now c.perform.new.tx = subst (λ (s : ℕ). IsCommandStopped s (whole_map (log_tier config ys)) c.args.command.now c.args.tx.now c.perform.new.tx) c.store.ensures there in
     subst (λ (trace : Trace). IsOpenOver config log c.perform.new.tx trace) (sym c.add-in-Err.ensures)
     (stops_right config log ys c.args.tx.now c.perform.new.tx c.args.trace.now c.args.command.now c.if-not-begins.ensures c.requires.over (omega (arith, at)) near is).0
